@@ -1,0 +1,44 @@
+use Rattle.std.specs.Prelude.{ℕ, List, [], ◌∷◌, Option, Some, None, length, ◌==◌, ◌&&◌, ◌+◌, ◌*◌, ◌-◌, not, nat_le, if◌then◌else◌, drop, take, Bool, true, false}
+use Rattle.nbd_wire.specs.declared.payloads.Info.{Info}
+use Rattle.nbd_wire.specs.declared.payloads.Info.TheVariants.{Export, BlockSize, Other}
+use Rattle.nbd_wire.specs.declared.payloads.Piece.{Piece}
+use Rattle.nbd_wire.specs.declared.payloads.Piece.TheVariants.{Bytes, Hole}
+use Rattle.nbd_wire.specs.declared.payloads.Failure.{Failure}
+use Rattle.byteorder.specs.Endian.{big_number}
+
+-- the number of the n bytes at a place
+abbrev pub number_at : ℕ → ℕ → List ℕ → ℕ
+number_at place n bytes = big_number n (drop place bytes)
+
+unfoldable pub info_of : List ℕ → Option Info
+info_of bytes =
+    let kind : ℕ = number_at 0 2 bytes in
+    if not (nat_le 2 (length bytes)) then None
+    else if kind == 0 then (if length bytes == 12 then Some (Export (number_at 2 8 bytes) (number_at 10 2 bytes)) else None)
+    else if kind == 3 then (if length bytes == 14 then Some (BlockSize (number_at 2 4 bytes) (number_at 6 4 bytes) (number_at 10 4 bytes)) else None)
+    else Some (Other kind)
+
+-- a SERVER payload: a name's length, the name, free text
+unfoldable pub is_listed : List ℕ → Bool
+is_listed bytes = nat_le 4 (length bytes) && nat_le (4 + number_at 0 4 bytes) (length bytes)
+
+-- INFO or GO data: a name's length, the name, a count, two bytes for each
+unfoldable pub is_go : List ℕ → Bool
+is_go bytes =
+    let name : ℕ = number_at 0 4 bytes in
+    nat_le (6 + name) (length bytes) && (length bytes == 6 + name + 2 * number_at (4 + name) 2 bytes)
+
+unfoldable pub content_of : ℕ → List ℕ → Option Piece
+content_of kind bytes =
+    if kind == 1 then (if nat_le 9 (length bytes) then Some (Bytes (number_at 0 8 bytes) (drop 8 bytes)) else None)
+    else if (kind == 2) && ((length bytes == 12) && not (number_at 8 4 bytes == 0)) then Some (Hole (number_at 0 8 bytes) (number_at 8 4 bytes))
+    else None
+
+unfoldable pub failure_of : ℕ → List ℕ → Option Failure
+failure_of kind bytes =
+    let error : ℕ = number_at 0 4 bytes in
+    let text : ℕ = number_at 4 2 bytes in
+    if error == 0 then None
+    else if (kind == 0x8001) && nat_le (6 + text) (length bytes) then Some (record { error = error; offset = None })
+    else if (kind == 0x8002) && nat_le (14 + text) (length bytes) then Some (record { error = error; offset = Some (number_at (6 + text) 8 bytes) })
+    else None
