@@ -9,6 +9,7 @@ pub mod chunks;
 pub mod command_flags;
 pub mod commands;
 pub mod handshake;
+pub mod limits;
 pub mod magics;
 pub mod message;
 pub mod options;
