@@ -8,7 +8,7 @@ use Rattle.nbd_wire.specs.Side.{same_side}
 use Rattle.nbd_wire.specs.Items.{Item, Byte, Starts, Completes, Serves, of_side, block, IsSided, IsByteOf, MayFollow, IsTight, IsMarkedBut, IsMarked}
 use Rattle.nbd_session.proofs.Machine.{Both, get, put, get-put_same, get-put_other, put-put, same_or_not, Open, Idle, Busy, Loose, IsNotBusy, IsFilled, Walk, ended, serving, opening, middle, final, loose}
 use Rattle.nbd_session.proofs.Trace.{enc-long}
-use Rattle.nbd_session.proofs.Marks.{each_with}
+use Rattle.nbd_session.proofs.Follow.{each_with}
 
 pub byte_same : (s : Side) (b : ℕ) (items : List Item) → of_side s (Byte s b ∷ items) ≡ Byte s b ∷ of_side s items
 byte_same Client b items = refl

@@ -1,8 +1,11 @@
 pub mod Machine
 pub mod Entries
+pub mod Follow
 pub mod Trace
 pub mod Marks
 pub mod Blocks
 pub mod Latest
 pub mod Runs
 pub mod Ordered
+pub mod Fronts
+pub mod Twins

@@ -10,6 +10,7 @@ use Rattle.nbd_wire.specs.States.{Core, State}
 use Rattle.nbd_wire.specs.Sendable.{IsSendable}
 use Rattle.nbd_wire.specs.Rules.{MayStart, MayComplete, complete, Obeys, after}
 use Rattle.nbd_session.proofs.Machine.{IsFilled-snoc, old-empty, old-filled, Kept, AreHeld, kept_next, held_more, held_whole, Both, get, put, get-put_same, get-put_other, put-put, same_or_not, Open, Idle, Busy, Loose, IsNotBusy, IsFilled, Walk, ended, serving, opening, middle, final, loose, Rest, Machine, Reading, More, Whole, Bad, old_of, old_by, settle, Judge, grown, step, reads, on_ok, Later, at_once, behind, Later-trans, IsExact}
+use Rattle.nbd_session.proofs.Follow.{HasEnd, IsSidedOpen, completes_later, each_with, follows}
 use Rattle.nbd_session.proofs.Trace.{IsWithin}
 
 -- the messages completed within the first n pairs
@@ -20,52 +21,6 @@ within n (Starts s m ∷ items) = within n items
 within n (Serves k ∷ items) = within n items
 within zero (Byte s b ∷ items) = []
 within (suc n) (Byte s b ∷ items) = within n items
-
-abbrev pub IsSidedOpen : Side → Open → Type 0
-IsSidedOpen s Idle = Unit {0}
-IsSidedOpen s (Busy m left) = side m ≡ s
-IsSidedOpen s Loose = Unit {0}
-
--- one side changes
-pub each_with : (P : Side → Open → Type 0) (o : Both Open) (s : Side) (x : Open) → ((u : Side) → P u (get o u)) → P s x → (u : Side) → P u (get (put o s x) u)
-each_with P o s x all h u = go (same_or_not s u)
-  where
-    go : (s ≡ u) ⊎ (s ≡ u → ⊥) → P u (get (put o s x) u)
-    go (inl e) = subst (λ v. P v (get (put o s x) v)) e (subst (λ y. P s y) (sym (get-put_same o s x)) h)
-    go (inr ne) = subst (λ y. P u y) (sym (get-put_other o s u x ne)) (all u)
-
--- a message that was started completes later
-pub record HasEnd (s : Side) (core : Core) (m : Message) : Type 0 where
-  pub end : Core
-  pub later : Later s core end
-  pub completes : MayComplete end end.phase m
-
-completes_later : {P : Type 0} {o : Both Open} {items : List Item} (w : Walk P o items) (state : State) → Obeys state items → ((u : Side) → IsSidedOpen u (get o u)) →
-    (s : Side) (m : Message) (left : List ℕ) → get o s ≡ Busy m left → HasEnd s state.core m
-completes_later (ended c d) state ob sd Client m left e = absurd (subst IsNotBusy e c)
-completes_later (ended c d) state ob sd Server m left e = absurd (subst IsNotBusy e d)
-completes_later (serving k w) state ob sd s m left e = completes_later w _ ob.1 sd s m left e
-completes_later {o} (opening t n b rest i f g w) state ob sd s m left e = elim (same_or_not t s) [
-    inl q ↦ (let i' : get o s ≡ Idle = subst (λ u. get o u ≡ Idle) q i in absurd (cc))
-    | inr ne ↦ completes_later w _ ob.1.1 (each_with IsSidedOpen o t (Busy n rest) sd ob.0.0) s m left (get-put_other o t s (Busy n rest) ne ∙ e) ]
-completes_later {o} (middle t n b rest i f w) state ob sd s m left e =
-    let sd' : side n ≡ t = subst (IsSidedOpen t) i (sd t) in
-    elim (same_or_not t s) [
-    inl q ↦ (let i' : get o s ≡ Busy n (b ∷ rest) = subst (λ u. get o u ≡ Busy n (b ∷ rest)) q i in
-        let nm : n ≡ m = cc in
-        subst (HasEnd s state.core) nm (completes_later w _ ob.1 (each_with IsSidedOpen o t (Busy n rest) sd sd') s n rest (subst (λ u. get (put o t (Busy n rest)) u ≡ Busy n rest) q (get-put_same o t (Busy n rest)))))
-    | inr ne ↦ completes_later w _ ob.1 (each_with IsSidedOpen o t (Busy n rest) sd sd') s m left (get-put_other o t s (Busy n rest) ne ∙ e) ]
-completes_later {o} (final t n b i w) state ob sd s m left e =
-    let sd' : side n ≡ t = subst (IsSidedOpen t) i (sd t) in
-    elim (same_or_not t s) [
-    inl q ↦ (let i' : get o s ≡ Busy n (b ∷ []) = subst (λ u. get o u ≡ Busy n (b ∷ [])) q i in
-        let nm : n ≡ m = cc in
-        record { end = state.core; later = at_once; completes = subst (λ x. MayComplete state.core state.core.phase x) nm ob.1.0 })
-    | inr ne ↦ (let r : HasEnd s (complete state.core n) m = completes_later w _ ob.1.1 (each_with IsSidedOpen o t Idle sd tt) s m left (get-put_other o t s Idle ne ∙ e) in
-        record { end = r.end; later = behind n (λ q. ne (sym sd' ∙ q)) ob.1.0 r.later; completes = r.completes }) ]
-completes_later {o} (loose t b p i w) state ob sd s m left e = elim (same_or_not t s) [
-    inl q ↦ absurd (subst IsNotBusy (subst (λ u. get o u ≡ Busy m left) (sym q) e) i)
-    | inr ne ↦ completes_later w _ ob.1 (each_with IsSidedOpen o t Loose sd tt) s m left (get-put_other o t s Loose ne ∙ e) ]
 
 -- the machine stands where the run stands
 abbrev pub InStep : Core → Rest → Side → Open → Type 0
@@ -178,7 +133,7 @@ marks judge exact {o} (opening s m b left {items = items} is f g w) machine js o
     let e' : pairs items ≡ ps ++ more = cc in
     let i : InStep machine.core (grown machine.core (get machine.rests s) b) s (Busy m left) =
         within_opening machine.core (get machine.rests s) s m b left (subst (InStep machine.core (get machine.rests s) s) is (st s)) f g ob.0.0 ob.0.1 ob.0.2 in
-    let end : HasEnd s machine.core m = completes_later w _ ob.1.1 (each_with IsSidedOpen o s (Busy m left) (in_step_sided machine o st) ob.0.0) s m left (get-put_same o s (Busy m left)) in
+    let end : HasEnd s machine.core m = completes_later w machine.core (follows items (record { core = machine.core; served = js }) ob.1.1) (each_with IsSidedOpen o s (Busy m left) (in_step_sided machine o st) ob.0.0) s m left (get-put_same o s (Busy m left)) in
     let j : judge (grown machine.core (get machine.rests s) b).since machine.core s (grown machine.core (get machine.rests s) b).bytes ≡ More =
         judged_more judge exact machine.core (grown machine.core (get machine.rests s) b) s m left i end (kept_next judge machine.core s (get machine.rests s) b b_lt (hd s)) in
     subst (λ q. IsRead judge machine (q ∷ ps) (within (length ps) items)) p_is
@@ -191,7 +146,7 @@ marks judge exact {o} (middle s m b left {items = items} is g w) machine js ob s
     let e' : pairs items ≡ ps ++ more = cc in
     let i0 : InStep machine.core (get machine.rests s) s (Busy m (b ∷ left)) = subst (InStep machine.core (get machine.rests s) s) is (st s) in
     let i : InStep machine.core (grown machine.core (get machine.rests s) b) s (Busy m left) = within_middle machine.core (get machine.rests s) s m b left i0 g in
-    let end : HasEnd s machine.core m = completes_later w _ ob.1 (each_with IsSidedOpen o s (Busy m left) (in_step_sided machine o st) i0.0.sided) s m left (get-put_same o s (Busy m left)) in
+    let end : HasEnd s machine.core m = completes_later w machine.core (follows items (record { core = machine.core; served = js }) ob.1) (each_with IsSidedOpen o s (Busy m left) (in_step_sided machine o st) i0.0.sided) s m left (get-put_same o s (Busy m left)) in
     let j : judge (grown machine.core (get machine.rests s) b).since machine.core s (grown machine.core (get machine.rests s) b).bytes ≡ More =
         judged_more judge exact machine.core (grown machine.core (get machine.rests s) b) s m left i end (kept_next judge machine.core s (get machine.rests s) b b_lt (hd s)) in
     subst (λ q. IsRead judge machine (q ∷ ps) (within (length ps) items)) p_is
