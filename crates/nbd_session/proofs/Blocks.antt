@@ -73,20 +73,27 @@ opening_left s m b left items e l =
       rest = l.rest;
       blocks = starts_same s m (Byte s b ∷ items) ∙ ap (λ x. Starts s m ∷ x) (byte_same s b items ∙ ap (λ x. Byte s b ∷ x) l.blocks)
           ∙ ap (λ bs. ((Starts s m ∷ bytes_of s bs) ++ Completes s m ∷ []) ++ (f ++ r)) (sym e) ∙ sym (append_assoc (block s m) f r);
-      loosely = λ q. absurd (cc); strays = l.strays
+      loosely = λ q. absurd (cc);
+      strays = l.strays;
     }
 
 middle_left : {P : Type 0} (s : Side) (m : Message) (b : ℕ) (left : List ℕ) (items : List Item) → IsLeft P s (Busy m left) items → IsLeft P s (Busy m (b ∷ left)) (Byte s b ∷ items)
 middle_left s m b left items l = record {
-    messages = l.messages; rest = l.rest;
-    blocks = byte_same s b items ∙ ap (λ x. Byte s b ∷ x) l.blocks;
-    loosely = λ q. absurd (cc); strays = l.strays }
+  messages = l.messages;
+  rest = l.rest;
+  blocks = byte_same s b items ∙ ap (λ x. Byte s b ∷ x) l.blocks;
+  loosely = λ q. absurd (cc);
+  strays = l.strays;
+}
 
 final_left : {P : Type 0} (s : Side) (m : Message) (b : ℕ) (items : List Item) → IsLeft P s Idle items → IsLeft P s (Busy m (b ∷ [])) (Byte s b ∷ Completes s m ∷ items)
 final_left s m b items l = record {
-    messages = l.messages; rest = l.rest;
-    blocks = byte_same s b (Completes s m ∷ items) ∙ ap (λ x. Byte s b ∷ x) (completes_same s m items ∙ ap (λ x. Completes s m ∷ x) l.blocks);
-    loosely = λ q. absurd (cc); strays = l.strays }
+  messages = l.messages;
+  rest = l.rest;
+  blocks = byte_same s b (Completes s m ∷ items) ∙ ap (λ x. Byte s b ∷ x) (completes_same s m items ∙ ap (λ x. Completes s m ∷ x) l.blocks);
+  loosely = λ q. absurd (cc);
+  strays = l.strays;
+}
 
 loose_left : {P : Type 0} (s : Side) (b : ℕ) (items : List Item) (x : Open) → P → IsNotBusy x → IsLeft P s Loose items → IsLeft P s x (Byte s b ∷ items)
 loose_left {P} s b items x p n l = go x n
@@ -102,8 +109,9 @@ loose_left {P} s b items x p n l = go x n
 -- one side takes a step and the other does not
 stepped : {P : Type 0} (o : Both Open) (t : Side) (x : Open) (items items' : List Item) → Lefts P (put o t x) items → (IsLeft P t x items → IsLeft P t (get o t) items') → ((s : Side) → (t ≡ s → ⊥) → of_side s items' ≡ of_side s items) → Lefts P o items'
 stepped {P} o t x items items' all same other s = elim (same_or_not t s) [
-    inl q ↦ subst (λ u. IsLeft P u (get o u) items') q (same (subst (λ y. IsLeft P t y items) (get-put_same o t x) (all t)))
-    | inr ne ↦ subst (λ y. IsLeft P s y items') (get-put_other o t s x ne) (left_same (other s ne) (all s)) ]
+  | inl q ↦ subst (λ u. IsLeft P u (get o u) items') q (same (subst (λ y. IsLeft P t y items) (get-put_same o t x) (all t)))
+  | inr ne ↦ subst (λ y. IsLeft P s y items') (get-put_other o t s x ne) (left_same (other s ne) (all s))
+]
 
 -- each side of a walk
 lefts : {P : Type 0} {o : Both Open} {items : List Item} → Walk P o items → Lefts P o items
@@ -116,15 +124,15 @@ lefts {P} {o} (ended c d) s = go (get o s) (elim s as (λ s. IsNotBusy (get o s)
 lefts {P} (serving k w) s = left_same refl (lefts w s)
 lefts {P} {o} (opening t m b left {items = items} i e f w) s =
     stepped o t (Busy m left) items (Starts t m ∷ Byte t b ∷ items) (lefts w)
-        (λ l. subst (λ y. IsLeft P t y (Starts t m ∷ Byte t b ∷ items)) (sym i) (opening_left t m b left items e l))
-        (λ u ne. starts_other u t m (Byte t b ∷ items) ne ∙ byte_other u t b items ne) s
+    (λ l. subst (λ y. IsLeft P t y (Starts t m ∷ Byte t b ∷ items)) (sym i) (opening_left t m b left items e l))
+    (λ u ne. starts_other u t m (Byte t b ∷ items) ne ∙ byte_other u t b items ne) s
 lefts {P} {o} (middle t m b left {items = items} i f w) s =
     stepped o t (Busy m left) items (Byte t b ∷ items) (lefts w)
-        (λ l. subst (λ y. IsLeft P t y (Byte t b ∷ items)) (sym i) (middle_left t m b left items l)) (λ u ne. byte_other u t b items ne) s
+    (λ l. subst (λ y. IsLeft P t y (Byte t b ∷ items)) (sym i) (middle_left t m b left items l)) (λ u ne. byte_other u t b items ne) s
 lefts {P} {o} (final t m b {items = items} i w) s =
     stepped o t Idle items (Byte t b ∷ Completes t m ∷ items) (lefts w)
-        (λ l. subst (λ y. IsLeft P t y (Byte t b ∷ Completes t m ∷ items)) (sym i) (final_left t m b items l))
-        (λ u ne. byte_other u t b (Completes t m ∷ items) ne ∙ completes_other u t m items ne) s
+    (λ l. subst (λ y. IsLeft P t y (Byte t b ∷ Completes t m ∷ items)) (sym i) (final_left t m b items l))
+    (λ u ne. byte_other u t b (Completes t m ∷ items) ne ∙ completes_other u t m items ne) s
 lefts {P} {o} (loose t b {items = items} p i w) s =
     stepped o t Loose items (Byte t b ∷ items) (lefts w) (λ l. loose_left t b items (get o t) p i l) (λ u ne. byte_other u t b items ne) s
 
@@ -162,11 +170,17 @@ Idles = record { client = Idle; server = Idle }
 pub marked : {P : Type 0} {items : List Item} → Walk P Idles items → (client : List ℕ) × (server : List ℕ) × IsMarkedBut items client server × (IsFilled client → P) × (IsFilled server → P)
 marked {P} {items} w =
     let c : IsLeft P Client Idle items = lefts w Client in
-    let s : IsLeft P Server Idle items = lefts w Server in
-    (c.rest, s.rest, record {
+    let s : IsLeft P Server Idle items = lefts w Server in (
+      c.rest,
+      s.rest,
+      record {
         client_side = record { messages = c.messages; blocks = c.blocks };
         server_side = record { messages = s.messages; blocks = s.blocks };
-        tight = tight_tail (Serves 0) items (tight_after w (Serves 0) tt) }, c.strays, s.strays)
+        tight = tight_tail (Serves 0) items (tight_after w (Serves 0) tt);
+      },
+      c.strays,
+      s.strays,
+    )
 
 -- what stands behind an open message
 abbrev pub beyond : Side → List Message → List ℕ → List Item
@@ -178,9 +192,14 @@ starts_in s m items Idle [] [] lo e = absurd (cc)
 starts_in s m items Idle [] (b ∷ rest) lo e = absurd (cc)
 starts_in s m items Idle (n ∷ ms) rest lo e =
     let nm : n ≡ m = cc in
-    let t : items ≡ ((bytes_of s (enc n) ++ Completes s n ∷ []) ++ flat_map (block s) ms) ++ bytes_of s rest = cc in
-    (refl, (ms, t ∙ append_assoc (bytes_of s (enc n) ++ Completes s n ∷ []) (flat_map (block s) ms) (bytes_of s rest)
-        ∙ ap (λ k. (bytes_of s (enc k) ++ Completes s k ∷ []) ++ beyond s ms rest) nm))
+    let t : items ≡ ((bytes_of s (enc n) ++ Completes s n ∷ []) ++ flat_map (block s) ms) ++ bytes_of s rest = cc in (
+      refl,
+      (
+        ms,
+        t ∙ append_assoc (bytes_of s (enc n) ++ Completes s n ∷ []) (flat_map (block s) ms) (bytes_of s rest)
+            ∙ ap (λ k. (bytes_of s (enc k) ++ Completes s k ∷ []) ++ beyond s ms rest) nm,
+      ),
+    )
 starts_in s m items (Busy n []) ms rest lo e = absurd (cc)
 starts_in s m items (Busy n (b ∷ left)) ms rest lo e = absurd (cc)
 starts_in s m items Loose [] [] lo e = absurd (cc)
@@ -225,17 +244,20 @@ nothing_in s Loose ms rest e = tt
 ends_now : (s : Side) (m : Message) (items : List Item) (y : List Item) (x : Item) → (IsByteOf s x → ⊥) → IsTight (x ∷ items) → of_side s items ≡ Completes s m ∷ y → ⊥
 ends_now s m [] y x nb t e = absurd (cc)
 ends_now s m (Byte u b ∷ items) y x nb t e = elim (same_or_not u s) [
-    inl q ↦ (let e' : of_side s (Byte s b ∷ items) ≡ Completes s m ∷ y = subst (λ v. of_side s (Byte v b ∷ items) ≡ Completes s m ∷ y) q e in
-        let c : Byte s b ∷ of_side s items ≡ Completes s m ∷ y = sym (byte_same s b items) ∙ e' in (cc))
-    | inr ne ↦ ends_now s m items y (Byte u b) (λ q. ne (sym q)) t.1 (sym (byte_other s u b items ne) ∙ e) ]
+  | inl q ↦ (let e' : of_side s (Byte s b ∷ items) ≡ Completes s m ∷ y = subst (λ v. of_side s (Byte v b ∷ items) ≡ Completes s m ∷ y) q e in
+      let c : Byte s b ∷ of_side s items ≡ Completes s m ∷ y = sym (byte_same s b items) ∙ e' in (cc))
+  | inr ne ↦ ends_now s m items y (Byte u b) (λ q. ne (sym q)) t.1 (sym (byte_other s u b items ne) ∙ e)
+]
 ends_now s m (Starts u n ∷ items) y x nb t e = elim (same_or_not u s) [
-    inl q ↦ (let e' : of_side s (Starts s n ∷ items) ≡ Completes s m ∷ y = subst (λ v. of_side s (Starts v n ∷ items) ≡ Completes s m ∷ y) q e in
-        let c : Starts s n ∷ of_side s items ≡ Completes s m ∷ y = sym (starts_same s n items) ∙ e' in (cc))
-    | inr ne ↦ ends_now s m items y (Starts u n) (λ q. q) t.1 (sym (starts_other s u n items ne) ∙ e) ]
+  | inl q ↦ (let e' : of_side s (Starts s n ∷ items) ≡ Completes s m ∷ y = subst (λ v. of_side s (Starts v n ∷ items) ≡ Completes s m ∷ y) q e in
+      let c : Starts s n ∷ of_side s items ≡ Completes s m ∷ y = sym (starts_same s n items) ∙ e' in (cc))
+  | inr ne ↦ ends_now s m items y (Starts u n) (λ q. q) t.1 (sym (starts_other s u n items ne) ∙ e)
+]
 ends_now s m (Serves k ∷ items) y x nb t e = ends_now s m items y (Serves k) (λ q. q) t.1 e
 ends_now s m (Completes u n ∷ items) y (Byte v b) nb t e = elim (same_or_not u s) [
-    inl q ↦ nb (sym (t.0 ∙ q))
-    | inr ne ↦ ends_now s m items y (Completes u n) (λ q. q) t.1 (sym (completes_other s u n items ne) ∙ e) ]
+  | inl q ↦ nb (sym (t.0 ∙ q))
+  | inr ne ↦ ends_now s m items y (Completes u n) (λ q. q) t.1 (sym (completes_other s u n items ne) ∙ e)
+]
 ends_now s m (Completes u n ∷ items) y (Starts v k) nb t e = elim t.0 [ ]
 ends_now s m (Completes u n ∷ items) y (Completes v k) nb t e = elim t.0 [ ]
 ends_now s m (Completes u n ∷ items) y (Serves k) nb t e = elim t.0 [ ]
@@ -251,14 +273,15 @@ Walks P items = (o : Both Open) → ((s : Side) → IsUnfinished s (get o s)) �
 -- one side of the rest changes
 lefts_put : {P : Type 0} (o : Both Open) (t : Side) (x : Open) (items items' : List Item) → Lefts P o items' → IsLeft P t x items → ((s : Side) → (t ≡ s → ⊥) → of_side s items' ≡ of_side s items) → Lefts P (put o t x) items
 lefts_put {P} o t x items items' all here other s = elim (same_or_not t s) [
-    inl q ↦ subst (λ u. IsLeft P u (get (put o t x) u) items) q (subst (λ y. IsLeft P t y items) (sym (get-put_same o t x)) here)
-    | inr ne ↦ subst (λ y. IsLeft P s y items) (sym (get-put_other o t s x ne)) (left_same (sym (other s ne)) (all s)) ]
+  | inl q ↦ subst (λ u. IsLeft P u (get (put o t x) u) items) q (subst (λ y. IsLeft P t y items) (sym (get-put_same o t x)) here)
+  | inr ne ↦ subst (λ y. IsLeft P s y items) (sym (get-put_other o t s x ne)) (left_same (sym (other s ne)) (all s))
+]
 
 unstarted : {P : Type 0} (t : Side) (m : Message) (b : ℕ) (items : List Item) → Walks P items → Walks P (Starts t m ∷ Byte t b ∷ items)
 unstarted {P} t m b items next o un l tight =
     let lt : IsLeft P t (get o t) (Starts t m ∷ Byte t b ∷ items) = l t in
     let st : (get o t ≡ Idle) × ((ms' : List Message) × (Byte t b ∷ of_side t items ≡ (bytes_of t (enc m) ++ Completes t m ∷ []) ++ beyond t ms' lt.rest)) =
-        starts_in t m _ (get o t) lt.messages lt.rest lt.loosely (sym (starts_same t m (Byte t b ∷ items) ∙ ap (λ x. Starts t m ∷ x) (byte_same t b items)) ∙ lt.blocks) in
+    starts_in t m _ (get o t) lt.messages lt.rest lt.loosely (sym (starts_same t m (Byte t b ∷ items) ∙ ap (λ x. Starts t m ∷ x) (byte_same t b items)) ∙ lt.blocks) in
     go (enc m) refl st.0 st.1.0 lt.rest lt.strays st.1.1
   where
     go : (bs : List ℕ) → enc m ≡ bs → get o t ≡ Idle → (ms : List Message) (rest : List ℕ) → (IsFilled rest → P) → Byte t b ∷ of_side t items ≡ (bytes_of t bs ++ Completes t m ∷ []) ++ beyond t ms rest → Walk P o (Starts t m ∷ Byte t b ∷ items)
@@ -268,10 +291,10 @@ unstarted {P} t m b items next o un l tight =
         let cb : c ≡ b = cc in
         let h' : of_side t items ≡ (bytes_of t (d ∷ left) ++ Completes t m ∷ []) ++ beyond t ms rest = cc in
         opening t m b (d ∷ left) i (e ∙ ap (λ x. x ∷ d ∷ left) cb) tt
-            (next (put o t (Busy m (d ∷ left))) (each_with IsUnfinished o t (Busy m (d ∷ left)) un tt)
-                (lefts_put o t (Busy m (d ∷ left)) items (Starts t m ∷ Byte t b ∷ items) l (record { messages = ms; rest = rest; blocks = h'; loosely = λ q. absurd (cc); strays = str })
-                    (λ s ne. starts_other s t m (Byte t b ∷ items) ne ∙ byte_other s t b items ne))
-                (tight_tail (Byte t b) items tight.1))
+        (next (put o t (Busy m (d ∷ left))) (each_with IsUnfinished o t (Busy m (d ∷ left)) un tt)
+        (lefts_put o t (Busy m (d ∷ left)) items (Starts t m ∷ Byte t b ∷ items) l (record { messages = ms; rest = rest; blocks = h'; loosely = λ q. absurd (cc); strays = str })
+        (λ s ne. starts_other s t m (Byte t b ∷ items) ne ∙ byte_other s t b items ne))
+        (tight_tail (Byte t b) items tight.1))
 
 -- a byte that is not the last of its message
 unbyted : {P : Type 0} (t : Side) (b : ℕ) (items : List Item) → Walks P items → ((m : Message) (y : List Item) → of_side t items ≡ Completes t m ∷ y → ⊥) → Walks P (Byte t b ∷ items)
@@ -283,12 +306,12 @@ unbyted {P} t b items next more o un l tight =
     go lt (of_message m [] i h) = absurd (more m (beyond t lt.messages lt.rest) h)
     go lt (of_message m (c ∷ left) i h) =
         middle t m b (c ∷ left) i tt (next (put o t (Busy m (c ∷ left))) (each_with IsUnfinished o t (Busy m (c ∷ left)) un tt)
-            (lefts_put o t (Busy m (c ∷ left)) items (Byte t b ∷ items) l (record { messages = lt.messages; rest = lt.rest; blocks = h; loosely = λ q. absurd (cc); strays = lt.strays }) (λ s ne. byte_other s t b items ne))
-            (tight_tail (Byte t b) items tight))
+        (lefts_put o t (Busy m (c ∷ left)) items (Byte t b ∷ items) l (record { messages = lt.messages; rest = lt.rest; blocks = h; loosely = λ q. absurd (cc); strays = lt.strays }) (λ s ne. byte_other s t b items ne))
+        (tight_tail (Byte t b) items tight))
     go lt (of_none rest f n e h) =
         loose t b (lt.strays f) n (next (put o t Loose) (each_with IsUnfinished o t Loose un tt)
-            (lefts_put o t Loose items (Byte t b ∷ items) l (record { messages = []; rest = rest; blocks = h; loosely = λ q. refl; strays = λ g. lt.strays f }) (λ s ne. byte_other s t b items ne))
-            (tight_tail (Byte t b) items tight))
+        (lefts_put o t Loose items (Byte t b ∷ items) l (record { messages = []; rest = rest; blocks = h; loosely = λ q. refl; strays = λ g. lt.strays f }) (λ s ne. byte_other s t b items ne))
+        (tight_tail (Byte t b) items tight))
 
 -- the last byte of its message
 unended : {P : Type 0} (t u : Side) (m : Message) (b : ℕ) (items : List Item) → Walks P items → Walks P (Byte t b ∷ Completes u m ∷ items)
@@ -296,16 +319,16 @@ unended {P} t u m b items next o un l tight =
     let l' : Lefts P o (Byte t b ∷ Completes t m ∷ items) = subst (λ v. Lefts P o (Byte t b ∷ Completes v m ∷ items)) (sym tight.0) l in
     let lt : IsLeft P t (get o t) (Byte t b ∷ Completes t m ∷ items) = l' t in
     subst (λ v. Walk P o (Byte t b ∷ Completes v m ∷ items)) tight.0
-        (go l' lt (byte_in t b _ (get o t) lt.messages lt.rest (sym (byte_same t b (Completes t m ∷ items) ∙ ap (λ x. Byte t b ∷ x) (completes_same t m items)) ∙ lt.blocks)))
+    (go l' lt (byte_in t b _ (get o t) lt.messages lt.rest (sym (byte_same t b (Completes t m ∷ items) ∙ ap (λ x. Byte t b ∷ x) (completes_same t m items)) ∙ lt.blocks)))
   where
     go : Lefts P o (Byte t b ∷ Completes t m ∷ items) → (lt : IsLeft P t (get o t) (Byte t b ∷ Completes t m ∷ items)) → ByteIn t b (Completes t m ∷ of_side t items) (get o t) lt.messages lt.rest → Walk P o (Byte t b ∷ Completes t m ∷ items)
     go l' lt (of_message n [] i h) =
         let nm : n ≡ m = cc in
         let h' : of_side t items ≡ beyond t lt.messages lt.rest = cc in
         final t m b (i ∙ ap (λ k. Busy k (b ∷ [])) nm) (next (put o t Idle) (each_with IsUnfinished o t Idle un tt)
-            (lefts_put o t Idle items (Byte t b ∷ Completes t m ∷ items) l' (record { messages = lt.messages; rest = lt.rest; blocks = h'; loosely = λ q. absurd (cc); strays = lt.strays })
-                (λ s ne. byte_other s t b (Completes t m ∷ items) ne ∙ completes_other s t m items ne))
-            (tight_tail (Completes u m) items tight.1))
+        (lefts_put o t Idle items (Byte t b ∷ Completes t m ∷ items) l' (record { messages = lt.messages; rest = lt.rest; blocks = h'; loosely = λ q. absurd (cc); strays = lt.strays })
+        (λ s ne. byte_other s t b (Completes t m ∷ items) ne ∙ completes_other s t m items ne))
+        (tight_tail (Completes u m) items tight.1))
     go l' lt (of_message n (c ∷ left) i h) = absurd (cc)
     go l' lt (of_none [] f n e h) = absurd (cc)
     go l' lt (of_none (c ∷ rest) f n e h) = absurd (cc)
@@ -322,7 +345,7 @@ unblocked {P} (Starts u m ∷ Byte v b ∷ items) o un l t = subst (λ w. Walk P
 unblocked {P} (Starts u m ∷ []) o un l t =
     let lu : IsLeft P u (get o u) (Starts u m ∷ []) = l u in
     let st : (get o u ≡ Idle) × ((ms' : List Message) × ([] ≡ (bytes_of u (enc m) ++ Completes u m ∷ []) ++ beyond u ms' lu.rest)) =
-        starts_in u m [] (get o u) lu.messages lu.rest lu.loosely (sym (starts_same u m []) ∙ lu.blocks) in
+    starts_in u m [] (get o u) lu.messages lu.rest lu.loosely (sym (starts_same u m []) ∙ lu.blocks) in
     absurd (nothing_in u (Busy m (enc m)) st.1.0 lu.rest st.1.1)
 unblocked {P} (Starts u m ∷ Starts v n ∷ items) o un l t = elim t.0 [ ]
 unblocked {P} (Starts u m ∷ Completes v n ∷ items) o un l t = elim t.0 [ ]
@@ -337,6 +360,7 @@ unblocked {P} (Byte u b ∷ Serves k ∷ items) o un l t = unbyted u b (Serves k
 pub walked : {P : Type 0} (items : List Item) (client server : List ℕ) → (IsFilled client → P) → (IsFilled server → P) → IsMarkedBut items client server → Walk P Idles items
 walked items client server cs ss m = unblocked items Idles (elim [ Client ↦ tt | Server ↦ tt ])
     (elim [
-        Client ↦ record { messages = m.client_side.messages; rest = client; blocks = m.client_side.blocks; loosely = λ e. absurd (cc); strays = cs }
-        | Server ↦ record { messages = m.server_side.messages; rest = server; blocks = m.server_side.blocks; loosely = λ e. absurd (cc); strays = ss } ])
+      | Client ↦ record { messages = m.client_side.messages; rest = client; blocks = m.client_side.blocks; loosely = λ e. absurd (cc); strays = cs }
+      | Server ↦ record { messages = m.server_side.messages; rest = server; blocks = m.server_side.blocks; loosely = λ e. absurd (cc); strays = ss }
+    ])
     m.tight

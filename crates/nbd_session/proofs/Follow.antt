@@ -93,24 +93,27 @@ completes_later (ended c d) core ob sd Client m left e = absurd (subst IsNotBusy
 completes_later (ended c d) core ob sd Server m left e = absurd (subst IsNotBusy e d)
 completes_later (serving k w) core ob sd s m left e = completes_later w core ob sd s m left e
 completes_later {o} (opening t n b rest i f g w) core ob sd s m left e = elim (same_or_not t s) [
-    inl q ↦ (let i' : get o s ≡ Idle = subst (λ u. get o u ≡ Idle) q i in absurd (cc))
-    | inr ne ↦ completes_later w core ob.1 (each_with IsSidedOpen o t (Busy n rest) sd ob.0.sided) s m left (get-put_other o t s (Busy n rest) ne ∙ e) ]
+  | inl q ↦ (let i' : get o s ≡ Idle = subst (λ u. get o u ≡ Idle) q i in absurd (cc))
+  | inr ne ↦ completes_later w core ob.1 (each_with IsSidedOpen o t (Busy n rest) sd ob.0.sided) s m left (get-put_other o t s (Busy n rest) ne ∙ e)
+]
 completes_later {o} (middle t n b rest i f w) core ob sd s m left e =
     let sd' : side n ≡ t = subst (IsSidedOpen t) i (sd t) in
     elim (same_or_not t s) [
-    inl q ↦ (let i' : get o s ≡ Busy n (b ∷ rest) = subst (λ u. get o u ≡ Busy n (b ∷ rest)) q i in
-        let nm : n ≡ m = cc in
-        subst (HasEnd s core) nm (completes_later w core ob (each_with IsSidedOpen o t (Busy n rest) sd sd') s n rest (subst (λ u. get (put o t (Busy n rest)) u ≡ Busy n rest) q (get-put_same o t (Busy n rest)))))
-    | inr ne ↦ completes_later w core ob (each_with IsSidedOpen o t (Busy n rest) sd sd') s m left (get-put_other o t s (Busy n rest) ne ∙ e) ]
+      | inl q ↦ (let i' : get o s ≡ Busy n (b ∷ rest) = subst (λ u. get o u ≡ Busy n (b ∷ rest)) q i in
+          let nm : n ≡ m = cc in
+          subst (HasEnd s core) nm (completes_later w core ob (each_with IsSidedOpen o t (Busy n rest) sd sd') s n rest (subst (λ u. get (put o t (Busy n rest)) u ≡ Busy n rest) q (get-put_same o t (Busy n rest)))))
+      | inr ne ↦ completes_later w core ob (each_with IsSidedOpen o t (Busy n rest) sd sd') s m left (get-put_other o t s (Busy n rest) ne ∙ e)
+    ]
 completes_later {o} (final t n b i w) core ob sd s m left e =
     let sd' : side n ≡ t = subst (IsSidedOpen t) i (sd t) in
     elim (same_or_not t s) [
-    inl q ↦ (let i' : get o s ≡ Busy n (b ∷ []) = subst (λ u. get o u ≡ Busy n (b ∷ [])) q i in
-        let nm : n ≡ m = cc in
-        record { end = core; later = at_once; completes = subst (λ x. MayComplete core core.phase x) nm ob.0 })
-    | inr ne ↦ (let r : HasEnd s (complete core n) m = completes_later w (complete core n) ob.1 (each_with IsSidedOpen o t Idle sd tt) s m left (get-put_other o t s Idle ne ∙ e) in
-        record { end = r.end; later = behind n (λ q. ne (sym sd' ∙ q)) ob.0 r.later; completes = r.completes }) ]
+      | inl q ↦ (let i' : get o s ≡ Busy n (b ∷ []) = subst (λ u. get o u ≡ Busy n (b ∷ [])) q i in
+          let nm : n ≡ m = cc in
+          record { end = core; later = at_once; completes = subst (λ x. MayComplete core core.phase x) nm ob.0 })
+      | inr ne ↦ (let r : HasEnd s (complete core n) m = completes_later w (complete core n) ob.1 (each_with IsSidedOpen o t Idle sd tt) s m left (get-put_other o t s Idle ne ∙ e) in
+          record { end = r.end; later = behind n (λ q. ne (sym sd' ∙ q)) ob.0 r.later; completes = r.completes })
+    ]
 completes_later {o} (loose t b p i w) core ob sd s m left e = elim (same_or_not t s) [
-    inl q ↦ absurd (subst IsNotBusy (subst (λ u. get o u ≡ Busy m left) (sym q) e) i)
-    | inr ne ↦ completes_later w core ob (each_with IsSidedOpen o t Loose sd tt) s m left (get-put_other o t s Loose ne ∙ e) ]
-
+  | inl q ↦ absurd (subst IsNotBusy (subst (λ u. get o u ≡ Busy m left) (sym q) e) i)
+  | inr ne ↦ completes_later w core ob (each_with IsSidedOpen o t Loose sd tt) s m left (get-put_other o t s Loose ne ∙ e)
+]

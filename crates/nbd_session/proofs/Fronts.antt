@@ -88,17 +88,20 @@ request_front flags flags' command command' cookie cookie' offset offset' len le
     let k : cookie ≡ cookie' = sym (big_number-reads_back 8 cookie (drop 16 m) h.2) ∙ ap (number_at 8 8) e ∙ big_number-reads_back 8 cookie' (drop 16 n) h'.2 in
     let o : offset ≡ offset' = sym (big_number-reads_back 8 offset (drop 24 m) h.3) ∙ ap (number_at 16 8) e ∙ big_number-reads_back 8 offset' (drop 24 n) h'.3 in
     let l : len ≡ len' = sym (big_number-reads_back 4 len p h.4) ∙ ap (number_at 24 4) e ∙ big_number-reads_back 4 len' (p' ++ left) h'.4 in
-    let r : (p ≡ p') × (left ≡ []) = same_front p p' left (same_carried command command' len len' p p' c l h.5 h'.5) (ap (drop 28) e) in
-    (ap (λ x. Request x command cookie offset len p) f ∙ ap (λ x. Request flags' x cookie offset len p) c ∙ ap (λ x. Request flags' command' x offset len p) k
-        ∙ ap (λ x. Request flags' command' cookie' x len p) o ∙ ap (λ x. Request flags' command' cookie' offset' x p) l ∙ ap (Request flags' command' cookie' offset' len') r.0, r.1)
+    let r : (p ≡ p') × (left ≡ []) = same_front p p' left (same_carried command command' len len' p p' c l h.5 h'.5) (ap (drop 28) e) in (
+      ap (λ x. Request x command cookie offset len p) f ∙ ap (λ x. Request flags' x cookie offset len p) c ∙ ap (λ x. Request flags' command' x offset len p) k
+          ∙ ap (λ x. Request flags' command' cookie' x len p) o ∙ ap (λ x. Request flags' command' cookie' offset' x p) l ∙ ap (Request flags' command' cookie' offset' len') r.0,
+      r.1,
+    )
 
 simple_fields : (error error' cookie cookie' : ℕ) (p p' left : List ℕ) → error < 2 ^ 32 → error' < 2 ^ 32 → cookie < 2 ^ 64 → cookie' < 2 ^ 64 →
     enc (Simple error cookie p) ≡ enc (Simple error' cookie' p') ++ left → (error ≡ error') × (cookie ≡ cookie') × (p ≡ p' ++ left)
 unfolding enc head tail
-simple_fields error error' cookie cookie' p p' left h h' k k' e =
-    (sym (big_number-reads_back 4 error (drop 8 (enc (Simple error cookie p))) h) ∙ ap (number_at 4 4) e ∙ big_number-reads_back 4 error' (drop 8 (enc (Simple error' cookie' p') ++ left)) h',
-     sym (big_number-reads_back 8 cookie p k) ∙ ap (number_at 8 8) e ∙ big_number-reads_back 8 cookie' (p' ++ left) k',
-     ap (drop 16) e)
+simple_fields error error' cookie cookie' p p' left h h' k k' e = (
+  sym (big_number-reads_back 4 error (drop 8 (enc (Simple error cookie p))) h) ∙ ap (number_at 4 4) e ∙ big_number-reads_back 4 error' (drop 8 (enc (Simple error' cookie' p') ++ left)) h',
+  sym (big_number-reads_back 8 cookie p k) ∙ ap (number_at 8 8) e ∙ big_number-reads_back 8 cookie' (p' ++ left) k',
+  ap (drop 16) e,
+)
 
 chunk_front : (flags flags' kind kind' cookie cookie' : ℕ) (p p' left : List ℕ) →
     IsSendable (Chunk flags kind cookie p) → IsSendable (Chunk flags' kind' cookie' p') →

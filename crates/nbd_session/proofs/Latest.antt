@@ -27,10 +27,12 @@ same_number j k = go (j == k) refl
 pub cut : (k : ℕ) (js : List ℕ) → CutAt k js ⊎ (Names js k → ⊥)
 cut k [] = inr (λ h. h)
 cut k (j ∷ js) = elim (same_number j k) [
-    inl e ↦ inl (record { front = []; back = js; whole = ap (λ n. n ∷ js) e })
-    | inr ne ↦ elim (cut k js) [
-        inl c ↦ inl (record { front = j ∷ c.front; back = c.back; whole = ap (λ l. j ∷ l) c.whole })
-        | inr none ↦ inr (elim [ inl e ↦ ne e | inr h ↦ none h ]) ] ]
+  | inl e ↦ inl (record { front = []; back = js; whole = ap (λ n. n ∷ js) e })
+  | inr ne ↦ elim (cut k js) [
+    | inl c ↦ inl (record { front = j ∷ c.front; back = c.back; whole = ap (λ l. j ∷ l) c.whole })
+    | inr none ↦ inr (elim [ inl e ↦ ne e | inr h ↦ none h ])
+  ]
+]
 
 abbrev pub serve_all : List ℕ → List Item → List Item
 serve_all [] items = items
@@ -82,7 +84,7 @@ served_placed core order (Byte s b ∷ items) = served_placed core order items
 served_placed core order (Starts Client m ∷ items) = served_placed core order items
 served_placed core order (Starts Server m ∷ items) =
     serve_for_cases (λ o is. served is ≡ o) (Starts Server m) (λ rest. placed core rest items) (answered_by core m) order
-        (λ ks rest e. served_serve_all ks _ ∙ ap (λ l. ks ++ l) (served_placed core rest items) ∙ sym e)
+    (λ ks rest e. served_serve_all ks _ ∙ ap (λ l. ks ++ l) (served_placed core rest items) ∙ sym e)
 served_placed core order (Completes s m ∷ items) = served_placed (complete core m) order items
 served_placed core order (Serves k ∷ items) = served_placed core order items
 
@@ -92,7 +94,7 @@ pairs_placed core order (Byte s b ∷ items) = ap (λ l. record { from = s; byte
 pairs_placed core order (Starts Client m ∷ items) = pairs_placed core order items
 pairs_placed core order (Starts Server m ∷ items) =
     serve_for_cases (λ o is. pairs is ≡ pairs items) (Starts Server m) (λ rest. placed core rest items) (answered_by core m) order
-        (λ ks rest e. pairs_serve_all ks _ ∙ pairs_placed core rest items)
+    (λ ks rest e. pairs_serve_all ks _ ∙ pairs_placed core rest items)
 pairs_placed core order (Completes s m ∷ items) = pairs_placed (complete core m) order items
 pairs_placed core order (Serves k ∷ items) = pairs_placed core order items
 
@@ -102,7 +104,7 @@ walk_placed (serving k w) core order = walk_placed w core order
 walk_placed (opening Client m b left e f g w) core order = opening Client m b left e f g (walk_placed w core order)
 walk_placed {P} {o} (opening Server m b left {items = items} e f g w) core order =
     serve_for_cases (λ x is. Walk P o is) (Starts Server m) (λ rest. placed core rest (Byte Server b ∷ items)) (answered_by core m) order
-        (λ ks rest q. walk_serve_all ks (opening Server m b left e f g (walk_placed w core rest)))
+    (λ ks rest q. walk_serve_all ks (opening Server m b left e f g (walk_placed w core rest)))
 walk_placed (middle s m b left e f w) core order = middle s m b left e f (walk_placed w core order)
 walk_placed (final s m b e w) core order = final s m b e (walk_placed w (complete core m) order)
 walk_placed (loose s b p e w) core order = loose s b p e (walk_placed w core order)
@@ -139,11 +141,15 @@ Names-right (j ∷ js) ks k h = inr (Names-right js ks k h)
 obeys_serve_all : (core : Core) (js ks : List ℕ) (items : List Item) → AreReady (length core.entries) js ks → Obeys (record { core = core; served = js ++ ks }) items → Obeys (record { core = core; served = js }) (serve_all ks items)
 obeys_serve_all core js [] items ready ob = subst (λ l. Obeys (record { core = core; served = l }) items) (append-nil js) ob
 obeys_serve_all core js (k ∷ ks) items ready ob =
-    let r : (0 < k) × (k ≤ length core.entries) × (Names js k → ⊥) = ready.1 k (inl refl) in
-    (r, obeys_serve_all core (js ++ k ∷ []) ks items
-        (ready.0.1, λ j h. let q : (0 < j) × (j ≤ length core.entries) × (Names js j → ⊥) = ready.1 j (inr h) in
-            (q.0, q.1, λ n. elim (Names-push_cases js k j n) [ inl a ↦ q.2 a | inr e ↦ ready.0.0 (subst (Names ks) (sym e) h) ]))
-        (subst (λ l. Obeys (record { core = core; served = l }) items) (sym (append_assoc js (k ∷ []) ks)) ob))
+    let r : (0 < k) × (k ≤ length core.entries) × (Names js k → ⊥) = ready.1 k (inl refl) in (
+      r,
+      obeys_serve_all core (js ++ k ∷ []) ks items (
+        ready.0.1,
+        λ j h. let q : (0 < j) × (j ≤ length core.entries) × (Names js j → ⊥) = ready.1 j (inr h) in
+            (q.0, q.1, λ n. elim (Names-push_cases js k j n) [ inl a ↦ q.2 a | inr e ↦ ready.0.0 (subst (Names ks) (sym e) h) ]),
+      )
+          (subst (λ l. Obeys (record { core = core; served = l }) items) (sym (append_assoc js (k ∷ []) ks)) ob),
+    )
 
 IsOnce-left : (js ks : List ℕ) → IsOnce (js ++ ks) → IsOnce js
 IsOnce-left [] ks h = tt
@@ -165,8 +171,9 @@ IsInTime-right κ (j ∷ js) ks h = IsInTime-right κ js ks h.1
 in_time_before : (κ : ℕ → Option ℕ) (js ks : List ℕ) (k n : ℕ) → IsInTime κ (js ++ ks) → Names ks k → κ k ≡ Some n → (j : ℕ) → Names js j → j ≤ n
 in_time_before κ [] ks k n h a e j b = absurd b
 in_time_before κ (i ∷ js) ks k n h a e j b = elim b [
-    inl q ↦ subst (λ x. x ≤ n) q (h.0 k n (inr (Names-right js ks k a)) e)
-    | inr m ↦ in_time_before κ js ks k n h.1 a e j m ]
+  | inl q ↦ subst (λ x. x ≤ n) q (h.0 k n (inr (Names-right js ks k a)) e)
+  | inr m ↦ in_time_before κ js ks k n h.1 a e j m
+]
 
 module _ (κ : ℕ → Option ℕ) (count : ℕ) where
   -- what is left of the order fits what is left of the run
@@ -182,22 +189,34 @@ module _ (κ : ℕ → Option ℕ) (count : ℕ) where
   module _ (core : Core) (m : Message) (items : List Item) (js₀ js order : List ℕ) (ob : Obeys (record { core = core; served = js₀ }) (Starts Server m ∷ items)) (f : Fits core js order (Starts Server m ∷ items))
       (go_on : (js' rest : List ℕ) → Fits core js' rest items → Obeys (record { core = core; served = js' }) (placed core rest items)) where
     starts_unasked : answered_by core m ≡ None → Obeys (record { core = core; served = js }) (serve_for None order (Starts Server m) (λ rest. placed core rest items))
-    starts_unasked e = ((ob.0.0, ob.0.1, ob.0.2, λ k q. absurd (cc)), go_on js order (record {
-        once = f.once; apart = f.apart; in_time = f.in_time;
+    starts_unasked e = (
+      (ob.0.0, ob.0.1, ob.0.2, λ k q. absurd (cc)),
+      go_on js order (record {
+        once = f.once;
+        apart = f.apart;
+        in_time = f.in_time;
         known = λ k. elim (f.known k) [ inl a ↦ inl a | inr q ↦ inr (subst (λ a. first_known a core k (known_from core k items) ≡ κ k) e q) ];
-        all = f.all; named = f.named; end = f.end }))
+        all = f.all;
+        named = f.named;
+        end = f.end;
+      }),
+    )
 
     module _ (k : ℕ) (e : answered_by core m ≡ Some k) where
       known_so_far : (j : ℕ) → Names js j ⊎ (known_if (k == j) core (known_from core j items) ≡ κ j)
       known_so_far j = elim (f.known j) [ inl a ↦ inl a | inr q ↦ inr (subst (λ a. first_known a core j (known_from core j items) ≡ κ j) e q) ]
 
       known_now : Names js k ⊎ (κ k ≡ Some (length core.entries))
-      known_now = elim (known_so_far k) [ inl a ↦ inl a
-          | inr q ↦ inr (sym q ∙ ap (λ b. known_if b core (known_from core k items)) (eq-eqb k k refl)) ]
+      known_now = elim (known_so_far k) [
+        | inl a ↦ inl a
+        | inr q ↦ inr (sym q ∙ ap (λ b. known_if b core (known_from core k items)) (eq-eqb k k refl))
+      ]
 
       known_other : (j : ℕ) → (k ≡ j → ⊥) → Names js j ⊎ (known_from core j items ≡ κ j)
-      known_other j ne = elim (known_so_far j) [ inl a ↦ inl a
-          | inr q ↦ inr (sym (ap (λ b. known_if b core (known_from core j items)) (ne_eqb k j ne)) ∙ q) ]
+      known_other j ne = elim (known_so_far j) [
+        | inl a ↦ inl a
+        | inr q ↦ inr (sym (ap (λ b. known_if b core (known_from core j items)) (ne_eqb k j ne)) ∙ q)
+      ]
 
       starts_at : (c : CutAt k order) → Obeys (record { core = core; served = js }) (serve_all (c.front ++ k ∷ []) (Starts Server m ∷ placed core c.back items))
       starts_at c =
@@ -210,25 +229,34 @@ module _ (κ : ℕ → Option ℕ) (count : ℕ) where
           let named_k : Names order k = left k (Names-push c.front k) in
           let known_k : κ k ≡ Some (length core.entries) = elim known_now [ inl a ↦ absurd (f.apart k a named_k) | inr q ↦ q ] in
           let k_in : (0 < k) × (k ≤ length core.entries) = answered_by-within core m k e in
-          obeys_serve_all core js ks (Starts Server m ∷ placed core c.back items)
-            (IsOnce-left ks c.back once, λ j h. ((f.named j (left j h)).0,
-                elim (Names-push_cases c.front k j h) [
-                    inl a ↦ in_time_before κ c.front (k ∷ c.back) k (length core.entries) in_time (inl refl) known_k j a
-                    | inr q ↦ subst (λ x. x ≤ length core.entries) q k_in.1 ],
-                λ a. f.apart j a (left j h)))
-            ((ob.0.0, ob.0.1, ob.0.2, λ j q. let kj : k ≡ j = cc in subst (Names (js ++ ks)) kj (Names-right js ks k (Names-push c.front k))),
-              go_on (js ++ ks) c.back (record {
-                once = IsOnce-right ks c.back once;
-                apart = λ j a b. elim (Names-append_cases js ks j a) [ inl n ↦ f.apart j n (right j b) | inr n ↦ IsOnce-apart ks c.back j once n b ];
-                in_time = IsInTime-right κ ks c.back (subst (IsInTime κ) split f.in_time);
-                known = λ j. elim (same_number k j) [
-                    inl q ↦ inl (subst (Names (js ++ ks)) q (Names-right js ks k (Names-push c.front k)))
-                    | inr ne ↦ elim (known_other j ne) [ inl a ↦ inl (Names-left js ks j a) | inr q ↦ inr q ] ];
-                all = λ j n p h q. elim (f.all j n p h q) [
-                    inl a ↦ inl (Names-left js ks j a)
-                    | inr b ↦ elim (Names-append_cases ks c.back j (subst (λ l. Names l j) split b)) [ inl x ↦ inl (Names-right js ks j x) | inr y ↦ inr y ] ];
-                named = λ j h. f.named j (right j h);
-                end = f.end }))
+          obeys_serve_all core js ks (Starts Server m ∷ placed core c.back items) (
+            IsOnce-left ks c.back once,
+            λ j h. (
+              (f.named j (left j h)).0,
+              elim (Names-push_cases c.front k j h) [
+                | inl a ↦ in_time_before κ c.front (k ∷ c.back) k (length core.entries) in_time (inl refl) known_k j a
+                | inr q ↦ subst (λ x. x ≤ length core.entries) q k_in.1
+              ],
+              λ a. f.apart j a (left j h),
+            ),
+          ) (
+            (ob.0.0, ob.0.1, ob.0.2, λ j q. let kj : k ≡ j = cc in subst (Names (js ++ ks)) kj (Names-right js ks k (Names-push c.front k))),
+            go_on (js ++ ks) c.back (record {
+              once = IsOnce-right ks c.back once;
+              apart = λ j a b. elim (Names-append_cases js ks j a) [ inl n ↦ f.apart j n (right j b) | inr n ↦ IsOnce-apart ks c.back j once n b ];
+              in_time = IsInTime-right κ ks c.back (subst (IsInTime κ) split f.in_time);
+              known = λ j. elim (same_number k j) [
+                | inl q ↦ inl (subst (Names (js ++ ks)) q (Names-right js ks k (Names-push c.front k)))
+                | inr ne ↦ elim (known_other j ne) [ inl a ↦ inl (Names-left js ks j a) | inr q ↦ inr q ]
+              ];
+              all = λ j n p h q. elim (f.all j n p h q) [
+                | inl a ↦ inl (Names-left js ks j a)
+                | inr b ↦ elim (Names-append_cases ks c.back j (subst (λ l. Names l j) split b)) [ inl x ↦ inl (Names-right js ks j x) | inr y ↦ inr y ]
+              ];
+              named = λ j h. f.named j (right j h);
+              end = f.end;
+            }),
+          )
 
       starts_again : (Names order k → ⊥) → Obeys (record { core = core; served = js }) (Starts Server m ∷ placed core order items)
       starts_again none =
@@ -236,13 +264,20 @@ module _ (κ : ℕ → Option ℕ) (count : ℕ) where
           let grow : length core.entries ≤ length (core_end core items).entries = entries_grow core items in
           let ends : length (core_end core items).entries ≡ count = f.end in
           let served_k : Names js k = elim known_now [
-              inl a ↦ a
-              | inr q ↦ elim (f.all k (length core.entries) k_in.0 (omega arith) q) [ inl a ↦ a | inr b ↦ absurd (none b) ] ] in
-          ((ob.0.0, ob.0.1, ob.0.2, λ j q. let kj : k ≡ j = cc in subst (Names js) kj served_k),
+            | inl a ↦ a
+            | inr q ↦ elim (f.all k (length core.entries) k_in.0 (omega arith) q) [ inl a ↦ a | inr b ↦ absurd (none b) ]
+          ] in (
+            (ob.0.0, ob.0.1, ob.0.2, λ j q. let kj : k ≡ j = cc in subst (Names js) kj served_k),
             go_on js order (record {
-                once = f.once; apart = f.apart; in_time = f.in_time;
-                known = λ j. elim (same_number k j) [ inl q ↦ inl (subst (Names js) q served_k) | inr ne ↦ known_other j ne ];
-                all = f.all; named = f.named; end = f.end }))
+              once = f.once;
+              apart = f.apart;
+              in_time = f.in_time;
+              known = λ j. elim (same_number k j) [ inl q ↦ inl (subst (Names js) q served_k) | inr ne ↦ known_other j ne ];
+              all = f.all;
+              named = f.named;
+              end = f.end;
+            }),
+          )
 
       starts_asked : (c : CutAt k order ⊎ (Names order k → ⊥)) → Obeys (record { core = core; served = js }) (serve_cut {k = k} {order = order} c (Starts Server m) (λ rest. placed core rest items))
       starts_asked (inl c) = starts_at c

@@ -9,3 +9,6 @@ pub mod Runs
 pub mod Ordered
 pub mod Fronts
 pub mod Twins
+pub mod Indexed
+pub mod Unserved
+pub mod Moments

@@ -248,7 +248,7 @@ held_on : (judge : Judge) → IsSound judge → (machine mid : Machine) (p : Pai
 held_on judge sound machine mid p ps lt held ih More is h = ih _ (held_more judge machine p.from p.byte lt held is) h
 held_on judge sound machine mid p ps lt held ih (Whole m) is h =
     let ok : IsSoundAt (grown machine.core (get machine.rests p.from) p.byte).since machine.core p.from (grown machine.core (get machine.rests p.from) p.byte).bytes m =
-        sound _ _ _ _ m (kept_next judge machine.core p.from (get machine.rests p.from) p.byte lt (held p.from)) is in
+    sound _ _ _ _ m (kept_next judge machine.core p.from (get machine.rests p.from) p.byte lt (held p.from)) is in
     ih _ (held_whole judge machine p.from m (record (grown machine.core (get machine.rests p.from) p.byte) { bytes = [] }) refl held ok.sided ok.sendable ok.completes) h
 held_on judge sound machine mid p ps lt held ih (Bad f) is h = absurd (cc)
 

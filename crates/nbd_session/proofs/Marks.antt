@@ -82,13 +82,15 @@ read_on : (judge : Judge) (machine : Machine) (s : Side) (b : ℕ) (ps : List Pa
     judge (grown machine.core (get machine.rests s) b).since machine.core s (grown machine.core (get machine.rests s) b).bytes ≡ r →
     reads_next judge machine s b ps messages r → IsRead judge machine (record { from = s; byte = b } ∷ ps) messages
 read_on judge machine s b ps messages More e h = record {
-    end = h.end;
-    reads_it = ap (λ r. on_ok (settle machine s (grown machine.core (get machine.rests s) b) r) (λ next. reads judge next ps)) e ∙ h.reads_it;
-    messages_are = h.messages_are }
+  end = h.end;
+  reads_it = ap (λ r. on_ok (settle machine s (grown machine.core (get machine.rests s) b) r) (λ next. reads judge next ps)) e ∙ h.reads_it;
+  messages_are = h.messages_are;
+}
 read_on judge machine s b ps messages (Whole m) e (rest, is, h) = record {
-    end = h.end;
-    reads_it = ap (λ r. on_ok (settle machine s (grown machine.core (get machine.rests s) b) r) (λ next. reads judge next ps)) e ∙ h.reads_it;
-    messages_are = h.messages_are ∙ append_assoc machine.messages (m ∷ []) rest ∙ ap (λ ms. machine.messages ++ ms) (sym is) }
+  end = h.end;
+  reads_it = ap (λ r. on_ok (settle machine s (grown machine.core (get machine.rests s) b) r) (λ next. reads judge next ps)) e ∙ h.reads_it;
+  messages_are = h.messages_are ∙ append_assoc machine.messages (m ∷ []) rest ∙ ap (λ ms. machine.messages ++ ms) (sym is);
+}
 read_on judge machine s b ps messages (Bad f) e h = absurd h
 
 nothing_read : (judge : Judge) (machine : Machine) (messages : List Message) → messages ≡ [] → IsRead judge machine [] messages
@@ -97,16 +99,30 @@ nothing_read judge machine messages e = record { end = machine; reads_it = refl;
 -- the rest with one more byte
 within_opening : (core : Core) (rest : Rest) (s : Side) (m : Message) (b : ℕ) (left : List ℕ) → rest.bytes ≡ [] → enc m ≡ b ∷ left → IsFilled left → side m ≡ s → IsSendable m → MayStart core s m →
     InStep core (grown core rest b) s (Busy m left)
-within_opening core rest s m b left e f g sd sn ms = (record {
-    filled = IsFilled-snoc rest.bytes b; unfinished = g; encodes = f ∙ ap (λ bs. (bs ++ b ∷ []) ++ left) (sym e); sided = sd; sendable = sn;
-    starts = subst (λ c. MayStart c s m) (sym (old-empty core rest e)) ms },
-    subst (λ c. Later s c core) (sym (old-empty core rest e)) at_once)
+within_opening core rest s m b left e f g sd sn ms = (
+  record {
+    filled = IsFilled-snoc rest.bytes b;
+    unfinished = g;
+    encodes = f ∙ ap (λ bs. (bs ++ b ∷ []) ++ left) (sym e);
+    sided = sd;
+    sendable = sn;
+    starts = subst (λ c. MayStart c s m) (sym (old-empty core rest e)) ms;
+  },
+  subst (λ c. Later s c core) (sym (old-empty core rest e)) at_once,
+)
 
 within_middle : (core : Core) (rest : Rest) (s : Side) (m : Message) (b : ℕ) (left : List ℕ) → InStep core rest s (Busy m (b ∷ left)) → IsFilled left → InStep core (grown core rest b) s (Busy m left)
-within_middle core rest s m b left i g = (record {
-    filled = IsFilled-snoc rest.bytes b; unfinished = g; encodes = i.0.encodes ∙ sym (append_assoc rest.bytes (b ∷ []) left); sided = i.0.sided; sendable = i.0.sendable;
-    starts = subst (λ c. MayStart c s m) (sym (old-filled core rest i.0.filled)) i.0.starts },
-    subst (λ c. Later s c core) (sym (old-filled core rest i.0.filled)) i.1)
+within_middle core rest s m b left i g = (
+  record {
+    filled = IsFilled-snoc rest.bytes b;
+    unfinished = g;
+    encodes = i.0.encodes ∙ sym (append_assoc rest.bytes (b ∷ []) left);
+    sided = i.0.sided;
+    sendable = i.0.sendable;
+    starts = subst (λ c. MayStart c s m) (sym (old-filled core rest i.0.filled)) i.0.starts;
+  },
+  subst (λ c. Later s c core) (sym (old-filled core rest i.0.filled)) i.1,
+)
 
 judged_more : (judge : Judge) → IsExact judge → (core : Core) (rest : Rest) (s : Side) (m : Message) (left : List ℕ) → InStep core rest s (Busy m left) → HasEnd s core m → Kept judge s rest.since core rest.bytes → judge rest.since core s rest.bytes ≡ More
 judged_more judge exact core rest s m left i end k =
@@ -117,8 +133,8 @@ judged_whole : (judge : Judge) → IsExact judge → (core : Core) (rest : Rest)
 judged_whole judge exact core rest s m b i ok k =
     let since_is : old_of core rest ≡ rest.since = old-filled core rest i.0.filled in
     ap (λ c. judge c core s (rest.bytes ++ b ∷ [])) since_is ∙ ap (λ bs. judge rest.since core s bs) (sym i.0.encodes)
-        ∙ exact.whole rest.since core s m i.1 i.0.sided i.0.sendable i.0.starts ok
-            (subst (λ l. Kept judge s rest.since core l) (sym i.0.encodes) (subst (λ c. Kept judge s c core (rest.bytes ++ b ∷ [])) since_is k))
+    ∙ exact.whole rest.since core s m i.1 i.0.sided i.0.sendable i.0.starts ok
+    (subst (λ l. Kept judge s rest.since core l) (sym i.0.encodes) (subst (λ c. Kept judge s c core (rest.bytes ++ b ∷ [])) since_is k))
 
 -- the pairs that a walk begins with are read, with the messages that complete within them
 pub marks : (judge : Judge) → IsExact judge → {o : Both Open} {items : List Item} (w : Walk ⊥ o items) (machine : Machine) (js : List ℕ) →
@@ -132,13 +148,13 @@ marks judge exact {o} (opening s m b left {items = items} is f g w) machine js o
     let b_lt : b < 256 = subst (λ (q : Pair). q.byte < 256) (sym p_is) lt.0 in
     let e' : pairs items ≡ ps ++ more = cc in
     let i : InStep machine.core (grown machine.core (get machine.rests s) b) s (Busy m left) =
-        within_opening machine.core (get machine.rests s) s m b left (subst (InStep machine.core (get machine.rests s) s) is (st s)) f g ob.0.0 ob.0.1 ob.0.2 in
+    within_opening machine.core (get machine.rests s) s m b left (subst (InStep machine.core (get machine.rests s) s) is (st s)) f g ob.0.0 ob.0.1 ob.0.2 in
     let end : HasEnd s machine.core m = completes_later w machine.core (follows items (record { core = machine.core; served = js }) ob.1.1) (each_with IsSidedOpen o s (Busy m left) (in_step_sided machine o st) ob.0.0) s m left (get-put_same o s (Busy m left)) in
     let j : judge (grown machine.core (get machine.rests s) b).since machine.core s (grown machine.core (get machine.rests s) b).bytes ≡ More =
-        judged_more judge exact machine.core (grown machine.core (get machine.rests s) b) s m left i end (kept_next judge machine.core s (get machine.rests s) b b_lt (hd s)) in
+    judged_more judge exact machine.core (grown machine.core (get machine.rests s) b) s m left i end (kept_next judge machine.core s (get machine.rests s) b b_lt (hd s)) in
     subst (λ q. IsRead judge machine (q ∷ ps) (within (length ps) items)) p_is
-        (read_on judge machine s b ps _ More j
-            (marks judge exact w _ js ob.1.1 (in_step_with machine o s (grown machine.core (get machine.rests s) b) (Busy m left) st i) (held_more judge machine s b b_lt hd j) ps more lt.1 e'))
+    (read_on judge machine s b ps _ More j
+    (marks judge exact w _ js ob.1.1 (in_step_with machine o s (grown machine.core (get machine.rests s) b) (Busy m left) st i) (held_more judge machine s b b_lt hd j) ps more lt.1 e'))
 marks judge exact (middle s m b left is g w) machine js ob st hd [] more lt e = nothing_read judge machine _ refl
 marks judge exact {o} (middle s m b left {items = items} is g w) machine js ob st hd (p ∷ ps) more lt e =
     let p_is : record { from = s; byte = b } ≡ p = cc in
@@ -148,10 +164,10 @@ marks judge exact {o} (middle s m b left {items = items} is g w) machine js ob s
     let i : InStep machine.core (grown machine.core (get machine.rests s) b) s (Busy m left) = within_middle machine.core (get machine.rests s) s m b left i0 g in
     let end : HasEnd s machine.core m = completes_later w machine.core (follows items (record { core = machine.core; served = js }) ob.1) (each_with IsSidedOpen o s (Busy m left) (in_step_sided machine o st) i0.0.sided) s m left (get-put_same o s (Busy m left)) in
     let j : judge (grown machine.core (get machine.rests s) b).since machine.core s (grown machine.core (get machine.rests s) b).bytes ≡ More =
-        judged_more judge exact machine.core (grown machine.core (get machine.rests s) b) s m left i end (kept_next judge machine.core s (get machine.rests s) b b_lt (hd s)) in
+    judged_more judge exact machine.core (grown machine.core (get machine.rests s) b) s m left i end (kept_next judge machine.core s (get machine.rests s) b b_lt (hd s)) in
     subst (λ q. IsRead judge machine (q ∷ ps) (within (length ps) items)) p_is
-        (read_on judge machine s b ps _ More j
-            (marks judge exact w _ js ob.1 (in_step_with machine o s (grown machine.core (get machine.rests s) b) (Busy m left) st i) (held_more judge machine s b b_lt hd j) ps more lt.1 e'))
+    (read_on judge machine s b ps _ More j
+    (marks judge exact w _ js ob.1 (in_step_with machine o s (grown machine.core (get machine.rests s) b) (Busy m left) st i) (held_more judge machine s b b_lt hd j) ps more lt.1 e'))
 marks judge exact (final s m b is w) machine js ob st hd [] more lt e = nothing_read judge machine _ refl
 marks judge exact {o} (final s m b {items = items} is w) machine js ob st hd (p ∷ ps) more lt e =
     let p_is : record { from = s; byte = b } ≡ p = cc in
@@ -159,6 +175,6 @@ marks judge exact {o} (final s m b {items = items} is w) machine js ob st hd (p 
     let e' : pairs items ≡ ps ++ more = cc in
     let i0 : InStep machine.core (get machine.rests s) s (Busy m (b ∷ [])) = subst (InStep machine.core (get machine.rests s) s) is (st s) in
     subst (λ q. IsRead judge machine (q ∷ ps) (m ∷ within (length ps) items)) p_is
-        (read_on judge machine s b ps _ (Whole m) (judged_whole judge exact machine.core (get machine.rests s) s m b i0 ob.1.0 (kept_next judge machine.core s (get machine.rests s) b b_lt (hd s)))
-            (within (length ps) items, refl, marks judge exact w _ js ob.1.1 (in_step_completed machine o s m _ (machine.messages ++ m ∷ []) st i0.0.sided ob.1.0 refl) (held_whole judge machine s m _ refl hd i0.0.sided i0.0.sendable ob.1.0) ps more lt.1 e'))
+    (read_on judge machine s b ps _ (Whole m) (judged_whole judge exact machine.core (get machine.rests s) s m b i0 ob.1.0 (kept_next judge machine.core s (get machine.rests s) b b_lt (hd s)))
+    (within (length ps) items, refl, marks judge exact w _ js ob.1.1 (in_step_completed machine o s m _ (machine.messages ++ m ∷ []) st i0.0.sided ob.1.0 refl) (held_whole judge machine s m _ refl hd i0.0.sided i0.0.sendable ob.1.0) ps more lt.1 e'))
 marks judge exact (loose s b absent is w) machine js ob st hd ps more lt e = absurd absent

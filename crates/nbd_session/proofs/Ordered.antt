@@ -26,8 +26,9 @@ module _ (core : Core) (js : List ℕ) (m : Message) (items : List Item) (for_it
   answered_now : (a : Option ℕ) → answered_by core m ≡ a → (k n : ℕ) → first_known a core k (known_from core k items) ≡ Some n → Names js k ⊎ Names (served items) k
   answered_now None e k n q = h.answered k n q
   answered_now (Some j) e k n q = elim (same_number j k) [
-      inl s ↦ inl (for_it k (e ∙ ap Some s))
-      | inr ne ↦ h.answered k n (sym (ap (λ b. known_if b core (known_from core k items)) (ne_eqb j k ne)) ∙ q) ]
+    | inl s ↦ inl (for_it k (e ∙ ap Some s))
+    | inr ne ↦ h.answered k n (sym (ap (λ b. known_if b core (known_from core k items)) (ne_eqb j k ne)) ∙ q)
+  ]
 
   later_now : (a : Option ℕ) → (k n : ℕ) → first_known a core k (known_from core k items) ≡ Some n → length core.entries ≤ n
   later_now None k n q = h.later k n q
@@ -40,8 +41,9 @@ module _ (core : Core) (js : List ℕ) (m : Message) (items : List Item) (for_it
   unasked : (a : Option ℕ) → answered_by core m ≡ a → (k : ℕ) → Names (served items) k → first_known a core k (known_from core k items) ≡ known_from core k items
   unasked None e k n = refl
   unasked (Some j) e k n = elim (same_number j k) [
-      inl s ↦ absurd (h.apart k (for_it k (e ∙ ap Some s)) n)
-      | inr ne ↦ ap (λ b. known_if b core (known_from core k items)) (ne_eqb j k ne) ]
+    | inl s ↦ absurd (h.apart k (for_it k (e ∙ ap Some s)) n)
+    | inr ne ↦ ap (λ b. known_if b core (known_from core k items)) (ne_eqb j k ne)
+  ]
 
 ordered : (items : List Item) (core : Core) (js : List ℕ) → Obeys (record { core = core; served = js }) items → IsOrdered core js items
 ordered [] core js ob = record { named = λ k h. absurd h; apart = λ k a h. h; once = tt; answered = λ k n e. absurd (cc); later = λ k n e. absurd (cc); in_time = λ κ h. tt }
@@ -54,16 +56,23 @@ ordered (Starts Client m ∷ items) core js ob =
 ordered (Starts Server m ∷ items) core js ob =
     let h : IsOrdered core js items = ordered items core js ob.1 in
     record {
-      named = h.named; apart = h.apart; once = h.once;
+      named = h.named;
+      apart = h.apart;
+      once = h.once;
       answered = answered_now core js m items ob.0.3 h (answered_by core m) refl;
       later = later_now core js m items ob.0.3 h (answered_by core m);
-      in_time = λ κ q. h.in_time κ (λ k n. q k n ∙ unasked core js m items ob.0.3 h (answered_by core m) refl k n) }
+      in_time = λ κ q. h.in_time κ (λ k n. q k n ∙ unasked core js m items ob.0.3 h (answered_by core m) refl k n);
+    }
 ordered (Completes s m ∷ items) core js ob =
     let h : IsOrdered (complete core m) js items = ordered items (complete core m) js ob.1 in
     record {
-      named = h.named; apart = h.apart; once = h.once; answered = h.answered;
+      named = h.named;
+      apart = h.apart;
+      once = h.once;
+      answered = h.answered;
       later = λ k n e. (let l : length (complete core m).entries ≤ n = h.later k n e in elim (length-complete core m) [ inl q ↦ omega arith | inr q ↦ omega arith ]);
-      in_time = h.in_time }
+      in_time = h.in_time;
+    }
 ordered (Serves j ∷ items) core js ob =
     let h : IsOrdered core (js ++ j ∷ []) items = ordered items core (js ++ j ∷ []) ob.1 in
     let grow : length core.entries ≤ length (core_end core items).entries = entries_grow core items in
@@ -74,7 +83,8 @@ ordered (Serves j ∷ items) core js ob =
       once = ((λ n. h.apart j (Names-push js j) n), h.once);
       answered = λ k n e. elim (h.answered k n e) [ inl a ↦ elim (Names-push_cases js j k a) [ inl b ↦ inl b | inr q ↦ inr (inl q) ] | inr r ↦ inr (inr r) ];
       later = h.later;
-      in_time = λ κ q. ((λ i n a e. (let l : length core.entries ≤ n = h.later i n (sym (q i a) ∙ e) in omega arith)), h.in_time κ (λ k n. q k (inr n))) }
+      in_time = λ κ q. ((λ i n a e. (let l : length core.entries ≤ n = h.later i n (sym (q i a) ∙ e) in omega arith)), h.in_time κ (λ k n. q k (inr n)));
+    }
 
 -- the numbers that a run serves have no order fault
 pub order_of_run : (items : List Item) → IsRun items → HasNoFault (length (entries_of items)) (known items) (served items)
@@ -85,4 +95,5 @@ order_of_run items run =
       named = λ k n. (let q : (0 < k) × (k ≤ length (core_end start.core items).entries) = h.named k n in omega arith);
       once = h.once;
       in_time = h.in_time (known items) (λ k n. refl);
-      all = λ k n p l e. elim (h.answered k n e) [ inl a ↦ absurd a | inr r ↦ r ] }
+      all = λ k n p l e. elim (h.answered k n e) [ inl a ↦ absurd a | inr r ↦ r ];
+    }

@@ -33,21 +33,29 @@ run_of {P} {items} no_stray w ob =
     let m : (client : List ℕ) × (server : List ℕ) × IsMarkedBut items client server × (IsFilled client → P) × (IsFilled server → P) = marked w in
     record {
       marked = subst (λ c. IsMarkedBut items c []) (empty m.0 (λ f. no_stray (m.3 f))) (subst (λ s. IsMarkedBut items m.0 s) (empty m.1 (λ f. no_stray (m.4 f))) m.2);
-      obeys = ob }
+      obeys = ob;
+    }
 
-walk_of : {items : List Item} → IsRun items → Walk ⊥ Idles items
+pub walk_of : {items : List Item} → IsRun items → Walk ⊥ Idles items
 walk_of {items} run = walked items [] [] (λ f. f) (λ f. f) run.marked
 
 pub latest : (items : List Item) (order : List ℕ) → IsRun items → HasNoFault (length (entries_of items)) (known items) order →
     (items' : List Item) × IsRun items' × (pairs items' ≡ pairs items) × (served items' ≡ order)
 latest items order run fit =
     let fits : Fits (known items) (length (entries_of items)) start.core [] order items = record {
-        once = fit.once; apart = λ k h. absurd h; in_time = fit.in_time; known = λ k. inr refl;
-        all = λ k n p h e. inr (fit.all k n p h e); named = fit.named;
-        end = ap (λ (c : Core). length c.entries) (core_end-ends_at start.core [] items) } in
-    (placed start.core order items,
-     run_of (λ x. x) (walk_placed (walk_of run) start.core order) (obeys_placed (known items) (length (entries_of items)) items start.core [] [] order run.obeys fits),
-     pairs_placed start.core order items, served_placed start.core order items)
+      once = fit.once;
+      apart = λ k h. absurd h;
+      in_time = fit.in_time;
+      known = λ k. inr refl;
+      all = λ k n p h e. inr (fit.all k n p h e);
+      named = fit.named;
+      end = ap (λ (c : Core). length c.entries) (core_end-ends_at start.core [] items);
+    } in (
+      placed start.core order items,
+      run_of (λ x. x) (walk_placed (walk_of run) start.core order) (obeys_placed (known items) (length (entries_of items)) items start.core [] [] order run.obeys fits),
+      pairs_placed start.core order items,
+      served_placed start.core order items,
+    )
 
 abbrev pub fresh : Machine
 fresh = record { core = start.core; rests = record { client = record { bytes = []; since = start.core }; server = record { bytes = []; since = start.core } }; messages = [] }
@@ -78,6 +86,18 @@ run_law judge sound ps end lt e none =
     let t : IsTrace judge fresh end start ps = trace judge sound ps fresh end [] lt (fresh_held judge) fresh_canonical e in
     let idle : t.open_ ≡ Idles = both_idle t.open_ (idle_at Client (get end.rests Client) (get t.open_ Client) (t.guess Client)) (idle_at Server (get end.rests Server) (get t.open_ Server) (t.guess Server)) in
     (t.items, run_of (λ p. not_empty (get end.rests p.0).bytes p.1 (none p.0)) (subst (λ o. Walk (IsStray end) o t.items) idle t.walk) t.obeys, t.has_pairs, t.messages)
+
+-- what the machine reads without a fault is a run with exactly these pairs and messages, but for loose bytes of a side
+-- that is within a message
+pub run_but_law : (judge : Judge) → IsSound judge → (ps : List Pair) (end : Machine) → ArePairs ps → reads judge fresh ps ≡ Ok end →
+    (items : List Item) × (client : List ℕ) × (server : List ℕ) × IsRunBut items client server × (pairs items ≡ ps) × (completed items ≡ end.messages)
+    × (IsFilled client → IsStray end) × (IsFilled server → IsStray end)
+run_but_law judge sound ps end lt e =
+    let t : IsTrace judge fresh end start ps = trace judge sound ps fresh end [] lt (fresh_held judge) fresh_canonical e in
+    let idle : t.open_ ≡ Idles = both_idle t.open_ (idle_at Client (get end.rests Client) (get t.open_ Client) (t.guess Client)) (idle_at Server (get end.rests Server) (get t.open_ Server) (t.guess Server)) in
+    let m : (client : List ℕ) × (server : List ℕ) × IsMarkedBut t.items client server × (IsFilled client → IsStray end) × (IsFilled server → IsStray end) =
+    marked (subst (λ o. Walk (IsStray end) o t.items) idle t.walk) in
+    (t.items, m.0, m.1, record { marked = m.2; obeys = t.obeys }, t.has_pairs, t.messages, m.3, m.4)
 
 -- no run's pairs begin with a list that the machine refuses
 pub no_run : (judge : Judge) → IsExact judge → (items : List Item) → IsRun items → (ps more : List Pair) → ArePairs ps → pairs items ≡ ps ++ more → (fault : WireFault) → reads judge fresh ps ≡ Err fault → ⊥

@@ -98,13 +98,13 @@ serviced old new (inr e) js = js ++ length new.entries ∷ []
 canonical_serviced : (old new : Core) (g : IsGrown old new) (js : List ℕ) → IsCanonical (record { core = old; served = js }) →
     IsCanonical (record { core = new; served = serviced old new g js })
 canonical_serviced old new (inl e) js c = record {
-    all = λ k p h. c.all k p (omega arith);
-    only = λ k n. let h : k ≤ length old.entries = c.only k n in omega arith
-  }
+  all = λ k p h. c.all k p (omega arith);
+  only = λ k n. let h : k ≤ length old.entries = c.only k n in omega arith;
+}
 canonical_serviced old new (inr e) js c = record {
-    all = λ k p h. elim (eq-or-lt_of_le h) [ inl q ↦ subst (λ n. Names (js ++ length new.entries ∷ []) n) (sym q) (Names-push js (length new.entries)) | inr l ↦ Names-left js (length new.entries ∷ []) k (c.all k p (omega arith)) ];
-    only = λ k n. elim (Names-push_cases js (length new.entries) k n) [ inl m ↦ (let h : k ≤ length old.entries = c.only k m in omega arith) | inr q ↦ omega arith ]
-  }
+  all = λ k p h. elim (eq-or-lt_of_le h) [ inl q ↦ subst (λ n. Names (js ++ length new.entries ∷ []) n) (sym q) (Names-push js (length new.entries)) | inr l ↦ Names-left js (length new.entries ∷ []) k (c.all k p (omega arith)) ];
+  only = λ k n. elim (Names-push_cases js (length new.entries) k n) [ inl m ↦ (let h : k ≤ length old.entries = c.only k m in omega arith) | inr q ↦ omega arith ];
+}
 
 obeys_service : (old new : Core) (g : IsGrown old new) (js : List ℕ) (items : List Item) → IsCanonical (record { core = old; served = js }) →
     Obeys (record { core = new; served = serviced old new g js }) items → Obeys (record { core = new; served = js }) (service old new g ++ items)
@@ -173,7 +173,7 @@ at_end judge machine state =
       obeys = tt;
       messages = append-nil machine.messages;
       tracks = tt;
-      leads = refl
+      leads = refl;
     }
 
 pub not_empty : (bs : List ℕ) → IsFilled bs → bs ≡ [] → ⊥
@@ -210,8 +210,8 @@ led_whole : (machine : Machine) (s : Side) (b : ℕ) (m : Message) → led machi
     ≡ record { core = complete machine.core m; rests = put machine.rests s (record (grown machine.core (get machine.rests s) b) { bytes = [] }); messages = machine.messages ++ m ∷ [] }
 led_whole machine s b m =
     ap (λ (r : Both Rest). let x : Machine = record { core = complete machine.core m; rests = r; messages = machine.messages ++ m ∷ [] } in x)
-        (ap (λ (r : Rest). put (put machine.rests s (grown machine.core (get machine.rests s) b)) s (ended_by r)) (get-put_same machine.rests s (grown machine.core (get machine.rests s) b))
-            ∙ put-again machine.rests s _ _)
+    (ap (λ (r : Rest). put (put machine.rests s (grown machine.core (get machine.rests s) b)) s (ended_by r)) (get-put_same machine.rests s (grown machine.core (get machine.rests s) b))
+    ∙ put-again machine.rests s _ _)
 
 led_service : (old new : Core) (g : IsGrown old new) (machine : Machine) (items : List Item) → led machine (service old new g ++ items) ≡ led machine items
 led_service old new (inl e) machine items = refl
@@ -255,44 +255,49 @@ module _ (judge : Judge) (machine end : Machine) (js : List ℕ) (canonical : Is
 
       busy : (m : Message) (left : List ℕ) (bs : List ℕ) → rest_of.bytes ≡ bs → get t.open_ s ≡ Busy m left → IsWithin more_of s m left → Goal
       busy m left [] e is g = record {
-          items = Starts s m ∷ Byte s b ∷ t.items;
-          open_ = put t.open_ s Idle;
-          walk = opening s m b left (get-put_same t.open_ s Idle) (g.encodes ∙ ap (λ bs. (bs ++ b ∷ []) ++ left) e) g.unfinished (walk_on Idle (Busy m left) is);
-          guess = others Idle e;
-          has_pairs = ap (λ q. record { from = s; byte = b } ∷ q) t.has_pairs;
-          obeys = ((g.sided, g.sendable, subst (λ c. MayStart c s m) (old-empty machine.core rest_of e) g.starts, canonical_serves _ canonical s m), (tt, t.obeys));
-          messages = t.messages;
-          tracks = tracks_on;
-          leads = t.leads
-        }
+        items = Starts s m ∷ Byte s b ∷ t.items;
+        open_ = put t.open_ s Idle;
+        walk = opening s m b left (get-put_same t.open_ s Idle) (g.encodes ∙ ap (λ bs. (bs ++ b ∷ []) ++ left) e) g.unfinished (walk_on Idle (Busy m left) is);
+        guess = others Idle e;
+        has_pairs = ap (λ q. record { from = s; byte = b } ∷ q) t.has_pairs;
+        obeys = ((g.sided, g.sendable, subst (λ c. MayStart c s m) (old-empty machine.core rest_of e) g.starts, canonical_serves _ canonical s m), (tt, t.obeys));
+        messages = t.messages;
+        tracks = tracks_on;
+        leads = t.leads;
+      }
       busy m left (c ∷ cs) e is g =
           let f : IsFilled rest_of.bytes = subst IsFilled (sym e) tt in
           record {
-          items = Byte s b ∷ t.items;
-          open_ = put t.open_ s (Busy m (b ∷ left));
-          walk = middle s m b left (get-put_same t.open_ s (Busy m (b ∷ left))) g.unfinished (walk_on (Busy m (b ∷ left)) (Busy m left) is);
-          guess = others (Busy m (b ∷ left)) (record {
-              filled = f; unfinished = tt; encodes = g.encodes ∙ append_assoc rest_of.bytes (b ∷ []) left; sided = g.sided; sendable = g.sendable;
-              starts = subst (λ c. MayStart c s m) (old-filled machine.core rest_of f) g.starts });
-          has_pairs = ap (λ q. record { from = s; byte = b } ∷ q) t.has_pairs;
-          obeys = (tt, t.obeys);
-          messages = t.messages;
-          tracks = tracks_on;
-          leads = t.leads
-        }
+            items = Byte s b ∷ t.items;
+            open_ = put t.open_ s (Busy m (b ∷ left));
+            walk = middle s m b left (get-put_same t.open_ s (Busy m (b ∷ left))) g.unfinished (walk_on (Busy m (b ∷ left)) (Busy m left) is);
+            guess = others (Busy m (b ∷ left)) (record {
+              filled = f;
+              unfinished = tt;
+              encodes = g.encodes ∙ append_assoc rest_of.bytes (b ∷ []) left;
+              sided = g.sided;
+              sendable = g.sendable;
+              starts = subst (λ c. MayStart c s m) (old-filled machine.core rest_of f) g.starts;
+            });
+            has_pairs = ap (λ q. record { from = s; byte = b } ∷ q) t.has_pairs;
+            obeys = (tt, t.obeys);
+            messages = t.messages;
+            tracks = tracks_on;
+            leads = t.leads;
+          }
 
       stray : IsStray end → (o : Open) → IsNotBusy o → Guess rest_of (get end.rests s) s o → get t.open_ s ≡ Loose → Goal
       stray p o n g is = record {
-          items = Byte s b ∷ t.items;
-          open_ = put t.open_ s o;
-          walk = loose s b p (subst IsNotBusy (sym (get-put_same t.open_ s o)) n) (walk_on o Loose is);
-          guess = others o g;
-          has_pairs = ap (λ q. record { from = s; byte = b } ∷ q) t.has_pairs;
-          obeys = (tt, t.obeys);
-          messages = t.messages;
-          tracks = tracks_on;
-          leads = t.leads
-        }
+        items = Byte s b ∷ t.items;
+        open_ = put t.open_ s o;
+        walk = loose s b p (subst IsNotBusy (sym (get-put_same t.open_ s o)) n) (walk_on o Loose is);
+        guess = others o g;
+        has_pairs = ap (λ q. record { from = s; byte = b } ∷ q) t.has_pairs;
+        obeys = (tt, t.obeys);
+        messages = t.messages;
+        tracks = tracks_on;
+        leads = t.leads;
+      }
 
       loosened : (bs : List ℕ) → rest_of.bytes ≡ bs → IsFilled (get end.rests s).bytes → get t.open_ s ≡ Loose → Goal
       loosened [] e f is = stray (s, f) Idle tt e is
@@ -306,7 +311,7 @@ module _ (judge : Judge) (machine end : Machine) (js : List ℕ) (canonical : Is
   -- the byte completes its message
   whole_step : (m : Message) (grow : IsGrown machine.core (complete machine.core m)) → IsSoundAt more_of.since machine.core s more_of.bytes m →
       IsTrace judge (record { core = complete machine.core m; rests = put machine.rests s (record more_of { bytes = [] }); messages = machine.messages ++ m ∷ [] }) end
-          (record { core = complete machine.core m; served = serviced machine.core (complete machine.core m) grow js }) ps → Goal
+      (record { core = complete machine.core m; served = serviced machine.core (complete machine.core m) grow js }) ps → Goal
   whole_step m grow sound t = go (get t.open_ s) refl (subst (λ r. Guess r (get end.rests s) s (get t.open_ s)) (get-put_same machine.rests s (record more_of { bytes = [] })) (t.guess s))
     where
       filled : (bs : List ℕ) → rest_of.bytes ≡ bs → IsFilled bs
@@ -317,20 +322,25 @@ module _ (judge : Judge) (machine end : Machine) (js : List ℕ) (canonical : Is
       go Idle is g =
           let f : IsFilled rest_of.bytes = filled rest_of.bytes refl in
           record {
-          items = Byte s b ∷ Completes s m ∷ (service machine.core (complete machine.core m) grow ++ t.items);
-          open_ = put t.open_ s (Busy m (b ∷ []));
-          walk = final s m b (get-put_same t.open_ s (Busy m (b ∷ [])))
-              (walk_service machine.core (complete machine.core m) grow _ t.items (subst (λ w. Walk (IsStray end) w t.items) (sym (put-put t.open_ s (Busy m (b ∷ [])) Idle is)) t.walk));
-          guess = guess_with machine.rests end.rests t.open_ s (record more_of { bytes = [] }) (Busy m (b ∷ [])) t.guess (record {
-              filled = f; unfinished = tt; encodes = sym sound.encodes; sided = sound.sided; sendable = sound.sendable;
-              starts = subst (λ c. MayStart c s m) (old-filled machine.core rest_of f) sound.starts });
-          has_pairs = ap (λ q. record { from = s; byte = b } ∷ q) (pairs_service machine.core (complete machine.core m) grow t.items ∙ t.has_pairs);
-          obeys = (tt, (sound.completes, obeys_service machine.core (complete machine.core m) grow js t.items canonical t.obeys));
-          messages = ap (λ ms. machine.messages ++ m ∷ ms) (completed_service machine.core (complete machine.core m) grow t.items)
-              ∙ sym (append_assoc machine.messages (m ∷ []) (completed t.items)) ∙ t.messages;
-          tracks = (refl, subst (λ x. Tracks judge x (service machine.core (complete machine.core m) grow ++ t.items)) (sym (led_whole machine s b m)) (tracks_service judge machine.core (complete machine.core m) grow _ t.items t.tracks));
-          leads = ap (λ x. led x (service machine.core (complete machine.core m) grow ++ t.items)) (led_whole machine s b m) ∙ led_service machine.core (complete machine.core m) grow _ t.items ∙ t.leads
-        }
+            items = Byte s b ∷ Completes s m ∷ (service machine.core (complete machine.core m) grow ++ t.items);
+            open_ = put t.open_ s (Busy m (b ∷ []));
+            walk = final s m b (get-put_same t.open_ s (Busy m (b ∷ [])))
+                (walk_service machine.core (complete machine.core m) grow _ t.items (subst (λ w. Walk (IsStray end) w t.items) (sym (put-put t.open_ s (Busy m (b ∷ [])) Idle is)) t.walk));
+            guess = guess_with machine.rests end.rests t.open_ s (record more_of { bytes = [] }) (Busy m (b ∷ [])) t.guess (record {
+              filled = f;
+              unfinished = tt;
+              encodes = sym sound.encodes;
+              sided = sound.sided;
+              sendable = sound.sendable;
+              starts = subst (λ c. MayStart c s m) (old-filled machine.core rest_of f) sound.starts;
+            });
+            has_pairs = ap (λ q. record { from = s; byte = b } ∷ q) (pairs_service machine.core (complete machine.core m) grow t.items ∙ t.has_pairs);
+            obeys = (tt, (sound.completes, obeys_service machine.core (complete machine.core m) grow js t.items canonical t.obeys));
+            messages = ap (λ ms. machine.messages ++ m ∷ ms) (completed_service machine.core (complete machine.core m) grow t.items)
+                ∙ sym (append_assoc machine.messages (m ∷ []) (completed t.items)) ∙ t.messages;
+            tracks = (refl, subst (λ x. Tracks judge x (service machine.core (complete machine.core m) grow ++ t.items)) (sym (led_whole machine s b m)) (tracks_service judge machine.core (complete machine.core m) grow _ t.items t.tracks));
+            leads = ap (λ x. led x (service machine.core (complete machine.core m) grow ++ t.items)) (led_whole machine s b m) ∙ led_service machine.core (complete machine.core m) grow _ t.items ∙ t.leads;
+          }
       go (Busy n left) is g = absurd g.filled
       go Loose is g = absurd g.0
 
@@ -343,9 +353,9 @@ trace_by judge sound machine mid end js held canonical p ps qs lt ih More is h =
 trace_by judge sound machine mid end js held canonical p ps qs lt ih (Whole m) is h =
     let grow : IsGrown machine.core (complete machine.core m) = length-complete machine.core m in
     let ok : IsSoundAt (grown machine.core (get machine.rests p.from) p.byte).since machine.core p.from (grown machine.core (get machine.rests p.from) p.byte).bytes m =
-        sound _ _ _ _ m (kept_next judge machine.core p.from (get machine.rests p.from) p.byte lt (held p.from)) is in
+    sound _ _ _ _ m (kept_next judge machine.core p.from (get machine.rests p.from) p.byte lt (held p.from)) is in
     whole_step judge machine end js canonical p.from p.byte (ps ++ qs) m grow ok
-        (ih _ _ (held_whole judge machine p.from m (record (grown machine.core (get machine.rests p.from) p.byte) { bytes = [] }) refl held ok.sided ok.sendable ok.completes) (canonical_serviced machine.core (complete machine.core m) grow js canonical) h)
+    (ih _ _ (held_whole judge machine p.from m (record (grown machine.core (get machine.rests p.from) p.byte) { bytes = [] }) refl held ok.sided ok.sendable ok.completes) (canonical_serviced machine.core (complete machine.core m) grow js canonical) h)
 trace_by judge sound machine mid end js held canonical p ps qs lt ih (Bad f) is h = absurd (cc)
 
 -- what was read without a fault is a run, but for the rests, and what comes then
@@ -363,4 +373,4 @@ pub trace : (judge : Judge) → IsSound judge → (ps : List Pair) (machine end 
     reads judge machine ps ≡ Ok end → IsTrace judge machine end (record { core = machine.core; served = js }) ps
 trace judge sound ps machine end js lt held canonical e =
     subst (λ l. IsTrace judge machine end (record { core = machine.core; served = js }) l) (append-nil ps)
-        (trace_then judge sound ps [] machine end end js lt held canonical e (λ js' hd c. at_end judge end (record { core = end.core; served = js' })))
+    (trace_then judge sound ps [] machine end end js lt held canonical e (λ js' hd c. at_end judge end (record { core = end.core; served = js' })))

@@ -27,14 +27,14 @@ Twin core s Idle Idle = Unit {0}
 Twin core s (Busy m left) (Busy n left') = AreTwins core s m n left left'
 Twin core s _ _ = ⊥
 
-abbrev Twins : Core → Both Open → Both Open → Type 0
+abbrev pub Twins : Core → Both Open → Both Open → Type 0
 Twins core o o' = (s : Side) → Twin core s (get o s) (get o' s)
 
-abbrev AreEqual : Both Open → List Item → Both Open → List Item → Type 0
+abbrev pub AreEqual : Both Open → List Item → Both Open → List Item → Type 0
 AreEqual o items o' items' = (items ≡ items') × ((s : Side) → get o s ≡ get o' s)
 
 -- what is claimed of the items behind these open messages
-abbrev Claim : Both Open → List Item → Type 0
+abbrev pub Claim : Both Open → List Item → Type 0
 Claim o items = (o' : Both Open) (items' : List Item) (core : Core) → Walk ⊥ o' items' → Follows core items → Follows core items' → IsBare items → IsBare items' → Twins core o o' → pairs items ≡ pairs items' → AreEqual o items o' items'
 
 -- one side changes on both
@@ -60,8 +60,14 @@ twins_moved core s m o o' sd ok all u = go (same_or_not s u)
     moved : (x x' : Open) → (s ≡ u → ⊥) → Twin core u x x' → Twin (complete core m) u x x'
     moved Idle Idle ne t = tt
     moved (Busy n left) (Busy n' left') ne t = record {
-        old = t.old; bytes = t.bytes; before = Later-trans t.before (behind m (λ q. ne (sym sd ∙ q)) ok at_once);
-        begun = t.begun; begun_too = t.begun_too; encodes = t.encodes; encodes_too = t.encodes_too }
+      old = t.old;
+      bytes = t.bytes;
+      before = Later-trans t.before (behind m (λ q. ne (sym sd ∙ q)) ok at_once);
+      begun = t.begun;
+      begun_too = t.begun_too;
+      encodes = t.encodes;
+      encodes_too = t.encodes_too;
+    }
     moved Idle (Busy n left) ne t = absurd t
     moved Idle Loose ne t = absurd t
     moved (Busy n left) Idle ne t = absurd t
@@ -138,12 +144,25 @@ no_early_end core s m n b left t ok end f =
 
 flipped : (core : Core) (s : Side) (m n : Message) (left left' : List ℕ) → AreTwins core s m n left left' → AreTwins core s n m left' left
 flipped core s m n left left' t = record {
-    old = t.old; bytes = t.bytes; before = t.before; begun = t.begun_too; begun_too = t.begun; encodes = t.encodes_too; encodes_too = t.encodes }
+  old = t.old;
+  bytes = t.bytes;
+  before = t.before;
+  begun = t.begun_too;
+  begun_too = t.begun;
+  encodes = t.encodes_too;
+  encodes_too = t.encodes;
+}
 
 grown_twins : (core : Core) (s : Side) (m n : Message) (b : ℕ) (left left' : List ℕ) → AreTwins core s m n (b ∷ left) (b ∷ left') → AreTwins core s m n left left'
 grown_twins core s m n b left left' t = record {
-    old = t.old; bytes = t.bytes ++ b ∷ []; before = t.before; begun = t.begun; begun_too = t.begun_too;
-    encodes = t.encodes ∙ sym (append_assoc t.bytes (b ∷ []) left); encodes_too = t.encodes_too ∙ sym (append_assoc t.bytes (b ∷ []) left') }
+  old = t.old;
+  bytes = t.bytes ++ b ∷ [];
+  before = t.before;
+  begun = t.begun;
+  begun_too = t.begun_too;
+  encodes = t.encodes ∙ sym (append_assoc t.bytes (b ∷ []) left);
+  encodes_too = t.encodes_too ∙ sym (append_assoc t.bytes (b ∷ []) left');
+}
 
 module _ (o o' : Both Open) (core : Core) (s : Side) (b : ℕ) (items' : List Item) (follow' : Follows core items') (bare' : IsBare items') (twins : Twins core o o') where
   -- the first walk opens a message
@@ -152,14 +171,22 @@ module _ (o o' : Both Open) (core : Core) (s : Side) (b : ℕ) (items' : List It
   opening_step m left items i e claim follow bare ps (opens n left' rest i' e' f w is) =
       let fl : Follows core (Starts s n ∷ Byte s b ∷ rest) = subst (Follows core) is follow' in
       let tw : Twin core s (Busy m left) (Busy n left') = record {
-          old = core; bytes = b ∷ []; before = at_once; begun = follow.0; begun_too = fl.0; encodes = e; encodes_too = e' } in
+        old = core;
+        bytes = b ∷ [];
+        before = at_once;
+        begun = follow.0;
+        begun_too = fl.0;
+        encodes = e;
+        encodes_too = e';
+      } in
       let q : pairs (Byte s b ∷ items) ≡ pairs (Byte s b ∷ rest) = ps ∙ ap pairs is in
       let r : AreEqual (put o s (Busy m left)) items (put o' s (Busy n left')) rest =
-          claim (put o' s (Busy n left')) rest core w follow.1 fl.1 bare (subst IsBare is bare') (twins_with core o o' s (Busy m left) (Busy n left') twins tw) (cc) in
+      claim (put o' s (Busy n left')) rest core w follow.1 fl.1 bare (subst IsBare is bare') (twins_with core o o' s (Busy m left) (Busy n left') twins tw) (cc) in
       let same : Busy m left ≡ Busy n left' = sym (get-put_same o s (Busy m left)) ∙ r.1 s ∙ get-put_same o' s (Busy n left') in
-      let mn : m ≡ n = cc in
-      (ap (λ x. Starts s x ∷ Byte s b ∷ items) mn ∙ ap (λ l. Starts s n ∷ Byte s b ∷ l) r.0 ∙ sym is,
-       equal_with o o' s (Busy m left) (Busy n left') r.1 (i ∙ sym i'))
+      let mn : m ≡ n = cc in (
+        ap (λ x. Starts s x ∷ Byte s b ∷ items) mn ∙ ap (λ l. Starts s n ∷ Byte s b ∷ l) r.0 ∙ sym is,
+        equal_with o o' s (Busy m left) (Busy n left') r.1 (i ∙ sym i'),
+      )
   opening_step m left items i e claim follow bare ps (goes_on n left' rest i' f w is) =
       absurd (subst (λ x. Twin core s x (Busy n (b ∷ left'))) i (subst (λ x. Twin core s (get o s) x) i' (twins s)))
   opening_step m left items i e claim follow bare ps (ends n rest i' w is) =
@@ -177,10 +204,11 @@ module _ (o o' : Both Open) (core : Core) (s : Side) (b : ℕ) (items' : List It
       let tw : AreTwins core s m n left left' = grown_twins core s m n b left left' (twin_here (Busy m (b ∷ left)) (Busy n (b ∷ left')) i i') in
       let q : pairs (Byte s b ∷ items) ≡ pairs (Byte s b ∷ rest) = ps ∙ ap pairs is in
       let r : AreEqual (put o s (Busy m left)) items (put o' s (Busy n left')) rest =
-          claim (put o' s (Busy n left')) rest core w' follow (subst (Follows core) is follow') bare (subst IsBare is bare') (twins_with core o o' s (Busy m left) (Busy n left') twins tw) (cc) in
-      let same : Busy m left ≡ Busy n left' = sym (get-put_same o s (Busy m left)) ∙ r.1 s ∙ get-put_same o' s (Busy n left') in
-      (ap (λ l. Byte s b ∷ l) r.0 ∙ sym is,
-       equal_with o o' s (Busy m left) (Busy n left') r.1 (i ∙ grown_open m n left left' same ∙ sym i'))
+      claim (put o' s (Busy n left')) rest core w' follow (subst (Follows core) is follow') bare (subst IsBare is bare') (twins_with core o o' s (Busy m left) (Busy n left') twins tw) (cc) in
+      let same : Busy m left ≡ Busy n left' = sym (get-put_same o s (Busy m left)) ∙ r.1 s ∙ get-put_same o' s (Busy n left') in (
+        ap (λ l. Byte s b ∷ l) r.0 ∙ sym is,
+        equal_with o o' s (Busy m left) (Busy n left') r.1 (i ∙ grown_open m n left left' same ∙ sym i'),
+      )
     where
       grown_open : (m n : Message) (left left' : List ℕ) → Busy m left ≡ Busy n left' → Busy m (b ∷ left) ≡ Busy n (b ∷ left')
       grown_open m n left left' e = (let p : m ≡ n = cc in let q : left ≡ left' = cc in ap (λ x. Busy x (b ∷ left)) p ∙ ap (λ l. Busy n (b ∷ l)) q)
@@ -203,13 +231,14 @@ module _ (o o' : Both Open) (core : Core) (s : Side) (b : ℕ) (items' : List It
       let tw : AreTwins core s m n (b ∷ []) (b ∷ []) = twin_here (Busy m (b ∷ [])) (Busy n (b ∷ [])) i i' in
       let fl : Follows core (Byte s b ∷ Completes s n ∷ rest) = subst (Follows core) is follow' in
       let mn : m ≡ n = (same_message tw.old core core s m n [] tw.before at_once tw.begun tw.begun_too follow.0 fl.0
-          (tw.encodes ∙ sym tw.encodes_too ∙ sym (append-nil (enc n)))).0 in
+      (tw.encodes ∙ sym tw.encodes_too ∙ sym (append-nil (enc n)))).0 in
       let q : pairs (Byte s b ∷ items) ≡ pairs (Byte s b ∷ rest) = ps ∙ ap pairs is in
       let r : AreEqual (put o s Idle) items (put o' s Idle) rest =
-          claim (put o' s Idle) rest (complete core m) w' follow.1 (subst (λ x. Follows (complete core x) rest) (sym mn) fl.1) bare (subst IsBare is bare')
-              (twins_moved core s m o o' tw.begun.sided follow.0 twins) (cc) in
-      (ap (λ x. Byte s b ∷ Completes s x ∷ items) mn ∙ ap (λ l. Byte s b ∷ Completes s n ∷ l) r.0 ∙ sym is,
-       equal_with o o' s Idle Idle r.1 (i ∙ ap (λ x. Busy x (b ∷ [])) mn ∙ sym i'))
+      claim (put o' s Idle) rest (complete core m) w' follow.1 (subst (λ x. Follows (complete core x) rest) (sym mn) fl.1) bare (subst IsBare is bare')
+      (twins_moved core s m o o' tw.begun.sided follow.0 twins) (cc) in (
+        ap (λ x. Byte s b ∷ Completes s x ∷ items) mn ∙ ap (λ l. Byte s b ∷ Completes s n ∷ l) r.0 ∙ sym is,
+        equal_with o o' s Idle Idle r.1 (i ∙ ap (λ x. Busy x (b ∷ [])) mn ∙ sym i'),
+      )
 
 pub twins : {o : Both Open} {items : List Item} → Walk ⊥ o items → Claim o items
 twins {o} (ended c d) o' items' core w' follow follow' bare bare' tw e =

@@ -20,8 +20,13 @@ is_success Pending = false
 
 abbrev pub exchange : Entry → Exchange
 exchange e = record {
-    command = e.command; offset = e.offset; length = e.length; payload = e.payload;
-    succeeded = is_success (outcome e); read = byte_at (pieces e) }
+  command = e.command;
+  offset = e.offset;
+  length = e.length;
+  payload = e.payload;
+  succeeded = is_success (outcome e);
+  read = byte_at (pieces e);
+}
 
 abbrev pub exchange_if : Option Entry → Option Exchange
 exchange_if (Some e) = Some (exchange e)

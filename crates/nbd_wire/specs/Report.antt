@@ -53,8 +53,17 @@ proper_on None e = false
 
 abbrev pub told : Option Exporting → Option ℕ → Entry → Asked
 told export known_at e = record {
-    flags = e.flags; command = e.command; cookie = e.cookie; offset = e.offset; length = e.length; payload = e.payload;
-    proper = proper_on export e; known_at = known_at; outcome = outcome e; pieces = pieces e }
+  flags = e.flags;
+  command = e.command;
+  cookie = e.cookie;
+  offset = e.offset;
+  length = e.length;
+  payload = e.payload;
+  proper = proper_on export e;
+  known_at = known_at;
+  outcome = outcome e;
+  pieces = pieces e;
+}
 
 -- the requests from number k + 1 on
 abbrev pub told_from : ℕ → Option Exporting → (ℕ → Option ℕ) → List Entry → List Asked

@@ -111,7 +111,7 @@ complete core (Answer option kind payload) =
 complete core (Exported size flags padded) = record core { phase = next_phase core.phase (Exported size flags padded) }
 complete core (Request flags command cookie offset len payload) =
     requested (command == commands.DISC) core
-        (record { flags = flags; command = command; cookie = cookie; offset = offset; length = len; payload = payload; replies = [] })
+    (record { flags = flags; command = command; cookie = cookie; offset = offset; length = len; payload = payload; replies = [] })
 complete core (Simple error cookie payload) = replied core (Simple error cookie payload)
 complete core (Chunk flags kind cookie payload) = replied core (Chunk flags kind cookie payload)
 

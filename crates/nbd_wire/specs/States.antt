@@ -40,8 +40,9 @@ pub record State : Type 0 where
 -- before the first byte
 abbrev pub start : State
 start = record {
-    core = record { phase = Greet; offered = 0; client_flags = 0; structured = false; disconnected = false; entries = [] };
-    served = [] }
+  core = record { phase = Greet; offered = 0; client_flags = 0; structured = false; disconnected = false; entries = [] };
+  served = [];
+}
 
 -- the request is outstanding and has this cookie (proto.md, "Ordering of messages and writes")
 abbrev pub is_awaiting : ℕ → Entry → Bool
