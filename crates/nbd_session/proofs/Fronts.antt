@@ -16,6 +16,7 @@ use Rattle.nbd_wire.specs.Options.{turn}
 use Rattle.nbd_wire.specs.Sendable.{IsSendable}
 use Rattle.nbd_wire.specs.Side.{side}
 use Rattle.nbd_wire.specs.States.{Core, Phase, Greet, Flags, Choosing, Naming, Aborting, Answering, Ended, Transmission, is_awaiting, target, target_from, entry}
+use Rattle.nbd_session.specs.Fronts.{NoProperFront}
 use Rattle.nbd_session.proofs.Follow.{IsBegun}
 use Rattle.nbd_session.proofs.Machine.{Later, at_once, behind}
 
@@ -166,6 +167,10 @@ answering_row : (core : Core) (asked : ℕ) (asked_with : List ℕ) (info : Opti
 unfolding MayComplete
 answering_row core asked asked_with info (Answer option kind p) ok = (option, kind, p, refl)
 answering_row core asked asked_with info m ok = absurd ok
+
+ended_row : (core : Core) (m : Message) → MayComplete core Ended m → ⊥
+unfolding MayComplete
+ended_row core m ok = ok
 
 -- in the negotiation a message that may complete is of the side whose turn it is
 speaks : (core : Core) (phase : Phase) (m : Message) (s : Side) → MayComplete core phase m → turn phase ≡ Some s → side m ≡ s
@@ -339,3 +344,21 @@ same_message old now end s m n left before between b b' ok ok' e = go old.phase 
     go Aborting p h = in_turn (ap turn p ∙ h)
     go (Answering asked asked_with info) p h = in_turn (ap turn p ∙ h)
     go Ended p h = in_turn (ap turn p ∙ h)
+
+-- neither message's bytes are a proper front of the other's
+pub no_proper_front : NoProperFront
+no_proper_front core m n rest sd sn sn' ok ok' e = go core.phase refl
+  where
+    by_turn : (s : Side) → turn core.phase ≡ Some s → IsSame m n rest
+    by_turn s t = negotiated core core.phase s m n rest t ok ok' sn sn' e
+
+    go : (phase : Phase) → core.phase ≡ phase → IsSame m n rest
+    go Greet p = by_turn Server (ap turn p)
+    go Flags p = by_turn Client (ap turn p)
+    go Choosing p = by_turn Client (ap turn p)
+    go Naming p = by_turn Server (ap turn p)
+    go Aborting p = by_turn Server (ap turn p)
+    go (Answering asked asked_with info) p = by_turn Server (ap turn p)
+    go Ended p = absurd (ended_row core m (subst (λ phase. MayComplete core phase m) p ok))
+    go (Transmission export) p =
+        transmitted core core export (side n) m n rest at_once p sd refl sn sn' (in_transmission p ok) (in_transmission p ok') e

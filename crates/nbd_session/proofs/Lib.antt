@@ -12,3 +12,5 @@ pub mod Twins
 pub mod Indexed
 pub mod Unserved
 pub mod Moments
+pub mod Parts
+pub mod Outstanding

@@ -28,7 +28,7 @@ empty [] h = refl
 empty (b ∷ bs) h = absurd (h tt)
 
 -- a walk without stray bytes from nothing that obeys the rules is a run
-run_of : {P : Type 0} {items : List Item} → (P → ⊥) → Walk P Idles items → Obeys start items → IsRun items
+pub run_of : {P : Type 0} {items : List Item} → (P → ⊥) → Walk P Idles items → Obeys start items → IsRun items
 run_of {P} {items} no_stray w ob =
     let m : (client : List ℕ) × (server : List ℕ) × IsMarkedBut items client server × (IsFilled client → P) × (IsFilled server → P) = marked w in
     record {

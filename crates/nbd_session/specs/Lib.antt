@@ -1,2 +1,4 @@
+pub mod Fronts
 pub mod Moments
 pub mod Sameness
+pub mod Service

@@ -1,6 +1,8 @@
 //! Laws over the definitions of nbd_wire: each is the contract of a function that does nothing.
+ghost use Rattle.nbd_session.specs.Fronts.{NoProperFront, FrontsAreRuns};
 ghost use Rattle.nbd_session.specs.Moments.{LatestMoments, EachOrderIsFaultless};
 ghost use Rattle.nbd_session.specs.Sameness.{SameMarks, SameReports, ReportsIgnoreService};
+ghost use Rattle.nbd_session.specs.Service.{EmptyIsExplained, CookiesAreDistinct, EachReplyAnswersOne, ServedOnceBehindCompletion};
 
 /// A run with given bytes and a given order of service exists exactly where a run with these bytes
 /// exists and the order has no fault.
@@ -22,4 +24,36 @@ pub fn same_reports()
 /// The report of a run does not depend on where requests are served.
 pub fn reports_ignore_service()
     ensures { ReportsIgnoreService }
+{}
+
+/// The empty capture is explained by the empty order, whatever the export held at first.
+pub fn empty_is_explained()
+    ensures { EmptyIsExplained }
+{}
+
+/// Of two messages of one side that may complete in one state, neither's bytes are a proper front of
+/// the other's, and equal bytes are of one message.
+pub fn no_proper_front()
+    ensures { NoProperFront }
+{}
+
+/// A front of a run at which no message is open is a run.
+pub fn fronts_are_runs()
+    ensures { FrontsAreRuns }
+{}
+
+/// At no moment of a run two outstanding requests have one cookie.
+pub fn cookies_are_distinct()
+    ensures { CookiesAreDistinct }
+{}
+
+/// Each server message of transmission answers exactly one request, which had completed and was
+/// served before its first byte.
+pub fn each_reply_answers_one()
+    ensures { EachReplyAnswersOne }
+{}
+
+/// The served numbers are distinct, each that of a request that had completed.
+pub fn served_once_behind_completion()
+    ensures { ServedOnceBehindCompletion }
 {}
