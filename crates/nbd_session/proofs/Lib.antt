@@ -14,3 +14,4 @@ pub mod Unserved
 pub mod Moments
 pub mod Parts
 pub mod Outstanding
+pub mod Verdicts

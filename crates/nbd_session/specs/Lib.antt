@@ -2,3 +2,4 @@ pub mod Fronts
 pub mod Moments
 pub mod Sameness
 pub mod Service
+pub mod Verdicts

@@ -3,6 +3,7 @@ ghost use Rattle.nbd_session.specs.Fronts.{NoProperFront, FrontsAreRuns};
 ghost use Rattle.nbd_session.specs.Moments.{LatestMoments, EachOrderIsFaultless};
 ghost use Rattle.nbd_session.specs.Sameness.{SameMarks, SameReports, ReportsIgnoreService};
 ghost use Rattle.nbd_session.specs.Service.{EmptyIsExplained, CookiesAreDistinct, EachReplyAnswersOne, ServedOnceBehindCompletion};
+ghost use Rattle.nbd_session.specs.Verdicts.{PassingIsExplained, ExplainedPasses};
 
 /// A run with given bytes and a given order of service exists exactly where a run with these bytes
 /// exists and the order has no fault.
@@ -57,3 +58,11 @@ pub fn each_reply_answers_one()
 pub fn served_once_behind_completion()
     ensures { ServedOnceBehindCompletion }
 {}
+
+/// A capture is explained exactly where a run with its bytes, whichever, has an order without a
+/// fault, an image of the export's size if any, and no wrong byte.
+pub fn explained_exactly()
+    ensures passing { PassingIsExplained }
+    ensures only { ExplainedPasses }
+{
+}
