@@ -15,3 +15,6 @@ pub mod Moments
 pub mod Parts
 pub mod Outstanding
 pub mod Verdicts
+pub mod Deciding
+pub mod Sessions
+pub mod Examples

@@ -3,3 +3,4 @@ pub mod Moments
 pub mod Sameness
 pub mod Service
 pub mod Verdicts
+pub mod Captures
