@@ -129,9 +129,15 @@ sendable (Request flags command cookie offset len payload) e =
     let c = both (nat_lt cookie (2 ^ 64)) _ b.1 in
     let d = both (nat_lt offset (2 ^ 64)) _ c.1 in
     let f = both (nat_lt len (2 ^ 32)) _ d.1 in
-    let g = both (length payload == (if command == commands.WRITE then len else 0)) (are_bytes payload) f.1 in
-    (ltb-true flags (2 ^ 16) a.0, ltb-true command (2 ^ 16) b.0, ltb-true cookie (2 ^ 64) c.0, ltb-true offset (2 ^ 64) d.0, ltb-true len (2 ^ 32) f.0,
-        eqb-true (length payload) (if command == commands.WRITE then len else 0) g.0, bytes_are payload g.1)
+    let g = both (length payload == (if command == commands.WRITE then len else 0)) (are_bytes payload) f.1 in (
+      ltb-true flags (2 ^ 16) a.0,
+      ltb-true command (2 ^ 16) b.0,
+      ltb-true cookie (2 ^ 64) c.0,
+      ltb-true offset (2 ^ 64) d.0,
+      ltb-true len (2 ^ 32) f.0,
+      eqb-true (length payload) (if command == commands.WRITE then len else 0) g.0,
+      bytes_are payload g.1,
+    )
 sendable (Simple error cookie payload) e =
     let a = both (nat_lt error (2 ^ 32)) _ e in
     let b = both (nat_lt cookie (2 ^ 64)) _ a.1 in
@@ -226,12 +232,15 @@ may_acknowledge option info =
 
 acknowledges : (option : ℕ) (info : Option Exporting) → IsTrue (may_acknowledge option info) → MayAcknowledge option info
 acknowledges option info e = elim (one (option == options.LIST) _ e) [
-    inl h ↦ inl (eqb-true option options.LIST h)
-    | inr e ↦ elim (one (option == options.STRUCTURED_REPLY) _ e) [
-        inl h ↦ inr (inl (eqb-true option options.STRUCTURED_REPLY h))
-        | inr e ↦ elim (one ((option == options.INFO) && is_some info) _ e) [
-            inl h ↦ (let b = both (option == options.INFO) (is_some info) h in inr (inr (inl (eqb-true option options.INFO b.0, b.1))))
-            | inr h ↦ (let b = both (option == options.GO) (fits_limit info) h in inr (inr (inr (eqb-true option options.GO b.0, fit info b.1)))) ] ] ]
+  | inl h ↦ inl (eqb-true option options.LIST h)
+  | inr e ↦ elim (one (option == options.STRUCTURED_REPLY) _ e) [
+    | inl h ↦ inr (inl (eqb-true option options.STRUCTURED_REPLY h))
+    | inr e ↦ elim (one ((option == options.INFO) && is_some info) _ e) [
+      | inl h ↦ (let b = both (option == options.INFO) (is_some info) h in inr (inr (inl (eqb-true option options.INFO b.0, b.1))))
+      | inr h ↦ (let b = both (option == options.GO) (fits_limit info) h in inr (inr (inr (eqb-true option options.GO b.0, fit info b.1))))
+    ]
+  ]
+]
   where
     fit : (o : Option Exporting) → IsTrue (fits_limit o) → (export : Exporting) × (o ≡ Some export) × (export.size ≤ EXPORT_SIZE)
     fit (Some export) e = (export, refl, leb-true export.size EXPORT_SIZE e)
@@ -241,24 +250,30 @@ abbrev pub may_answer : (option : ℕ) (payload : List ℕ) (info : Option Expor
 may_answer option payload info kind answer =
     is_error kind
     || (is_proper_option option payload
-        && (((kind == answers.ACK) && (is_empty answer && may_acknowledge option info))
-            || (((kind == answers.SERVER) && ((option == options.LIST) && is_listed answer))
-                || ((kind == answers.INFO) && (((option == options.INFO) || (option == options.GO)) && is_info (info_of answer))))))
+    && (((kind == answers.ACK) && (is_empty answer && may_acknowledge option info))
+    || (((kind == answers.SERVER) && ((option == options.LIST) && is_listed answer))
+    || ((kind == answers.INFO) && (((option == options.INFO) || (option == options.GO)) && is_info (info_of answer))))))
 
 answers_it : (option : ℕ) (payload : List ℕ) (info : Option Exporting) (kind : ℕ) (answer : List ℕ) → IsTrue (may_answer option payload info kind answer) → MayAnswer option payload info kind answer
 answers_it option payload info kind answer e = elim (one (is_error kind) _ e) [
-    inl h ↦ inl h
-    | inr e ↦ (let p = both (is_proper_option option payload) _ e in
-        elim (one ((kind == answers.ACK) && (is_empty answer && may_acknowledge option info)) _ p.1) [
-            inl h ↦ (let a = both (kind == answers.ACK) _ h in let b = both (is_empty answer) _ a.1 in
-                inr (inl (p.0, eqb-true kind answers.ACK a.0, empty answer b.0, acknowledges option info b.1)))
-            | inr e ↦ elim (one ((kind == answers.SERVER) && ((option == options.LIST) && is_listed answer)) _ e) [
-                inl h ↦ (let a = both (kind == answers.SERVER) _ h in let b = both (option == options.LIST) _ a.1 in
-                    inr (inr (inl (p.0, eqb-true kind answers.SERVER a.0, eqb-true option options.LIST b.0, b.1))))
-                | inr h ↦ (let a = both (kind == answers.INFO) _ h in let b = both ((option == options.INFO) || (option == options.GO)) _ a.1 in
-                    inr (inr (inr (p.0, eqb-true kind answers.INFO a.0,
-                        elim (one (option == options.INFO) (option == options.GO) b.0) [ inl q ↦ inl (eqb-true option options.INFO q) | inr q ↦ inr (eqb-true option options.GO q) ],
-                        info_is answer b.1)))) ] ]) ]
+  | inl h ↦ inl h
+  | inr e ↦ (let p = both (is_proper_option option payload) _ e in
+      elim (one ((kind == answers.ACK) && (is_empty answer && may_acknowledge option info)) _ p.1) [
+        | inl h ↦ (let a = both (kind == answers.ACK) _ h in let b = both (is_empty answer) _ a.1 in
+            inr (inl (p.0, eqb-true kind answers.ACK a.0, empty answer b.0, acknowledges option info b.1)))
+        | inr e ↦ elim (one ((kind == answers.SERVER) && ((option == options.LIST) && is_listed answer)) _ e) [
+          | inl h ↦ (let a = both (kind == answers.SERVER) _ h in let b = both (option == options.LIST) _ a.1 in
+              inr (inr (inl (p.0, eqb-true kind answers.SERVER a.0, eqb-true option options.LIST b.0, b.1))))
+          | inr h ↦ (let a = both (kind == answers.INFO) _ h in let b = both ((option == options.INFO) || (option == options.GO)) _ a.1 in
+              inr (inr (inr (
+                p.0,
+                eqb-true kind answers.INFO a.0,
+                elim (one (option == options.INFO) (option == options.GO) b.0) [ inl q ↦ inl (eqb-true option options.INFO q) | inr q ↦ inr (eqb-true option options.GO q) ],
+                info_is answer b.1,
+              ))))
+        ]
+      ])
+]
 
 abbrev pub is_content : Exporting → Entry → Option Piece → Bool
 is_content export e (Some piece) =
@@ -277,11 +292,14 @@ content_is export e piece h =
     let a = both (e.command == commands.READ) _ h in
     let b = both (nat_le e.offset (piece_offset piece)) _ a.1 in
     let c = both (nat_le (piece_offset piece + piece_size piece) (e.offset + e.length)) _ b.1 in
-    let d = both (all_in (piece_offset piece) (piece_size piece) (λ x. is_none (byte_at (pieces e) x))) _ c.1 in
-    (eqb-true e.command commands.READ a.0, leb-true e.offset (piece_offset piece) b.0, leb-true (piece_offset piece + piece_size piece) (e.offset + e.length) c.0,
-        (λ x i. (let r = in_range (piece_offset piece) (piece_size piece) x i in
-            none_is (byte_at (pieces e) x) (all_at (piece_offset piece) (piece_size piece) (λ x. is_none (byte_at (pieces e) x)) d.0 x r.0 r.1))),
-        λ q. empty (pieces e) (then_too (is_proper export e && has e.flags command_flags.DF) (is_empty (pieces e)) d.1 q))
+    let d = both (all_in (piece_offset piece) (piece_size piece) (λ x. is_none (byte_at (pieces e) x))) _ c.1 in (
+      eqb-true e.command commands.READ a.0,
+      leb-true e.offset (piece_offset piece) b.0,
+      leb-true (piece_offset piece + piece_size piece) (e.offset + e.length) c.0,
+      (λ x i. (let r = in_range (piece_offset piece) (piece_size piece) x i in
+          none_is (byte_at (pieces e) x) (all_at (piece_offset piece) (piece_size piece) (λ x. is_none (byte_at (pieces e) x)) d.0 x r.0 r.1))),
+      λ q. empty (pieces e) (then_too (is_proper export e && has e.flags command_flags.DF) (is_empty (pieces e)) d.1 q),
+    )
 
 abbrev pub fits_failure : Entry → Option ℕ → Bool
 fits_failure e (Some x) = is_in e.offset e.length x
@@ -305,10 +323,12 @@ is_chunk export e flags kind payload =
 
 chunk_is : (export : Exporting) (e : Entry) (flags kind : ℕ) (payload : List ℕ) → IsTrue (is_chunk export e flags kind payload) → IsChunk export e flags kind payload
 chunk_is export e flags kind payload h = elim (one ((kind == chunks.NONE) && (is_empty payload && has flags chunks.DONE)) _ h) [
-    inl h ↦ (let a = both (kind == chunks.NONE) _ h in let b = both (is_empty payload) (has flags chunks.DONE) a.1 in inl (eqb-true kind chunks.NONE a.0, empty payload b.0, b.1))
-    | inr h ↦ elim (one (is_content export e (content_of kind payload)) (is_failure e (failure_of kind payload)) h) [
-        inl h ↦ inr (inl (content (content_of kind payload) refl h))
-        | inr h ↦ inr (inr (failing (failure_of kind payload) refl h)) ] ]
+  | inl h ↦ (let a = both (kind == chunks.NONE) _ h in let b = both (is_empty payload) (has flags chunks.DONE) a.1 in inl (eqb-true kind chunks.NONE a.0, empty payload b.0, b.1))
+  | inr h ↦ elim (one (is_content export e (content_of kind payload)) (is_failure e (failure_of kind payload)) h) [
+    | inl h ↦ inr (inl (content (content_of kind payload) refl h))
+    | inr h ↦ inr (inr (failing (failure_of kind payload) refl h))
+  ]
+]
   where
     content : (o : Option Piece) → content_of kind payload ≡ o → IsTrue (is_content export e o) → (piece : Piece) × (content_of kind payload ≡ Some piece) × IsContent export e piece
     content (Some piece) q h = (piece, q, content_is export e piece h)
@@ -323,10 +343,14 @@ may_finish export e = has_failed e || (is_proper export e && (not (e.command == 
 
 finishes : (export : Exporting) (e : Entry) → IsTrue (may_finish export e) → MayFinish export e
 finishes export e h = elim (one (has_failed e) _ h) [
-    inl h ↦ inl h
-    | inr h ↦ (let a = both (is_proper export e) _ h in
-        inr (a.0, λ c x i. (let r = in_range e.offset e.length x i in
-            all_at e.offset e.length (λ x. is_some (byte_at (pieces e) x)) (then_too (e.command == commands.READ) _ a.1 (eq-eqb e.command commands.READ c)) x r.0 r.1))) ]
+  | inl h ↦ inl h
+  | inr h ↦ (let a = both (is_proper export e) _ h in
+      inr (
+        a.0,
+        λ c x i. (let r = in_range e.offset e.length x i in
+            all_at e.offset e.length (λ x. is_some (byte_at (pieces e) x)) (then_too (e.command == commands.READ) _ a.1 (eq-eqb e.command commands.READ c)) x r.0 r.1),
+      ))
+]
 
 abbrev pub may_reply : Bool → Exporting → Entry → Message → Bool
 may_reply structured export e (Simple error cookie payload) =
@@ -341,14 +365,19 @@ unfolding MayReply
 reply_is structured export e (Simple error cookie payload) h =
     let a = both (is_empty e.replies) _ h in
     let b = both (not (e.command == commands.READ) || not structured) _ a.1 in
-    let c = both (length payload == simple_length e error) _ b.1 in
-    (empty e.replies a.0, (λ q. was_false structured (then_too (e.command == commands.READ) (not structured) b.0 (eq-eqb e.command commands.READ q))),
-        eqb-true (length payload) (simple_length e error) c.0, λ q. then_too (error == 0) (is_proper export e) c.1 (eq-eqb error 0 q))
+    let c = both (length payload == simple_length e error) _ b.1 in (
+      empty e.replies a.0,
+      (λ q. was_false structured (then_too (e.command == commands.READ) (not structured) b.0 (eq-eqb e.command commands.READ q))),
+      eqb-true (length payload) (simple_length e error) c.0,
+      λ q. then_too (error == 0) (is_proper export e) c.1 (eq-eqb error 0 q),
+    )
 reply_is structured export e (Chunk flags kind cookie payload) h =
     let a = both structured _ h in
-    let b = both (is_chunk export e flags kind payload) _ a.1 in
-    (a.0, chunk_is export e flags kind payload b.0,
-        λ q. finishes export (with_reply e (Chunk flags kind cookie payload)) (then_too (has flags chunks.DONE) _ b.1 q))
+    let b = both (is_chunk export e flags kind payload) _ a.1 in (
+      a.0,
+      chunk_is export e flags kind payload b.0,
+      λ q. finishes export (with_reply e (Chunk flags kind cookie payload)) (then_too (has flags chunks.DONE) _ b.1 q),
+    )
 reply_is structured export e (Greeting flags) h = absurd (cc)
 reply_is structured export e (ClientFlags flags) h = absurd (cc)
 reply_is structured export e (Choice id payload) h = absurd (cc)
@@ -412,10 +441,13 @@ completes core Naming (Exported size flags padded) h =
     let b = both (equal_bools padded (not (has core.client_flags handshake.C_NO_ZEROES))) (nat_le size EXPORT_SIZE) a.1 in
     (a.0, are_equal padded (not (has core.client_flags handshake.C_NO_ZEROES)) b.0, leb-true size EXPORT_SIZE b.1)
 completes core Aborting (Answer option kind payload) h =
-    let a = both (option == options.ABORT) _ h in
-    (eqb-true option options.ABORT a.0, elim (one (is_error kind) _ a.1) [
-        inl q ↦ inl q
-        | inr q ↦ (let b = both (kind == answers.ACK) (is_empty payload) q in inr (eqb-true kind answers.ACK b.0, empty payload b.1)) ])
+    let a = both (option == options.ABORT) _ h in (
+      eqb-true option options.ABORT a.0,
+      elim (one (is_error kind) _ a.1) [
+        | inl q ↦ inl q
+        | inr q ↦ (let b = both (kind == answers.ACK) (is_empty payload) q in inr (eqb-true kind answers.ACK b.0, empty payload b.1))
+      ],
+    )
 completes core (Answering asked asked_with info) (Answer option kind payload) h =
     let a = both (option == asked) _ h in
     (eqb-true option asked a.0, answers_it asked asked_with info kind payload a.1)
@@ -489,11 +521,13 @@ tight (item ∷ next ∷ items) h = (let a = both (may_follow item next) (is_tig
 pub is_run : (items : List Item) → of_side Client items ≡ flat_map (block Client) (ended Client items) ++ [] → of_side Server items ≡ flat_map (block Server) (ended Server items) ++ [] →
     IsTrue (is_tight items) → IsTrue (obeys start items) → IsRun items
 is_run items c s t o = record {
-    marked = record {
-        client_side = record { messages = ended Client items; blocks = c };
-        server_side = record { messages = ended Server items; blocks = s };
-        tight = tight items t };
-    obeys = obeyed items start o }
+  marked = record {
+    client_side = record { messages = ended Client items; blocks = c };
+    server_side = record { messages = ended Server items; blocks = s };
+    tight = tight items t;
+  };
+  obeys = obeyed items start o;
+}
 
 -- the read gives the known byte
 abbrev pub agrees : (byte read : Option ℕ) → Bool
@@ -529,6 +563,34 @@ none_wrong requests order initial [] h k x n w = n
 none_wrong requests order initial (j ∷ ks) h k x n w =
     let a = both (reads_right (byte_before requests order initial j) (requests j)) (all_right requests order initial ks) h in
     elim n [
-        inl q ↦ (let w' : IsWrong requests order initial j x = subst (λ i. IsWrong requests order initial i x) (sym q) w in
-            right (byte_before requests order initial j) (requests j) w'.0 x a.0 w'.1 w'.2)
-        | inr m ↦ none_wrong requests order initial ks a.1 k x m w ]
+      | inl q ↦ (let w' : IsWrong requests order initial j x = subst (λ i. IsWrong requests order initial i x) (sym q) w in
+          right (byte_before requests order initial j) (requests j) w'.0 x a.0 w'.1 w'.2)
+      | inr m ↦ none_wrong requests order initial ks a.1 k x m w
+    ]
+
+-- the read gives another byte than the known one
+abbrev pub differ : (byte read : Option ℕ) → Bool
+differ None read = false
+differ (Some b) (Some c) = not (c == b)
+differ (Some b) None = true
+
+abbrev pub is_wrong_in : (byte : ℕ → Option ℕ) → ℕ → Option Exchange → Bool
+is_wrong_in byte x (Some e) = (e.command == commands.READ) && (e.succeeded && (is_in e.offset e.length x && differ (byte x) (e.read x)))
+is_wrong_in byte x None = false
+
+differs : (byte read : ℕ → Option ℕ) (x : ℕ) (o p : Option ℕ) → byte x ≡ o → read x ≡ p → IsTrue (differ o p) → Differs byte read x
+differs byte read x None p e f h = absurd (cc)
+differs byte read x (Some b) (Some c) e f h = (b, e, λ q. eqb-false c b (was_false (c == b) h) (let r : Some c ≡ Some b = sym f ∙ q in cc))
+differs byte read x (Some b) None e f h = (b, e, λ q. (let r : None ≡ Some b = sym f ∙ q in absurd (cc)))
+
+-- a byte that passes this test is wrong
+pub wrong : (requests : ℕ → Option Exchange) (order : List ℕ) (initial : ℕ → Option ℕ) (k x : ℕ) → IsTrue (is_wrong_in (byte_before requests order initial k) x (requests k)) → IsWrong requests order initial k x
+wrong requests order initial k x h = go (requests k) refl h
+  where
+    go : (o : Option Exchange) → requests k ≡ o → IsTrue (is_wrong_in (byte_before requests order initial k) x o) → IsWrong requests order initial k x
+    go None q h = absurd (cc)
+    go (Some e) q h =
+        let a = both (e.command == commands.READ) _ h in
+        let b = both e.succeeded _ a.1 in
+        let c = both (is_in e.offset e.length x) _ b.1 in
+        (e, q, (eqb-true e.command commands.READ a.0, b.0, c.0, differs (byte_before requests order initial k) e.read x _ _ refl refl c.1))

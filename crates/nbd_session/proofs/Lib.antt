@@ -17,4 +17,4 @@ pub mod Outstanding
 pub mod Verdicts
 pub mod Deciding
 pub mod Sessions
-pub mod Examples
+pub mod Worked

@@ -1,5 +1,5 @@
 -- Messages and parts of the worked examples.
-use Rattle.std.proofs.Common.{ℕ, List, [], ◌∷◌, ◌++◌, length, flat_map, true, false}
+use Rattle.std.proofs.Common.{ℕ, List, [], ◌∷◌, ◌++◌, length, map, flat_map, true, false}
 use Rattle.byteorder.specs.Endian.{big_bytes}
 use Rattle.nbd_wire.specs.declared.answers.TheConstants as answers
 use Rattle.nbd_wire.specs.declared.chunks.TheConstants as chunks
@@ -7,7 +7,9 @@ use Rattle.nbd_wire.specs.declared.commands.TheConstants as commands
 use Rattle.nbd_wire.specs.declared.options.TheConstants as options
 use Rattle.nbd_wire.specs.declared.message.Message.{Message}
 use Rattle.nbd_wire.specs.declared.message.Message.TheVariants.{Greeting, ClientFlags, Choice, Answer, Exported, Request, Simple, Chunk}
-use Rattle.nbd_wire.specs.Items.{Item, block}
+use Rattle.nbd_wire.specs.declared.message.Side.TheVariants.{Client}
+use Rattle.nbd_wire.specs.Encoding.{enc}
+use Rattle.nbd_wire.specs.Items.{Item, Byte, Starts, Completes, block}
 use Rattle.nbd_wire.specs.Side.{side}
 
 abbrev pub read : (cookie offset len : ℕ) → Message
@@ -42,6 +44,26 @@ hole cookie offset size = Chunk 0 chunks.OFFSET_HOLE cookie (big_bytes 8 offset 
 
 abbrev pub done : (cookie : ℕ) → Message
 done cookie = Chunk chunks.DONE chunks.NONE cookie []
+
+-- an error chunk with an offset and no text, the last of its reply
+abbrev pub broken : (cookie error offset : ℕ) → Message
+broken cookie error offset = Chunk chunks.DONE chunks.ERROR_OFFSET cookie (big_bytes 4 error ++ big_bytes 2 0 ++ big_bytes 8 offset)
+
+-- all bytes but the last
+abbrev pub but_last : List ℕ → List ℕ
+but_last [] = []
+but_last (b ∷ []) = []
+but_last (b ∷ c ∷ bytes) = b ∷ but_last (c ∷ bytes)
+
+-- the last byte alone
+abbrev pub only_last : List ℕ → List ℕ
+only_last [] = []
+only_last (b ∷ []) = b ∷ []
+only_last (b ∷ c ∷ bytes) = only_last (c ∷ bytes)
+
+-- a client's message whose last byte comes behind other items
+abbrev pub within : Message → List Item → List Item
+within m items = Starts Client m ∷ map (λ b. Byte Client b) (but_last (enc m)) ++ items ++ map (λ b. Byte Client b) (only_last (enc m)) ++ Completes Client m ∷ []
 
 -- these messages, one behind the other
 abbrev pub sends : List Message → List Item

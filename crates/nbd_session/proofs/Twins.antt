@@ -102,7 +102,7 @@ sided_second core o o' all u = go (get o u) (get o' u) (all u)
     go x Loose t = tt
 
 -- how a walk takes its next byte
-data Next (o : Both Open) (items : List Item) (s : Side) (b : ℕ) : Type 0 where
+pub data Next (o : Both Open) (items : List Item) (s : Side) (b : ℕ) : Type 0 where
   opens : (m : Message) (left : List ℕ) (rest : List Item) → get o s ≡ Idle → enc m ≡ b ∷ left → IsFilled left → Walk ⊥ (put o s (Busy m left)) rest → items ≡ Starts s m ∷ Byte s b ∷ rest → Next o items s b
   goes_on : (m : Message) (left : List ℕ) (rest : List Item) → get o s ≡ Busy m (b ∷ left) → IsFilled left → Walk ⊥ (put o s (Busy m left)) rest → items ≡ Byte s b ∷ rest → Next o items s b
   ends : (m : Message) (rest : List Item) → get o s ≡ Busy m (b ∷ []) → Walk ⊥ (put o s Idle) rest → items ≡ Byte s b ∷ Completes s m ∷ rest → Next o items s b
@@ -112,7 +112,7 @@ next_is {o} {items} s t b c ps qs n e =
     let p : record { from = t; byte = c } ≡ record { from = s; byte = b } = cc in
     subst (λ (p : Pair). Next o items p.from p.byte) p n
 
-next : {o : Both Open} {items : List Item} → Walk ⊥ o items → IsBare items → (s : Side) (b : ℕ) (ps : List Pair) → pairs items ≡ record { from = s; byte = b } ∷ ps → Next o items s b
+pub next : {o : Both Open} {items : List Item} → Walk ⊥ o items → IsBare items → (s : Side) (b : ℕ) (ps : List Pair) → pairs items ≡ record { from = s; byte = b } ∷ ps → Next o items s b
 next (ended c d) bare s b ps e = absurd (cc)
 next (serving k w) bare s b ps e = absurd bare
 next (opening t m c left {items = items} i f g w) bare s b ps e = next_is s t b c ps (pairs items) (opens m left items i f g w refl) e

@@ -31,3 +31,12 @@ pub record HasCounts (capture : List Pair) (of_requests of_answered of_improper 
   pub requests_are : (items : List Item) → IsRun items → pairs items ≡ capture → requests (report items) ≡ of_requests
   pub answered_are : (items : List Item) → IsRun items → pairs items ≡ capture → answered (report items) ≡ of_answered
   pub improper_are : (items : List Item) → IsRun items → pairs items ≡ capture → improper (report items) ≡ of_improper
+
+-- the answer to a capture is yes with these counts
+pub record IsYes (capture : List Pair) (order : List ℕ) (initial : Start) (of_requests of_answered of_improper : ℕ) : Type 0 where
+  pub explained : Explained capture order initial
+  pub counts : HasCounts capture of_requests of_answered of_improper
+
+-- the order does not explain the capture
+abbrev pub IsNo : List Pair → List ℕ → Start → Type 0
+IsNo capture order initial = Explained capture order initial → ⊥

@@ -64,5 +64,4 @@ pub fn served_once_behind_completion()
 pub fn explained_exactly()
     ensures passing { PassingIsExplained }
     ensures only { ExplainedPasses }
-{
-}
+{}

@@ -4,6 +4,7 @@
 //! bytes are read.
 #![tactic(auto)]
 
+pub mod examples;
 pub mod fault;
 pub mod laws;
 
