@@ -14,7 +14,8 @@ pub mod Unserved
 pub mod Moments
 pub mod Parts
 pub mod Outstanding
-pub mod Verdicts
+pub mod Told
+pub mod Explaining
 pub mod Deciding
 pub mod Sessions
 pub mod Worked

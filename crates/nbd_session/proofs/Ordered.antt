@@ -6,8 +6,7 @@ use Rattle.nbd_wire.specs.declared.message.Message.{Message}
 use Rattle.nbd_wire.specs.Items.{Item, Byte, Starts, Completes, Serves, served}
 use Rattle.nbd_wire.specs.States.{Core, State, start, Names}
 use Rattle.nbd_wire.specs.Rules.{IsRun, Obeys, complete, answered_by}
-use Rattle.nbd_wire.specs.Explains.{entries_of}
-use Rattle.nbd_wire.specs.Report.{known, known_from, known_if, first_known}
+use Rattle.nbd_wire.specs.Report.{entries_of, known, known_from, known_if, first_known}
 use Rattle.nbd_session.proofs.Entries.{HasNoFault, IsOnce, IsInTime}
 use Rattle.nbd_session.proofs.Trace.{Names-push, Names-left, Names-push_cases, length-complete}
 use Rattle.nbd_session.proofs.Latest.{core_end, entries_grow, same_number}
@@ -97,3 +96,9 @@ order_of_run items run =
       in_time = h.in_time (known items) (λ k n. refl);
       all = λ k n p l e. elim (h.answered k n e) [ inl a ↦ absurd a | inr r ↦ r ];
     }
+
+-- a request that is answered is one of the run's
+pub known_within : (items : List Item) → IsRun items → (k n : ℕ) → known items k ≡ Some n → (0 < k) × (k ≤ length (entries_of items))
+known_within items run k n e =
+    let h : HasNoFault (length (entries_of items)) (known items) (served items) = order_of_run items run in
+    elim ((ordered items start.core [] run.obeys).answered k n e) [ inl a ↦ absurd a | inr r ↦ h.named k r ]

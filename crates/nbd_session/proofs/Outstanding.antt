@@ -5,7 +5,8 @@ use Rattle.nbd_wire.specs.declared.message.Side.{Side}
 use Rattle.nbd_wire.specs.declared.message.Side.TheVariants.{Client, Server}
 use Rattle.nbd_wire.specs.declared.message.Message.{Message}
 use Rattle.nbd_wire.specs.declared.message.Message.TheVariants.{Greeting, ClientFlags, Choice, Answer, Exported, Request, Simple, Chunk}
-use Rattle.nbd_wire.specs.Explains.{Explained, FitsImage, Start, entries_of, export_in, export_of, Unknown, Zeroes, Image}
+use Rattle.nbd_wire.specs.Explains.{Explained, Start}
+use Rattle.nbd_wire.specs.Report.{entries_of, export_in, export_of, report}
 use Rattle.nbd_wire.specs.Items.{Item, Byte, Starts, Completes, Serves, IsMarked, served}
 use Rattle.nbd_wire.specs.Requests.{Entry, Exporting, any, ends_reply, is_finished}
 use Rattle.nbd_wire.specs.Rules.{IsRun, MayAsk, MayComplete, MayStartIn, Obeys, after, answered_by, complete, cookie_of, ends_at, reply_to, requested, target_of}
@@ -222,6 +223,7 @@ served_once_behind_completion front back k run =
     (ob.0.0, ob.0.1, λ n. ob.0.2 (subst (λ js. Names js k) (sym (served_in start front)) n))
 
 pub empty_is_explained : EmptyIsExplained
+unfolding report
 empty_is_explained initial = record {
   items = [];
   is_run = record { marked = record { client_side = record { messages = []; blocks = refl }; server_side = record { messages = []; blocks = refl }; tight = tt }; obeys = tt };

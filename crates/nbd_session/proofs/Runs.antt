@@ -6,8 +6,7 @@ use Rattle.nbd_wire.specs.declared.message.Message.{Message}
 use Rattle.nbd_wire.specs.Items.{Item, Byte, Starts, Completes, Serves, Pair, pairs, completed, served, IsMarkedBut, ArePairs}
 use Rattle.nbd_wire.specs.States.{Core, State, start, Names}
 use Rattle.nbd_wire.specs.Rules.{IsRun, IsRunBut, Obeys, complete, ends_at, after}
-use Rattle.nbd_wire.specs.Explains.{entries_of}
-use Rattle.nbd_wire.specs.Report.{known}
+use Rattle.nbd_wire.specs.Report.{entries_of, known}
 use Rattle.nbd_session.proofs.Entries.{HasNoFault}
 use Rattle.nbd_session.specs.declared.fault.WireFault.{WireFault}
 use Rattle.nbd_session.proofs.Machine.{AreHeld, none_held, at_start, Both, get, Walk, IsFilled, Open, Idle, Busy, Loose, Rest, Machine, Judge, reads, IsSound, IsExact}

@@ -1,7 +1,7 @@
 -- What a run leads to and tells does not depend on the moments of service.
 use Rattle.std.proofs.Common.{◌≡◌, ℕ, List, [], ◌∷◌, length, refl, sym, ◌∙◌, ap, Option}
 use Rattle.nbd_wire.specs.declared.message.Side.TheVariants.{Client, Server}
-use Rattle.nbd_wire.specs.Explains.{entries_of, export_in, export_of}
+use Rattle.nbd_wire.specs.Report.{entries_of, export_in, export_of}
 use Rattle.nbd_wire.specs.Items.{Item, Byte, Starts, Completes, Serves, pairs, unserved}
 use Rattle.nbd_wire.specs.Report.{Report, first_known, known, known_from, report, told_from}
 use Rattle.nbd_wire.specs.Requests.{Exporting}

@@ -7,7 +7,7 @@ use Rattle.nbd_wire.specs.declared.message.Message.{Message}
 use Rattle.nbd_wire.specs.declared.message.Message.TheVariants.{Greeting, ClientFlags, Choice, Answer, Exported}
 use Rattle.nbd_wire.specs.Encoding.{enc, head, tail}
 use Rattle.nbd_wire.specs.Exchanges.{exchanges}
-use Rattle.nbd_wire.specs.Explains.{Explained, Image, Start, Zeroes, entries_of, start_byte}
+use Rattle.nbd_wire.specs.Explains.{Explained, Image, Start, Zeroes, start_byte}
 use Rattle.nbd_wire.specs.declared.message.Side.TheVariants.{Client, Server}
 use Rattle.nbd_wire.specs.Items.{Item, Pair, Serves, flat, unserved}
 use Rattle.nbd_wire.specs.Options.{is_proper_option, next_phase}
@@ -17,16 +17,16 @@ use Rattle.nbd_wire.specs.Requests.{ends_reply, has, has_only, is_failing, is_pr
 use Rattle.nbd_wire.specs.Rules.{IsRun, MayStartIn, complete}
 use Rattle.nbd_wire.specs.States.{start, target}
 use Rattle.nbd_session.specs.Captures as captures
-use Rattle.nbd_session.specs.Verdicts.{IsNo, IsYes}
-use Rattle.nbd_session.specs.Moments.{IsFaultless}
+use Rattle.nbd_session.specs.Explaining.{IsNo, IsYes}
+use Rattle.nbd_wire.specs.Verdicts.{IsFaultless}
 use Rattle.nbd_session.proofs.Blocks.{Idles}
 use Rattle.nbd_session.proofs.Deciding.{is_run, none_wrong, wrong}
 use Rattle.nbd_session.proofs.Follow.{Follows, IsBegun, bare, follows, follows_unserved, pairs_unserved, walk_unserved}
-use Rattle.nbd_session.proofs.Moments.{each_order_is_faultless}
+use Rattle.nbd_session.proofs.Moments.{orders_are_faultless}
 use Rattle.nbd_session.proofs.Runs.{walk_of}
 use Rattle.nbd_session.proofs.Sessions.{broken, content, disconnect, done, fails, gives, gone, greeted, hole, read, sends, structured, succeeds, trim, within, write, zero_out}
 use Rattle.nbd_session.proofs.Twins.{Next, opens, goes_on, ends, next}
-use Rattle.nbd_session.proofs.Verdicts.{counts_of, refused}
+use Rattle.nbd_session.proofs.Explaining.{counts_of, refused}
 
 -- the order 1 does not name 2
 one_entry : (i : ℕ) → i < length {A = ℕ} (1 ∷ []) → slice_index (1 ∷ []) i ≡ 2 → ⊥
@@ -49,7 +49,7 @@ first_run = record {
     has_pairs = refl;
     has_order = refl;
     fits_image = tt;
-    reads = none_wrong (exchanges (entries_of first_run_items)) (1 ∷ []) (start_byte Zeroes) (1 ∷ []) refl;
+    reads = none_wrong (exchanges (report first_run_items)) (1 ∷ []) (start_byte Zeroes) (1 ∷ []) refl;
   };
   counts = counts_of first_run_items (flat captures.first_run) 1 1 0 first_run_run refl refl refl refl;
 }
@@ -70,7 +70,7 @@ write_and_read = record {
     has_pairs = refl;
     has_order = refl;
     fits_image = tt;
-    reads = none_wrong (exchanges (entries_of write_and_read_items)) (1 ∷ 2 ∷ []) (start_byte Zeroes) (1 ∷ 2 ∷ []) refl;
+    reads = none_wrong (exchanges (report write_and_read_items)) (1 ∷ 2 ∷ []) (start_byte Zeroes) (1 ∷ 2 ∷ []) refl;
   };
   counts = counts_of write_and_read_items (flat captures.write_and_read) 2 2 0 write_and_read_run refl refl refl refl;
 }
@@ -88,7 +88,7 @@ write_and_misread_run = is_run write_and_misread_items refl refl refl refl
 
 pub write_and_misread : IsNo (flat captures.write_and_misread) (1 ∷ 2 ∷ []) Zeroes
 unfolding write_and_misread_items enc head tail complete next_phase target has has_only is_proper is_proper_option info_of is_listed is_go content_of failure_of ends_reply is_failing piece_of report
-write_and_misread = refused write_and_misread_items (flat captures.write_and_misread) (1 ∷ 2 ∷ []) Zeroes write_and_misread_run refl (λ p. p.reads 2 1 (inr (inl refl)) (wrong (exchanges (entries_of write_and_misread_items)) (1 ∷ 2 ∷ []) (start_byte Zeroes) 2 1 refl))
+write_and_misread = refused write_and_misread_items (flat captures.write_and_misread) (1 ∷ 2 ∷ []) Zeroes write_and_misread_run refl (λ p. p.reads 2 1 (inr (inl refl)) (wrong (exchanges (report write_and_misread_items)) (1 ∷ 2 ∷ []) (start_byte Zeroes) 2 1 refl))
 
 read_before_reply_items : List Item
 read_before_reply_items = sends (greeted ++ gone ++ write 1 0 (171 ∷ 205 ∷ []) ∷ read 2 0 2 ∷ []) ++ Serves 1 ∷ Serves 2 ∷ sends (gives 2 (171 ∷ 205 ∷ []) ∷ succeeds 1 ∷ [])
@@ -106,7 +106,7 @@ read_before_reply = record {
     has_pairs = refl;
     has_order = refl;
     fits_image = tt;
-    reads = none_wrong (exchanges (entries_of read_before_reply_items)) (1 ∷ 2 ∷ []) (start_byte Zeroes) (1 ∷ 2 ∷ []) refl;
+    reads = none_wrong (exchanges (report read_before_reply_items)) (1 ∷ 2 ∷ []) (start_byte Zeroes) (1 ∷ 2 ∷ []) refl;
   };
   counts = counts_of read_before_reply_items (flat captures.read_before_reply) 2 2 0 read_before_reply_run refl refl refl refl;
 }
@@ -127,7 +127,7 @@ failed_write = record {
     has_pairs = refl;
     has_order = refl;
     fits_image = tt;
-    reads = none_wrong (exchanges (entries_of failed_write_items)) (1 ∷ 2 ∷ []) (start_byte Zeroes) (1 ∷ 2 ∷ []) refl;
+    reads = none_wrong (exchanges (report failed_write_items)) (1 ∷ 2 ∷ []) (start_byte Zeroes) (1 ∷ 2 ∷ []) refl;
   };
   counts = counts_of failed_write_items (flat captures.failed_write) 2 2 0 failed_write_run refl refl refl refl;
 }
@@ -141,7 +141,7 @@ ignored_write_run = is_run ignored_write_items refl refl refl refl
 
 pub ignored_write : IsNo (flat captures.ignored_write) (1 ∷ 2 ∷ []) Zeroes
 unfolding ignored_write_items enc head tail complete next_phase target has has_only is_proper is_proper_option info_of is_listed is_go content_of failure_of ends_reply is_failing piece_of report
-ignored_write = refused ignored_write_items (flat captures.ignored_write) (1 ∷ 2 ∷ []) Zeroes ignored_write_run refl (λ p. p.reads 2 0 (inr (inl refl)) (wrong (exchanges (entries_of ignored_write_items)) (1 ∷ 2 ∷ []) (start_byte Zeroes) 2 0 refl))
+ignored_write = refused ignored_write_items (flat captures.ignored_write) (1 ∷ 2 ∷ []) Zeroes ignored_write_run refl (λ p. p.reads 2 0 (inr (inl refl)) (wrong (exchanges (report ignored_write_items)) (1 ∷ 2 ∷ []) (start_byte Zeroes) 2 0 refl))
 
 two_reads_items : List Item
 two_reads_items = sends (greeted ++ gone ++ read 1 0 1 ∷ []) ++ Serves 1 ∷ sends (gives 1 (0 ∷ []) ∷ read 2 0 1 ∷ []) ++ Serves 2 ∷ sends (gives 2 (0 ∷ []) ∷ [])
@@ -159,7 +159,7 @@ two_reads = record {
     has_pairs = refl;
     has_order = refl;
     fits_image = tt;
-    reads = none_wrong (exchanges (entries_of two_reads_items)) (1 ∷ 2 ∷ []) (start_byte Zeroes) (1 ∷ 2 ∷ []) refl;
+    reads = none_wrong (exchanges (report two_reads_items)) (1 ∷ 2 ∷ []) (start_byte Zeroes) (1 ∷ 2 ∷ []) refl;
   };
   counts = counts_of two_reads_items (flat captures.two_reads) 2 2 0 two_reads_run refl refl refl refl;
 }
@@ -184,7 +184,7 @@ structured_read = record {
     has_pairs = refl;
     has_order = refl;
     fits_image = tt;
-    reads = none_wrong (exchanges (entries_of structured_read_items)) (1 ∷ 2 ∷ []) (start_byte Zeroes) (1 ∷ 2 ∷ []) refl;
+    reads = none_wrong (exchanges (report structured_read_items)) (1 ∷ 2 ∷ []) (start_byte Zeroes) (1 ∷ 2 ∷ []) refl;
   };
   counts = counts_of structured_read_items (flat captures.structured_read) 2 2 0 structured_read_run refl refl refl refl;
 }
@@ -205,7 +205,7 @@ trimmed_read = record {
     has_pairs = refl;
     has_order = refl;
     fits_image = tt;
-    reads = none_wrong (exchanges (entries_of trimmed_read_items)) (1 ∷ 2 ∷ []) (start_byte Zeroes) (1 ∷ 2 ∷ []) refl;
+    reads = none_wrong (exchanges (report trimmed_read_items)) (1 ∷ 2 ∷ []) (start_byte Zeroes) (1 ∷ 2 ∷ []) refl;
   };
   counts = counts_of trimmed_read_items (flat captures.trimmed_read) 2 2 0 trimmed_read_run refl refl refl refl;
 }
@@ -219,7 +219,7 @@ zeroed_read_run = is_run zeroed_read_items refl refl refl refl
 
 pub zeroed_read : IsNo (flat captures.zeroed_read) (1 ∷ 2 ∷ []) Zeroes
 unfolding zeroed_read_items enc head tail complete next_phase target has has_only is_proper is_proper_option info_of is_listed is_go content_of failure_of ends_reply is_failing piece_of report
-zeroed_read = refused zeroed_read_items (flat captures.zeroed_read) (1 ∷ 2 ∷ []) Zeroes zeroed_read_run refl (λ p. p.reads 2 0 (inr (inl refl)) (wrong (exchanges (entries_of zeroed_read_items)) (1 ∷ 2 ∷ []) (start_byte Zeroes) 2 0 refl))
+zeroed_read = refused zeroed_read_items (flat captures.zeroed_read) (1 ∷ 2 ∷ []) Zeroes zeroed_read_run refl (λ p. p.reads 2 0 (inr (inl refl)) (wrong (exchanges (report zeroed_read_items)) (1 ∷ 2 ∷ []) (start_byte Zeroes) 2 0 refl))
 
 improper_read_items : List Item
 improper_read_items = sends (greeted ++ gone ++ read 1 8 1 ∷ []) ++ Serves 1 ∷ sends (fails 1 22 ∷ [])
@@ -237,7 +237,7 @@ improper_read = record {
     has_pairs = refl;
     has_order = refl;
     fits_image = tt;
-    reads = none_wrong (exchanges (entries_of improper_read_items)) (1 ∷ []) (start_byte Zeroes) (1 ∷ []) refl;
+    reads = none_wrong (exchanges (report improper_read_items)) (1 ∷ []) (start_byte Zeroes) (1 ∷ []) refl;
   };
   counts = counts_of improper_read_items (flat captures.improper_read) 1 1 1 improper_read_run refl refl refl refl;
 }
@@ -258,7 +258,7 @@ shared_cookie = record {
     has_pairs = refl;
     has_order = refl;
     fits_image = tt;
-    reads = none_wrong (exchanges (entries_of shared_cookie_items)) (1 ∷ 2 ∷ []) (start_byte Zeroes) (1 ∷ 2 ∷ []) refl;
+    reads = none_wrong (exchanges (report shared_cookie_items)) (1 ∷ 2 ∷ []) (start_byte Zeroes) (1 ∷ 2 ∷ []) refl;
   };
   counts = counts_of shared_cookie_items (flat captures.shared_cookie) 2 2 0 shared_cookie_run refl refl refl refl;
 }
@@ -279,7 +279,7 @@ disconnected = record {
     has_pairs = refl;
     has_order = refl;
     fits_image = tt;
-    reads = none_wrong (exchanges (entries_of disconnected_items)) (1 ∷ 2 ∷ []) (start_byte Zeroes) (1 ∷ 2 ∷ []) refl;
+    reads = none_wrong (exchanges (report disconnected_items)) (1 ∷ 2 ∷ []) (start_byte Zeroes) (1 ∷ 2 ∷ []) refl;
   };
   counts = counts_of disconnected_items (flat captures.disconnected) 2 2 0 disconnected_run refl refl refl refl;
 }
@@ -300,14 +300,14 @@ pending_write = record {
     has_pairs = refl;
     has_order = refl;
     fits_image = tt;
-    reads = none_wrong (exchanges (entries_of pending_write_items)) (1 ∷ 2 ∷ []) (start_byte Zeroes) (1 ∷ 2 ∷ []) refl;
+    reads = none_wrong (exchanges (report pending_write_items)) (1 ∷ 2 ∷ []) (start_byte Zeroes) (1 ∷ 2 ∷ []) refl;
   };
   counts = counts_of pending_write_items (flat captures.pending_write) 2 1 0 pending_write_run refl refl refl refl;
 }
 
 pub pending_write_unserved : IsNo (flat captures.pending_write) (2 ∷ []) Zeroes
 unfolding pending_write_items enc head tail complete next_phase target has has_only is_proper is_proper_option info_of is_listed is_go content_of failure_of ends_reply is_failing piece_of report
-pending_write_unserved = refused pending_write_items (flat captures.pending_write) (2 ∷ []) Zeroes pending_write_run refl (λ p. p.reads 2 0 (inl refl) (wrong (exchanges (entries_of pending_write_items)) (2 ∷ []) (start_byte Zeroes) 2 0 refl))
+pending_write_unserved = refused pending_write_items (flat captures.pending_write) (2 ∷ []) Zeroes pending_write_run refl (λ p. p.reads 2 0 (inl refl) (wrong (exchanges (report pending_write_items)) (2 ∷ []) (start_byte Zeroes) 2 0 refl))
 
 padded_export_items : List Item
 padded_export_items = sends (Greeting 3 ∷ ClientFlags 1 ∷ Choice options.EXPORT_NAME (100 ∷ 105 ∷ 115 ∷ 107 ∷ []) ∷ Exported 8 109 true ∷ read 1 0 1 ∷ []) ++ Serves 1 ∷ sends (gives 1 (0 ∷ []) ∷ [])
@@ -325,7 +325,7 @@ padded_export = record {
     has_pairs = refl;
     has_order = refl;
     fits_image = tt;
-    reads = none_wrong (exchanges (entries_of padded_export_items)) (1 ∷ []) (start_byte Zeroes) (1 ∷ []) refl;
+    reads = none_wrong (exchanges (report padded_export_items)) (1 ∷ []) (start_byte Zeroes) (1 ∷ []) refl;
   };
   counts = counts_of padded_export_items (flat captures.padded_export) 1 1 0 padded_export_run refl refl refl refl;
 }
@@ -346,7 +346,7 @@ bare_export = record {
     has_pairs = refl;
     has_order = refl;
     fits_image = tt;
-    reads = none_wrong (exchanges (entries_of bare_export_items)) (1 ∷ []) (start_byte Zeroes) (1 ∷ []) refl;
+    reads = none_wrong (exchanges (report bare_export_items)) (1 ∷ []) (start_byte Zeroes) (1 ∷ []) refl;
   };
   counts = counts_of bare_export_items (flat captures.bare_export) 1 1 0 bare_export_run refl refl refl refl;
 }
@@ -367,7 +367,7 @@ refused_tls = record {
     has_pairs = refl;
     has_order = refl;
     fits_image = tt;
-    reads = none_wrong (exchanges (entries_of refused_tls_items)) [] (start_byte Zeroes) [] refl;
+    reads = none_wrong (exchanges (report refused_tls_items)) [] (start_byte Zeroes) [] refl;
   };
   counts = counts_of refused_tls_items (flat captures.refused_tls) 0 0 0 refused_tls_run refl refl refl refl;
 }
@@ -388,7 +388,7 @@ empty_read = record {
     has_pairs = refl;
     has_order = refl;
     fits_image = tt;
-    reads = none_wrong (exchanges (entries_of empty_read_items)) (1 ∷ []) (start_byte Zeroes) (1 ∷ []) refl;
+    reads = none_wrong (exchanges (report empty_read_items)) (1 ∷ []) (start_byte Zeroes) (1 ∷ []) refl;
   };
   counts = counts_of empty_read_items (flat captures.empty_read) 1 1 0 empty_read_run refl refl refl refl;
 }
@@ -409,7 +409,7 @@ failed_read = record {
     has_pairs = refl;
     has_order = refl;
     fits_image = tt;
-    reads = none_wrong (exchanges (entries_of failed_read_items)) (1 ∷ []) (start_byte Zeroes) (1 ∷ []) refl;
+    reads = none_wrong (exchanges (report failed_read_items)) (1 ∷ []) (start_byte Zeroes) (1 ∷ []) refl;
   };
   counts = counts_of failed_read_items (flat captures.failed_read) 1 1 0 failed_read_run refl refl refl refl;
 }
@@ -430,7 +430,7 @@ aborted = record {
     has_pairs = refl;
     has_order = refl;
     fits_image = tt;
-    reads = none_wrong (exchanges (entries_of aborted_items)) [] (start_byte Zeroes) [] refl;
+    reads = none_wrong (exchanges (report aborted_items)) [] (start_byte Zeroes) [] refl;
   };
   counts = counts_of aborted_items (flat captures.aborted) 0 0 0 aborted_run refl refl refl refl;
 }
@@ -451,7 +451,7 @@ listed = record {
     has_pairs = refl;
     has_order = refl;
     fits_image = tt;
-    reads = none_wrong (exchanges (entries_of listed_items)) [] (start_byte Zeroes) [] refl;
+    reads = none_wrong (exchanges (report listed_items)) [] (start_byte Zeroes) [] refl;
   };
   counts = counts_of listed_items (flat captures.listed) 0 0 0 listed_run refl refl refl refl;
 }
@@ -464,13 +464,13 @@ unfolding opening_items enc head tail complete next_phase target has has_only is
 opening_run = is_run opening_items refl refl refl refl
 
 pub wrong_image : (bytes : List ℕ) → length bytes ≡ 9 → IsNo (flat captures.opening) [] (Image bytes)
-unfolding opening_items enc head tail complete next_phase target has has_only is_proper is_proper_option info_of is_listed is_go content_of failure_of ends_reply is_failing piece_of
+unfolding opening_items enc head tail complete next_phase target has has_only is_proper is_proper_option info_of is_listed is_go content_of failure_of ends_reply is_failing piece_of report
 wrong_image bytes e = refused opening_items (flat captures.opening) [] (Image bytes) opening_run refl (λ p. (let q : length bytes ≡ 8 = p.fits_image in absurd (omega arith)))
 
 -- whatever the capture, no run serves a request twice
 pub named_twice : (capture : List Pair) (initial : Start) → IsNo capture (1 ∷ 1 ∷ []) initial
 named_twice capture initial x =
-    let o : IsFaultless x.items (1 ∷ 1 ∷ []) = subst (IsFaultless x.items) x.has_order (each_order_is_faultless x.items x.items x.is_run x.is_run refl) in
+    let o : IsFaultless (report x.items) (1 ∷ 1 ∷ []) = subst (IsFaultless (report x.items)) x.has_order (orders_are_faultless x.items x.is_run) in
     o.none_bad 1 (inr (lit< tt, (0, lit< tt, refl)))
 
 -- no run begins with a byte of the client

@@ -2,5 +2,5 @@ pub mod Fronts
 pub mod Moments
 pub mod Sameness
 pub mod Service
-pub mod Verdicts
+pub mod Explaining
 pub mod Captures

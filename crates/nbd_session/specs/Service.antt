@@ -2,7 +2,8 @@
 use Rattle.std.specs.Prelude.{◌≡◌, ◌<◌, ◌≤◌, ℕ, List, [], ◌∷◌, ◌++◌, Option, Some, false, length}
 use Rattle.nbd_wire.specs.declared.message.Side.TheVariants.{Server}
 use Rattle.nbd_wire.specs.declared.message.Message.{Message}
-use Rattle.nbd_wire.specs.Explains.{Explained, Start, entries_of, export_of}
+use Rattle.nbd_wire.specs.Explains.{Explained, Start}
+use Rattle.nbd_wire.specs.Report.{entries_of, export_of}
 use Rattle.nbd_wire.specs.Items.{Item, Starts, Serves, served}
 use Rattle.nbd_wire.specs.Requests.{Entry, Exporting, is_finished}
 use Rattle.nbd_wire.specs.Rules.{IsRun, cookie_of}

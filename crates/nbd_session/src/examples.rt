@@ -4,7 +4,7 @@ ghost use Rattle.std.specs.Prelude.{◌≡◌, ℕ, List, [], ◌∷◌, length}
 ghost use Rattle.nbd_wire.specs.Explains.{Image, Start, Zeroes};
 ghost use Rattle.nbd_wire.specs.Items.{Pair, flat};
 ghost use Rattle.nbd_session.specs.Captures as captures;
-ghost use Rattle.nbd_session.specs.Verdicts.{IsNo, IsYes};
+ghost use Rattle.nbd_session.specs.Explaining.{IsNo, IsYes};
 
 /// A READ of four zeroes is explained by its service.
 pub fn first_run()

@@ -1,15 +1,15 @@
 //! Laws over the definitions of nbd_wire: each is the contract of a function that does nothing.
 ghost use Rattle.nbd_session.specs.Fronts.{NoProperFront, FrontsAreRuns};
-ghost use Rattle.nbd_session.specs.Moments.{LatestMoments, EachOrderIsFaultless};
+ghost use Rattle.nbd_session.specs.Moments.{LatestMoments, OrdersAreFaultless};
 ghost use Rattle.nbd_session.specs.Sameness.{SameMarks, SameReports, ReportsIgnoreService};
 ghost use Rattle.nbd_session.specs.Service.{EmptyIsExplained, CookiesAreDistinct, EachReplyAnswersOne, ServedOnceBehindCompletion};
-ghost use Rattle.nbd_session.specs.Verdicts.{PassingIsExplained, ExplainedPasses};
+ghost use Rattle.nbd_session.specs.Explaining.{PassingIsExplained, ExplainedPasses};
 
 /// A run with given bytes and a given order of service exists exactly where a run with these bytes
 /// exists and the order has no fault.
 pub fn latest_moments()
     ensures served { LatestMoments }
-    ensures only { EachOrderIsFaultless }
+    ensures only { OrdersAreFaultless }
 {}
 
 /// The bytes of a run determine its messages and where each starts and completes.

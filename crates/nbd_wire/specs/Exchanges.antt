@@ -1,8 +1,8 @@
 -- The export's bytes, looked up backwards from a request.
 use Rattle.std.specs.Prelude.{ℕ, List, [], ◌∷◌, ◌≡◌, ◌+◌, ◌-◌, ◌==◌, ◌&&◌, Bool, true, false, if◌then◌else◌, Option, Some, None, slice_get, IsTrue}
 use Rattle.nbd_wire.specs.declared.commands.TheConstants as commands
-use Rattle.nbd_wire.specs.Requests.{Entry, Outcome, Success, Failure, Pending, byte_at, is_change, is_in, outcome, pieces}
-use Rattle.nbd_wire.specs.States.{entry}
+use Rattle.nbd_wire.specs.Report.{Asked, Report, asked_at}
+use Rattle.nbd_wire.specs.Requests.{Outcome, Success, Failure, Pending, byte_at, is_change, is_in}
 
 -- a numbered request and what became of it; `read` is the byte that its reply gives at an offset
 pub record Exchange : Type 0 where
@@ -18,23 +18,23 @@ is_success Success = true
 is_success Failure = false
 is_success Pending = false
 
-abbrev pub exchange : Entry → Exchange
-exchange e = record {
-  command = e.command;
-  offset = e.offset;
-  length = e.length;
-  payload = e.payload;
-  succeeded = is_success (outcome e);
-  read = byte_at (pieces e);
+abbrev pub exchange : Asked → Exchange
+exchange a = record {
+  command = a.command;
+  offset = a.offset;
+  length = a.length;
+  payload = a.payload;
+  succeeded = is_success a.outcome;
+  read = byte_at a.pieces;
 }
 
-abbrev pub exchange_if : Option Entry → Option Exchange
-exchange_if (Some e) = Some (exchange e)
+abbrev pub exchange_if : Option Asked → Option Exchange
+exchange_if (Some a) = Some (exchange a)
 exchange_if None = None
 
--- the requests of these entries, by number
-abbrev pub exchanges : List Entry → ℕ → Option Exchange
-exchanges entries k = exchange_if (entry k entries)
+-- the requests of a report, by number
+abbrev pub exchanges : Report → ℕ → Option Exchange
+exchanges r k = exchange_if (asked_at k r.asked)
 
 -- a WRITE, TRIM or WRITE_ZEROES with x in its range
 abbrev pub touches : Exchange → ℕ → Bool

@@ -2,9 +2,10 @@
 use Rattle.std.specs.Prelude.{ℕ, List, ◌≡◌, Option, Some, None, length, slice_get}
 use Rattle.nbd_wire.specs.Exchanges.{IsWrong, exchanges}
 use Rattle.nbd_wire.specs.Items.{Item, Pair, pairs, served}
-use Rattle.nbd_wire.specs.Requests.{Entry, Exporting}
-use Rattle.nbd_wire.specs.Rules.{IsRun, ends_at}
-use Rattle.nbd_wire.specs.States.{Names, Phase, Transmission, start}
+use Rattle.nbd_wire.specs.Report.{Report, report}
+use Rattle.nbd_wire.specs.Requests.{Exporting}
+use Rattle.nbd_wire.specs.Rules.{IsRun}
+use Rattle.nbd_wire.specs.States.{Names}
 
 -- what the export held at first: unknown bytes, zeroes, or these
 pub data Start : Type 0 where
@@ -17,29 +18,21 @@ start_byte Unknown x = None
 start_byte Zeroes x = Some 0
 start_byte (Image bytes) x = slice_get bytes x
 
--- the numbered requests of a run
-abbrev pub entries_of : List Item → List Entry
-entries_of items = (ends_at start items).core.entries
-
-abbrev pub export_in : Phase → Option Exporting
-export_in (Transmission export) = Some export
-export_in _ = None
-
--- the export of a run that reaches transmission
-abbrev pub export_of : List Item → Option Exporting
-export_of items = export_in (ends_at start items).core.phase
-
 -- an image has the size of the export
 abbrev pub FitsImage : Option Exporting → Start → Type 0
 FitsImage (Some export) (Image bytes) = length bytes ≡ export.size
 FitsImage _ _ = Unit {0}
 
--- some run has these bytes and is served in this order, and no byte of a READ that is served is wrong
--- (this project's choice)
+-- no request that the order names has a wrong byte
+abbrev pub HasNoWrongByte : Report → List ℕ → Start → Type 0
+HasNoWrongByte r order initial = (k x : ℕ) → Names order k → IsWrong (exchanges r) order (start_byte initial) k x → ⊥
+
+-- some run has these bytes and is served in this order, an image has the export's size, and no byte
+-- of a READ that is served is wrong (this project's choice)
 pub record Explained (capture : List Pair) (order : List ℕ) (initial : Start) : Type 0 where
   pub items : List Item
   pub is_run : IsRun items
   pub has_pairs : pairs items ≡ capture
   pub has_order : served items ≡ order
-  pub fits_image : FitsImage (export_of items) initial
-  pub reads : (k x : ℕ) → Names order k → IsWrong (exchanges (entries_of items)) order (start_byte initial) k x → ⊥
+  pub fits_image : FitsImage (report items).export initial
+  pub reads : HasNoWrongByte (report items) order initial

@@ -1,12 +1,23 @@
 -- What a run tells of its requests, whatever the moments of their service.
-use Rattle.std.specs.Prelude.{ℕ, suc, List, [], ◌∷◌, ◌==◌, not, Bool, true, false, Option, Some, None, length, count_by}
+use Rattle.std.specs.Prelude.{ℕ, zero, suc, List, [], ◌∷◌, ◌==◌, Bool, true, false, Option, Some, None, length, slice_get}
 use Rattle.nbd_wire.specs.declared.message.Side.TheVariants.{Client, Server}
 use Rattle.nbd_wire.specs.declared.payloads.Piece.{Piece}
-use Rattle.nbd_wire.specs.Explains.{entries_of, export_of}
 use Rattle.nbd_wire.specs.Items.{Item, Byte, Starts, Completes, Serves}
-use Rattle.nbd_wire.specs.Requests.{Entry, Exporting, Outcome, Success, Failure, Pending, is_proper, outcome, pieces}
-use Rattle.nbd_wire.specs.Rules.{answered_by, complete}
-use Rattle.nbd_wire.specs.States.{Core, start}
+use Rattle.nbd_wire.specs.Requests.{Entry, Exporting, Outcome, is_proper, outcome, pieces}
+use Rattle.nbd_wire.specs.Rules.{answered_by, complete, ends_at}
+use Rattle.nbd_wire.specs.States.{Core, Phase, Transmission, start}
+
+-- the numbered requests of a run
+abbrev pub entries_of : List Item → List Entry
+entries_of items = (ends_at start items).core.entries
+
+abbrev pub export_in : Phase → Option Exporting
+export_in (Transmission export) = Some export
+export_in _ = None
+
+-- the export of a run that reaches transmission
+abbrev pub export_of : List Item → Option Exporting
+export_of items = export_in (ends_at start items).core.phase
 
 abbrev pub known_if : Bool → Core → Option ℕ → Option ℕ
 known_if true core later = Some (length core.entries)
@@ -73,17 +84,15 @@ told_from k export known_at (e ∷ entries) = told export (known_at (suc k)) e �
 unfoldable pub report : List Item → Report
 report items = record { export = export_of items; asked = told_from 0 (export_of items) (known items) (entries_of items) }
 
-abbrev pub is_answered : Outcome → Bool
-is_answered Success = true
-is_answered Failure = true
-is_answered Pending = false
+-- request k of these, counted from 1
+abbrev pub asked_at : ℕ → List Asked → Option Asked
+asked_at zero asked = None
+asked_at (suc k) asked = slice_get asked k
 
--- the counts of a yes: numbered requests, finished ones, improper ones
-abbrev pub requests : Report → ℕ
-requests r = length r.asked
+abbrev pub known_of : Option Asked → Option ℕ
+known_of (Some a) = a.known_at
+known_of None = None
 
-abbrev pub answered : Report → ℕ
-answered r = count_by (λ (a : Asked). is_answered a.outcome) r.asked
-
-abbrev pub improper : Report → ℕ
-improper r = count_by (λ (a : Asked). not a.proper) r.asked
+-- how many requests had completed when the first reply to request k of the report started, if one did
+abbrev pub known_in : Report → ℕ → Option ℕ
+known_in r k = known_of (asked_at k r.asked)

@@ -1,4 +1,4 @@
-use Rattle.nbd_session.proofs.Verdicts.{explained_passes, passing_is_explained}
+use Rattle.nbd_session.proofs.Explaining.{explained_passes, passing_is_explained}
 use Rattle.nbd_session.proofs.laws.explained_exactly.Goals as goal
 
 pub returns-clause-passing : goal.returns-clause-passing
