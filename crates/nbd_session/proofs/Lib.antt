@@ -19,3 +19,6 @@ pub mod Explaining
 pub mod Deciding
 pub mod Sessions
 pub mod Worked
+pub mod Reached
+pub mod Laid
+pub mod Facts

@@ -60,7 +60,7 @@ distinct-snoc [] e d f = ((λ u. tt), tt)
 distinct-snoc (x ∷ es) e d f = ((λ u. free-snoc x.cookie es e (d.0 u) (apart x e u f.0)), distinct-snoc es e d.1 f.1)
 
 -- a request with one more reply is finished where it was
-any-snoc : (p : Message → Bool) (ms : List Message) (m : Message) → any p (ms ++ m ∷ []) ≡ false → any p ms ≡ false
+pub any-snoc : (p : Message → Bool) (ms : List Message) (m : Message) → any p (ms ++ m ∷ []) ≡ false → any p ms ≡ false
 any-snoc p [] m h = refl
 any-snoc p (n ∷ ms) m h = go (p n) h (any-snoc p ms m)
   where
@@ -144,10 +144,10 @@ cookies_are_distinct front back run j k d e h i c =
     same_cookie (entries_of front) (distinct start front (obeys_front start front back run.obeys) tt) j k d e h.numbered i.numbered h.unfinished i.unfinished c
 
 -- the request that a cookie finds
-record IsFound (cookie k : ℕ) (es : List Entry) : Type 0 where
-  found : Entry
-  numbered : entry k es ≡ Some found
-  waits : is_awaiting cookie found ≡ true
+pub record IsFound (cookie k : ℕ) (es : List Entry) : Type 0 where
+  pub found : Entry
+  pub numbered : entry k es ≡ Some found
+  pub waits : is_awaiting cookie found ≡ true
 
 find_from : (n cookie : ℕ) (es : List Entry) (k : ℕ) → target_from n cookie es ≡ Some k → (j : ℕ) × (k ≡ n + suc j) × IsFound cookie (suc j) es
 find_from n cookie [] k h = absurd (cc)
@@ -158,16 +158,16 @@ find_from n cookie (x ∷ es) k h = go (is_awaiting cookie x) refl h (find_from 
     go true q h ih = (let e : suc n ≡ k = cc in (0, omega arith, record { found = x; numbered = refl; waits = q }))
     go false q h ih = (let r = ih h in let e : k ≡ suc n + suc r.0 = r.1 in (suc r.0, omega arith, record { found = r.2.found; numbered = r.2.numbered; waits = r.2.waits }))
 
-find : (cookie : ℕ) (es : List Entry) (k : ℕ) → target cookie es ≡ Some k → IsFound cookie k es
+pub find : (cookie : ℕ) (es : List Entry) (k : ℕ) → target cookie es ≡ Some k → IsFound cookie k es
 unfolding target
 find cookie es k h = (let r = find_from 0 cookie es k h in let e : k ≡ suc r.0 = (let q : k ≡ 0 + suc r.0 = r.1 in omega arith) in subst (λ k. IsFound cookie k es) (sym e) r.2)
 
-both_true : (a b : Bool) → (a && b) ≡ true → (a ≡ true) × (b ≡ true)
+pub both_true : (a b : Bool) → (a && b) ≡ true → (a ≡ true) × (b ≡ true)
 both_true true true e = (refl, refl)
 both_true true false e = absurd (cc)
 both_true false b e = absurd (cc)
 
-unfinished : (b : Bool) → not b ≡ true → b ≡ false
+pub unfinished : (b : Bool) → not b ≡ true → b ≡ false
 unfinished true e = absurd (cc)
 unfinished false e = refl
 

@@ -15,19 +15,18 @@ pub length-report : (items : List Item) → length (report items).asked ≡ leng
 unfolding report
 length-report items = length-told 0 (export_of items) (known items) (entries_of items)
 
-pub told_if : Option Exporting → Option ℕ → Option Entry → Option Asked
+abbrev pub told_if : Option Exporting → Option ℕ → Option Entry → Option Asked
 told_if export known_at (Some e) = Some (told export known_at e)
 told_if export known_at None = None
 
 asked-told : (n k : ℕ) (export : Option Exporting) (κ : ℕ → Option ℕ) (es : List Entry) → slice_get (told_from n export κ es) k ≡ told_if export (κ (n + suc k)) (entry (suc k) es)
-unfolding told_if
 asked-told n k export κ [] = refl
 asked-told n zero export κ (e ∷ es) = ap (λ i. Some (told export (κ i) e)) (omega arith)
 asked-told n (suc k) export κ (e ∷ es) = asked-told (suc n) k export κ es ∙ ap (λ i. told_if export (κ i) (entry (suc k) es)) (omega arith)
 
 -- request k of a report
 pub asked-report : (items : List Item) (k : ℕ) → asked_at k (report items).asked ≡ told_if (export_of items) (known items k) (entry k (entries_of items))
-unfolding report told_if
+unfolding report
 asked-report items zero = none (entries_of items)
   where
     none : (es : List Entry) → None ≡ told_if (export_of items) (known items zero) (entry zero es)
@@ -43,7 +42,6 @@ entry_within (suc (suc k)) (e ∷ es) p h = entry_within (suc k) es (omega arith
 
 -- the counts of the report are those of the run
 pub known-report : (items : List Item) → IsRun items → known_in (report items) ≡ known items
-unfolding told_if
 known-report items run = λ i k. (ap known_of (asked-report items k) ∙ go k (known items k) refl (entry k (entries_of items)) refl) i
   where
     go : (k : ℕ) (κ : Option ℕ) → known items k ≡ κ → (o : Option Entry) → entry k (entries_of items) ≡ o → known_of (told_if (export_of items) (known items k) o) ≡ known items k

@@ -1,4 +1,5 @@
 //! Laws over the definitions of nbd_wire: each is the contract of a function that does nothing.
+ghost use Rattle.nbd_session.specs.Facts.{ReportsAreSound};
 ghost use Rattle.nbd_session.specs.Fronts.{NoProperFront, FrontsAreRuns};
 ghost use Rattle.nbd_session.specs.Moments.{LatestMoments, OrdersAreFaultless};
 ghost use Rattle.nbd_session.specs.Sameness.{SameMarks, SameReports, ReportsIgnoreService};
@@ -65,3 +66,11 @@ pub fn explained_exactly()
     ensures passing { PassingIsExplained }
     ensures only { ExplainedPasses }
 {}
+
+/// The report of a run has an export within the limit, if any, and each of its requests was first
+/// answered behind its completion, carries as many bytes as it says, is proper where it succeeded,
+/// and where it is a READ has pieces in its range that share no offset and, at success, cover it.
+pub fn reports_are_sound()
+    ensures { ReportsAreSound }
+{
+}
