@@ -4,7 +4,7 @@ use Rattle.std.proofs.lemmas.Bool.{leb-true, ltb-true, lt-ltb, le-leb}
 use Rattle.nbd_wire.specs.declared.message.Message.{Message}
 use Rattle.nbd_wire.specs.declared.payloads.Piece.{Piece}
 use Rattle.nbd_wire.specs.Requests.{SharesNone, byte_at, holds, is_in, piece_byte, piece_of, piece_offset, piece_size, pieces_of}
-use Rattle.nbd_session.specs.Facts.{AreLaid}
+use Rattle.nbd_session.specs.Soundness.{AreLaid}
 
 abbrev pub AreInside : ℕ → ℕ → List Piece → Type 0
 AreInside offset len [] = Unit {0}

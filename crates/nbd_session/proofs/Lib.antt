@@ -21,4 +21,4 @@ pub mod Sessions
 pub mod Worked
 pub mod Reached
 pub mod Laid
-pub mod Facts
+pub mod Soundness

@@ -4,4 +4,4 @@ pub mod Sameness
 pub mod Service
 pub mod Explaining
 pub mod Captures
-pub mod Facts
+pub mod Soundness

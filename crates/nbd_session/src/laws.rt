@@ -1,5 +1,5 @@
 //! Laws over the definitions of nbd_wire: each is the contract of a function that does nothing.
-ghost use Rattle.nbd_session.specs.Facts.{ReportsAreSound};
+ghost use Rattle.nbd_session.specs.Soundness.{ReportsAreSound};
 ghost use Rattle.nbd_session.specs.Fronts.{NoProperFront, FrontsAreRuns};
 ghost use Rattle.nbd_session.specs.Moments.{LatestMoments, OrdersAreFaultless};
 ghost use Rattle.nbd_session.specs.Sameness.{SameMarks, SameReports, ReportsIgnoreService};

@@ -1,4 +1,4 @@
-use Rattle.nbd_session.proofs.Facts.{reports_are_sound}
+use Rattle.nbd_session.proofs.Soundness.{reports_are_sound}
 use Rattle.nbd_session.proofs.laws.reports_are_sound.Goals as goal
 
 pub returns : goal.returns

@@ -25,7 +25,7 @@ use Rattle.nbd_wire.specs.Requests as requests
 use Rattle.nbd_wire.specs.Rules.{AnswersOne, IsRun, MayAsk, MayComplete, answered_by, complete, ends_at, reply_to, requested, target_of}
 use Rattle.nbd_wire.specs.Sendable.{IsSendable}
 use Rattle.nbd_wire.specs.States.{Core, Phase, Greet, Flags, Choosing, Naming, Aborting, Answering, Ended, Transmission, answered, entry, start, target, with_reply}
-use Rattle.nbd_session.specs.Facts.{IsSoundAsked, IsSoundReport, ReportsAreSound}
+use Rattle.nbd_session.specs.Soundness.{IsSoundAsked, IsSoundReport, ReportsAreSound}
 use Rattle.nbd_session.proofs.Fronts.{InTransmission, asks, gives, phase-complete, replies, transmission_row}
 use Rattle.nbd_session.proofs.Laid.{AreApart, AreInside, apart_snoc, are_laid, inside_snoc, pieces-snoc}
 use Rattle.nbd_session.proofs.Latest.{core_end, entries_grow}
