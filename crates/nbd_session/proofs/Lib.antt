@@ -22,3 +22,6 @@ pub mod Worked
 pub mod Reached
 pub mod Laid
 pub mod Soundness
+pub mod Disconnected
+pub mod Replying
+pub mod Negotiating

@@ -239,7 +239,7 @@ good_reply_to core export cookie m (Some j) g k e q is r = (let s : k ≡ j = cc
 good_reply_to core export cookie m None g k e q is r = absurd (cc)
 
 -- the request that a reply answers is not finished
-open_target : (core : Core) (cookie k : ℕ) (e : Entry) → target cookie core.entries ≡ Some k → entry k core.entries ≡ Some e → is_finished e ≡ false
+pub open_target : (core : Core) (cookie k : ℕ) (e : Entry) → target cookie core.entries ≡ Some k → entry k core.entries ≡ Some e → is_finished e ≡ false
 open_target core cookie k e t is =
     let f : IsFound cookie k core.entries = find cookie core.entries k t in
     let s : f.found ≡ e = (let q : Some f.found ≡ Some e = sym f.numbered ∙ is in cc) in

@@ -5,3 +5,5 @@ pub mod Service
 pub mod Explaining
 pub mod Captures
 pub mod Soundness
+pub mod Negotiating
+pub mod Replying
