@@ -50,14 +50,17 @@ stays_gone (Starts s m ∷ items) state ob g = stays_gone items state ob.1 g
 stays_gone (Completes s m ∷ items) state ob g =
     let i : InTransmission state.core g.export m = transmission_row state.core g.export m (subst (λ phase. MayComplete state.core phase m) g.phase_is ob.0) in
     stays_gone items (after state (Completes s m)) ob.1 (record {
-        export = g.export; phase_is = phase-complete state.core g.export m i ∙ g.phase_is; gone = gone-complete state.core g.export m i g.gone })
+      export = g.export;
+      phase_is = phase-complete state.core g.export m i ∙ g.phase_is;
+      gone = gone-complete state.core g.export m i g.gone;
+    })
 stays_gone (Serves k ∷ items) state ob g = stays_gone items (after state (Serves k)) ob.1 g
 
 pub disconnects_are_empty : DisconnectsAreEmpty
 disconnects_are_empty front back flags cookie offset len p run =
     let state : State = ends_at start front in
     (request_row state.core state.core.phase flags commands.DISC cookie offset len p
-        (obeys_back start front (Completes Client (Request flags commands.DISC cookie offset len p) ∷ back) run.obeys).0).asks_it
+    (obeys_back start front (Completes Client (Request flags commands.DISC cookie offset len p) ∷ back) run.obeys).0).asks_it
 
 gone_behind : (core : Core) (flags cookie offset len : ℕ) (p : List ℕ) → MayComplete core core.phase (Request flags commands.DISC cookie offset len p) → IsGone (complete core (Request flags commands.DISC cookie offset len p))
 unfolding complete

@@ -66,8 +66,13 @@ greeting_first (Completes s m ∷ items) core f p =
     let ok : MayComplete core Greet m = subst (λ phase. MayComplete core phase m) p f.0 in
     let r = greet_row core m ok in
     let behind : Follows (complete core (Greeting r.0)) items = subst (λ x. Follows (complete core x) items) r.1 f.1 in
-    inr (r.0, completed items, ap (λ x. x ∷ completed items) r.1, greeting_fair core r.0 (subst (MayComplete core Greet) r.1 ok),
-        subst (λ o. BeginsWithFlags o (completed items)) (offered-greeting core r.0) (flags_first items (complete core (Greeting r.0)) behind (phase-greeting core r.0 p)))
+    inr (
+      r.0,
+      completed items,
+      ap (λ x. x ∷ completed items) r.1,
+      greeting_fair core r.0 (subst (MayComplete core Greet) r.1 ok),
+      subst (λ o. BeginsWithFlags o (completed items)) (offered-greeting core r.0) (flags_first items (complete core (Greeting r.0)) behind (phase-greeting core r.0 p)),
+    )
 
 pub handshakes_are_fair : HandshakesAreFair
 handshakes_are_fair items run = greeting_first items start.core (follows items start run.obeys) refl
@@ -172,12 +177,13 @@ known_at (Serves j ∷ front) back core choice last f k =
     (let r : IsKnown core choice last front back = known_at front back core choice last f k in record { here = r.here; knows = r.knows; follows_on = r.follows_on })
 known_at (Completes s m ∷ front) back core choice last f k =
     let r : IsKnown (complete core m) (choice_step choice m) (info_step last m) front back =
-        known_at front back (complete core m) (choice_step choice m) (info_step last m) f.1 (knows_complete core core.phase m choice last refl f.0 k) in
+    known_at front back (complete core m) (choice_step choice m) (info_step last m) f.1 (knows_complete core core.phase m choice last refl f.0 k) in
     record {
-        here = r.here;
-        knows = subst (λ c. Knows r.here.phase c (info_behind last (m ∷ completed front))) (sym (choice_steps choice m (completed front)))
-            (subst (λ i. Knows r.here.phase (choice_behind (choice_step choice m) (completed front)) i) (sym (info_steps last m (completed front))) r.knows);
-        follows_on = r.follows_on }
+      here = r.here;
+      knows = subst (λ c. Knows r.here.phase c (info_behind last (m ∷ completed front))) (sym (choice_steps choice m (completed front)))
+          (subst (λ i. Knows r.here.phase (choice_behind (choice_step choice m) (completed front)) i) (sym (info_steps last m (completed front))) r.knows);
+      follows_on = r.follows_on;
+    }
 
 abbrev Follow : (choice : Option ℕ) (last : Option Exporting) (option kind : ℕ) (p : List ℕ) → Type 0
 Follow choice last option kind p = (choice ≡ Some option) × (kind ≡ answers.ACK → (p ≡ []) × ((option ≡ options.INFO) ⊎ (option ≡ options.GO) → IsTrue (is_some last)))
@@ -188,35 +194,49 @@ no_error kind a e = (let q : IsTrue (is_error answers.ACK) = subst (λ k. IsTrue
 
 needs_info : (option : ℕ) (info : Option Exporting) → MayAcknowledge option info → (option ≡ options.INFO) ⊎ (option ≡ options.GO) → IsTrue (is_some info)
 needs_info option info ok w = elim ok [
-    inl a ↦ absurd (elim w [ inl q ↦ omega (arith, a, q) | inr q ↦ omega (arith, a, q) ])
-    | inr ok ↦ elim ok [
-        inl a ↦ absurd (elim w [ inl q ↦ omega (arith, a, q) | inr q ↦ omega (arith, a, q) ])
-        | inr ok ↦ elim ok [ inl a ↦ a.1 | inr a ↦ subst (λ o. IsTrue (is_some o)) (sym a.1.1) refl ] ] ]
+  | inl a ↦ absurd (elim w [ inl q ↦ omega (arith, a, q) | inr q ↦ omega (arith, a, q) ])
+  | inr ok ↦ elim ok [
+    | inl a ↦ absurd (elim w [ inl q ↦ omega (arith, a, q) | inr q ↦ omega (arith, a, q) ])
+    | inr ok ↦ elim ok [ inl a ↦ a.1 | inr a ↦ subst (λ o. IsTrue (is_some o)) (sym a.1.1) refl ]
+  ]
+]
 
 acknowledged_follow : (asked : ℕ) (asked_with : List ℕ) (info : Option Exporting) (kind : ℕ) (p : List ℕ) → MayAnswer asked asked_with info kind p → kind ≡ answers.ACK → (p ≡ []) × ((asked ≡ options.INFO) ⊎ (asked ≡ options.GO) → IsTrue (is_some info))
 acknowledged_follow asked asked_with info kind p ok a = elim ok [
-    inl e ↦ absurd (no_error kind a e)
+  | inl e ↦ absurd (no_error kind a e)
+  | inr ok ↦ elim ok [
+    | inl x ↦ (x.2, needs_info asked info x.3)
     | inr ok ↦ elim ok [
-        inl x ↦ (x.2, needs_info asked info x.3)
-        | inr ok ↦ elim ok [
-            inl x ↦ absurd (let y : kind ≡ 2 = x.1 in let z : kind ≡ 1 = a in omega arith)
-            | inr x ↦ absurd (let y : kind ≡ 3 = x.1 in let z : kind ≡ 1 = a in omega arith) ] ] ]
+      | inl x ↦ absurd (let y : kind ≡ 2 = x.1 in let z : kind ≡ 1 = a in omega arith)
+      | inr x ↦ absurd (let y : kind ≡ 3 = x.1 in let z : kind ≡ 1 = a in omega arith)
+    ]
+  ]
+]
 
 follow : (core : Core) (phase : Phase) (option kind : ℕ) (p : List ℕ) (choice : Option ℕ) (last : Option Exporting) → MayComplete core phase (Answer option kind p) → Knows phase choice last → Follow choice last option kind p
 unfolding MayComplete
-follow core Aborting option kind p choice last ok k =
-    (k ∙ ap Some (sym ok.0), λ a. elim ok.1 [
-        inl e ↦ absurd (no_error kind a e)
-        | inr x ↦ (x.1, λ w. absurd (elim w [
-            inl q ↦ (let y : option ≡ 2 = ok.0 in let z : option ≡ 6 = q in omega arith)
-            | inr q ↦ (let y : option ≡ 2 = ok.0 in let z : option ≡ 7 = q in omega arith) ])) ])
-follow core (Answering asked asked_with info) option kind p choice last ok k =
-    (k.0 ∙ ap Some (sym ok.0), λ a. (let r = acknowledged_follow asked asked_with info kind p ok.1 a in
-        (r.0, λ w. subst (λ o. IsTrue (is_some o)) (sym k.1) (r.1 (subst (λ o. (o ≡ options.INFO) ⊎ (o ≡ options.GO)) ok.0 w)))))
+follow core Aborting option kind p choice last ok k = (
+  k ∙ ap Some (sym ok.0),
+  λ a. elim ok.1 [
+    | inl e ↦ absurd (no_error kind a e)
+    | inr x ↦ (
+      x.1,
+      λ w. absurd (elim w [
+        | inl q ↦ (let y : option ≡ 2 = ok.0 in let z : option ≡ 6 = q in omega arith)
+        | inr q ↦ (let y : option ≡ 2 = ok.0 in let z : option ≡ 7 = q in omega arith)
+      ]),
+    )
+  ],
+)
+follow core (Answering asked asked_with info) option kind p choice last ok k = (
+  k.0 ∙ ap Some (sym ok.0),
+  λ a. (let r = acknowledged_follow asked asked_with info kind p ok.1 a in
+      (r.0, λ w. subst (λ o. IsTrue (is_some o)) (sym k.1) (r.1 (subst (λ o. (o ≡ options.INFO) ⊎ (o ≡ options.GO)) ok.0 w)))),
+)
 follow core phase option kind p choice last ok k = absurd ok
 
 pub answers_follow_choices : AnswersFollowChoices
 answers_follow_choices front back option kind p run =
     let r : IsKnown start.core None None front (Completes Server (Answer option kind p) ∷ back) =
-        known_at front (Completes Server (Answer option kind p) ∷ back) start.core None None (follows (front ++ Completes Server (Answer option kind p) ∷ back) start run.obeys) tt in
+    known_at front (Completes Server (Answer option kind p) ∷ back) start.core None None (follows (front ++ Completes Server (Answer option kind p) ∷ back) start run.obeys) tt in
     follow r.here r.here.phase option kind p (choice_behind None (completed front)) (info_behind None (completed front)) r.follows_on.0 r.knows

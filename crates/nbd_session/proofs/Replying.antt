@@ -64,9 +64,10 @@ whole_snoc structured e last open_ w c h front back m q = go (cut_at e.replies l
   where
     go : IsCut e.replies last front back m → IsReplyBetween structured e front m back
     go (at_last p r n) = record {
-        cookie = ap cookie_of r ∙ c;
-        ends = λ u. n;
-        fits = subst (λ ms. IsReplyBehind structured e ms m) (sym p) (subst (IsReplyBehind structured e e.replies) (sym r) h) }
+      cookie = ap cookie_of r ∙ c;
+      ends = λ u. n;
+      fits = subst (λ ms. IsReplyBehind structured e ms m) (sym p) (subst (IsReplyBehind structured e e.replies) (sym r) h);
+    }
     go (before_last rest p) =
         let b : IsReplyBetween structured e front m rest = w front rest m p in
         let none : ends_reply m ≡ false = ends_in front m rest (subst (λ ms. any ends_reply ms ≡ false) p open_) in
@@ -121,9 +122,13 @@ simple_behind structured export e error cookie p h = (h.0, h.1)
 
 chunk_behind : (structured : Bool) (export : Exporting) (e : Entry) (flags kind cookie : ℕ) (p : List ℕ) → MayReply structured export e (Chunk flags kind cookie p) → IsReplyBehind structured e e.replies (Chunk flags kind cookie p)
 unfolding MayReply
-chunk_behind structured export e flags kind cookie p h = (h.0, elim h.1 [
-    inl q ↦ inl q
-    | inr r ↦ elim r [ inl c ↦ inr (inl (c.0, c.1, c.2.0)) | inr f ↦ inr (inr f) ] ])
+chunk_behind structured export e flags kind cookie p h = (
+  h.0,
+  elim h.1 [
+    | inl q ↦ inl q
+    | inr r ↦ elim r [ inl c ↦ inr (inl (c.0, c.1, c.2.0)) | inr f ↦ inr (inr f) ]
+  ],
+)
 
 structured-requested : (b : Bool) (core : Core) (e : Entry) → (requested b core e).structured ≡ core.structured
 structured-requested true core e = refl
@@ -140,12 +145,12 @@ whole_complete core export m (asks flags command cookie offset len p h) w =
     subst (λ b. EachIsWhole b (requested (command == commands.DISC) core e).entries) (sym (structured-requested (command == commands.DISC) core e)) (each_requested (command == commands.DISC) core.structured core e refl w)
 whole_complete core export m (replies error cookie p (k, e, found, is, h)) w =
     subst (λ b. EachIsWhole b (reply_to (target cookie core.entries) core (Simple error cookie p)).entries) (sym (structured-reply_to (target cookie core.entries) core (Simple error cookie p)))
-        (each_reply_to core.structured core (Simple error cookie p) (target cookie core.entries) k e found w is
-            (λ x. whole_snoc core.structured e (Simple error cookie p) (open_target core cookie k e found is) x (ap Some (sym (found_cookie core cookie k e found is))) (simple_behind core.structured export e error cookie p h)))
+    (each_reply_to core.structured core (Simple error cookie p) (target cookie core.entries) k e found w is
+    (λ x. whole_snoc core.structured e (Simple error cookie p) (open_target core cookie k e found is) x (ap Some (sym (found_cookie core cookie k e found is))) (simple_behind core.structured export e error cookie p h)))
 whole_complete core export m (gives flags kind cookie p (k, e, found, is, h)) w =
     subst (λ b. EachIsWhole b (reply_to (target cookie core.entries) core (Chunk flags kind cookie p)).entries) (sym (structured-reply_to (target cookie core.entries) core (Chunk flags kind cookie p)))
-        (each_reply_to core.structured core (Chunk flags kind cookie p) (target cookie core.entries) k e found w is
-            (λ x. whole_snoc core.structured e (Chunk flags kind cookie p) (open_target core cookie k e found is) x (ap Some (sym (found_cookie core cookie k e found is))) (chunk_behind core.structured export e flags kind cookie p h)))
+    (each_reply_to core.structured core (Chunk flags kind cookie p) (target cookie core.entries) k e found w is
+    (λ x. whole_snoc core.structured e (Chunk flags kind cookie p) (open_target core cookie k e found is) x (ap Some (sym (found_cookie core cookie k e found is))) (chunk_behind core.structured export e flags kind cookie p h)))
 
 abbrev complete_structured : Core → ℕ → ℕ → Bool
 complete_structured core option kind = core.structured || grants_structured option kind
