@@ -9,12 +9,21 @@ pub mod chunks;
 pub mod command_flags;
 pub mod commands;
 pub mod handshake;
+pub mod head_lengths;
+pub mod heads;
 pub mod magics;
 pub mod message;
+mod numbers;
 pub mod options;
 pub mod payloads;
 pub mod transmission;
 
 pub use bytes::Bytes;
+pub use heads::negotiation::{
+    AnswerHead, ChoiceHead, answer_head, choice_head, client_flags_head, greeting_head,
+};
+pub use heads::transmission::{
+    ChunkHead, RequestHead, SimpleHead, chunk_head, request_head, simple_head,
+};
 pub use message::{Message, Side};
 pub use payloads::{Failure, Info, Piece};
