@@ -1,1 +1,3 @@
 pub mod HeadReads
+pub mod InfoReads
+pub mod ListedReads

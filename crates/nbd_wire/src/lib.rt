@@ -11,9 +11,12 @@ pub mod commands;
 pub mod handshake;
 pub mod head_lengths;
 pub mod heads;
+pub mod infos;
+pub mod laws;
 pub mod magics;
 pub mod message;
 mod numbers;
+pub mod option_payloads;
 pub mod options;
 pub mod payloads;
 pub mod transmission;
@@ -26,4 +29,8 @@ pub use heads::transmission::{
     ChunkHead, RequestHead, SimpleHead, chunk_head, request_head, simple_head,
 };
 pub use message::{Message, Side};
+pub use option_payloads::{go_of, info_of, listed_of};
 pub use payloads::{Failure, Info, Piece};
+
+#[cfg(test)]
+mod tests;

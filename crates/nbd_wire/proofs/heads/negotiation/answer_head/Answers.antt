@@ -8,8 +8,8 @@ pub returns-then-bytes-ne-ANSWER : goal.returns-then-bytes-ne-ANSWER
 returns-then-bytes-ne-ANSWER c =
     let bytes = c.args.bytes.now in
     elim c.then-bytes-ne-ANSWER.branch [
-      then-bytes-ne-ANSWER-via-then-bytes-ne-ANSWER w ↦ answer-none bytes (λ l m0. w.if-bytes-ne-ANSWER.true l)
-    | then-bytes-ne-ANSWER-via-else-bytes-ne-ANSWER+then-u64_at-ne-ANSWER_MAGIC w ↦ answer-none bytes (λ l m0. w.if-u64_at-ne-ANSWER_MAGIC.true (w.u64_at.ensures ∙ m0))
+      | then-bytes-ne-ANSWER-via-then-bytes-ne-ANSWER w ↦ answer-none bytes (λ l m0. w.if-bytes-ne-ANSWER.true l)
+      | then-bytes-ne-ANSWER-via-else-bytes-ne-ANSWER+then-u64_at-ne-ANSWER_MAGIC w ↦ answer-none bytes (λ l m0. w.if-u64_at-ne-ANSWER_MAGIC.true (w.u64_at.ensures ∙ m0))
     ]
 
 pub returns : goal.returns

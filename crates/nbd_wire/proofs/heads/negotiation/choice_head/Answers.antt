@@ -8,8 +8,8 @@ pub returns-then-bytes-ne-CHOICE : goal.returns-then-bytes-ne-CHOICE
 returns-then-bytes-ne-CHOICE c =
     let bytes = c.args.bytes.now in
     elim c.then-bytes-ne-CHOICE.branch [
-      then-bytes-ne-CHOICE-via-then-bytes-ne-CHOICE w ↦ choice-none bytes (λ l m0. w.if-bytes-ne-CHOICE.true l)
-    | then-bytes-ne-CHOICE-via-else-bytes-ne-CHOICE+then-u64_at-ne-OPTION_MAGIC w ↦ choice-none bytes (λ l m0. w.if-u64_at-ne-OPTION_MAGIC.true (w.u64_at.ensures ∙ m0))
+      | then-bytes-ne-CHOICE-via-then-bytes-ne-CHOICE w ↦ choice-none bytes (λ l m0. w.if-bytes-ne-CHOICE.true l)
+      | then-bytes-ne-CHOICE-via-else-bytes-ne-CHOICE+then-u64_at-ne-OPTION_MAGIC w ↦ choice-none bytes (λ l m0. w.if-u64_at-ne-OPTION_MAGIC.true (w.u64_at.ensures ∙ m0))
     ]
 
 pub returns : goal.returns

@@ -1,4 +1,4 @@
-use Rattle.std.proofs.Common.{arith, sym, ◌∙◌}
+use Rattle.std.proofs.Common.{arith}
 use Rattle.nbd_wire.specs.Parse.{AreBytes-from_places}
 use Rattle.nbd_wire.proofs.HeadReads.{client_flags-reads, client_flags-none}
 use Rattle.nbd_wire.proofs.heads.negotiation.client_flags_head.Goals as goal

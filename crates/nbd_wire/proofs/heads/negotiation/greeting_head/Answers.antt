@@ -8,9 +8,9 @@ pub returns-then-bytes-ne-GREETING : goal.returns-then-bytes-ne-GREETING
 returns-then-bytes-ne-GREETING c =
     let bytes = c.args.bytes.now in
     elim c.then-bytes-ne-GREETING.branch [
-      then-bytes-ne-GREETING-via-then-bytes-ne-GREETING w ↦ greeting-none bytes (λ l m0 m1. w.if-bytes-ne-GREETING.true l)
-    | then-bytes-ne-GREETING-via-else-bytes-ne-GREETING+then-u64_at-ne-GREETING_MAGIC w ↦ greeting-none bytes (λ l m0 m1. w.if-u64_at-ne-GREETING_MAGIC.true (w.u64_at.ensures ∙ m0))
-    | then-bytes-ne-GREETING-via-else-bytes-ne-GREETING+else-u64_at-ne-GREETING_MAGIC+then-u64_at-ne-OPTION_MAGIC w ↦ greeting-none bytes (λ l m0 m1. w.if-u64_at-ne-OPTION_MAGIC.true (w.u64_at-else-u64_at-ne-GREETING_MAGIC.ensures ∙ m1))
+      | then-bytes-ne-GREETING-via-then-bytes-ne-GREETING w ↦ greeting-none bytes (λ l m0 m1. w.if-bytes-ne-GREETING.true l)
+      | then-bytes-ne-GREETING-via-else-bytes-ne-GREETING+then-u64_at-ne-GREETING_MAGIC w ↦ greeting-none bytes (λ l m0 m1. w.if-u64_at-ne-GREETING_MAGIC.true (w.u64_at.ensures ∙ m0))
+      | then-bytes-ne-GREETING-via-else-bytes-ne-GREETING+else-u64_at-ne-GREETING_MAGIC+then-u64_at-ne-OPTION_MAGIC w ↦ greeting-none bytes (λ l m0 m1. w.if-u64_at-ne-OPTION_MAGIC.true (w.u64_at-else-u64_at-ne-GREETING_MAGIC.ensures ∙ m1))
     ]
 
 pub returns : goal.returns

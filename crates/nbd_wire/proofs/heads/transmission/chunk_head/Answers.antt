@@ -8,8 +8,8 @@ pub returns-then-bytes-ne-CHUNK : goal.returns-then-bytes-ne-CHUNK
 returns-then-bytes-ne-CHUNK c =
     let bytes = c.args.bytes.now in
     elim c.then-bytes-ne-CHUNK.branch [
-      then-bytes-ne-CHUNK-via-then-bytes-ne-CHUNK w ↦ chunk-none bytes (λ l m0. w.if-bytes-ne-CHUNK.true l)
-    | then-bytes-ne-CHUNK-via-else-bytes-ne-CHUNK+then-u32_at-ne-CHUNK_MAGIC w ↦ chunk-none bytes (λ l m0. w.if-u32_at-ne-CHUNK_MAGIC.true (w.u32_at.ensures ∙ m0))
+      | then-bytes-ne-CHUNK-via-then-bytes-ne-CHUNK w ↦ chunk-none bytes (λ l m0. w.if-bytes-ne-CHUNK.true l)
+      | then-bytes-ne-CHUNK-via-else-bytes-ne-CHUNK+then-u32_at-ne-CHUNK_MAGIC w ↦ chunk-none bytes (λ l m0. w.if-u32_at-ne-CHUNK_MAGIC.true (w.u32_at.ensures ∙ m0))
     ]
 
 pub returns : goal.returns

@@ -8,8 +8,8 @@ pub returns-then-bytes-ne-REQUEST : goal.returns-then-bytes-ne-REQUEST
 returns-then-bytes-ne-REQUEST c =
     let bytes = c.args.bytes.now in
     elim c.then-bytes-ne-REQUEST.branch [
-      then-bytes-ne-REQUEST-via-then-bytes-ne-REQUEST w ↦ request-none bytes (λ l m0. w.if-bytes-ne-REQUEST.true l)
-    | then-bytes-ne-REQUEST-via-else-bytes-ne-REQUEST+then-u32_at-ne-REQUEST_MAGIC w ↦ request-none bytes (λ l m0. w.if-u32_at-ne-REQUEST_MAGIC.true (w.u32_at.ensures ∙ m0))
+      | then-bytes-ne-REQUEST-via-then-bytes-ne-REQUEST w ↦ request-none bytes (λ l m0. w.if-bytes-ne-REQUEST.true l)
+      | then-bytes-ne-REQUEST-via-else-bytes-ne-REQUEST+then-u32_at-ne-REQUEST_MAGIC w ↦ request-none bytes (λ l m0. w.if-u32_at-ne-REQUEST_MAGIC.true (w.u32_at.ensures ∙ m0))
     ]
 
 pub returns : goal.returns

@@ -8,8 +8,8 @@ pub returns-then-bytes-ne-SIMPLE : goal.returns-then-bytes-ne-SIMPLE
 returns-then-bytes-ne-SIMPLE c =
     let bytes = c.args.bytes.now in
     elim c.then-bytes-ne-SIMPLE.branch [
-      then-bytes-ne-SIMPLE-via-then-bytes-ne-SIMPLE w ↦ simple-none bytes (λ l m0. w.if-bytes-ne-SIMPLE.true l)
-    | then-bytes-ne-SIMPLE-via-else-bytes-ne-SIMPLE+then-u32_at-ne-SIMPLE_MAGIC w ↦ simple-none bytes (λ l m0. w.if-u32_at-ne-SIMPLE_MAGIC.true (w.u32_at.ensures ∙ m0))
+      | then-bytes-ne-SIMPLE-via-then-bytes-ne-SIMPLE w ↦ simple-none bytes (λ l m0. w.if-bytes-ne-SIMPLE.true l)
+      | then-bytes-ne-SIMPLE-via-else-bytes-ne-SIMPLE+then-u32_at-ne-SIMPLE_MAGIC w ↦ simple-none bytes (λ l m0. w.if-u32_at-ne-SIMPLE_MAGIC.true (w.u32_at.ensures ∙ m0))
     ]
 
 pub returns : goal.returns
