@@ -53,6 +53,7 @@ impl Bytes {
     pub fn into_vec(self) -> Vec<u8>
         ensures { result.items ≡ self }
     {
-        self.bytes
+        let Self { bytes } = self;
+        bytes
     }
 }
