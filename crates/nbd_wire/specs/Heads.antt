@@ -8,33 +8,33 @@ use Rattle.nbd_wire.specs.declared.heads.transmission.ChunkHead.{ChunkHead}
 use Rattle.nbd_wire.specs.Layouts.{greeting_bytes, client_flags_bytes, choice_bytes, answer_bytes, request_bytes, simple_bytes, chunk_bytes}
 
 -- a greeting (proto.md, "Newstyle negotiation")
-abbrev pub IsGreetingHead : ℕ → List ℕ → Type 0
+unfoldable pub IsGreetingHead : ℕ → List ℕ → Type 0
 IsGreetingHead flags bytes = (flags < 2 ^ 16) × (bytes ≡ greeting_bytes flags)
 
 -- the client's flags (proto.md, "Newstyle negotiation")
-abbrev pub IsClientFlagsHead : ℕ → List ℕ → Type 0
+unfoldable pub IsClientFlagsHead : ℕ → List ℕ → Type 0
 IsClientFlagsHead flags bytes = (flags < 2 ^ 32) × (bytes ≡ client_flags_bytes flags)
 
 -- an option's head (proto.md, "Newstyle negotiation")
-abbrev pub IsChoiceHead : ChoiceHead → List ℕ → Type 0
+unfoldable pub IsChoiceHead : ChoiceHead → List ℕ → Type 0
 IsChoiceHead h bytes = (h.id < 2 ^ 32) × (h.length < 2 ^ 32) × (bytes ≡ choice_bytes h.id h.length)
 
 -- an answer's head (proto.md, "Fixed newstyle negotiation")
-abbrev pub IsAnswerHead : AnswerHead → List ℕ → Type 0
+unfoldable pub IsAnswerHead : AnswerHead → List ℕ → Type 0
 IsAnswerHead h bytes = (h.option < 2 ^ 32) × (h.kind < 2 ^ 32) × (h.length < 2 ^ 32) × (bytes ≡ answer_bytes h.option h.kind h.length)
 
 -- a request's head (proto.md, "Request message")
-abbrev pub IsRequestHead : RequestHead → List ℕ → Type 0
+unfoldable pub IsRequestHead : RequestHead → List ℕ → Type 0
 IsRequestHead h bytes =
     (h.flags < 2 ^ 16) × (h.command < 2 ^ 16) × (h.cookie < 2 ^ 64) × (h.offset < 2 ^ 64) × (h.length < 2 ^ 32)
     × (bytes ≡ request_bytes h.flags h.command h.cookie h.offset h.length)
 
 -- a simple reply's head (proto.md, "Simple reply message")
-abbrev pub IsSimpleHead : SimpleHead → List ℕ → Type 0
+unfoldable pub IsSimpleHead : SimpleHead → List ℕ → Type 0
 IsSimpleHead h bytes = (h.error < 2 ^ 32) × (h.cookie < 2 ^ 64) × (bytes ≡ simple_bytes h.error h.cookie)
 
 -- a chunk's head (proto.md, "Structured reply chunk message")
-abbrev pub IsChunkHead : ChunkHead → List ℕ → Type 0
+unfoldable pub IsChunkHead : ChunkHead → List ℕ → Type 0
 IsChunkHead h bytes =
     (h.flags < 2 ^ 16) × (h.kind < 2 ^ 16) × (h.cookie < 2 ^ 64) × (h.length < 2 ^ 32)
     × (bytes ≡ chunk_bytes h.flags h.kind h.cookie h.length)

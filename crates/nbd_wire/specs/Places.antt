@@ -30,7 +30,7 @@ with_known p n value bytes rest b h v r = with_number p n bytes value rest b (om
 
 -- what stands at the places of a greeting, and nothing else, makes the bytes one
 pub greeting-found : (bytes : List ℕ) → AreBytes bytes → length bytes ≡ 18 → number_at 0 8 bytes ≡ GREETING_MAGIC → number_at 8 8 bytes ≡ OPTION_MAGIC → IsGreetingHead (number_at 16 2 bytes) bytes
-unfolding greeting_bytes
+unfolding IsGreetingHead
 greeting-found bytes b l m0 m1 = (
   omega (arith, number_at-lt 16 2 bytes b),
   with_known 0 8 GREETING_MAGIC bytes _ b (omega arith) m0
@@ -39,7 +39,7 @@ greeting-found bytes b l m0 m1 = (
 )
 
 pub greeting-only : (flags : ℕ) (bytes : List ℕ) → IsGreetingHead flags bytes → (length bytes ≡ 18) × (number_at 0 8 bytes ≡ GREETING_MAGIC) × (number_at 8 8 bytes ≡ OPTION_MAGIC) × (number_at 16 2 bytes ≡ flags)
-unfolding greeting_bytes
+unfolding IsGreetingHead
 greeting-only flags bytes h =
     let P : List ℕ → Type 0 = λ l. (length l ≡ 18) × (number_at 0 8 l ≡ GREETING_MAGIC) × (number_at 8 8 l ≡ OPTION_MAGIC) × (number_at 16 2 l ≡ flags) in
     subst P (sym h.1) (
@@ -51,14 +51,14 @@ greeting-only flags bytes h =
 
 -- what stands at the places of the client's flags, and nothing else, makes the bytes one
 pub client_flags-found : (bytes : List ℕ) → AreBytes bytes → length bytes ≡ 4 → IsClientFlagsHead (number_at 0 4 bytes) bytes
-unfolding client_flags_bytes
+unfolding IsClientFlagsHead
 client_flags-found bytes b l = (
   omega (arith, number_at-lt 0 4 bytes b),
   with_last 0 4 bytes b l,
 )
 
 pub client_flags-only : (flags : ℕ) (bytes : List ℕ) → IsClientFlagsHead flags bytes → (length bytes ≡ 4) × (number_at 0 4 bytes ≡ flags)
-unfolding client_flags_bytes
+unfolding IsClientFlagsHead
 client_flags-only flags bytes h =
     let P : List ℕ → Type 0 = λ l. (length l ≡ 4) × (number_at 0 4 l ≡ flags) in
     subst P (sym h.1) (
@@ -68,7 +68,7 @@ client_flags-only flags bytes h =
 
 -- what stands at the places of an option's head, and nothing else, makes the bytes one
 pub choice-found : (bytes : List ℕ) → AreBytes bytes → length bytes ≡ 16 → number_at 0 8 bytes ≡ OPTION_MAGIC → IsChoiceHead (record { id = number_at 8 4 bytes; length = number_at 12 4 bytes }) bytes
-unfolding choice_bytes
+unfolding IsChoiceHead
 choice-found bytes b l m0 = (
   omega (arith, number_at-lt 8 4 bytes b),
   omega (arith, number_at-lt 12 4 bytes b),
@@ -78,7 +78,7 @@ choice-found bytes b l m0 = (
 )
 
 pub choice-only : (head : ChoiceHead) (bytes : List ℕ) → IsChoiceHead head bytes → (length bytes ≡ 16) × (number_at 0 8 bytes ≡ OPTION_MAGIC) × (number_at 8 4 bytes ≡ head.id) × (number_at 12 4 bytes ≡ head.length)
-unfolding choice_bytes
+unfolding IsChoiceHead
 choice-only head bytes h =
     let P : List ℕ → Type 0 = λ l. (length l ≡ 16) × (number_at 0 8 l ≡ OPTION_MAGIC) × (number_at 8 4 l ≡ head.id) × (number_at 12 4 l ≡ head.length) in
     subst P (sym h.2) (
@@ -90,7 +90,7 @@ choice-only head bytes h =
 
 -- what stands at the places of an answer's head, and nothing else, makes the bytes one
 pub answer-found : (bytes : List ℕ) → AreBytes bytes → length bytes ≡ 20 → number_at 0 8 bytes ≡ ANSWER_MAGIC → IsAnswerHead (record { option = number_at 8 4 bytes; kind = number_at 12 4 bytes; length = number_at 16 4 bytes }) bytes
-unfolding answer_bytes
+unfolding IsAnswerHead
 answer-found bytes b l m0 = (
   omega (arith, number_at-lt 8 4 bytes b),
   omega (arith, number_at-lt 12 4 bytes b),
@@ -102,7 +102,7 @@ answer-found bytes b l m0 = (
 )
 
 pub answer-only : (head : AnswerHead) (bytes : List ℕ) → IsAnswerHead head bytes → (length bytes ≡ 20) × (number_at 0 8 bytes ≡ ANSWER_MAGIC) × (number_at 8 4 bytes ≡ head.option) × (number_at 12 4 bytes ≡ head.kind) × (number_at 16 4 bytes ≡ head.length)
-unfolding answer_bytes
+unfolding IsAnswerHead
 answer-only head bytes h =
     let P : List ℕ → Type 0 = λ l. (length l ≡ 20) × (number_at 0 8 l ≡ ANSWER_MAGIC) × (number_at 8 4 l ≡ head.option) × (number_at 12 4 l ≡ head.kind) × (number_at 16 4 l ≡ head.length) in
     subst P (sym h.3) (
@@ -115,7 +115,7 @@ answer-only head bytes h =
 
 -- what stands at the places of a request's head, and nothing else, makes the bytes one
 pub request-found : (bytes : List ℕ) → AreBytes bytes → length bytes ≡ 28 → number_at 0 4 bytes ≡ REQUEST_MAGIC → IsRequestHead (record { flags = number_at 4 2 bytes; command = number_at 6 2 bytes; cookie = number_at 8 8 bytes; offset = number_at 16 8 bytes; length = number_at 24 4 bytes }) bytes
-unfolding request_bytes
+unfolding IsRequestHead
 request-found bytes b l m0 = (
   omega (arith, number_at-lt 4 2 bytes b),
   omega (arith, number_at-lt 6 2 bytes b),
@@ -131,7 +131,7 @@ request-found bytes b l m0 = (
 )
 
 pub request-only : (head : RequestHead) (bytes : List ℕ) → IsRequestHead head bytes → (length bytes ≡ 28) × (number_at 0 4 bytes ≡ REQUEST_MAGIC) × (number_at 4 2 bytes ≡ head.flags) × (number_at 6 2 bytes ≡ head.command) × (number_at 8 8 bytes ≡ head.cookie) × (number_at 16 8 bytes ≡ head.offset) × (number_at 24 4 bytes ≡ head.length)
-unfolding request_bytes
+unfolding IsRequestHead
 request-only head bytes h =
     let P : List ℕ → Type 0 = λ l. (length l ≡ 28) × (number_at 0 4 l ≡ REQUEST_MAGIC) × (number_at 4 2 l ≡ head.flags) × (number_at 6 2 l ≡ head.command) × (number_at 8 8 l ≡ head.cookie) × (number_at 16 8 l ≡ head.offset) × (number_at 24 4 l ≡ head.length) in
     subst P (sym h.5) (
@@ -146,7 +146,7 @@ request-only head bytes h =
 
 -- what stands at the places of a simple reply's head, and nothing else, makes the bytes one
 pub simple-found : (bytes : List ℕ) → AreBytes bytes → length bytes ≡ 16 → number_at 0 4 bytes ≡ SIMPLE_MAGIC → IsSimpleHead (record { error = number_at 4 4 bytes; cookie = number_at 8 8 bytes }) bytes
-unfolding simple_bytes
+unfolding IsSimpleHead
 simple-found bytes b l m0 = (
   omega (arith, number_at-lt 4 4 bytes b),
   omega (arith, number_at-lt 8 8 bytes b),
@@ -156,7 +156,7 @@ simple-found bytes b l m0 = (
 )
 
 pub simple-only : (head : SimpleHead) (bytes : List ℕ) → IsSimpleHead head bytes → (length bytes ≡ 16) × (number_at 0 4 bytes ≡ SIMPLE_MAGIC) × (number_at 4 4 bytes ≡ head.error) × (number_at 8 8 bytes ≡ head.cookie)
-unfolding simple_bytes
+unfolding IsSimpleHead
 simple-only head bytes h =
     let P : List ℕ → Type 0 = λ l. (length l ≡ 16) × (number_at 0 4 l ≡ SIMPLE_MAGIC) × (number_at 4 4 l ≡ head.error) × (number_at 8 8 l ≡ head.cookie) in
     subst P (sym h.2) (
@@ -168,7 +168,7 @@ simple-only head bytes h =
 
 -- what stands at the places of a chunk's head, and nothing else, makes the bytes one
 pub chunk-found : (bytes : List ℕ) → AreBytes bytes → length bytes ≡ 20 → number_at 0 4 bytes ≡ CHUNK_MAGIC → IsChunkHead (record { flags = number_at 4 2 bytes; kind = number_at 6 2 bytes; cookie = number_at 8 8 bytes; length = number_at 16 4 bytes }) bytes
-unfolding chunk_bytes
+unfolding IsChunkHead
 chunk-found bytes b l m0 = (
   omega (arith, number_at-lt 4 2 bytes b),
   omega (arith, number_at-lt 6 2 bytes b),
@@ -182,7 +182,7 @@ chunk-found bytes b l m0 = (
 )
 
 pub chunk-only : (head : ChunkHead) (bytes : List ℕ) → IsChunkHead head bytes → (length bytes ≡ 20) × (number_at 0 4 bytes ≡ CHUNK_MAGIC) × (number_at 4 2 bytes ≡ head.flags) × (number_at 6 2 bytes ≡ head.kind) × (number_at 8 8 bytes ≡ head.cookie) × (number_at 16 4 bytes ≡ head.length)
-unfolding chunk_bytes
+unfolding IsChunkHead
 chunk-only head bytes h =
     let P : List ℕ → Type 0 = λ l. (length l ≡ 20) × (number_at 0 4 l ≡ CHUNK_MAGIC) × (number_at 4 2 l ≡ head.flags) × (number_at 6 2 l ≡ head.kind) × (number_at 8 8 l ≡ head.cookie) × (number_at 16 4 l ≡ head.length) in
     subst P (sym h.4) (
