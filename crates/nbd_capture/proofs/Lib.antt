@@ -1,0 +1,6 @@
+pub mod Reading
+pub mod Progress
+pub mod Numerals
+pub mod FaultLemmas
+pub mod Digits
+pub mod Forms

@@ -1,0 +1,4 @@
+pub mod Lines
+pub mod Capture
+pub mod Order
+pub mod Faults
