@@ -2,3 +2,4 @@ pub mod Lines
 pub mod Capture
 pub mod Order
 pub mod Faults
+pub mod Writing

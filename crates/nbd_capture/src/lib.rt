@@ -7,6 +7,8 @@ pub mod capture;
 pub mod laws;
 mod lines;
 pub mod order;
+pub mod writing;
 
 pub use capture::{CaptureFault, parse_capture};
 pub use order::{OrderTextFault, parse_order};
+pub use writing::{WriteFault, write_chunk};
