@@ -116,3 +116,11 @@ pub spelled : (digits bytes : List ℕ) → decode_of digits ≡ Ok bytes → Ar
 spelled digits bytes h =
     let ok = decode_of-ok digits bytes h in
     spelled_pairs 0 digits bytes (sym (decode_of-even digits ok.0) ∙ h)
+
+-- the digits stand between `0` and `f`
+pub lower_below : (v : ℕ) → v < 16 → (48 ≤ slice_index lower_digits v) × (slice_index lower_digits v ≤ 102)
+lower_below v fits =
+    elim (cases_lt v 10) [
+      | inl small ↦ let e = lower_small v small in (omega (arith, e), omega (arith, e))
+      | inr large ↦ let e = lower_large v large fits in (omega (arith, e), omega (arith, e))
+    ]

@@ -1,5 +1,7 @@
 pub mod Reading
 pub mod Progress
+pub mod Total
+pub mod Written
 pub mod Wrote
 pub mod Numerals
 pub mod FaultLemmas

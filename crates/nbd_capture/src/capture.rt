@@ -1,10 +1,10 @@
 //! Capture texts: chunk lines, empty lines and comments.
 
-ghost use Rattle.std.specs.Prelude.{◌≡◌, ◌↔◌, ◌∷◌, [], ℕ, List, IfOk, IfErr, IsTrue, MatchOption};
-ghost use Rattle.nbd_capture.specs.Capture.{IsCaptureLine, IsCaptureText, chunks_of, letter, said_by, space};
+ghost use Rattle.std.specs.Prelude.{◌≡◌, ◌↔◌, ◌∷◌, [], ℕ, List, IfOk, IfErr, IsTrue, MatchOption, MatchResult};
+ghost use Rattle.nbd_capture.specs.Capture.{Chunk, IsCaptureLine, IsCaptureText, chunks_of, letter, said_by, space};
 ghost use Rattle.nbd_capture.specs.Faults.{IsCaptureFault, IsChunkFault};
 ghost use Rattle.nbd_wire.specs.declared.message.Side.{Side};
-ghost use Rattle.nbd_capture.specs.declared.capture.CaptureFault.TheVariants.{Line, Memory};
+ghost use Rattle.nbd_capture.specs.declared.capture.CaptureFault.TheVariants.{Memory};
 
 use crate::lines::first_line;
 use hex::FromHexError;
@@ -37,6 +37,9 @@ impl<T: Drop> From<AllocFailed<T>> for CaptureFault {
 pub fn parse_capture(alloc: Global, text: &[u8]) -> Result<Vec<(Side, Vec<u8>)>, CaptureFault>
     ensures chunks { IfOk result (λ chunks. IsCaptureText text.now (chunks_of chunks.items)) }
     ensures fault { IfErr result (IsCaptureFault text.now) }
+    // What reads as chunks gives these chunks, unless memory runs out.
+    ensures only { (chunks : List Chunk) → IsCaptureText text.now chunks
+        → MatchResult result (λ found. chunks_of found.items ≡ chunks) (λ e. e ≡ Memory) }
 {
     let mut chunks = Vec::new(alloc);
     let mut rest = text;

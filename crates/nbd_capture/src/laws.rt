@@ -1,7 +1,11 @@
 //! What holds of the grammars of both texts, as contracts of functions that do nothing.
 
-ghost use Rattle.std.specs.Prelude.{◌≡◌, ◌⊎◌, ◌∷◌, [], ◌<◌, ◌^◌, ℕ, List};
-ghost use Rattle.nbd_capture.specs.Capture.{Chunk, IsCaptureText, IsFirstBadCaptureLine};
+ghost use Rattle.std.specs.Prelude.{◌≡◌, ◌⊎◌, ◌∷◌, ◌++◌, [], ◌<◌, ◌^◌, ℕ, List, flat_map};
+ghost use Rattle.std.specs.List.{AllByRecursion};
+ghost use Rattle.std.specs.Fmt.{decimal};
+ghost use Rattle.hex.specs.Hex.{IsBytes};
+ghost use Rattle.nbd_capture.specs.Lines.{line_feed};
+ghost use Rattle.nbd_capture.specs.Capture.{Chunk, chunk_line, IsCaptureText, IsFirstBadCaptureLine};
 ghost use Rattle.nbd_capture.specs.Order.{IsOrderText, IsFirstBadOrderLine};
 
 /// A text has one reading as a capture at most.
@@ -32,4 +36,26 @@ pub fn no_order_with_a_bad_line()
 /// A text has one first bad order line at most.
 pub fn one_first_bad_order_line()
     ensures { (text : List ℕ) (m n : ℕ) → IsFirstBadOrderLine text m → IsFirstBadOrderLine text n → m ≡ n }
+{}
+
+/// The lines that `write_chunk` writes are read as their chunks.
+pub fn written_chunks_are_read()
+    ensures { (chunks : List Chunk) → AllByRecursion (λ c. IsBytes c.bytes) chunks
+        → IsCaptureText (flat_map (λ c. chunk_line c.side c.bytes) chunks) chunks }
+{}
+
+/// Numbers as `{}` prints them, one a line, are read as these numbers.
+pub fn printed_numbers_are_read()
+    ensures { (numbers : List ℕ) → AllByRecursion (λ n. n < 2 ^ 64) numbers
+        → IsOrderText (flat_map (λ n. decimal n ++ line_feed ∷ []) numbers) numbers }
+{}
+
+/// Each text has a reading as a capture, or a first bad capture line.
+pub fn capture_or_bad_line()
+    ensures { (text : List ℕ) → ((chunks : List Chunk) × IsCaptureText text chunks) ⊎ ((n : ℕ) × IsFirstBadCaptureLine text n) }
+{}
+
+/// Each text has a reading as an order, or a first bad order line.
+pub fn order_or_bad_line()
+    ensures { (text : List ℕ) → ((numbers : List ℕ) × IsOrderText text numbers) ⊎ ((n : ℕ) × IsFirstBadOrderLine text n) }
 {}

@@ -1,6 +1,6 @@
 //! Order texts: one number on each line.
 
-ghost use Rattle.std.specs.Prelude.{◌≡◌, ◌↔◌, ◌∷◌, [], ℕ, List, IfOk, IfErr, IsTrue, MatchOption};
+ghost use Rattle.std.specs.Prelude.{◌≡◌, ◌↔◌, ◌∷◌, [], ℕ, List, IfOk, IfErr, IsTrue, MatchOption, MatchResult};
 ghost use Rattle.nbd_capture.specs.Order.{BeginsPlainly, IsOrderLine, IsOrderText};
 ghost use Rattle.nbd_capture.specs.Faults.{IsOrderTextFault};
 ghost use Rattle.nbd_capture.specs.declared.order.OrderTextFault.TheVariants.{Memory};
@@ -33,6 +33,9 @@ impl<T: Drop> From<AllocFailed<T>> for OrderTextFault {
 pub fn parse_order(alloc: Global, text: &[u8]) -> Result<Vec<u64>, OrderTextFault>
     ensures numbers { IfOk result (λ numbers. IsOrderText text.now numbers.items) }
     ensures fault { IfErr result (IsOrderTextFault text.now) }
+    // What reads as numbers gives these numbers, unless memory runs out.
+    ensures only { (numbers : List ℕ) → IsOrderText text.now numbers
+        → MatchResult result (λ found. found.items ≡ numbers) (λ e. e ≡ Memory) }
 {
     let mut numbers = Vec::new(alloc);
     let mut rest = text;

@@ -4,7 +4,9 @@ use Rattle.std.proofs.lemmas.List.{map-append}
 use Rattle.nbd_capture.specs.declared.capture.CaptureFault.TheVariants.{Line}
 use Rattle.nbd_capture.specs.Lines.{line_feed, IsUnbroken}
 use Rattle.nbd_capture.specs.Capture.{IsCaptureLine, chunk_of, chunks_of}
-use Rattle.nbd_capture.proofs.FaultLemmas.{stopped_capture}
+use Rattle.nbd_capture.proofs.FaultLemmas.{only_memory_of_capture, stopped_capture}
+use Rattle.nbd_capture.proofs.Forms.{one_saying}
+use Rattle.nbd_capture.proofs.Reading.{one_reading}
 use Rattle.nbd_capture.proofs.Progress.{Progress, advance, done, cut_off}
 use Rattle.nbd_capture.proofs.capture.parse_capture.Goals as goal
 
@@ -41,3 +43,15 @@ loop-rest-preserved-in_ok-push c =
     let grown : chunks_of c.push.new.self.items ≡ chunks_of c.loop-rest.chunks.items ++ chunk_of c.in-Some.chunk ∷ [] =
     ap chunks_of c.in_ok-push.ensures.items ∙ map-append chunk_of c.loop-rest.chunks.items (c.in-Some.chunk ∷ []) in
     subst (λ vs. Progress IsCaptureLine c.args.text.now c.in_ok-line.behind.now vs (c.loop-rest.number + 1)) (sym grown) next
+
+pub returns-in_err-line-clause-only : goal.returns-in_err-line-clause-only
+returns-in_err-line-clause-only c =
+    only_memory_of_capture c.args.text.now c.from_residual.result _ c.from_residual.ensures.0 (returns-in_err-line-clause-fault c)
+
+pub returns-in_err-chunk-clause-only : goal.returns-in_err-chunk-clause-only
+returns-in_err-chunk-clause-only c =
+    only_memory_of_capture c.args.text.now c.from_residual-in_err-chunk.result _ c.from_residual-in_err-chunk.ensures.0 (returns-in_err-chunk-clause-fault c)
+
+pub returns-clause-only : goal.returns-clause-only
+returns-clause-only c = λ chunks read.
+    one_reading IsCaptureLine one_saying c.args.text.now (chunks_of c.loop-rest.chunks.items) chunks (returns-clause-chunks c) read

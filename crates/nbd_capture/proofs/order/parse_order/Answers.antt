@@ -3,6 +3,9 @@ use Rattle.std.proofs.lemmas.Result.{err_from_is_err_and}
 use Rattle.nbd_capture.specs.declared.order.OrderTextFault.TheVariants.{Line}
 use Rattle.nbd_capture.specs.Lines.{line_feed, IsUnbroken}
 use Rattle.nbd_capture.specs.Order.{IsOrderLine}
+use Rattle.nbd_capture.proofs.FaultLemmas.{only_memory_of_order}
+use Rattle.nbd_capture.proofs.Numerals.{one_number}
+use Rattle.nbd_capture.proofs.Reading.{one_reading}
 use Rattle.nbd_capture.proofs.Progress.{advance, done, stopped, cut_off}
 use Rattle.nbd_capture.proofs.order.parse_order.Goals as goal
 
@@ -33,3 +36,15 @@ loop-rest-preserved c =
     let form : IsOrderLine c.in_ok-line.line.now (c.in_ok-ok_or.field-0 ∷ []) = rw c.in_ok-ok_or.ensures.ok_part at c.number_on.ensures in
     let next = advance IsOrderLine c.args.text.now c.loop-rest.rest.now c.in_ok-line.line.now c.in_ok-line.behind.now c.loop-rest.numbers.items (c.in_ok-ok_or.field-0 ∷ []) c.loop-rest.line_number c.loop-rest.invariant parts.0 parts.1 form in
     rw c.in_ok-push.ensures.items next
+
+pub returns-in_err-line-clause-only : goal.returns-in_err-line-clause-only
+returns-in_err-line-clause-only c =
+    only_memory_of_order c.args.text.now c.from_residual.result _ c.from_residual.ensures.0 (returns-in_err-line-clause-fault c)
+
+pub returns-in_err-ok_or-clause-only : goal.returns-in_err-ok_or-clause-only
+returns-in_err-ok_or-clause-only c =
+    only_memory_of_order c.args.text.now c.from_residual-in_err-ok_or.result _ c.from_residual-in_err-ok_or.ensures.0 (returns-in_err-ok_or-clause-fault c)
+
+pub returns-clause-only : goal.returns-clause-only
+returns-clause-only c = λ numbers read.
+    one_reading IsOrderLine one_number c.args.text.now c.loop-rest.numbers.items numbers (returns-clause-numbers c) read
