@@ -1,0 +1,5 @@
+pub mod Lines
+pub mod Capture
+pub mod Order
+pub mod Faults
+pub mod Writing
