@@ -11,4 +11,4 @@ pub mod writing;
 
 pub use capture::{CaptureFault, parse_capture};
 pub use order::{OrderTextFault, parse_order};
-pub use writing::{WriteFault, write_chunk};
+pub use writing::{WriteFault, write_chunk, write_whole};

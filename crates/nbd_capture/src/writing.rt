@@ -63,7 +63,9 @@ fn write_digits<W: Write>(out: &mut W, bytes: &[u8]) -> Result<(), WriteFault>
     Ok(())
 }
 
-fn write_whole<W: Write>(out: &mut W, bytes: &[u8]) -> Result<(), WriteFault>
+/// Writes all of these bytes by calls of `write`; after a fault a front of them stands written, and nothing
+/// is tried again. It takes no memory.
+pub fn write_whole<W: Write>(out: &mut W, bytes: &[u8]) -> Result<(), WriteFault>
     ensures ok { OnOk result (Appends (W.contents out.old) (W.contents out.new) bytes.now) }
     ensures err { OnErr result (AppendsFront (W.contents out.old) (W.contents out.new) bytes.now) }
 {
