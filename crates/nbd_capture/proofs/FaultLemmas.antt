@@ -8,7 +8,8 @@ use Rattle.nbd_capture.specs.declared.order.OrderTextFault.TheVariants as order_
 use Rattle.nbd_capture.specs.Lines.{line_feed, IsUnbroken}
 use Rattle.nbd_capture.specs.Capture.{Chunk, IsCaptureLine, IsCaptureText, IsFirstBadCaptureLine}
 use Rattle.nbd_capture.specs.Order.{IsOrderLine, IsOrderText}
-use Rattle.nbd_capture.specs.Faults.{IsCaptureFault, IsChunkFault, IsOrderTextFault}
+use Rattle.nbd_capture.specs.Faults.{IsCaptureFault, IsOrderTextFault}
+use Rattle.nbd_capture.specs.Steps.{IsChunkFault}
 use Rattle.nbd_capture.proofs.Progress.{Progress, stopped}
 use Rattle.nbd_capture.proofs.Reading.{no_reading}
 

@@ -1,5 +1,5 @@
 -- Capture texts. The format is this project's choice.
-use Rattle.std.specs.Prelude.{◌≡◌, ℕ, ◌+◌, ◌*◌, ◌<◌, ◌⊎◌, List, [], ◌∷◌, ◌++◌, map, slice_index, Vec, Option, Some, None}
+use Rattle.std.specs.Prelude.{◌≡◌, ℕ, ◌+◌, ◌*◌, ◌<◌, ◌⊎◌, List, [], ◌∷◌, ◌++◌, map, slice_index, Vec}
 use Rattle.std.specs.declared.alloc.Global.{Global}
 use Rattle.hex.specs.Hex.{lower_digits, upper_digits, encode_lower}
 use Rattle.nbd_wire.specs.declared.message.Side.{Side}
@@ -58,8 +58,3 @@ IsFirstBadCaptureLine text n = IsFirstBadLine IsCaptureLine text n
 -- the chunk line of these bytes, in lower case digits, and its LF
 abbrev pub chunk_line : Side → List ℕ → List ℕ
 chunk_line side bytes = letter side ∷ space ∷ (encode_lower bytes ++ line_feed ∷ [])
-
--- the chunk that a line gave, if any, as a list
-abbrev pub said_by : Option (Side × Vec ℕ Global) → List Chunk
-said_by None = []
-said_by (Some c) = chunk_of c ∷ []

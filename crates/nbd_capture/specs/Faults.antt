@@ -1,10 +1,10 @@
--- What the faults of this crate say.
-use Rattle.std.specs.Prelude.{◌≡◌, List, ℕ}
+-- What the faults of this crate say of a text.
+use Rattle.std.specs.Prelude.{List, ℕ}
 use Rattle.nbd_capture.specs.declared.capture.CaptureFault.{CaptureFault}
 use Rattle.nbd_capture.specs.declared.capture.CaptureFault.TheVariants as capture_faults
 use Rattle.nbd_capture.specs.declared.order.OrderTextFault.{OrderTextFault}
 use Rattle.nbd_capture.specs.declared.order.OrderTextFault.TheVariants as order_faults
-use Rattle.nbd_capture.specs.Capture.{Chunk, IsCaptureLine, IsFirstBadCaptureLine}
+use Rattle.nbd_capture.specs.Capture.{IsFirstBadCaptureLine}
 use Rattle.nbd_capture.specs.Order.{IsFirstBadOrderLine}
 
 -- a line fault names the first bad line; want of memory says nothing of the text
@@ -16,8 +16,3 @@ IsCaptureFault text capture_faults.Memory = Unit {0}
 abbrev pub IsOrderTextFault : List ℕ → OrderTextFault → Type 0
 IsOrderTextFault text (order_faults.Line n) = IsFirstBadOrderLine text n
 IsOrderTextFault text order_faults.Memory = Unit {0}
-
--- what a fault says of one line, whose number this is
-abbrev pub IsChunkFault : List ℕ → ℕ → CaptureFault → Type 0
-IsChunkFault line number (capture_faults.Line n) = (n ≡ number) × ((said : List Chunk) → IsCaptureLine line said → ⊥)
-IsChunkFault line number capture_faults.Memory = Unit {0}

@@ -1,8 +1,9 @@
 //! Capture texts: chunk lines, empty lines and comments.
 
 ghost use Rattle.std.specs.Prelude.{◌≡◌, ◌↔◌, ◌∷◌, [], ℕ, List, IfOk, IfErr, IsTrue, MatchOption, MatchResult};
-ghost use Rattle.nbd_capture.specs.Capture.{Chunk, IsCaptureLine, IsCaptureText, chunks_of, letter, said_by, space};
-ghost use Rattle.nbd_capture.specs.Faults.{IsCaptureFault, IsChunkFault};
+ghost use Rattle.nbd_capture.specs.Capture.{Chunk, IsCaptureLine, IsCaptureText, chunks_of, letter, space};
+ghost use Rattle.nbd_capture.specs.Faults.{IsCaptureFault};
+ghost use Rattle.nbd_capture.specs.Steps.{IsChunkFault, said_by};
 ghost use Rattle.nbd_wire.specs.declared.message.Side.{Side};
 ghost use Rattle.nbd_capture.specs.declared.capture.CaptureFault.TheVariants.{Memory};
 
@@ -12,10 +13,10 @@ use nbd_wire::Side;
 use std::alloc::{AllocFailed, Global};
 use thiserror::Error;
 
-/// Why a capture text gave no chunks.
+/// Why a capture text gave no chunks. Nothing is kept of a text after a fault.
 #[derive(Clone, Copy, Debug, PartialEq, Eq, Drop, Error)]
 pub enum CaptureFault {
-    /// The line with this number, from 1, is the first that has no form.
+    /// The line with this number, from 1, is the first bad one: it has no form, or no LF behind it.
     #[error("capture line {0}")]
     Line(u64),
     /// An allocation was refused.
@@ -31,9 +32,13 @@ impl<T: Drop> From<AllocFailed<T>> for CaptureFault {
     }
 }
 
-/// The chunks of a capture text, in order.
+/// The chunks of a capture text, in order: who sent the bytes, and the bytes, possibly none.
 ///
-/// Each chunk's bytes are a vector of their own. The text is read once, from its front.
+/// A text is a sequence of lines, each ended by LF. A chunk line is `C` for the client or `S` for the
+/// server, one space, and two hexadecimal digits of either case for each byte. An empty line and one
+/// that begins with `#` say nothing. This format is this project's choice. The text is read once, from
+/// its front, and each chunk's bytes are a vector of their own. Memory may run out before a bad line is
+/// reached.
 pub fn parse_capture(alloc: Global, text: &[u8]) -> Result<Vec<(Side, Vec<u8>)>, CaptureFault>
     ensures chunks { IfOk result (λ chunks. IsCaptureText text.now (chunks_of chunks.items)) }
     ensures fault { IfErr result (IsCaptureFault text.now) }

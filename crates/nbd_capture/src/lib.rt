@@ -7,6 +7,8 @@ pub mod capture;
 pub mod laws;
 mod lines;
 pub mod order;
+#[cfg(test)]
+mod tests;
 pub mod writing;
 
 pub use capture::{CaptureFault, parse_capture};

@@ -10,10 +10,10 @@ use std::alloc::{AllocFailed, Global};
 use std::str;
 use thiserror::Error;
 
-/// Why an order text gave no numbers.
+/// Why an order text gave no numbers. Nothing is kept of a text after a fault.
 #[derive(Clone, Copy, Debug, PartialEq, Eq, Drop, Error)]
 pub enum OrderTextFault {
-    /// The line with this number, from 1, is the first that has no form.
+    /// The line with this number, from 1, is the first bad one: it has no form, or no LF behind it.
     #[error("order line {0}")]
     Line(u64),
     /// An allocation was refused.
@@ -29,7 +29,11 @@ impl<T: Drop> From<AllocFailed<T>> for OrderTextFault {
     }
 }
 
-/// The numbers of an order text, in order.
+/// The numbers of an order text, in order, from 0 to 2^64 - 1.
+///
+/// Each line is one number in decimal digits, ended by LF: no sign, no other byte, and no `0` in front
+/// of other digits. A text without bytes has no numbers. This format is this project's choice. Memory
+/// may run out before a bad line is reached.
 pub fn parse_order(alloc: Global, text: &[u8]) -> Result<Vec<u64>, OrderTextFault>
     ensures numbers { IfOk result (λ numbers. IsOrderText text.now numbers.items) }
     ensures fault { IfErr result (IsOrderTextFault text.now) }

@@ -10,7 +10,7 @@ use nbd_wire::Side;
 use std::io::Write;
 use thiserror::Error;
 
-/// A `write` failed, also where it was interrupted, or took no byte.
+/// A `write` failed, which an interruption is too, or took no byte.
 #[derive(Clone, Copy, Debug, PartialEq, Eq, Drop, Error)]
 #[error("write")]
 pub struct WriteFault;
@@ -20,10 +20,11 @@ const PIECE: usize = 512;
 
 const PIECE_DIGITS: usize = 1024;
 
-/// Writes one chunk line with lower case digits.
+/// Writes one chunk line, with lower case digits and its LF.
 ///
-/// It calls `write` until the line is taken, and tries nothing again. After a fault a front of the
-/// line, possibly nothing, stands written. It takes no memory.
+/// It calls `write` until the whole line is taken, and tries nothing again. After a fault a front of
+/// the line, possibly nothing, stands written. What stands is said where the writer tells its bytes.
+/// It takes no memory.
 pub fn write_chunk<W: Write>(out: &mut W, side: Side, bytes: &[u8]) -> Result<(), WriteFault>
     ensures ok { OnOk result
         (Appends (W.contents out.old) (W.contents out.new) (chunk_line side bytes.now)) }
