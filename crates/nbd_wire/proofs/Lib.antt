@@ -1,3 +1,4 @@
 pub mod HeadReads
 pub mod InfoReads
 pub mod ListedReads
+pub mod Encodings

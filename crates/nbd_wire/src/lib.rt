@@ -8,7 +8,9 @@ pub mod bytes;
 pub mod chunks;
 pub mod command_flags;
 pub mod commands;
+pub mod encoding;
 pub mod handshake;
+mod head_bytes;
 pub mod head_lengths;
 pub mod heads;
 pub mod infos;
@@ -19,9 +21,11 @@ mod numbers;
 pub mod option_payloads;
 pub mod options;
 pub mod payloads;
+pub mod sides;
 pub mod transmission;
 
 pub use bytes::Bytes;
+pub use encoding::append;
 pub use heads::negotiation::{
     AnswerHead, ChoiceHead, answer_head, choice_head, client_flags_head, greeting_head,
 };
@@ -31,6 +35,7 @@ pub use heads::transmission::{
 pub use message::{Message, Side};
 pub use option_payloads::{go_of, info_of, listed_of};
 pub use payloads::{Failure, Info, Piece};
+pub use sides::{fits, side_of};
 
 #[cfg(test)]
 mod tests;
