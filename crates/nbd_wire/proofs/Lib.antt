@@ -2,3 +2,4 @@ pub mod HeadReads
 pub mod InfoReads
 pub mod ListedReads
 pub mod Encodings
+pub mod ChunkReads
