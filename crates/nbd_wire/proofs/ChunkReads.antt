@@ -1,5 +1,5 @@
 -- What `content_of` and `failure_of` of the specification give, from what the readers saw.
-use Rattle.std.proofs.Common.{◌≡◌, ℕ, ◌+◌, ◌<◌, ◌≤◌, ◌==◌, List, length, drop, Option, Some, None, Bool, true, false, not, nat_le, ◌&&◌, refl, sym, ◌∙◌, ap, arith, subst, get_or}
+use Rattle.std.proofs.Common.{◌≡◌, ℕ, ◌+◌, ◌<◌, ◌≤◌, ◌==◌, List, length, drop, Option, Some, None, true, false, not, nat_le, ◌&&◌, refl, sym, ◌∙◌, ap, arith, subst, get_or}
 use Rattle.std.proofs.lemmas.Bool.{cond_both, cond-true, cond-false, eqb-true, eqb-false, eq-eqb, ne_eqb, not-true, leb-true, le-leb, lt-leb, and_parts, and_from, and_left}
 use Rattle.std.specs.Option.{option_map}
 use Rattle.nbd_wire.specs.declared.chunks.TheConstants.{OFFSET_DATA, OFFSET_HOLE, ERROR, ERROR_OFFSET}
@@ -28,7 +28,7 @@ hole-none bytes no_hole =
     let size : ℕ = number_at 8 4 bytes in
     cond_both ((length bytes == 12) && not (size == 0)) _ _ Is
     (λ t. let p : ((length bytes == 12) ≡ true) × (not (size == 0) ≡ true) = and_parts (length bytes == 12) (not (size == 0)) t in
-      absurd (no_hole (eqb-true (length bytes) 12 p.0) (eqb-false size 0 (not-true (size == 0) p.1))))
+    absurd (no_hole (eqb-true (length bytes) 12 p.0) (eqb-false size 0 (not-true (size == 0) p.1))))
     (λ _. refl)
 
 pub hole-whole : (bytes : List ℕ) (offset size : ℕ) → length bytes ≡ 12 → size ≡ number_at 8 4 bytes → (size ≡ 0 → ⊥) → offset ≡ number_at 0 8 bytes → Some (Hole offset size) ≡ content_of OFFSET_HOLE bytes
@@ -57,19 +57,19 @@ failure-none kind bytes no_plain no_placed =
     let t : ℕ = number_at 4 2 bytes in
     cond_both (e == 0) _ _ Is (λ _. refl)
     (λ nonzero. cond_both ((kind == 0x8001) && nat_le (6 + t) (length bytes)) _ _ Is
-      (λ h. let p : ((kind == 0x8001) ≡ true) × (nat_le (6 + t) (length bytes) ≡ true) = and_parts (kind == 0x8001) (nat_le (6 + t) (length bytes)) h in
-        absurd (no_plain (eqb-false e 0 nonzero) (eqb-true kind 0x8001 p.0) (leb-true (6 + t) (length bytes) p.1)))
-      (λ _. cond_both ((kind == 0x8002) && nat_le (14 + t) (length bytes)) _ _ Is
-        (λ h. let p : ((kind == 0x8002) ≡ true) × (nat_le (14 + t) (length bytes) ≡ true) = and_parts (kind == 0x8002) (nat_le (14 + t) (length bytes)) h in
-          absurd (no_placed (eqb-false e 0 nonzero) (eqb-true kind 0x8002 p.0) (leb-true (14 + t) (length bytes) p.1)))
-        (λ _. refl)))
+    (λ h. let p : ((kind == 0x8001) ≡ true) × (nat_le (6 + t) (length bytes) ≡ true) = and_parts (kind == 0x8001) (nat_le (6 + t) (length bytes)) h in
+    absurd (no_plain (eqb-false e 0 nonzero) (eqb-true kind 0x8001 p.0) (leb-true (6 + t) (length bytes) p.1)))
+    (λ _. cond_both ((kind == 0x8002) && nat_le (14 + t) (length bytes)) _ _ Is
+    (λ h. let p : ((kind == 0x8002) ≡ true) × (nat_le (14 + t) (length bytes) ≡ true) = and_parts (kind == 0x8002) (nat_le (14 + t) (length bytes)) h in
+    absurd (no_placed (eqb-false e 0 nonzero) (eqb-true kind 0x8002 p.0) (leb-true (14 + t) (length bytes) p.1)))
+    (λ _. refl)))
 
 pub failure-plain : (kind error : ℕ) (bytes : List ℕ) → kind ≡ ERROR → error ≡ number_at 0 4 bytes → (error ≡ 0 → ⊥) → 6 + number_at 4 2 bytes ≤ length bytes → Some (record { error = error; offset = None }) ≡ failure_of kind bytes
 unfolding failure_of
 failure-plain kind error bytes k e nonzero l =
     sym (cond-false (number_at 0 4 bytes == 0) _ _ (ne_eqb (number_at 0 4 bytes) 0 (λ z. nonzero (e ∙ z)))
     ∙ cond-true ((kind == 0x8001) && nat_le (6 + number_at 4 2 bytes) (length bytes)) _ _
-        (and_from (kind == 0x8001) (nat_le (6 + number_at 4 2 bytes) (length bytes)) (eq-eqb kind 0x8001 k) (le-leb (6 + number_at 4 2 bytes) (length bytes) l))
+    (and_from (kind == 0x8001) (nat_le (6 + number_at 4 2 bytes) (length bytes)) (eq-eqb kind 0x8001 k) (le-leb (6 + number_at 4 2 bytes) (length bytes) l))
     ∙ ap (λ x. Some (record { error = x; offset = None })) (sym e))
 
 pub failure-placed : (kind error offset : ℕ) (bytes : List ℕ) → kind ≡ ERROR_OFFSET → error ≡ number_at 0 4 bytes → (error ≡ 0 → ⊥) → 14 + number_at 4 2 bytes ≤ length bytes → offset ≡ number_at (6 + number_at 4 2 bytes) 8 bytes → Some (record { error = error; offset = Some offset }) ≡ failure_of kind bytes
@@ -78,7 +78,7 @@ failure-placed kind error offset bytes k e nonzero l o =
     sym (cond-false (number_at 0 4 bytes == 0) _ _ (ne_eqb (number_at 0 4 bytes) 0 (λ z. nonzero (e ∙ z)))
     ∙ cond-false ((kind == 0x8001) && nat_le (6 + number_at 4 2 bytes) (length bytes)) _ _ (and_left (kind == 0x8001) _ (ap (λ x. x == 0x8001) k))
     ∙ cond-true ((kind == 0x8002) && nat_le (14 + number_at 4 2 bytes) (length bytes)) _ _
-        (and_from (kind == 0x8002) (nat_le (14 + number_at 4 2 bytes) (length bytes)) (eq-eqb kind 0x8002 k) (le-leb (14 + number_at 4 2 bytes) (length bytes) l))
+    (and_from (kind == 0x8002) (nat_le (14 + number_at 4 2 bytes) (length bytes)) (eq-eqb kind 0x8002 k) (le-leb (14 + number_at 4 2 bytes) (length bytes) l))
     ∙ ap (λ x. Some (record { error = x; offset = Some (number_at (6 + number_at 4 2 bytes) 8 bytes) })) (sym e)
     ∙ ap (λ x. Some (record { error = error; offset = Some x })) (sym o))
 

@@ -80,7 +80,7 @@ pub export-reads : (size flags : ℕ) (bytes : List ℕ) → AreBytes bytes → 
 export-reads size flags bytes b l e0 e1 =
     let value : ℕ × ℕ = (number_at 0 8 bytes, number_at 8 2 bytes) in
     Reads-found (λ (head : ℕ × ℕ). IsExportHead head.0 head.1 bytes) (size, flags) value (cc) (export-found bytes b l)
-      (λ other f. let o = export-only other.0 other.1 bytes f in let same : value ≡ (other.0, other.1) = cc in same)
+    (λ other f. let o = export-only other.0 other.1 bytes f in let same : value ≡ (other.0, other.1) = cc in same)
 
 pub export-none : (bytes : List ℕ) → (length bytes ≡ 10 → ⊥) → Reads None (λ (head : ℕ × ℕ). IsExportHead head.0 head.1 bytes)
 export-none bytes h = Reads-none (λ (head : ℕ × ℕ). IsExportHead head.0 head.1 bytes) (λ other f. let o = export-only other.0 other.1 bytes f in h o.0)

@@ -1,8 +1,8 @@
 -- Which messages can be encoded.
-use Rattle.std.specs.Prelude.{◌≡◌, ℕ, ◌<◌, ◌^◌, ◌==◌, List, length, if◌then◌else◌}
+use Rattle.std.specs.Prelude.{◌≡◌, ◌<◌, ◌^◌, ◌==◌, length, if◌then◌else◌}
 use Rattle.nbd_wire.specs.declared.commands.TheConstants.{WRITE}
 use Rattle.nbd_wire.specs.declared.message.Message.{Message}
-use Rattle.nbd_wire.specs.declared.message.Message.TheVariants.{Greeting, ClientFlags, Choice, Answer, Exported, Request, Simple, Chunk}
+use Rattle.nbd_wire.specs.declared.message.Message.TheVariants.{Choice, Answer, Request, Simple, Chunk}
 
 -- a payload's length has four bytes (proto.md; for a simple reply this project's choice), and a
 -- request carries bytes where it is a WRITE, as many as its length says (proto.md, "Request message")

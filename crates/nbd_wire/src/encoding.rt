@@ -99,3 +99,6 @@ fn put<A: Allocator>(out: &mut Vec<u8, A>, head: &[u8], tail: &[u8]) -> Result<(
     out.extend_from_slice(head)?;
     out.extend_from_slice(tail)
 }
+
+#[cfg(test)]
+mod tests;

@@ -47,11 +47,9 @@ pub fn failure_of_is_exact()
 /// So the reader of that head, given the first bytes of what `append` added, answers these fields.
 pub fn encoding_is_read_back()
     ensures { (m : Message) → IsSendable m → IsHeadOf m (take (head_length m) (enc m)) × (drop (head_length m) (enc m) ≡ tail m) }
-{
-}
+{}
 
 /// Each message that may be sent can be given to `append`.
 pub fn sendable_messages_fit()
     ensures { (m : Message) → IsSendable m → FitsItsHead m }
-{
-}
+{}

@@ -1,6 +1,4 @@
 use Rattle.std.proofs.Common.{None, arith, sym, ◌∙◌, ap}
-use Rattle.std.specs.Option.{option_map}
-use Rattle.nbd_wire.specs.declared.payloads.Content.{Content}
 use Rattle.nbd_wire.specs.Contents.{piece_of}
 use Rattle.nbd_wire.specs.Payloads.{content_of}
 use Rattle.nbd_wire.proofs.ChunkReads.{content-none, content-form}
@@ -16,9 +14,9 @@ returns-in_default-clause-form c =
 pub returns-in-1-clause-form : goal.returns-in-1-clause-form
 returns-in-1-clause-form c =
     content-form piece_of c.args.kind c.args.bytes.now (λ i. omega (arith, c.type_inv.bytes i)) c.data_of.result
-      (c.data_of.ensures ∙ ap (λ k. content_of k c.args.bytes.now) (sym c.in-1.is))
+    (c.data_of.ensures ∙ ap (λ k. content_of k c.args.bytes.now) (sym c.in-1.is))
 
 pub returns-in-2-clause-form : goal.returns-in-2-clause-form
 returns-in-2-clause-form c =
     content-form piece_of c.args.kind c.args.bytes.now (λ i. omega (arith, c.type_inv.bytes i)) c.hole_of.result
-      (c.hole_of.ensures ∙ ap (λ k. content_of k c.args.bytes.now) (sym c.in-2.is))
+    (c.hole_of.ensures ∙ ap (λ k. content_of k c.args.bytes.now) (sym c.in-2.is))

@@ -29,7 +29,7 @@ returns-else-bytes-end-2-clause-same c =
     let fits : 14 + number_at 4 2 c.args.bytes.now ≤ length c.args.bytes.now = omega (arith, c.from-end.ensures, c.u16_at.ensures) in
     let place : c.from-end.result ≡ number_at 4 2 c.args.bytes.now = c.from-end.ensures ∙ c.u16_at.ensures in
     failure-placed c.args.kind _ _ _ c.in-32770.is c.u32_at-error.ensures c.if-error-eq0.false fits
-      (c.u64_at.ensures ∙ ap (λ (k : ℕ). number_at (6 + k) 8 c.args.bytes.now) place)
+    (c.u64_at.ensures ∙ ap (λ (k : ℕ). number_at (6 + k) 8 c.args.bytes.now) place)
 
 pub returns-in_default-clause-same : goal.returns-in_default-clause-same
 returns-in_default-clause-same c = failure-none _ _ (λ e k l. omega arith) (λ e k l. omega arith)
