@@ -7,9 +7,9 @@ use Rattle.nbd_wire.specs.declared.heads.transmission.RequestHead.{RequestHead}
 use Rattle.nbd_wire.specs.declared.heads.transmission.SimpleHead.{SimpleHead}
 use Rattle.nbd_wire.specs.declared.heads.transmission.ChunkHead.{ChunkHead}
 use Rattle.nbd_wire.specs.Encoding.{AreBytes}
-use Rattle.nbd_wire.specs.Heads.{IsGreetingHead, IsClientFlagsHead, IsChoiceHead, IsAnswerHead, IsRequestHead, IsSimpleHead, IsChunkHead}
+use Rattle.nbd_wire.specs.Heads.{IsGreetingHead, IsClientFlagsHead, IsChoiceHead, IsAnswerHead, IsExportHead, IsRequestHead, IsSimpleHead, IsChunkHead}
 use Rattle.nbd_wire.specs.Payloads.{number_at}
-use Rattle.nbd_wire.specs.Places.{greeting-found, greeting-only, client_flags-found, client_flags-only, choice-found, choice-only, answer-found, answer-only, request-found, request-only, simple-found, simple-only, chunk-found, chunk-only}
+use Rattle.nbd_wire.specs.Places.{greeting-found, greeting-only, client_flags-found, client_flags-only, choice-found, choice-only, answer-found, answer-only, export-found, export-only, request-found, request-only, simple-found, simple-only, chunk-found, chunk-only}
 use Rattle.nbd_wire.specs.Reads.{Reads, Reads-found, Reads-none}
 
 -- a greeting
@@ -74,3 +74,13 @@ chunk-reads flags kind cookie len bytes b l m0 e0 e1 e2 e3 =
 
 pub chunk-none : (bytes : List ℕ) → (length bytes ≡ 20 → number_at 0 4 bytes ≡ CHUNK_MAGIC → ⊥) → Reads None (λ head. IsChunkHead head bytes)
 chunk-none bytes h = Reads-none (λ head. IsChunkHead head bytes) (λ other f. let o = chunk-only other bytes f in h o.0 o.1)
+
+-- the answer to EXPORT_NAME
+pub export-reads : (size flags : ℕ) (bytes : List ℕ) → AreBytes bytes → length bytes ≡ 10 → size ≡ number_at 0 8 bytes → flags ≡ number_at 8 2 bytes → Reads (Some (size, flags)) (λ (head : ℕ × ℕ). IsExportHead head.0 head.1 bytes)
+export-reads size flags bytes b l e0 e1 =
+    let value : ℕ × ℕ = (number_at 0 8 bytes, number_at 8 2 bytes) in
+    Reads-found (λ (head : ℕ × ℕ). IsExportHead head.0 head.1 bytes) (size, flags) value (cc) (export-found bytes b l)
+    (λ other f. let o = export-only other.0 other.1 bytes f in let same : value ≡ (other.0, other.1) = cc in same)
+
+pub export-none : (bytes : List ℕ) → (length bytes ≡ 10 → ⊥) → Reads None (λ (head : ℕ × ℕ). IsExportHead head.0 head.1 bytes)
+export-none bytes h = Reads-none (λ (head : ℕ × ℕ). IsExportHead head.0 head.1 bytes) (λ other f. let o = export-only other.0 other.1 bytes f in h o.0)

@@ -5,7 +5,7 @@ use Rattle.nbd_wire.specs.declared.heads.negotiation.AnswerHead.{AnswerHead}
 use Rattle.nbd_wire.specs.declared.heads.transmission.RequestHead.{RequestHead}
 use Rattle.nbd_wire.specs.declared.heads.transmission.SimpleHead.{SimpleHead}
 use Rattle.nbd_wire.specs.declared.heads.transmission.ChunkHead.{ChunkHead}
-use Rattle.nbd_wire.specs.Layouts.{greeting_bytes, client_flags_bytes, choice_bytes, answer_bytes, request_bytes, simple_bytes, chunk_bytes}
+use Rattle.nbd_wire.specs.Layouts.{greeting_bytes, client_flags_bytes, choice_bytes, answer_bytes, export_bytes, request_bytes, simple_bytes, chunk_bytes}
 
 -- a greeting (proto.md, "Newstyle negotiation")
 unfoldable pub IsGreetingHead : ℕ → List ℕ → Type 0
@@ -22,6 +22,10 @@ IsChoiceHead h bytes = (h.id < 2 ^ 32) × (h.length < 2 ^ 32) × (bytes ≡ choi
 -- an answer's head (proto.md, "Fixed newstyle negotiation")
 unfoldable pub IsAnswerHead : AnswerHead → List ℕ → Type 0
 IsAnswerHead h bytes = (h.option < 2 ^ 32) × (h.kind < 2 ^ 32) × (h.length < 2 ^ 32) × (bytes ≡ answer_bytes h.option h.kind h.length)
+
+-- the answer to EXPORT_NAME, but for the zeroes behind it (proto.md, "Newstyle negotiation")
+unfoldable pub IsExportHead : ℕ → ℕ → List ℕ → Type 0
+IsExportHead size flags bytes = (size < 2 ^ 64) × (flags < 2 ^ 16) × (bytes ≡ export_bytes size flags)
 
 -- a request's head (proto.md, "Request message")
 unfoldable pub IsRequestHead : RequestHead → List ℕ → Type 0

@@ -10,8 +10,8 @@ use Rattle.nbd_wire.specs.declared.heads.transmission.RequestHead.{RequestHead}
 use Rattle.nbd_wire.specs.declared.heads.transmission.SimpleHead.{SimpleHead}
 use Rattle.nbd_wire.specs.declared.heads.transmission.ChunkHead.{ChunkHead}
 use Rattle.nbd_wire.specs.Encoding.{AreBytes}
-use Rattle.nbd_wire.specs.Heads.{IsGreetingHead, IsClientFlagsHead, IsChoiceHead, IsAnswerHead, IsRequestHead, IsSimpleHead, IsChunkHead}
-use Rattle.nbd_wire.specs.Layouts.{greeting_bytes, client_flags_bytes, choice_bytes, answer_bytes, request_bytes, simple_bytes, chunk_bytes}
+use Rattle.nbd_wire.specs.Heads.{IsGreetingHead, IsClientFlagsHead, IsChoiceHead, IsAnswerHead, IsExportHead, IsRequestHead, IsSimpleHead, IsChunkHead}
+use Rattle.nbd_wire.specs.Layouts.{greeting_bytes, client_flags_bytes, choice_bytes, answer_bytes, export_bytes, request_bytes, simple_bytes, chunk_bytes}
 use Rattle.nbd_wire.specs.Payloads.{number_at}
 use Rattle.nbd_wire.specs.Parse.{with_number, number_at-lt}
 
@@ -193,3 +193,16 @@ chunk-only head bytes h =
       big_number-reads_back 8 head.cookie (drop 16 (chunk_bytes head.flags head.kind head.cookie head.length)) (omega (arith, h.2)),
       big_number-reads_back 4 head.length (drop 20 (chunk_bytes head.flags head.kind head.cookie head.length)) (omega (arith, h.3)),
     )
+
+-- what stands at the places of the answer to EXPORT_NAME, and nothing else, makes the bytes one
+pub export-found : (bytes : List ℕ) → AreBytes bytes → length bytes ≡ 10 → IsExportHead (number_at 0 8 bytes) (number_at 8 2 bytes) bytes
+unfolding IsExportHead
+export-found bytes b l =
+    (omega (arith, number_at-lt 0 8 bytes b), omega (arith, number_at-lt 8 2 bytes b), with_next 0 8 bytes _ b (omega arith) (with_last 8 2 bytes b l))
+
+pub export-only : (size flags : ℕ) (bytes : List ℕ) → IsExportHead size flags bytes → (length bytes ≡ 10) × (number_at 0 8 bytes ≡ size) × (number_at 8 2 bytes ≡ flags)
+unfolding IsExportHead
+export-only size flags bytes h =
+    let P : List ℕ → Type 0 = λ l. (length l ≡ 10) × (number_at 0 8 l ≡ size) × (number_at 8 2 l ≡ flags) in
+    subst P (sym h.2)
+    (refl, big_number-reads_back 8 size (drop 8 (export_bytes size flags)) (omega (arith, h.0)), big_number-reads_back 2 flags [] (omega (arith, h.1)))

@@ -1,11 +1,15 @@
 //! Laws of the specification: each is the contract of a function that does nothing.
 
-ghost use Rattle.std.specs.Prelude.{◌≡◌, ◌≤◌, ◌↔◌, ℕ, List, IsTrue, length, take};
+ghost use Rattle.std.specs.Prelude.{◌≡◌, ◌≤◌, ◌↔◌, ℕ, List, IsTrue, length, drop, take};
 ghost use Rattle.byteorder.specs.Endian.{big_bytes, big_number};
-ghost use Rattle.nbd_wire.specs.Encoding.{AreBytes};
+ghost use Rattle.nbd_wire.specs.Encoding.{AreBytes, enc, tail};
+ghost use Rattle.nbd_wire.specs.Fits.{FitsItsHead};
 ghost use Rattle.nbd_wire.specs.Forms.{HasContentForm, HasFailureForm, HasGoForm, HasInfoForm, HasListedForm};
 ghost use Rattle.nbd_wire.specs.Payloads.{content_of, failure_of, info_of, is_go, is_listed};
 ghost use Rattle.nbd_wire.specs.Reads.{Reads};
+ghost use Rattle.nbd_wire.specs.RoundTrip.{IsHeadOf, head_length};
+ghost use Rattle.nbd_wire.specs.Sendable.{IsSendable};
+ghost use Rattle.nbd_wire.specs.declared.message.Message.{Message};
 
 /// A number that was read and is written back gives the bytes that it was read from.
 pub fn number_gives_its_bytes()
@@ -35,4 +39,17 @@ pub fn content_of_is_exact()
 /// The specification's `failure_of` gives exactly what has the form of an error chunk's payload.
 pub fn failure_of_is_exact()
     ensures { (kind : ℕ) (bytes : List ℕ) → AreBytes bytes → Reads (failure_of kind bytes) (λ failure. HasFailureForm kind failure bytes) }
+{}
+
+/// The encoding of each message that may be sent begins with a head, which is one with the
+/// message's own fields and no others, and goes on with the payload or padding.
+///
+/// So the reader of that head, given the first bytes of what `append` added, answers these fields.
+pub fn encoding_is_read_back()
+    ensures { (m : Message) → IsSendable m → IsHeadOf m (take (head_length m) (enc m)) × (drop (head_length m) (enc m) ≡ tail m) }
+{}
+
+/// Each message that may be sent can be given to `append`.
+pub fn sendable_messages_fit()
+    ensures { (m : Message) → IsSendable m → FitsItsHead m }
 {}

@@ -22,6 +22,14 @@ pub enum Info {
     },
 }
 
+/// What a content chunk carries, at an offset of the export: bytes, or a hole of `size` bytes, which
+/// reads as zeroes.
+#[derive(Clone, Copy, Debug, PartialEq, Eq, Drop)]
+pub enum Content<'a> {
+    Bytes { offset: u64, bytes: &'a [u8] },
+    Hole { offset: u64, size: u32 },
+}
+
 /// A piece of what a READ was answered, at an offset of the export: bytes, or a hole of `size`
 /// bytes, which reads as zeroes.
 #[derive(Debug, PartialEq, Eq, Drop)]

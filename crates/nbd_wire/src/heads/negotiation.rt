@@ -1,6 +1,6 @@
 //! The heads of the negotiation (proto.md, "Newstyle negotiation", "Fixed newstyle negotiation").
 
-ghost use Rattle.nbd_wire.specs.Heads.{IsAnswerHead, IsChoiceHead, IsClientFlagsHead, IsGreetingHead};
+ghost use Rattle.nbd_wire.specs.Heads.{IsAnswerHead, IsChoiceHead, IsClientFlagsHead, IsExportHead, IsGreetingHead};
 ghost use Rattle.nbd_wire.specs.Reads.{Reads};
 
 use crate::head_lengths;
@@ -75,4 +75,15 @@ pub fn answer_head(bytes: &[u8]) -> Option<AnswerHead>
         kind: u32_at(bytes, 12),
         length: u32_at(bytes, 16),
     })
+}
+
+/// The export's size in bytes and its transmission flags in the answer to EXPORT_NAME, 10 bytes
+/// (proto.md, "Newstyle negotiation"). The zeroes that may follow are not part of it.
+pub fn export_head(bytes: &[u8]) -> Option<(u64, u16)>
+    ensures { Reads result (λ head. IsExportHead head.0 head.1 bytes.now) }
+{
+    if bytes.len() != head_lengths::EXPORT {
+        return None;
+    }
+    Some((u64_at(bytes, 0), u16_at(bytes, 8)))
 }
