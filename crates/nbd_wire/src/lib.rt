@@ -16,6 +16,7 @@ pub mod head_lengths;
 pub mod heads;
 pub mod infos;
 pub mod laws;
+pub mod limits;
 pub mod magics;
 pub mod message;
 mod numbers;

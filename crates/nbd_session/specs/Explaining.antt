@@ -1,0 +1,30 @@
+-- When a capture is explained, from any one run with its bytes.
+use Rattle.std.specs.Prelude.{◌≡◌, ℕ, List}
+use Rattle.nbd_wire.specs.Explains.{Explained, Start}
+use Rattle.nbd_wire.specs.Items.{Item, Pair, pairs}
+use Rattle.nbd_wire.specs.Report.{report}
+use Rattle.nbd_wire.specs.Rules.{IsRun}
+use Rattle.nbd_wire.specs.Verdicts.{Passes, answered, improper, requests}
+
+-- where a run passes the tests, its bytes are explained
+abbrev pub PassingIsExplained : Type 0
+PassingIsExplained = (items : List Item) (order : List ℕ) (initial : Start) → IsRun items → Passes (report items) order initial → Explained (pairs items) order initial
+
+-- where the bytes of a run are explained, it passes the tests
+abbrev pub ExplainedPasses : Type 0
+ExplainedPasses = (items : List Item) (order : List ℕ) (initial : Start) → IsRun items → Explained (pairs items) order initial → Passes (report items) order initial
+
+-- the counts of a yes, the same for each run with these bytes
+pub record HasCounts (capture : List Pair) (of_requests of_answered of_improper : ℕ) : Type 0 where
+  pub requests_are : (items : List Item) → IsRun items → pairs items ≡ capture → requests (report items) ≡ of_requests
+  pub answered_are : (items : List Item) → IsRun items → pairs items ≡ capture → answered (report items) ≡ of_answered
+  pub improper_are : (items : List Item) → IsRun items → pairs items ≡ capture → improper (report items) ≡ of_improper
+
+-- the answer to a capture is yes with these counts
+pub record IsYes (capture : List Pair) (order : List ℕ) (initial : Start) (of_requests of_answered of_improper : ℕ) : Type 0 where
+  pub explained : Explained capture order initial
+  pub counts : HasCounts capture of_requests of_answered of_improper
+
+-- the order does not explain the capture
+abbrev pub IsNo : List Pair → List ℕ → Start → Type 0
+IsNo capture order initial = Explained capture order initial → ⊥

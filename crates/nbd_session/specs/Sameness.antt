@@ -1,0 +1,17 @@
+-- The bytes of a run determine all of it but the moments of service.
+use Rattle.std.specs.Prelude.{◌≡◌, List}
+use Rattle.nbd_wire.specs.Items.{Item, ArePairs, pairs, unserved}
+use Rattle.nbd_wire.specs.Report.{report}
+use Rattle.nbd_wire.specs.Rules.{IsRun}
+
+-- runs with the same bytes have the same marks at the same places, but for those of service
+abbrev pub SameMarks : Type 0
+SameMarks = (items items' : List Item) → IsRun items → IsRun items' → pairs items ≡ pairs items' → unserved items ≡ unserved items'
+
+-- runs with the same bytes have the same report
+abbrev pub SameReports : Type 0
+SameReports = (items items' : List Item) → IsRun items → IsRun items' → pairs items ≡ pairs items' → report items ≡ report items'
+
+-- the report does not depend on where requests are served
+abbrev pub ReportsIgnoreService : Type 0
+ReportsIgnoreService = (items items' : List Item) → unserved items ≡ unserved items' → report items ≡ report items'

@@ -1,0 +1,42 @@
+-- What the report of every run has, whatever the bytes.
+use Rattle.std.specs.Prelude.{◌≡◌, ◌+◌, ◌<◌, ◌≤◌, ℕ, List, [], Option, Some, None, length, IsTrue, is_some, slice_get}
+use Rattle.nbd_wire.specs.declared.commands.TheConstants as commands
+use Rattle.nbd_wire.specs.declared.limits.TheConstants.{EXPORT_SIZE}
+use Rattle.nbd_wire.specs.declared.transmission.TheConstants as transmission
+use Rattle.nbd_wire.specs.declared.payloads.Piece.{Piece}
+use Rattle.nbd_wire.specs.Items.{Item}
+use Rattle.nbd_wire.specs.Report.{Asked, Report, asked_at, report}
+use Rattle.nbd_wire.specs.Requests.{Exporting, Success, byte_at, has, has_range, holds, is_in, piece_offset, piece_size}
+use Rattle.nbd_wire.specs.Rules.{IsRun}
+
+-- the pieces of a READ lie in its range, and no two of them share an offset
+pub record AreLaid (offset len : ℕ) (pieces : List Piece) : Type 0 where
+  pub inside : (i : ℕ) (p : Piece) → slice_get pieces i ≡ Some p → (offset ≤ piece_offset p) × (piece_offset p + piece_size p ≤ offset + len)
+  pub apart : (i j : ℕ) (p q : Piece) (x : ℕ) → slice_get pieces i ≡ Some p → slice_get pieces j ≡ Some q → IsTrue (holds p x) → IsTrue (holds q x) → i ≡ j
+
+-- of request k of a report of `count` requests to an export of this size
+pub record IsSoundAsked (size count k : ℕ) (a : Asked) : Type 0 where
+  -- its first reply started behind its own completion, and it counted the requests that had completed
+  pub known : (n : ℕ) → a.known_at ≡ Some n → (k ≤ n) × (n ≤ count)
+  -- a WRITE carries as many bytes as it says
+  pub carried : a.command ≡ commands.WRITE → length a.payload ≡ a.length
+  -- a success is that of a proper request
+  pub success : a.outcome ≡ Success → IsTrue a.proper
+  -- the range of a proper request lies in the export
+  pub inside : IsTrue a.proper → IsTrue (has_range a.command) → a.offset + a.length ≤ size
+  -- only a READ has pieces
+  pub reads : (a.command ≡ commands.READ → ⊥) → a.pieces ≡ []
+  pub laid : AreLaid a.offset a.length a.pieces
+  -- the pieces of a successful READ cover its range
+  pub covered : a.command ≡ commands.READ → a.outcome ≡ Success → (x : ℕ) → IsTrue (is_in a.offset a.length x) → IsTrue (is_some (byte_at a.pieces x))
+
+-- of a report: the export is within the limit and has flags, without an export there is no request, and each request is
+-- sound
+pub record IsSoundReport (r : Report) : Type 0 where
+  pub limit : (export : Exporting) → r.export ≡ Some export → (export.size ≤ EXPORT_SIZE) × IsTrue (has export.flags transmission.HAS_FLAGS)
+  pub none : r.export ≡ None → r.asked ≡ []
+  pub each : (export : Exporting) (k : ℕ) (a : Asked) → r.export ≡ Some export → asked_at k r.asked ≡ Some a → IsSoundAsked export.size (length r.asked) k a
+
+-- the report of a run is sound
+abbrev pub ReportsAreSound : Type 0
+ReportsAreSound = (items : List Item) → IsRun items → IsSoundReport (report items)

@@ -1,0 +1,81 @@
+-- What the completed messages of a session have led to.
+use Rattle.std.specs.Prelude.{◌≡◌, ◌⊎◌, ℕ, zero, suc, List, [], ◌∷◌, ◌++◌, ◌==◌, ◌&&◌, not, Bool, true, false, if◌then◌else◌, Option, Some, None}
+use Rattle.nbd_wire.specs.declared.message.Message.{Message}
+use Rattle.nbd_wire.specs.Requests.{Exporting, Entry, is_finished}
+
+-- where the session stands (proto.md, "Newstyle negotiation", "Transmission")
+pub data Phase : Type 0 where
+  -- nothing has come
+  Greet : Phase
+  -- the server has greeted
+  Flags : Phase
+  -- the client may choose an option
+  Choosing : Phase
+  -- EXPORT_NAME was chosen
+  Naming : Phase
+  -- ABORT was chosen
+  Aborting : Phase
+  -- another option was chosen: its number, its data, and the last EXPORT info that came since
+  Answering : (option : ℕ) (payload : List ℕ) (info : Option Exporting) → Phase
+  -- ABORT was answered
+  Ended : Phase
+  -- requests and replies
+  Transmission : (export : Exporting) → Phase
+
+-- the phase, the server's handshake flags, the client's flags, whether structured replies are in
+-- force, whether the client has sent DISC, and the numbered requests
+pub record Core : Type 0 where
+  pub phase : Phase
+  pub offered : ℕ
+  pub client_flags : ℕ
+  pub structured : Bool
+  pub disconnected : Bool
+  pub entries : List Entry
+
+-- the same, and the numbers of the requests that were served
+pub record State : Type 0 where
+  pub core : Core
+  pub served : List ℕ
+
+-- before the first byte
+abbrev pub start : State
+start = record {
+  core = record { phase = Greet; offered = 0; client_flags = 0; structured = false; disconnected = false; entries = [] };
+  served = [];
+}
+
+-- the request is outstanding and has this cookie (proto.md, "Ordering of messages and writes")
+abbrev pub is_awaiting : ℕ → Entry → Bool
+is_awaiting cookie e = (e.cookie == cookie) && not (is_finished e)
+
+-- the number of the first outstanding request with this cookie, counted on from n
+abbrev pub target_from : ℕ → ℕ → List Entry → Option ℕ
+target_from n cookie [] = None
+target_from n cookie (e ∷ entries) = if is_awaiting cookie e then Some (suc n) else target_from (suc n) cookie entries
+
+-- the number of the outstanding request with this cookie
+unfoldable pub target : ℕ → List Entry → Option ℕ
+target cookie entries = target_from 0 cookie entries
+
+-- request k, counted from 1
+abbrev pub entry : ℕ → List Entry → Option Entry
+entry k [] = None
+entry zero (e ∷ entries) = None
+entry (suc zero) (e ∷ entries) = Some e
+entry (suc (suc k)) (e ∷ entries) = entry (suc k) entries
+
+-- a request with one more reply
+abbrev pub with_reply : Entry → Message → Entry
+with_reply e m = record e { replies = e.replies ++ m ∷ [] }
+
+-- request k has one more reply
+abbrev pub answered : ℕ → Message → List Entry → List Entry
+answered k m [] = []
+answered zero m (e ∷ entries) = e ∷ entries
+answered (suc zero) m (e ∷ entries) = with_reply e m ∷ entries
+answered (suc (suc k)) m (e ∷ entries) = e ∷ answered (suc k) m entries
+
+-- the list names k
+abbrev pub Names : List ℕ → ℕ → Type 0
+Names [] k = ⊥
+Names (j ∷ js) k = (j ≡ k) ⊎ Names js k
