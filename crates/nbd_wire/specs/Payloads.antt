@@ -1,4 +1,4 @@
-use Rattle.std.specs.Prelude.{ℕ, List, [], ◌∷◌, Option, Some, None, length, ◌==◌, ◌&&◌, ◌+◌, ◌*◌, ◌-◌, not, nat_le, if◌then◌else◌, drop, take, Bool, true, false}
+use Rattle.std.specs.Prelude.{ℕ, List, Option, Some, None, length, ◌==◌, ◌&&◌, ◌+◌, ◌*◌, not, nat_le, if◌then◌else◌, drop, Bool}
 use Rattle.nbd_wire.specs.declared.payloads.Info.{Info}
 use Rattle.nbd_wire.specs.declared.payloads.Info.TheVariants.{Export, BlockSize, Other}
 use Rattle.nbd_wire.specs.declared.payloads.Piece.{Piece}

@@ -5,7 +5,11 @@
 pub const DONE: u16 = 1 << 0;
 
 pub const NONE: u16 = 0;
+
 pub const OFFSET_DATA: u16 = 1;
+
 pub const OFFSET_HOLE: u16 = 2;
+
 pub const ERROR: u16 = 0x8001;
+
 pub const ERROR_OFFSET: u16 = 0x8002;

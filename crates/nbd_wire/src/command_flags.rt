@@ -1,6 +1,9 @@
 //! Flags of a request, as masks (proto.md, "Command flags").
 
 pub const FUA: u16 = 1 << 0;
+
 pub const NO_HOLE: u16 = 1 << 1;
+
 pub const DF: u16 = 1 << 2;
+
 pub const FAST_ZERO: u16 = 1 << 4;

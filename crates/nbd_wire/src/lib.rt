@@ -5,17 +5,40 @@
 
 pub mod answers;
 pub mod bytes;
+pub mod chunk_payloads;
 pub mod chunks;
 pub mod command_flags;
 pub mod commands;
+pub mod encoding;
 pub mod handshake;
+mod head_bytes;
+pub mod head_lengths;
+pub mod heads;
+pub mod infos;
+pub mod laws;
 pub mod limits;
 pub mod magics;
 pub mod message;
+mod numbers;
+pub mod option_payloads;
 pub mod options;
 pub mod payloads;
+pub mod sides;
 pub mod transmission;
 
 pub use bytes::Bytes;
+pub use chunk_payloads::{content_of, failure_of};
+pub use encoding::append;
+pub use heads::negotiation::{
+    AnswerHead, ChoiceHead, answer_head, choice_head, client_flags_head, export_head, greeting_head,
+};
+pub use heads::transmission::{
+    ChunkHead, RequestHead, SimpleHead, chunk_head, request_head, simple_head,
+};
 pub use message::{Message, Side};
-pub use payloads::{Failure, Info, Piece};
+pub use option_payloads::{go_of, info_of, listed_of};
+pub use payloads::{Content, Failure, Info, Piece};
+pub use sides::{fits, side_of};
+
+#[cfg(test)]
+mod tests;

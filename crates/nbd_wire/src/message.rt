@@ -10,14 +10,21 @@ pub enum Side {
 }
 
 /// A whole message of the fixed newstyle negotiation or of transmission.
-#[derive(Drop)]
+#[derive(Debug, PartialEq, Eq, Drop)]
 pub enum Message {
     /// The server's first message: its handshake flags.
-    Greeting { flags: u16 },
+    Greeting {
+        flags: u16,
+    },
     /// The client's first message: its flags.
-    ClientFlags { flags: u32 },
+    ClientFlags {
+        flags: u32,
+    },
     /// An option of the client with its data.
-    Choice { id: u32, payload: Bytes },
+    Choice {
+        id: u32,
+        payload: Bytes,
+    },
     /// An answer of the server to an option.
     Answer {
         option: u32,

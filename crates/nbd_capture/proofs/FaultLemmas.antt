@@ -1,0 +1,34 @@
+-- The faults of one line, as faults of the whole text.
+use Rattle.std.proofs.Common.{◌≡◌, ℕ, ◌+◌, List, ◌∷◌, ◌++◌, sym, subst, refl, Result, Ok, Err, IfErr}
+use Rattle.std.specs.Prelude.{IsErr, MatchResult}
+use Rattle.nbd_capture.specs.declared.capture.CaptureFault.{CaptureFault}
+use Rattle.nbd_capture.specs.declared.capture.CaptureFault.TheVariants.{Line, Memory}
+use Rattle.nbd_capture.specs.declared.order.OrderTextFault.{OrderTextFault}
+use Rattle.nbd_capture.specs.declared.order.OrderTextFault.TheVariants as order_faults
+use Rattle.nbd_capture.specs.Lines.{line_feed, IsUnbroken}
+use Rattle.nbd_capture.specs.Capture.{Chunk, IsCaptureLine, IsCaptureText, IsFirstBadCaptureLine}
+use Rattle.nbd_capture.specs.Order.{IsOrderLine, IsOrderText}
+use Rattle.nbd_capture.specs.Faults.{IsCaptureFault, IsOrderTextFault}
+use Rattle.nbd_capture.specs.Steps.{IsChunkFault}
+use Rattle.nbd_capture.proofs.Progress.{Progress, stopped}
+use Rattle.nbd_capture.proofs.Reading.{no_reading}
+
+pub stopped_capture : (text rest bytes behind : List ℕ) (chunks : List Chunk) (number : ℕ) (fault : CaptureFault)
+    → Progress IsCaptureLine text rest chunks number → IsUnbroken bytes → rest ≡ bytes ++ line_feed ∷ behind
+    → IsChunkFault bytes (number + 1) fault → IsCaptureFault text fault
+stopped_capture text rest bytes behind chunks number (Line n) past u whole h =
+    subst (λ m. IsFirstBadCaptureLine text m) (sym h.0) (stopped IsCaptureLine text rest bytes behind chunks number past u whole h.1)
+stopped_capture text rest bytes behind chunks number Memory past u whole h = tt
+
+-- where the text has a reading, the only fault is want of memory
+pub only_memory_of_capture : {T : Type 0} (text : List ℕ) (r : Result T CaptureFault) (P : List Chunk → T → Type 0) → IsErr r → IfErr r (IsCaptureFault text)
+    → (chunks : List Chunk) → IsCaptureText text chunks → MatchResult r (P chunks) (λ e. e ≡ Memory)
+only_memory_of_capture text (Ok v) P failed h chunks read = cc failed
+only_memory_of_capture text (Err (Line n)) P failed h chunks read = absurd (no_reading IsCaptureLine text n chunks h read)
+only_memory_of_capture text (Err Memory) P failed h chunks read = refl
+
+pub only_memory_of_order : {T : Type 0} (text : List ℕ) (r : Result T OrderTextFault) (P : List ℕ → T → Type 0) → IsErr r → IfErr r (IsOrderTextFault text)
+    → (numbers : List ℕ) → IsOrderText text numbers → MatchResult r (P numbers) (λ e. e ≡ order_faults.Memory)
+only_memory_of_order text (Ok v) P failed h numbers read = cc failed
+only_memory_of_order text (Err (order_faults.Line n)) P failed h numbers read = absurd (no_reading IsOrderLine text n numbers h read)
+only_memory_of_order text (Err order_faults.Memory) P failed h numbers read = refl

@@ -1,0 +1,6 @@
+use Rattle.nbd_capture.specs.Capture.{IsCaptureLine}
+use Rattle.nbd_capture.proofs.Total.{decide_capture, told}
+use Rattle.nbd_capture.proofs.laws.capture_or_bad_line.Goals as goal
+
+pub returns : goal.returns
+returns c = told IsCaptureLine decide_capture

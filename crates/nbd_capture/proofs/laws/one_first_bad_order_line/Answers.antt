@@ -1,0 +1,6 @@
+use Rattle.nbd_capture.specs.Order.{IsOrderLine}
+use Rattle.nbd_capture.proofs.Reading.{one_first_bad}
+use Rattle.nbd_capture.proofs.laws.one_first_bad_order_line.Goals as goal
+
+pub returns : goal.returns
+returns c = one_first_bad IsOrderLine

@@ -1,0 +1,5 @@
+use Rattle.nbd_capture.proofs.Written.{written_chunks}
+use Rattle.nbd_capture.proofs.laws.written_chunks_are_read.Goals as goal
+
+pub returns : goal.returns
+returns c = written_chunks

@@ -1,0 +1,61 @@
+//! What holds of the grammars of both texts, as contracts of functions that do nothing.
+
+ghost use Rattle.std.specs.Prelude.{◌≡◌, ◌⊎◌, ◌∷◌, ◌++◌, [], ◌<◌, ◌^◌, ℕ, List, flat_map};
+ghost use Rattle.std.specs.List.{AllByRecursion};
+ghost use Rattle.std.specs.Fmt.{decimal};
+ghost use Rattle.hex.specs.Hex.{IsBytes};
+ghost use Rattle.nbd_capture.specs.Lines.{line_feed};
+ghost use Rattle.nbd_capture.specs.Capture.{Chunk, chunk_line, IsCaptureText, IsFirstBadCaptureLine};
+ghost use Rattle.nbd_capture.specs.Order.{IsOrderText, IsFirstBadOrderLine};
+
+/// A text has one reading as a capture at most.
+pub fn one_capture_reading()
+    ensures { (text : List ℕ) (a b : List Chunk) → IsCaptureText text a → IsCaptureText text b → a ≡ b }
+{}
+
+/// A text with a bad capture line has no reading as a capture.
+pub fn no_capture_with_a_bad_line()
+    ensures { (text : List ℕ) (n : ℕ) (chunks : List Chunk) → IsFirstBadCaptureLine text n → IsCaptureText text chunks → ⊥ }
+{}
+
+/// A text has one first bad capture line at most.
+pub fn one_first_bad_capture_line()
+    ensures { (text : List ℕ) (m n : ℕ) → IsFirstBadCaptureLine text m → IsFirstBadCaptureLine text n → m ≡ n }
+{}
+
+/// A text has one reading as an order at most.
+pub fn one_order_reading()
+    ensures { (text a b : List ℕ) → IsOrderText text a → IsOrderText text b → a ≡ b }
+{}
+
+/// A text with a bad order line has no reading as an order.
+pub fn no_order_with_a_bad_line()
+    ensures { (text : List ℕ) (n : ℕ) (numbers : List ℕ) → IsFirstBadOrderLine text n → IsOrderText text numbers → ⊥ }
+{}
+
+/// A text has one first bad order line at most.
+pub fn one_first_bad_order_line()
+    ensures { (text : List ℕ) (m n : ℕ) → IsFirstBadOrderLine text m → IsFirstBadOrderLine text n → m ≡ n }
+{}
+
+/// The lines that `write_chunk` writes are read as their chunks.
+pub fn written_chunks_are_read()
+    ensures { (chunks : List Chunk) → AllByRecursion (λ c. IsBytes c.bytes) chunks
+        → IsCaptureText (flat_map (λ c. chunk_line c.side c.bytes) chunks) chunks }
+{}
+
+/// Numbers as `{}` prints them, one a line, are read as these numbers.
+pub fn printed_numbers_are_read()
+    ensures { (numbers : List ℕ) → AllByRecursion (λ n. n < 2 ^ 64) numbers
+        → IsOrderText (flat_map (λ n. decimal n ++ line_feed ∷ []) numbers) numbers }
+{}
+
+/// Each text has a reading as a capture, or a first bad capture line.
+pub fn capture_or_bad_line()
+    ensures { (text : List ℕ) → ((chunks : List Chunk) × IsCaptureText text chunks) ⊎ ((n : ℕ) × IsFirstBadCaptureLine text n) }
+{}
+
+/// Each text has a reading as an order, or a first bad order line.
+pub fn order_or_bad_line()
+    ensures { (text : List ℕ) → ((numbers : List ℕ) × IsOrderText text numbers) ⊎ ((n : ℕ) × IsFirstBadOrderLine text n) }
+{}

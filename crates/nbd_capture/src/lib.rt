@@ -1,0 +1,16 @@
+//! The texts that the checker reads: captures and service orders.
+//!
+//! A text is a sequence of lines, each ended by LF. Which lines there are is this project's choice.
+#![tactic(auto)]
+
+pub mod capture;
+pub mod laws;
+mod lines;
+pub mod order;
+#[cfg(test)]
+mod tests;
+pub mod writing;
+
+pub use capture::{CaptureFault, parse_capture};
+pub use order::{OrderTextFault, parse_order};
+pub use writing::{WriteFault, write_chunk, write_whole};

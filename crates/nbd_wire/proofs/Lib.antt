@@ -1,0 +1,5 @@
+pub mod HeadReads
+pub mod InfoReads
+pub mod ListedReads
+pub mod Encodings
+pub mod ChunkReads

@@ -1,0 +1,5 @@
+use Rattle.nbd_wire.specs.ChunkForms.{failure_of-reads}
+use Rattle.nbd_wire.proofs.laws.failure_of_is_exact.Goals as goal
+
+pub returns : goal.returns
+returns c = failure_of-reads

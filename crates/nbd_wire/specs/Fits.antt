@@ -1,0 +1,15 @@
+-- Which messages can be encoded.
+use Rattle.std.specs.Prelude.{◌≡◌, ◌<◌, ◌^◌, ◌==◌, length, if◌then◌else◌}
+use Rattle.nbd_wire.specs.declared.commands.TheConstants.{WRITE}
+use Rattle.nbd_wire.specs.declared.message.Message.{Message}
+use Rattle.nbd_wire.specs.declared.message.Message.TheVariants.{Choice, Answer, Request, Simple, Chunk}
+
+-- a payload's length has four bytes (proto.md; for a simple reply this project's choice), and a
+-- request carries bytes where it is a WRITE, as many as its length says (proto.md, "Request message")
+unfoldable pub FitsItsHead : Message → Type 0
+FitsItsHead (Choice _ payload) = length payload < 2 ^ 32
+FitsItsHead (Answer _ _ payload) = length payload < 2 ^ 32
+FitsItsHead (Request _ command _ _ len payload) = (length payload < 2 ^ 32) × (length payload ≡ (if command == WRITE then len else 0))
+FitsItsHead (Simple _ _ payload) = length payload < 2 ^ 32
+FitsItsHead (Chunk _ _ _ payload) = length payload < 2 ^ 32
+FitsItsHead _ = Unit {0}

@@ -1,0 +1,89 @@
+//! The heads of transmission (proto.md, "Transmission").
+
+ghost use Rattle.nbd_wire.specs.Heads.{IsChunkHead, IsRequestHead, IsSimpleHead};
+ghost use Rattle.nbd_wire.specs.Reads.{Reads};
+
+use crate::head_lengths;
+use crate::magics::{CHUNK_MAGIC, REQUEST_MAGIC, SIMPLE_MAGIC};
+use crate::numbers::{u16_at, u32_at, u64_at};
+
+/// The head of a request (proto.md, "Request message").
+#[derive(Clone, Copy, Debug, PartialEq, Eq, Drop)]
+pub struct RequestHead {
+    /// Masks of the module `command_flags`.
+    pub flags: u16,
+    /// The request's type, as in the module `commands`.
+    pub command: u16,
+    /// The client's name for the request, which its replies repeat.
+    pub cookie: u64,
+    /// Where in the export the range begins, in bytes.
+    pub offset: u64,
+    /// The length of the range, in bytes; as many bytes follow a WRITE's head.
+    pub length: u32,
+}
+
+/// The head of a simple reply (proto.md, "Simple reply message").
+#[derive(Clone, Copy, Debug, PartialEq, Eq, Drop)]
+pub struct SimpleHead {
+    /// 0 for success, any other number for a failure.
+    pub error: u32,
+    /// The cookie of the request that is answered.
+    pub cookie: u64,
+}
+
+/// The head of a chunk of a structured reply (proto.md, "Structured reply chunk message").
+#[derive(Clone, Copy, Debug, PartialEq, Eq, Drop)]
+pub struct ChunkHead {
+    /// Masks of the module `chunks`.
+    pub flags: u16,
+    /// The chunk's type, as in the module `chunks`.
+    pub kind: u16,
+    /// The cookie of the request that is answered.
+    pub cookie: u64,
+    /// How many bytes of payload follow.
+    pub length: u32,
+}
+
+/// The head of a request, 28 bytes.
+pub fn request_head(bytes: &[u8]) -> Option<RequestHead>
+    ensures { Reads result (λ head. IsRequestHead head bytes.now) }
+{
+    if bytes.len() != head_lengths::REQUEST || u32_at(bytes, 0) != REQUEST_MAGIC {
+        return None;
+    }
+    Some(RequestHead {
+        flags: u16_at(bytes, 4),
+        command: u16_at(bytes, 6),
+        cookie: u64_at(bytes, 8),
+        offset: u64_at(bytes, 16),
+        length: u32_at(bytes, 24),
+    })
+}
+
+/// The head of a simple reply, 16 bytes.
+pub fn simple_head(bytes: &[u8]) -> Option<SimpleHead>
+    ensures { Reads result (λ head. IsSimpleHead head bytes.now) }
+{
+    if bytes.len() != head_lengths::SIMPLE || u32_at(bytes, 0) != SIMPLE_MAGIC {
+        return None;
+    }
+    Some(SimpleHead {
+        error: u32_at(bytes, 4),
+        cookie: u64_at(bytes, 8),
+    })
+}
+
+/// The head of a chunk, 20 bytes.
+pub fn chunk_head(bytes: &[u8]) -> Option<ChunkHead>
+    ensures { Reads result (λ head. IsChunkHead head bytes.now) }
+{
+    if bytes.len() != head_lengths::CHUNK || u32_at(bytes, 0) != CHUNK_MAGIC {
+        return None;
+    }
+    Some(ChunkHead {
+        flags: u16_at(bytes, 4),
+        kind: u16_at(bytes, 6),
+        cookie: u64_at(bytes, 8),
+        length: u32_at(bytes, 16),
+    })
+}

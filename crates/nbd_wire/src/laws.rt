@@ -1,0 +1,55 @@
+//! Laws of the specification: each is the contract of a function that does nothing.
+
+ghost use Rattle.std.specs.Prelude.{◌≡◌, ◌≤◌, ◌↔◌, ℕ, List, IsTrue, length, drop, take};
+ghost use Rattle.byteorder.specs.Endian.{big_bytes, big_number};
+ghost use Rattle.nbd_wire.specs.Encoding.{AreBytes, enc, tail};
+ghost use Rattle.nbd_wire.specs.Fits.{FitsItsHead};
+ghost use Rattle.nbd_wire.specs.Forms.{HasContentForm, HasFailureForm, HasGoForm, HasInfoForm, HasListedForm};
+ghost use Rattle.nbd_wire.specs.Payloads.{content_of, failure_of, info_of, is_go, is_listed};
+ghost use Rattle.nbd_wire.specs.Reads.{Reads};
+ghost use Rattle.nbd_wire.specs.RoundTrip.{IsHeadOf, head_length};
+ghost use Rattle.nbd_wire.specs.Sendable.{IsSendable};
+ghost use Rattle.nbd_wire.specs.declared.message.Message.{Message};
+
+/// A number that was read and is written back gives the bytes that it was read from.
+pub fn number_gives_its_bytes()
+    ensures { (n : ℕ) (bytes : List ℕ) → n ≤ length bytes → AreBytes bytes → big_bytes n (big_number n bytes) ≡ take n bytes }
+{}
+
+/// The specification's `info_of` gives exactly what has the form of an INFO payload.
+pub fn info_of_is_exact()
+    ensures { (bytes : List ℕ) → AreBytes bytes → Reads (info_of bytes) (λ info. HasInfoForm info bytes) }
+{}
+
+/// The specification's `is_listed` tells exactly whether bytes have the form of a SERVER payload.
+pub fn is_listed_is_exact()
+    ensures { (bytes : List ℕ) → AreBytes bytes → IsTrue (is_listed bytes) ↔ ((name : List ℕ) × (text : List ℕ) × HasListedForm name text bytes) }
+{}
+
+/// The specification's `is_go` tells exactly whether bytes have the form of the data of INFO or GO.
+pub fn is_go_is_exact()
+    ensures { (bytes : List ℕ) → AreBytes bytes → IsTrue (is_go bytes) ↔ ((name : List ℕ) × (count : ℕ) × HasGoForm name count bytes) }
+{}
+
+/// The specification's `content_of` gives exactly what has the form of a content chunk's payload.
+pub fn content_of_is_exact()
+    ensures { (kind : ℕ) (bytes : List ℕ) → AreBytes bytes → Reads (content_of kind bytes) (λ piece. HasContentForm kind piece bytes) }
+{}
+
+/// The specification's `failure_of` gives exactly what has the form of an error chunk's payload.
+pub fn failure_of_is_exact()
+    ensures { (kind : ℕ) (bytes : List ℕ) → AreBytes bytes → Reads (failure_of kind bytes) (λ failure. HasFailureForm kind failure bytes) }
+{}
+
+/// The encoding of each message that may be sent begins with a head, which is one with the
+/// message's own fields and no others, and goes on with the payload or padding.
+///
+/// So the reader of that head, given the first bytes of what `append` added, answers these fields.
+pub fn encoding_is_read_back()
+    ensures { (m : Message) → IsSendable m → IsHeadOf m (take (head_length m) (enc m)) × (drop (head_length m) (enc m) ≡ tail m) }
+{}
+
+/// Each message that may be sent can be given to `append`.
+pub fn sendable_messages_fit()
+    ensures { (m : Message) → IsSendable m → FitsItsHead m }
+{}

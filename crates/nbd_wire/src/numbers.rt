@@ -1,0 +1,30 @@
+//! Numbers at a place of a slice. They are big-endian (proto.md, "Conventions").
+
+ghost use Rattle.std.specs.Prelude.{◌≡◌, ◌≤◌, ◌+◌, length};
+ghost use Rattle.nbd_wire.specs.Payloads.{number_at};
+
+use byteorder::{BigEndian, ByteOrder};
+
+/// The number in the two bytes from a place on.
+pub(crate) fn u16_at(bytes: &[u8], place: usize) -> u16
+    requires { place + 2 ≤ length bytes.now }
+    ensures { result ≡ number_at place 2 bytes.now }
+{
+    BigEndian::read_u16(&bytes[place..])
+}
+
+/// The number in the four bytes from a place on.
+pub(crate) fn u32_at(bytes: &[u8], place: usize) -> u32
+    requires { place + 4 ≤ length bytes.now }
+    ensures { result ≡ number_at place 4 bytes.now }
+{
+    BigEndian::read_u32(&bytes[place..])
+}
+
+/// The number in the eight bytes from a place on.
+pub(crate) fn u64_at(bytes: &[u8], place: usize) -> u64
+    requires { place + 8 ≤ length bytes.now }
+    ensures { result ≡ number_at place 8 bytes.now }
+{
+    BigEndian::read_u64(&bytes[place..])
+}

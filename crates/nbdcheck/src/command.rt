@@ -1,0 +1,145 @@
+//! The command line.
+
+use crate::check::run_check;
+use crate::fault::RunFault;
+use crate::judge::StartFrom;
+use clap::error::ErrorKind;
+use clap::{Arg, ArgMatches, Command, Error};
+use std::alloc::{AllocError, Global};
+use std::fmt::Display;
+use std::fs::File;
+use std::io::BufReader;
+use std::{env, io};
+
+/// The exit status of a yes.
+const YES: u8 = 0;
+/// The exit status of a no.
+const NO: u8 = 1;
+/// The exit status of a command line that has no form.
+const USAGE: u8 = 2;
+/// The exit status of want of memory.
+const MEMORY: u8 = 4;
+
+const ABOUT: &str = "Checks recorded sessions between an NBD client and an NBD server";
+
+const CHECK_ABOUT: &str = "Did both ends keep the protocol, and did every read return the right bytes?";
+
+const CHECK_HELP: &str = "\
+Example:
+  nbdcheck check session.cap session.ord --start zero
+
+CAPTURE has a line for each recorded piece, 'C' or 'S' for its sender, a space and hexadecimal
+digits. ORDER has the numbers of the requests, one a line, in the order in which they were served.
+
+Exit status:
+  0  yes
+  1  no: the line says where and why
+  2  the command line has no form
+  3  an input could not be read or is not well formed, or the output could not be written
+  4  out of memory";
+
+/// The command that the words name, with its arguments.
+fn command<'a>(alloc: Global) -> Result<Command<'a>, AllocError> {
+    let capture = Arg::new(alloc, "CAPTURE")
+        .required(true)
+        .help("The file of the capture text");
+    let order = Arg::new(alloc, "ORDER")
+        .required(true)
+        .help("The file of the order text");
+    let start = Arg::new(alloc, "start")
+        .long("start")
+        .value_name("START")
+        .default_value("unknown")
+        .help("What the export held at first: unknown or zero");
+    let check = Command::new(alloc, "check")
+        .about(CHECK_ABOUT)
+        .after_help(CHECK_HELP)
+        .arg(capture)?
+        .arg(order)?
+        .arg(start)?;
+    Command::new(alloc, "nbdcheck")
+        .about(ABOUT)
+        .version("0.1.0")
+        .subcommand_required(true)
+        .subcommand(check)
+}
+
+/// Runs the program on the words that it was called with, and answers its exit status.
+pub fn run(rt: &HostRuntime) -> u8 {
+    let alloc = rt.alloc();
+    let Ok(words) = words(rt) else {
+        return complain(rt, RunFault::Memory, MEMORY);
+    };
+    let Ok(command) = command(alloc) else {
+        return complain(rt, RunFault::Memory, MEMORY);
+    };
+    match command.try_get_matches_from(words.as_slice()) {
+        Ok(matches) => run_matched(rt, &matches),
+        Err(error) => show(rt, error),
+    }
+}
+
+fn words(rt: &HostRuntime) -> io::Result<Vec<String>> {
+    Ok(env::args(rt)?.collect(rt.alloc())?)
+}
+
+fn run_matched(rt: &HostRuntime, matches: &ArgMatches<'_>) -> u8 {
+    match matches.subcommand() {
+        Some(("check", words)) => check(rt, words),
+        _ => USAGE,
+    }
+}
+
+/// `nbdcheck check CAPTURE ORDER --start START`.
+fn check(rt: &HostRuntime, words: &ArgMatches<'_>) -> u8 {
+    let Some(start) = words.get_str("start").and_then(start_of) else {
+        return complain(rt, "fault start", USAGE);
+    };
+    let capture = words.get_str("CAPTURE").unwrap_or("");
+    let order = words.get_str("ORDER").unwrap_or("");
+    match check_files(rt, capture, order, start) {
+        Ok(true) => YES,
+        Ok(false) => NO,
+        Err(fault) => complain(rt, &fault, fault.status()),
+    }
+}
+
+fn start_of(text: &str) -> Option<StartFrom> {
+    match text {
+        "unknown" => Some(StartFrom::Unknown),
+        "zero" => Some(StartFrom::Zeroes),
+        _ => None,
+    }
+}
+
+fn check_files(
+    rt: &HostRuntime,
+    capture: &str,
+    order: &str,
+    start: StartFrom,
+) -> Result<bool, RunFault> {
+    let alloc = rt.alloc();
+    let capture = File::open(rt, capture).map_err(|_| RunFault::CaptureRead)?;
+    let order = File::open(rt, order).map_err(|_| RunFault::OrderRead)?;
+    let capture = BufReader::new(alloc, capture).map_err(|_| RunFault::Memory)?;
+    run_check(alloc, capture, order, start, &mut io::writer(rt))
+}
+
+/// Prints what clap has to say: help and the version on standard output, a mistake in the words on
+/// standard error.
+fn show(rt: &HostRuntime, error: Error) -> u8 {
+    if error.kind() == ErrorKind::OutOfMemory {
+        return complain(rt, RunFault::Memory, MEMORY);
+    }
+    let status = if error.use_stderr() { USAGE } else { YES };
+    match error.print(rt) {
+        Ok(()) => status,
+        Err(_) => complain(rt, RunFault::Write, RunFault::Write.status()),
+    }
+}
+
+/// Prints a fault on standard error.
+fn complain<D: Display + Drop>(rt: &HostRuntime, text: D, status: u8) -> u8 {
+    let _ = rt.eprintln(text);
+    status
+}

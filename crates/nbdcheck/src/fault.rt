@@ -1,0 +1,88 @@
+//! Why a run of the program has no answer.
+ghost use Rattle.std.specs.Prelude.{◌≡◌};
+ghost use Rattle.nbdcheck.specs.Faults.{of_capture, of_order, status};
+
+use nbd_capture::{CaptureFault, OrderTextFault, WriteFault};
+use std::alloc::AllocError;
+use thiserror::Error;
+
+/// Why a run gave no answer. The text goes to standard error; nothing of a verdict was written,
+/// but for `Write`, after which a front of the output stands written.
+#[derive(Debug, Drop, Error)]
+pub enum RunFault {
+    /// The capture's line with this number, counted from 1, has no form of a capture line.
+    #[error("fault capture line {0}")]
+    CaptureLine(u64),
+    /// The capture could not be opened or read, or has more bytes than `READ_LIMIT`.
+    #[error("fault capture read")]
+    CaptureRead,
+    /// The order's line with this number, counted from 1, is no number.
+    #[error("fault order line {0}")]
+    OrderLine(u64),
+    /// The order could not be opened or read, or has more bytes than `READ_LIMIT`.
+    #[error("fault order read")]
+    OrderRead,
+    /// The output could not be written whole.
+    #[error("fault write")]
+    Write,
+    /// A growth of memory was refused.
+    #[error("fault memory")]
+    Memory,
+    /// The capture or the order needs what this version does not have yet.
+    #[error("fault unsupported")]
+    Unsupported,
+}
+
+impl RunFault {
+    /// The exit status of a run with this fault: 4 for want of memory, else 3.
+    pub fn status(&self) -> u8
+        ensures { result ≡ status self.now }
+    {
+        match self {
+            RunFault::Memory => 4,
+            _ => 3,
+        }
+    }
+}
+
+impl From<AllocError> for RunFault {
+    ghost use Rattle.nbdcheck.specs.declared.fault.RunFault.TheVariants.{Memory};
+
+    ghost from_gives = { λ _ fault. fault ≡ Memory };
+
+    fn from(_: AllocError) -> RunFault {
+        RunFault::Memory
+    }
+}
+
+impl From<CaptureFault> for RunFault {
+    ghost from_gives = { λ fault run. run ≡ of_capture fault };
+
+    fn from(fault: CaptureFault) -> RunFault {
+        match fault {
+            CaptureFault::Line(number) => RunFault::CaptureLine(number),
+            CaptureFault::Memory => RunFault::Memory,
+        }
+    }
+}
+
+impl From<OrderTextFault> for RunFault {
+    ghost from_gives = { λ fault run. run ≡ of_order fault };
+
+    fn from(fault: OrderTextFault) -> RunFault {
+        match fault {
+            OrderTextFault::Line(number) => RunFault::OrderLine(number),
+            OrderTextFault::Memory => RunFault::Memory,
+        }
+    }
+}
+
+impl From<WriteFault> for RunFault {
+    ghost use Rattle.nbdcheck.specs.declared.fault.RunFault.TheVariants.{Write};
+
+    ghost from_gives = { λ _ fault. fault ≡ Write };
+
+    fn from(_: WriteFault) -> RunFault {
+        RunFault::Write
+    }
+}

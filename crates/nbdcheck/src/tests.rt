@@ -1,0 +1,67 @@
+//! Cases of `check` as data: a capture, an order, a start, and the line or the fault that the protocol's
+//! rules want.
+
+mod cases;
+mod faults;
+mod inputs;
+
+use crate::check::run_check;
+use crate::judge::StartFrom;
+use nbd_capture::{parse_capture, write_chunk};
+use nbd_wire::Side;
+use std::alloc::Global;
+use std::test::Fail;
+
+/// What a run wrote, with its exit status before it, or its fault.
+fn answer(
+    alloc: Global,
+    capture: &[u8],
+    order: &[u8],
+    start: StartFrom,
+) -> Result<String, Fail> {
+    let mut out = Vec::new(alloc);
+    match run_check(alloc, capture, order, start, &mut out) {
+        Ok(is_yes) => {
+            let line = String::from_utf8(out).map_err(|_| "not text")?;
+            Ok(format!(in alloc; "{}{}", if is_yes { "0 " } else { "1 " }, line)?)
+        }
+        Err(fault) => {
+            let status = fault.status();
+            Ok(format!(in alloc; "{status} {fault}\n")?)
+        }
+    }
+}
+
+/// The same capture as chunks of one byte.
+fn one_by_one(alloc: Global, capture: &[u8]) -> Result<Vec<u8>, Fail> {
+    let mut text = Vec::new(alloc);
+    for (side, bytes) in parse_capture(alloc, capture)? {
+        for byte in bytes.as_slice().chunks(1) {
+            write_chunk(&mut text, side, byte)?;
+        }
+    }
+    Ok(text)
+}
+
+/// The same capture as the longest chunks of one side.
+fn longest_runs(alloc: Global, capture: &[u8]) -> Result<Vec<u8>, Fail> {
+    let mut text = Vec::new(alloc);
+    let mut run: Option<(Side, Vec<u8>)> = None;
+    for (side, bytes) in parse_capture(alloc, capture)? {
+        match &mut run {
+            Some((last, collected)) if *last == side => {
+                collected.extend_from_slice(bytes.as_slice())?;
+            }
+            _ => {
+                if let Some((last, collected)) = run {
+                    write_chunk(&mut text, last, collected.as_slice())?;
+                }
+                run = Some((side, bytes));
+            }
+        }
+    }
+    if let Some((last, collected)) = run {
+        write_chunk(&mut text, last, collected.as_slice())?;
+    }
+    Ok(text)
+}

@@ -1,0 +1,87 @@
+//! Readers and writers that fail.
+
+use crate::check::run_check;
+use crate::fault::RunFault;
+use crate::judge::StartFrom;
+use std::io::{BufReader, Error, ErrorKind, Read, Result, Write};
+use std::test::Fail;
+
+/// A reader that gives some bytes and then fails.
+#[derive(Drop)]
+struct Failing<'a> {
+    bytes: &'a [u8],
+    kind: ErrorKind,
+}
+
+impl Read for Failing<'_> {
+    fn read(&mut self, buf: &mut [u8]) -> Result<usize> {
+        if self.bytes.is_empty() {
+            return Err(Error::from(self.kind));
+        }
+        self.bytes.read(buf)
+    }
+}
+
+/// A writer that takes one byte at a time, and fails or takes nothing once it has this many.
+#[derive(Drop)]
+struct Short {
+    taken: Vec<u8>,
+    most: usize,
+    stop: Option<ErrorKind>,
+}
+
+impl Write for Short {
+    fn write(&mut self, buf: &[u8]) -> Result<usize> {
+        if self.taken.len() == self.most {
+            return match self.stop {
+                Some(kind) => Err(Error::from(kind)),
+                None => Ok(0),
+            };
+        }
+        let first = buf.get(..1).unwrap_or(&[]);
+        self.taken.extend_from_slice(first)?;
+        Ok(first.len())
+    }
+
+    fn flush(&mut self) -> Result<()> {
+        Ok(())
+    }
+}
+
+#[test]
+fn a_reader_that_fails(rt: HostRuntime) -> std::result::Result<(), Fail> {
+    let alloc = rt.alloc();
+    for kind in [ErrorKind::Other, ErrorKind::Interrupted] {
+        let mut out = Vec::new(alloc);
+        let bytes = b"S 00\n";
+        let failing = BufReader::new(alloc, Failing { bytes, kind })?;
+        let found = run_check(alloc, failing, &b""[..], StartFrom::Zeroes, &mut out);
+        assert!(rt; matches!(&found, Err(RunFault::CaptureRead)));
+        let failing = Failing { bytes, kind };
+        let found = run_check(alloc, &b"C 00\n"[..], failing, StartFrom::Zeroes, &mut out);
+        assert!(rt; matches!(&found, Err(RunFault::OrderRead)));
+        let failing = Failing { bytes, kind };
+        let found = run_check(alloc, &b"C 0\n"[..], failing, StartFrom::Zeroes, &mut out);
+        assert!(rt; matches!(&found, Err(RunFault::CaptureLine(1))));
+        assert!(rt; out.is_empty());
+    }
+    Ok(())
+}
+
+#[test]
+fn a_writer_that_fails(rt: HostRuntime) {
+    let alloc = rt.alloc();
+    let line = b"yes requests 0 answered 0 improper 0\n";
+    for stop in [None, Some(ErrorKind::Other), Some(ErrorKind::Interrupted)] {
+        for most in 0..line.len() {
+            let mut out = Short { taken: Vec::new(alloc), most, stop };
+            let found = run_check(alloc, &b""[..], &b""[..], StartFrom::Zeroes, &mut out);
+            assert!(rt; matches!(&found, Err(RunFault::Write)));
+            assert_eq!(rt; out.taken.as_slice(), &line[..most]);
+        }
+        let mut out = Short { taken: Vec::new(alloc), most: line.len(), stop };
+        let found = run_check(alloc, &b""[..], &b""[..], StartFrom::Zeroes, &mut out);
+        assert!(rt; matches!(&found, Ok(true)));
+        assert_eq!(rt; out.taken.as_slice(), line.as_slice());
+    }
+}
