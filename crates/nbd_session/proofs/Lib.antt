@@ -29,3 +29,4 @@ pub mod WorkedChunks
 pub mod WorkedRequests
 pub mod WorkedOptions
 pub mod WorkedRefusals
+pub mod Holding

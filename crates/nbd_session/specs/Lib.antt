@@ -11,3 +11,4 @@ pub mod CapturesReads
 pub mod CapturesChunks
 pub mod CapturesRequests
 pub mod CapturesOptions
+pub mod Holding

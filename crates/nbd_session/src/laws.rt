@@ -1,6 +1,7 @@
 //! Laws over the definitions of nbd_wire: each is the contract of a function that does nothing.
 ghost use Rattle.nbd_session.specs.Soundness.{ReportsAreSound};
 ghost use Rattle.nbd_session.specs.Fronts.{CompletionsStandBehindBytes, FrontsAreRuns, NoProperFront, StartsStandBeforeBytes};
+ghost use Rattle.nbd_session.specs.Holding.{CutsDoNotCount, PushedHoldsEachSide};
 ghost use Rattle.nbd_session.specs.Moments.{LatestMoments, OrdersAreFaultless};
 ghost use Rattle.nbd_session.specs.Negotiating.{AnswersFollowChoices, HandshakesAreFair};
 ghost use Rattle.nbd_session.specs.Replying.{RepliesAreWhole};
@@ -111,4 +112,14 @@ pub fn handshakes_are_fair()
 /// export came before it.
 pub fn answers_follow_choices()
     ensures { AnswersFollowChoices }
+{}
+
+/// A chunk cut in two leaves the flat capture as it is.
+pub fn cuts_do_not_count()
+    ensures { CutsDoNotCount }
+{}
+
+/// What a session holds gives back each side's bytes: its messages' encodings and what came behind them.
+pub fn pushed_holds_each_side()
+    ensures { PushedHoldsEachSide }
 {}
