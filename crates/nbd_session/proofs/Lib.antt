@@ -17,9 +17,13 @@ pub mod Outstanding
 pub mod Told
 pub mod Explaining
 pub mod Deciding
+pub mod DecidingReplies
+pub mod DecidingRuns
+pub mod DecidingReads
 pub mod Sessions
 pub mod Reached
 pub mod Laid
+pub mod Good
 pub mod Soundness
 pub mod Disconnected
 pub mod Replying

@@ -17,7 +17,8 @@ use Rattle.nbd_wire.specs.Rules.{IsRun, complete}
 use Rattle.nbd_wire.specs.States.{target}
 use Rattle.nbd_session.specs.CapturesChunks as captures
 use Rattle.nbd_session.specs.Explaining.{IsNo, IsYes}
-use Rattle.nbd_session.proofs.Deciding.{is_run, none_wrong, wrong}
+use Rattle.nbd_session.proofs.DecidingReads.{none_wrong, wrong}
+use Rattle.nbd_session.proofs.DecidingRuns.{is_run}
 use Rattle.nbd_session.proofs.Explaining.{counts_of, refused}
 use Rattle.nbd_session.proofs.Sessions.{broken, content, disconnect, done, fails, flagged, gives, gone, gone_with, greeted, hole, read, sends, structured, succeeds, trim, within, write, zero_out}
 

@@ -14,7 +14,7 @@ use Rattle.nbd_wire.specs.Verdicts.{IsFaultless}
 use Rattle.nbd_session.specs.Captures as captures
 use Rattle.nbd_session.specs.Explaining.{IsNo}
 use Rattle.nbd_session.proofs.Blocks.{Idles}
-use Rattle.nbd_session.proofs.Deciding.{is_run}
+use Rattle.nbd_session.proofs.DecidingRuns.{is_run}
 use Rattle.nbd_session.proofs.Explaining.{refused}
 use Rattle.nbd_session.proofs.Follow.{Follows, IsBegun, bare, follows, follows_unserved, pairs_unserved, walk_unserved}
 use Rattle.nbd_session.proofs.Moments.{orders_are_faultless}
