@@ -1,12 +1,11 @@
 -- Marked captures by blocks are those that are read from the left.
-use Rattle.std.proofs.Common.{◌≡◌, ℕ, suc, zero, ◌⊎◌, List, [], ◌∷◌, ◌++◌, map, flat_map, length, refl, sym, ◌∙◌, ap, subst, inl, inr, Bool, true, false, if◌then◌else◌, append_assoc, append-nil}
+use Rattle.std.proofs.Common.{◌≡◌, ℕ, List, [], ◌∷◌, ◌++◌, map, flat_map, refl, sym, ◌∙◌, ap, subst, inl, inr, append_assoc}
 use Rattle.nbd_wire.specs.declared.message.Side.{Side}
 use Rattle.nbd_wire.specs.declared.message.Side.TheVariants.{Client, Server}
 use Rattle.nbd_wire.specs.declared.message.Message.{Message}
 use Rattle.nbd_wire.specs.Encoding.{enc}
-use Rattle.nbd_wire.specs.Side.{same_side}
-use Rattle.nbd_wire.specs.Items.{Item, Byte, Starts, Completes, Serves, of_side, block, IsSided, IsByteOf, MayFollow, IsTight, IsMarkedBut, IsMarked}
-use Rattle.nbd_session.proofs.Machine.{Both, get, put, get-put_same, get-put_other, put-put, same_or_not, Open, Idle, Busy, Loose, IsNotBusy, IsFilled, Walk, ended, serving, opening, middle, final, loose}
+use Rattle.nbd_wire.specs.Items.{Item, Byte, Starts, Completes, Serves, of_side, block, IsByteOf, MayFollow, IsTight, IsMarkedBut}
+use Rattle.nbd_session.proofs.Machine.{Both, get, put, get-put_same, get-put_other, same_or_not, Open, Idle, Busy, Loose, IsNotBusy, IsFilled, Walk, ended, serving, opening, middle, final, loose}
 use Rattle.nbd_session.proofs.Trace.{enc-long}
 use Rattle.nbd_session.proofs.Follow.{each_with}
 

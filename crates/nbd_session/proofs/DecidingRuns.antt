@@ -1,9 +1,7 @@
 -- Tests that decide by computing whether items are a run.
-use Rattle.std.proofs.Common.{◌≡◌, ℕ, zero, suc, ◌+◌, ◌<◌, ◌≤◌, ◌^◌, ◌⊎◌, ◌==◌, ◌&&◌, ◌||◌, not, nat_le, nat_lt, List, [], ◌∷◌, ◌++◌, length, refl, sym, ◌∙◌, ap, subst, inl, inr, Option, Some, None, Bool, true, false, if◌then◌else◌, IsTrue, is_some, is_none, eqb-true, eq-eqb, arith, flat_map, map}
-use Rattle.std.proofs.lemmas.Bool.{eqb-false, leb-true, ltb-true}
+use Rattle.std.proofs.Common.{◌≡◌, ℕ, ◌+◌, ◌==◌, ◌&&◌, ◌||◌, not, nat_le, nat_lt, List, [], ◌∷◌, ◌++◌, length, inl, inr, Bool, true, false, IsTrue, is_none, eqb-true, flat_map}
+use Rattle.std.proofs.lemmas.Bool.{leb-true, ltb-true}
 use Rattle.nbd_wire.specs.declared.answers.TheConstants as answers
-use Rattle.nbd_wire.specs.declared.chunks.TheConstants as chunks
-use Rattle.nbd_wire.specs.declared.command_flags.TheConstants as command_flags
 use Rattle.nbd_wire.specs.declared.commands.TheConstants as commands
 use Rattle.nbd_wire.specs.declared.handshake.TheConstants as handshake
 use Rattle.nbd_wire.specs.declared.limits.TheConstants.{EXPORT_SIZE}
@@ -13,22 +11,13 @@ use Rattle.nbd_wire.specs.declared.message.Side.{Side}
 use Rattle.nbd_wire.specs.declared.message.Side.TheVariants.{Client, Server}
 use Rattle.nbd_wire.specs.declared.message.Message.{Message}
 use Rattle.nbd_wire.specs.declared.message.Message.TheVariants.{Greeting, ClientFlags, Choice, Answer, Exported, Request, Simple, Chunk}
-use Rattle.nbd_wire.specs.declared.payloads.Failure.{Failure}
-use Rattle.nbd_wire.specs.declared.payloads.Info.{Info}
-use Rattle.nbd_wire.specs.declared.payloads.Info.TheVariants.{Export, BlockSize, Other}
-use Rattle.nbd_wire.specs.declared.payloads.Piece.{Piece}
-use Rattle.nbd_wire.specs.Encoding.{AreBytes}
-use Rattle.nbd_wire.specs.Exchanges.{Differs, Exchange, IsWrong, IsWrongIn, byte_before}
-use Rattle.nbd_wire.specs.Items.{Item, Byte, Starts, Completes, Serves, IsByteOf, IsMarked, IsTight, MayFollow, block, of_side}
-use Rattle.nbd_wire.specs.Options.{IsInfo, MayAcknowledge, MayAnswer, is_error, is_proper_option, turn}
-use Rattle.nbd_wire.specs.Payloads.{content_of, failure_of, info_of, is_listed}
-use Rattle.nbd_wire.specs.Replies.{IsChunk, IsContent, IsFailure, MayFinish, MayReply, simple_length}
-use Rattle.nbd_wire.specs.Requests.{Covers, Entry, Exporting, SharesNone, byte_at, has, has_failed, has_only, is_in, is_proper, piece_offset, piece_size, pieces}
-use Rattle.nbd_wire.specs.Rules.{Allows, AnswersOne, IsRun, IsServedFor, MayAsk, MayComplete, MayEnd, MayExport, MayStart, MayStartIn, Obeys, after, answered_by, is_request}
-use Rattle.nbd_wire.specs.Sendable.{IsPayload, IsSendable}
+use Rattle.nbd_wire.specs.Items.{Item, Byte, Starts, Completes, Serves, IsTight, MayFollow, block, of_side}
+use Rattle.nbd_wire.specs.Options.{is_error}
+use Rattle.nbd_wire.specs.Requests.{has, has_only}
+use Rattle.nbd_wire.specs.Rules.{Allows, IsRun, MayAsk, MayComplete, Obeys, after}
 use Rattle.nbd_wire.specs.Side.{same_side, side}
 use Rattle.nbd_session.specs.Fronts.{ended}
-use Rattle.nbd_wire.specs.States.{Core, Names, Phase, State, Greet, Flags, Choosing, Naming, Aborting, Answering, Ended, Transmission, entry, start, target, with_reply}
+use Rattle.nbd_wire.specs.States.{Core, Phase, State, Greet, Flags, Choosing, Naming, Aborting, Answering, Transmission, start, target}
 use Rattle.nbd_session.proofs.Deciding.{answers_it, are_equal, both, empty, equal_bools, is_empty, is_sendable, is_served_for, is_unnamed, may_answer, may_start_in, one, same_sides, sendable, serves, starts_in, then_too, unnamed}
 use Rattle.nbd_session.proofs.DecidingReplies.{answers_one, answers_target, none_is}
 

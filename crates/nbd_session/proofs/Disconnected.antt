@@ -1,13 +1,13 @@
 -- Nothing of the client comes behind a DISC.
-use Rattle.std.proofs.Common.{◌≡◌, ℕ, ◌==◌, List, [], ◌∷◌, ◌++◌, refl, sym, ◌∙◌, ap, subst, Option, Some, None, Bool, true, false}
+use Rattle.std.proofs.Common.{◌≡◌, ℕ, ◌==◌, List, [], ◌∷◌, ◌++◌, refl, sym, ◌∙◌, subst, Option, Some, None, Bool, true, false}
 use Rattle.nbd_wire.specs.declared.commands.TheConstants as commands
-use Rattle.nbd_wire.specs.declared.message.Side.TheVariants.{Client, Server}
+use Rattle.nbd_wire.specs.declared.message.Side.TheVariants.{Client}
 use Rattle.nbd_wire.specs.declared.message.Message.{Message}
 use Rattle.nbd_wire.specs.declared.message.Message.TheVariants.{Request, Simple, Chunk}
 use Rattle.nbd_wire.specs.Items.{Item, Byte, Starts, Completes, Serves}
 use Rattle.nbd_wire.specs.Requests.{Entry, Exporting}
 use Rattle.nbd_wire.specs.Rules.{MayAsk, MayComplete, MayStartIn, Obeys, after, answered_by, complete, ends_at, reply_to, requested}
-use Rattle.nbd_wire.specs.States.{Core, Phase, State, Greet, Flags, Choosing, Naming, Aborting, Answering, Ended, Transmission, start}
+use Rattle.nbd_wire.specs.States.{Core, Phase, State, Transmission, start}
 use Rattle.nbd_session.proofs.Fronts.{InTransmission, asks, gives, phase-complete, replies, transmission_row}
 use Rattle.nbd_session.proofs.Parts.{obeys_back, obeys_front}
 use Rattle.nbd_session.specs.Service.{DisconnectsAreEmpty, NothingBehindDisconnect}

@@ -1,4 +1,4 @@
-use Rattle.std.specs.Prelude.{ℕ, suc, zero, List, [], ◌∷◌, ◌≡◌, ◌<◌, ◌≤◌, ◌⊎◌, Option, Some, None}
+use Rattle.std.specs.Prelude.{ℕ, List, [], ◌∷◌, ◌≡◌, ◌<◌, ◌≤◌, Option, Some}
 use Rattle.nbd_wire.specs.States.{Names}
 
 abbrev pub IsOnce : List ℕ → Type 0

@@ -1,5 +1,5 @@
 -- Of two messages of a side that may complete, neither's bytes are a proper front of the other's.
-use Rattle.std.proofs.Common.{◌≡◌, ℕ, zero, suc, ◌+◌, ◌<◌, ◌≤◌, ◌^◌, ◌==◌, ◌⊎◌, List, [], ◌∷◌, ◌++◌, length, drop, refl, sym, ◌∙◌, ap, subst, inl, inr, Option, Some, None, Bool, true, false, not, ◌&&◌, if◌then◌else◌, arith, length-append, append-nil, IsTrue, is_some, slice_index}
+use Rattle.std.proofs.Common.{◌≡◌, ℕ, zero, suc, ◌<◌, ◌^◌, ◌==◌, List, [], ◌∷◌, ◌++◌, length, drop, refl, sym, ◌∙◌, ap, subst, Option, Some, None, Bool, true, false, not, if◌then◌else◌, arith, length-append, append-nil, slice_index}
 use Rattle.byteorder.specs.Numbers.{big_number-reads_back}
 use Rattle.nbd_wire.specs.declared.commands.TheConstants as commands
 use Rattle.nbd_wire.specs.declared.handshake.TheConstants as handshake
@@ -11,7 +11,7 @@ use Rattle.nbd_wire.specs.Encoding.{enc, head, tail}
 use Rattle.nbd_wire.specs.Payloads.{number_at}
 use Rattle.nbd_wire.specs.Replies.{MayReply, simple_length}
 use Rattle.nbd_wire.specs.Requests.{Entry, Exporting, has}
-use Rattle.nbd_wire.specs.Rules.{AnswersOne, MayAsk, MayStart, MayStartIn, MayComplete, complete, requested, reply_to, answered_by, is_request}
+use Rattle.nbd_wire.specs.Rules.{AnswersOne, MayAsk, MayStartIn, MayComplete, complete, requested, reply_to, answered_by}
 use Rattle.nbd_wire.specs.Options.{turn}
 use Rattle.nbd_wire.specs.Sendable.{IsSendable}
 use Rattle.nbd_wire.specs.Side.{side}

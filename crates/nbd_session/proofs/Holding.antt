@@ -1,12 +1,11 @@
 -- What captures and sessions hold of the bytes of their sides.
-use Rattle.std.proofs.Common.{◌≡◌, ℕ, ◌+◌, List, [], ◌∷◌, ◌++◌, length, take, drop, map, refl, sym, ◌∙◌, ap, append_assoc, Bool, true, false, if◌then◌else◌}
+use Rattle.std.proofs.Common.{◌≡◌, ℕ, ◌+◌, List, [], ◌∷◌, ◌++◌, length, take, drop, refl, sym, ◌∙◌, ap, append_assoc, Bool, true, false, if◌then◌else◌}
 use Rattle.std.proofs.lemmas.List.{map-append}
 use Rattle.std.proofs.Math.Seq.{take-add, take-length}
 use Rattle.nbd_wire.specs.declared.message.Side.{Side}
 use Rattle.nbd_wire.specs.declared.message.Side.TheVariants.{Client, Server}
-use Rattle.nbd_wire.specs.declared.message.Message.{Message}
 use Rattle.nbd_wire.specs.Items.{Pair, flat, sent}
-use Rattle.nbd_wire.specs.Pushed.{Span, bytes_of, left_of, mixed, of_two, pushed}
+use Rattle.nbd_wire.specs.Pushed.{Span, bytes_of, left_of, mixed, of_two}
 use Rattle.nbd_wire.specs.Side.{same_side}
 use Rattle.nbd_session.specs.Holding.{CutsDoNotCount, PushedHoldsEachSide, bytes_from, given_to}
 

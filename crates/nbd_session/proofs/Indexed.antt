@@ -1,7 +1,7 @@
 -- The faults of an order by index are those by entries.
-use Rattle.std.proofs.Common.{◌≡◌, ℕ, zero, suc, ◌+◌, ◌<◌, ◌≤◌, ◌⊎◌, ◌==◌, inl, inr, List, [], ◌∷◌, length, refl, sym, ◌∙◌, ap, subst, Option, Some, None, arith, slice_index, Bool, true, false, nat_le, eqb-true}
+use Rattle.std.proofs.Common.{◌≡◌, ℕ, zero, suc, ◌<◌, ◌≤◌, ◌⊎◌, ◌==◌, inl, inr, List, [], ◌∷◌, length, refl, sym, ◌∙◌, ap, subst, Option, Some, arith, slice_index, Bool, true, false, nat_le, eqb-true}
 use Rattle.std.proofs.lemmas.Bool.{eqb-false, leb-true, leb-false}
-use Rattle.nbd_wire.specs.Orders.{HasNoOrderFault, IsBad, IsLate, IsMissing}
+use Rattle.nbd_wire.specs.Orders.{HasNoOrderFault, IsLate}
 use Rattle.nbd_wire.specs.States.{Names}
 use Rattle.nbd_session.proofs.Entries.{HasNoFault, IsInTime, IsOnce}
 use Rattle.nbd_session.proofs.Latest.{same_number}

@@ -1,9 +1,8 @@
 -- Pieces that lie in a range and share no offset.
-use Rattle.std.proofs.Common.{◌≡◌, ℕ, zero, suc, ◌+◌, ◌<◌, ◌≤◌, ◌&&◌, List, [], ◌∷◌, ◌++◌, length, refl, sym, ◌∙◌, ap, subst, Option, Some, None, Bool, true, false, if◌then◌else◌, nat_le, nat_lt, IsTrue, is_some, slice_get, append_assoc, append-nil, arith}
-use Rattle.std.proofs.lemmas.Bool.{leb-true, ltb-true, lt-ltb, le-leb}
+use Rattle.std.proofs.Common.{◌≡◌, ℕ, zero, suc, ◌+◌, ◌≤◌, List, [], ◌∷◌, ◌++◌, refl, sym, ◌∙◌, ap, subst, Some, None, Bool, true, false, if◌then◌else◌, slice_get, append_assoc, append-nil}
 use Rattle.nbd_wire.specs.declared.message.Message.{Message}
 use Rattle.nbd_wire.specs.declared.payloads.Piece.{Piece}
-use Rattle.nbd_wire.specs.Requests.{SharesNone, byte_at, holds, is_in, piece_byte, piece_of, piece_offset, piece_size, pieces_of}
+use Rattle.nbd_wire.specs.Requests.{SharesNone, byte_at, holds, piece_byte, piece_of, piece_offset, piece_size, pieces_of}
 use Rattle.nbd_session.specs.Soundness.{AreLaid}
 
 abbrev pub AreInside : ℕ → ℕ → List Piece → Type 0

@@ -1,13 +1,12 @@
 -- Where the order has no fault, a run with the same pairs serves in that order.
-use Rattle.std.proofs.Common.{◌≡◌, ℕ, suc, zero, ◌+◌, ◌<◌, ◌≤◌, ◌≢◌, ◌⊎◌, ◌==◌, List, [], ◌∷◌, ◌++◌, map, length, refl, sym, ◌∙◌, ap, subst, inl, inr, Option, Some, None, append_assoc, append-nil, arith, Bool, true, false, eqb-true, eq-eqb, true≢false, le_refl, ne_eqb}
-use Rattle.nbd_wire.specs.declared.message.Side.{Side}
+use Rattle.std.proofs.Common.{◌≡◌, ℕ, ◌<◌, ◌≤◌, ◌⊎◌, ◌==◌, List, [], ◌∷◌, ◌++◌, length, refl, sym, ◌∙◌, ap, subst, inl, inr, Option, Some, None, append_assoc, append-nil, arith, Bool, true, false, eqb-true, eq-eqb, le_refl, ne_eqb}
 use Rattle.nbd_wire.specs.declared.message.Side.TheVariants.{Client, Server}
 use Rattle.nbd_wire.specs.declared.message.Message.{Message}
-use Rattle.nbd_wire.specs.Items.{Item, Byte, Starts, Completes, Serves, Pair, pairs, completed, served}
-use Rattle.nbd_wire.specs.States.{Core, State, Names}
-use Rattle.nbd_wire.specs.Rules.{complete, Obeys, after, answered_by}
+use Rattle.nbd_wire.specs.Items.{Item, Byte, Starts, Completes, Serves, pairs, served}
+use Rattle.nbd_wire.specs.States.{Core, Names}
+use Rattle.nbd_wire.specs.Rules.{complete, Obeys, answered_by}
 use Rattle.nbd_wire.specs.Report.{known_from, first_known, known_if}
-use Rattle.nbd_session.proofs.Entries.{HasNoFault, IsOnce, IsInTime}
+use Rattle.nbd_session.proofs.Entries.{IsOnce, IsInTime}
 use Rattle.nbd_session.proofs.Machine.{Both, Open, Walk, ended, serving, opening, middle, final, loose}
 use Rattle.nbd_session.proofs.Trace.{Names-push, Names-left, Names-push_cases, answered_by-within, length-complete}
 

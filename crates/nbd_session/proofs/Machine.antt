@@ -1,14 +1,14 @@
 -- A machine that reads pairs, over any judge of a side's bytes.
-use Rattle.std.proofs.Common.{◌≡◌, ℕ, suc, zero, ◌+◌, ◌<◌, ◌≤◌, ◌≢◌, ◌⊎◌, List, [], ◌∷◌, ◌++◌, length, refl, sym, ◌∙◌, ap, subst, inl, inr, Result, Ok, Err, Option, Some, None, Contains, append_assoc, append-nil, arith}
+use Rattle.std.proofs.Common.{◌≡◌, ℕ, ◌<◌, ◌⊎◌, List, [], ◌∷◌, ◌++◌, refl, sym, ◌∙◌, ap, subst, inl, inr, Result, Ok, Err}
 use Rattle.nbd_wire.specs.declared.message.Side.{Side}
 use Rattle.nbd_wire.specs.declared.message.Side.TheVariants.{Client, Server}
 use Rattle.nbd_wire.specs.declared.message.Message.{Message}
 use Rattle.nbd_wire.specs.Encoding.{enc}
 use Rattle.nbd_wire.specs.Side.{side}
-use Rattle.nbd_wire.specs.Items.{Item, Byte, Starts, Completes, Serves, Pair, pairs, completed, ArePairs}
-use Rattle.nbd_wire.specs.States.{Core, State, start}
+use Rattle.nbd_wire.specs.Items.{Item, Byte, Starts, Completes, Serves, Pair, ArePairs}
+use Rattle.nbd_wire.specs.States.{Core, start}
 use Rattle.nbd_wire.specs.Sendable.{IsSendable}
-use Rattle.nbd_wire.specs.Rules.{MayStart, MayComplete, complete, Obeys, after}
+use Rattle.nbd_wire.specs.Rules.{MayStart, MayComplete, complete}
 use Rattle.nbd_session.specs.declared.fault.WireFault.{WireFault}
 
 pub record Both (A : Type 0) : Type 0 where

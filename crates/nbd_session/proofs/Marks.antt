@@ -1,15 +1,14 @@
 -- A run's pairs are read without a fault, and what completes is the run's.
-use Rattle.std.proofs.Common.{◌≡◌, ℕ, suc, zero, ◌+◌, ◌<◌, ◌≤◌, ◌≢◌, ◌⊎◌, List, [], ◌∷◌, ◌++◌, length, refl, sym, ◌∙◌, ap, subst, inl, inr, Result, Ok, Err, Option, Some, None, append_assoc, append-nil, arith}
+use Rattle.std.proofs.Common.{◌≡◌, ℕ, suc, zero, ◌<◌, ◌⊎◌, List, [], ◌∷◌, ◌++◌, length, refl, sym, ◌∙◌, ap, subst, inl, inr, Ok, append_assoc, append-nil}
 use Rattle.nbd_wire.specs.declared.message.Side.{Side}
-use Rattle.nbd_wire.specs.declared.message.Side.TheVariants.{Client, Server}
 use Rattle.nbd_wire.specs.declared.message.Message.{Message}
 use Rattle.nbd_wire.specs.Encoding.{enc}
 use Rattle.nbd_wire.specs.Side.{side}
-use Rattle.nbd_wire.specs.Items.{Item, Byte, Starts, Completes, Serves, Pair, pairs, completed, ArePairs}
-use Rattle.nbd_wire.specs.States.{Core, State}
+use Rattle.nbd_wire.specs.Items.{Item, Byte, Starts, Completes, Serves, Pair, pairs, ArePairs}
+use Rattle.nbd_wire.specs.States.{Core}
 use Rattle.nbd_wire.specs.Sendable.{IsSendable}
-use Rattle.nbd_wire.specs.Rules.{MayStart, MayComplete, complete, Obeys, after}
-use Rattle.nbd_session.proofs.Machine.{IsFilled-snoc, old-empty, old-filled, Kept, AreHeld, kept_next, held_more, held_whole, Both, get, put, get-put_same, get-put_other, put-put, same_or_not, Open, Idle, Busy, Loose, IsNotBusy, IsFilled, Walk, ended, serving, opening, middle, final, loose, Rest, Machine, Reading, More, Whole, Bad, old_of, old_by, settle, Judge, grown, step, reads, on_ok, Later, at_once, behind, Later-trans, IsExact}
+use Rattle.nbd_wire.specs.Rules.{MayStart, MayComplete, complete, Obeys}
+use Rattle.nbd_session.proofs.Machine.{IsFilled-snoc, old-empty, old-filled, Kept, AreHeld, kept_next, held_more, held_whole, Both, get, put, get-put_same, get-put_other, same_or_not, Open, Idle, Busy, Loose, IsFilled, Walk, ended, serving, opening, middle, final, loose, Rest, Machine, Reading, More, Whole, Bad, old_of, settle, Judge, grown, reads, on_ok, Later, at_once, behind, Later-trans, IsExact}
 use Rattle.nbd_session.proofs.Follow.{HasEnd, IsSidedOpen, completes_later, each_with, follows}
 use Rattle.nbd_session.proofs.Trace.{IsWithin}
 

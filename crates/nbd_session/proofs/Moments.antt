@@ -1,8 +1,8 @@
 -- The moments of service of the runs with given bytes are the orders without a fault.
-use Rattle.std.proofs.Common.{◌≡◌, ℕ, List, length, sym, ap, subst, Option}
+use Rattle.std.proofs.Common.{ℕ, List, length, sym, subst}
 use Rattle.nbd_wire.specs.Items.{Item, served}
 use Rattle.nbd_wire.specs.Orders.{HasNoOrderFault}
-use Rattle.nbd_wire.specs.Report.{entries_of, known, known_in, report}
+use Rattle.nbd_wire.specs.Report.{entries_of, known, report}
 use Rattle.nbd_wire.specs.Rules.{IsRun}
 use Rattle.nbd_wire.specs.Verdicts.{IsFaultless}
 use Rattle.nbd_session.proofs.Indexed.{by_entries, by_index}

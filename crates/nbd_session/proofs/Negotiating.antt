@@ -1,18 +1,18 @@
 -- A session begins with a greeting and flags, and each answer follows a choice.
-use Rattle.std.proofs.Common.{◌≡◌, ℕ, zero, suc, ◌⊎◌, ◌+◌, ◌≤◌, ◌==◌, List, [], ◌∷◌, ◌++◌, refl, sym, ◌∙◌, ap, subst, inl, inr, Option, Some, None, Bool, true, false, if◌then◌else◌, IsTrue, is_some, bit_and, arith, eqb-true}
+use Rattle.std.proofs.Common.{◌≡◌, ℕ, zero, suc, ◌⊎◌, ◌≤◌, ◌==◌, List, [], ◌∷◌, ◌++◌, refl, sym, ◌∙◌, ap, subst, inl, inr, Option, Some, None, Bool, true, false, if◌then◌else◌, IsTrue, is_some, bit_and, arith, eqb-true}
 use Rattle.std.proofs.lemmas.Nat.{and_le_r}
 use Rattle.nbd_wire.specs.declared.answers.TheConstants as answers
 use Rattle.nbd_wire.specs.declared.handshake.TheConstants as handshake
 use Rattle.nbd_wire.specs.declared.options.TheConstants as options
-use Rattle.nbd_wire.specs.declared.message.Side.TheVariants.{Client, Server}
+use Rattle.nbd_wire.specs.declared.message.Side.TheVariants.{Server}
 use Rattle.nbd_wire.specs.declared.message.Message.{Message}
 use Rattle.nbd_wire.specs.declared.message.Message.TheVariants.{Greeting, ClientFlags, Choice, Answer, Exported, Request, Simple, Chunk}
 use Rattle.nbd_wire.specs.Items.{Item, Byte, Starts, Completes, Serves, completed}
 use Rattle.nbd_wire.specs.Options.{MayAcknowledge, MayAnswer, acknowledged, answered_option, chosen, is_error, is_proper_option, last_info, next_phase}
 use Rattle.nbd_wire.specs.Payloads.{info_of}
 use Rattle.nbd_wire.specs.Requests.{Exporting, has, has_only}
-use Rattle.nbd_wire.specs.Rules.{AreClientFlags, IsRun, MayComplete, MayEnd, complete}
-use Rattle.nbd_wire.specs.States.{Core, Phase, Greet, Flags, Choosing, Naming, Aborting, Answering, Ended, Transmission, start}
+use Rattle.nbd_wire.specs.Rules.{AreClientFlags, MayComplete, complete}
+use Rattle.nbd_wire.specs.States.{Core, Phase, Greet, Flags, Choosing, Naming, Aborting, Answering, Transmission, start}
 use Rattle.nbd_session.proofs.Follow.{Follows, follows}
 use Rattle.nbd_session.proofs.Fronts.{flags_row, greet_row, phase-complete, transmission_row}
 use Rattle.nbd_session.specs.Negotiating.{AnswersFollowChoices, AreFairFlags, BeginsWithFlags, Chosen, HandshakesAreFair, IsAcknowledged, IsAnswer, choice_behind, info_behind}

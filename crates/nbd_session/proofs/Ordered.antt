@@ -1,10 +1,9 @@
 -- The service of a run is an order without a fault.
-use Rattle.std.proofs.Common.{◌≡◌, ℕ, zero, suc, ◌<◌, ◌≤◌, ◌⊎◌, ◌==◌, List, [], ◌∷◌, ◌++◌, length, refl, sym, ◌∙◌, ap, subst, inl, inr, Option, Some, None, Bool, true, false, arith, le_refl, eqb-true, eq-eqb, ne_eqb}
-use Rattle.nbd_wire.specs.declared.message.Side.{Side}
+use Rattle.std.proofs.Common.{◌≡◌, ℕ, ◌<◌, ◌≤◌, ◌⊎◌, ◌==◌, List, [], ◌∷◌, ◌++◌, length, refl, sym, ◌∙◌, ap, subst, inl, inr, Option, Some, None, Bool, true, false, arith, ne_eqb}
 use Rattle.nbd_wire.specs.declared.message.Side.TheVariants.{Client, Server}
 use Rattle.nbd_wire.specs.declared.message.Message.{Message}
 use Rattle.nbd_wire.specs.Items.{Item, Byte, Starts, Completes, Serves, served}
-use Rattle.nbd_wire.specs.States.{Core, State, start, Names}
+use Rattle.nbd_wire.specs.States.{Core, start, Names}
 use Rattle.nbd_wire.specs.Rules.{IsRun, Obeys, complete, answered_by}
 use Rattle.nbd_wire.specs.Report.{entries_of, known, known_from, known_if, first_known}
 use Rattle.nbd_session.proofs.Entries.{HasNoFault, IsOnce, IsInTime}

@@ -1,19 +1,16 @@
 -- The outstanding requests of a core have distinct cookies.
-use Rattle.std.proofs.Common.{◌≡◌, ℕ, zero, suc, ◌+◌, ◌<◌, ◌≤◌, ◌⊎◌, ◌==◌, ◌&&◌, ◌||◌, not, List, [], ◌∷◌, ◌++◌, length, refl, sym, ◌∙◌, ap, subst, inl, inr, Option, Some, None, Bool, true, false, if◌then◌else◌, arith, eqb-true, eq-eqb, append-nil, IsTrue, is_some}
+use Rattle.std.proofs.Common.{◌≡◌, ℕ, zero, suc, ◌+◌, ◌==◌, ◌&&◌, ◌||◌, not, List, [], ◌∷◌, ◌++◌, refl, sym, ◌∙◌, ap, subst, Option, Some, None, Bool, true, false, if◌then◌else◌, arith, eqb-true, eq-eqb, IsTrue, is_some}
 use Rattle.nbd_wire.specs.declared.commands.TheConstants as commands
-use Rattle.nbd_wire.specs.declared.message.Side.{Side}
-use Rattle.nbd_wire.specs.declared.message.Side.TheVariants.{Client, Server}
+use Rattle.nbd_wire.specs.declared.message.Side.TheVariants.{Server}
 use Rattle.nbd_wire.specs.declared.message.Message.{Message}
 use Rattle.nbd_wire.specs.declared.message.Message.TheVariants.{Greeting, ClientFlags, Choice, Answer, Exported, Request, Simple, Chunk}
-use Rattle.nbd_wire.specs.Explains.{Explained, Start}
-use Rattle.nbd_wire.specs.Report.{entries_of, export_in, export_of, report}
-use Rattle.nbd_wire.specs.Items.{Item, Byte, Starts, Completes, Serves, IsMarked, served}
+use Rattle.nbd_wire.specs.Report.{entries_of, export_in, report}
+use Rattle.nbd_wire.specs.Items.{Item, Byte, Starts, Completes, Serves, served}
 use Rattle.nbd_wire.specs.Requests.{Entry, Exporting, any, ends_reply, is_finished}
-use Rattle.nbd_wire.specs.Rules.{IsRun, MayAsk, MayComplete, MayStartIn, Obeys, after, answered_by, complete, cookie_of, ends_at, reply_to, requested, target_of}
+use Rattle.nbd_wire.specs.Rules.{MayAsk, MayComplete, MayStartIn, Obeys, after, answered_by, complete, cookie_of, ends_at, reply_to, requested, target_of}
 use Rattle.nbd_wire.specs.States.{Core, Names, Phase, State, Greet, Flags, Choosing, Naming, Aborting, Answering, Ended, Transmission, answered, entry, is_awaiting, start, target, target_from, with_reply}
-use Rattle.nbd_session.proofs.Fronts.{InTransmission, asks, replies, gives, transmission_row}
 use Rattle.nbd_session.proofs.Parts.{obeys_back, obeys_front, served_in}
-use Rattle.nbd_session.specs.Service.{AnswersRequest, CookiesAreDistinct, EachReplyAnswersOne, EmptyIsExplained, IsOutstanding, ServedOnceBehindCompletion}
+use Rattle.nbd_session.specs.Service.{AnswersRequest, CookiesAreDistinct, EachReplyAnswersOne, EmptyIsExplained, ServedOnceBehindCompletion}
 
 -- no outstanding request has this cookie
 abbrev Free : ℕ → List Entry → Type 0

@@ -1,12 +1,12 @@
 -- A run in two parts.
-use Rattle.std.proofs.Common.{◌≡◌, ℕ, ◌⊎◌, ◌+◌, ◌<◌, List, [], ◌∷◌, ◌++◌, length, refl, sym, ◌∙◌, ap, subst, inl, inr, append_assoc, append-nil, arith, suc, zero-add}
+use Rattle.std.proofs.Common.{◌≡◌, ℕ, ◌⊎◌, ◌+◌, List, [], ◌∷◌, ◌++◌, length, refl, sym, ◌∙◌, ap, subst, inl, inr, append_assoc, append-nil, arith, suc, zero-add}
 use Rattle.nbd_wire.specs.declared.message.Side.{Side}
 use Rattle.nbd_wire.specs.declared.message.Side.TheVariants.{Client, Server}
 use Rattle.nbd_wire.specs.declared.message.Message.{Message}
 use Rattle.nbd_wire.specs.Encoding.{enc}
 use Rattle.nbd_wire.specs.Items.{Item, Byte, Starts, Completes, Serves, served}
-use Rattle.nbd_wire.specs.Rules.{Obeys, after, complete, ends_at}
-use Rattle.nbd_wire.specs.States.{Core, State, start}
+use Rattle.nbd_wire.specs.Rules.{Obeys, after, ends_at}
+use Rattle.nbd_wire.specs.States.{State, start}
 use Rattle.nbd_session.proofs.Machine.{Both, get, put, get-put_same, get-put_other, same_or_not, Open, Idle, Busy, Loose, IsNotBusy, Walk, ended, serving, opening, middle, final, loose}
 use Rattle.nbd_session.proofs.Blocks.{Idles}
 use Rattle.nbd_session.proofs.Runs.{run_of, walk_of}

@@ -1,13 +1,11 @@
 -- What a run leads to is reached by messages that may complete and have an encoding.
-use Rattle.std.proofs.Common.{◌≡◌, ℕ, List, [], ◌∷◌, refl, sym, subst}
+use Rattle.std.proofs.Common.{List, [], subst}
 use Rattle.nbd_wire.specs.declared.message.Side.{Side}
 use Rattle.nbd_wire.specs.declared.message.Side.TheVariants.{Client, Server}
-use Rattle.nbd_wire.specs.declared.message.Message.{Message}
 use Rattle.nbd_wire.specs.Items.{Item}
 use Rattle.nbd_wire.specs.Rules.{IsRun, complete, ends_at}
 use Rattle.nbd_wire.specs.Sendable.{IsSendable}
 use Rattle.nbd_wire.specs.States.{Core, start}
-use Rattle.nbd_session.proofs.Blocks.{Idles}
 use Rattle.nbd_session.proofs.Follow.{Follows, each_with, follows}
 use Rattle.nbd_session.proofs.Latest.{core_end}
 use Rattle.nbd_session.proofs.Machine.{Both, get, Open, Idle, Busy, Loose, Walk, ended, serving, opening, middle, final, loose, IsReached, at_start, after_message}

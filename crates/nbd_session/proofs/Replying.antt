@@ -1,21 +1,19 @@
 -- The replies to a request are one simple reply, or chunks of which the last and only the last ends the reply.
-use Rattle.std.proofs.Common.{◌≡◌, ℕ, zero, suc, ◌⊎◌, ◌==◌, ◌||◌, List, [], ◌∷◌, ◌++◌, refl, sym, ◌∙◌, ap, subst, inl, inr, Option, Some, None, Bool, true, false, not, eqb-true, IsTrue}
-use Rattle.nbd_wire.specs.declared.chunks.TheConstants as chunks
+use Rattle.std.proofs.Common.{◌≡◌, ℕ, zero, suc, ◌==◌, ◌||◌, List, [], ◌∷◌, ◌++◌, refl, sym, ◌∙◌, ap, subst, inl, inr, Option, Some, None, Bool, true, false, not, eqb-true}
 use Rattle.nbd_wire.specs.declared.commands.TheConstants as commands
 use Rattle.nbd_wire.specs.declared.message.Message.{Message}
 use Rattle.nbd_wire.specs.declared.message.Message.TheVariants.{Greeting, ClientFlags, Choice, Answer, Exported, Request, Simple, Chunk}
-use Rattle.nbd_wire.specs.Items.{Item}
-use Rattle.nbd_wire.specs.Replies.{IsChunk, MayReply}
+use Rattle.nbd_wire.specs.Replies.{MayReply}
 use Rattle.nbd_wire.specs.Report.{entries_of}
-use Rattle.nbd_wire.specs.Requests.{Entry, Exporting, any, ends_reply, has, is_finished}
-use Rattle.nbd_wire.specs.Rules.{AnswersOne, IsRun, MayComplete, answered_by, complete, cookie_of, ends_at, grants_structured, reply_to, requested}
-use Rattle.nbd_wire.specs.States.{Core, Phase, Greet, Flags, Choosing, Naming, Aborting, Answering, Ended, Transmission, answered, entry, is_awaiting, start, target, with_reply}
-use Rattle.nbd_session.proofs.Fronts.{InTransmission, asks, gives, phase-complete, replies, transmission_row}
+use Rattle.nbd_wire.specs.Requests.{Entry, Exporting, any, ends_reply, is_finished}
+use Rattle.nbd_wire.specs.Rules.{MayComplete, complete, cookie_of, ends_at, grants_structured, reply_to, requested}
+use Rattle.nbd_wire.specs.States.{Core, Phase, Greet, Flags, Choosing, Naming, Aborting, Answering, Transmission, answered, entry, start, target, with_reply}
+use Rattle.nbd_session.proofs.Fronts.{InTransmission, asks, gives, replies, transmission_row}
 use Rattle.nbd_session.proofs.Machine.{IsReached, at_start, after_message}
-use Rattle.nbd_session.proofs.Outstanding.{IsFound, both_true, find, unfinished}
+use Rattle.nbd_session.proofs.Outstanding.{IsFound, both_true, find}
 use Rattle.nbd_session.proofs.Reached.{run_reaches}
 use Rattle.nbd_session.proofs.Soundness.{InPhase, open_target, sound}
-use Rattle.nbd_session.specs.Replying.{FitsRequest, IsReplyBehind, IsReplyBetween, RepliesAreWhole}
+use Rattle.nbd_session.specs.Replying.{IsReplyBehind, IsReplyBetween, RepliesAreWhole}
 
 -- each reply fits where it stands
 abbrev AreWhole : Bool → Entry → List Message → Type 0

@@ -1,11 +1,10 @@
 -- The laws over runs.
-use Rattle.std.proofs.Common.{◌≡◌, ℕ, suc, zero, ◌⊎◌, List, [], ◌∷◌, ◌++◌, length, refl, sym, ◌∙◌, ap, subst, inl, inr, Ok, Err, append-nil, arith, le_refl}
+use Rattle.std.proofs.Common.{◌≡◌, ℕ, List, [], ◌∷◌, ◌++◌, length, refl, sym, ◌∙◌, ap, subst, inr, Ok, Err, arith}
 use Rattle.nbd_wire.specs.declared.message.Side.{Side}
 use Rattle.nbd_wire.specs.declared.message.Side.TheVariants.{Client, Server}
-use Rattle.nbd_wire.specs.declared.message.Message.{Message}
 use Rattle.nbd_wire.specs.Items.{Item, Byte, Starts, Completes, Serves, Pair, pairs, completed, served, IsMarkedBut, ArePairs}
-use Rattle.nbd_wire.specs.States.{Core, State, start, Names}
-use Rattle.nbd_wire.specs.Rules.{IsRun, IsRunBut, Obeys, complete, ends_at, after}
+use Rattle.nbd_wire.specs.States.{Core, start}
+use Rattle.nbd_wire.specs.Rules.{IsRun, IsRunBut, Obeys, complete, ends_at}
 use Rattle.nbd_wire.specs.Report.{entries_of, known}
 use Rattle.nbd_session.proofs.Entries.{HasNoFault}
 use Rattle.nbd_session.specs.declared.fault.WireFault.{WireFault}

@@ -1,37 +1,31 @@
 -- What holds of each request of a core that completed messages lead to, and of every report.
-use Rattle.std.proofs.Common.{◌≡◌, ℕ, zero, suc, ◌<◌, ◌≤◌, ◌⊎◌, ◌+◌, ◌==◌, List, [], ◌∷◌, ◌++◌, length, drop, refl, sym, ◌∙◌, ap, subst, inl, inr, Option, Some, None, Bool, true, false, not, ◌&&◌, ◌||◌, if◌then◌else◌, eqb-true, eq-eqb, is_some, arith, IsTrue, append-nil, nat_le, nat_lt, le_refl}
-use Rattle.std.proofs.lemmas.Bool.{leb-true, ltb-true}
+use Rattle.std.proofs.Common.{◌≡◌, ℕ, ◌<◌, ◌≤◌, ◌+◌, ◌==◌, List, [], ◌∷◌, length, refl, sym, ◌∙◌, ap, subst, inl, inr, Option, Some, None, Bool, true, false, not, ◌&&◌, ◌||◌, if◌then◌else◌, eqb-true, arith, IsTrue, nat_le}
+use Rattle.std.proofs.lemmas.Bool.{leb-true}
 use Rattle.nbd_wire.specs.declared.answers.TheConstants as answers
-use Rattle.nbd_wire.specs.declared.chunks.TheConstants as chunks
-use Rattle.nbd_wire.specs.declared.command_flags.TheConstants as command_flags
 use Rattle.nbd_wire.specs.declared.commands.TheConstants as commands
 use Rattle.nbd_wire.specs.declared.limits.TheConstants.{EXPORT_SIZE}
 use Rattle.nbd_wire.specs.declared.options.TheConstants as options
 use Rattle.nbd_wire.specs.declared.transmission.TheConstants as transmission
 use Rattle.nbd_wire.specs.declared.message.Side.TheVariants.{Client, Server}
 use Rattle.nbd_wire.specs.declared.message.Message.{Message}
-use Rattle.nbd_wire.specs.declared.message.Message.TheVariants.{Greeting, ClientFlags, Choice, Answer, Exported, Request, Simple, Chunk}
-use Rattle.nbd_wire.specs.declared.payloads.Failure.{Failure}
+use Rattle.nbd_wire.specs.declared.message.Message.TheVariants.{Greeting, ClientFlags, Choice, Answer, Exported, Simple, Chunk}
 use Rattle.nbd_wire.specs.declared.payloads.Info.{Info}
 use Rattle.nbd_wire.specs.declared.payloads.Info.TheVariants.{Export, BlockSize, Other}
-use Rattle.nbd_wire.specs.declared.payloads.Piece.{Piece}
-use Rattle.nbd_wire.specs.declared.payloads.Piece.TheVariants.{Bytes, Hole}
 use Rattle.nbd_wire.specs.Items.{Item, Byte, Starts, Completes, Serves}
-use Rattle.nbd_wire.specs.Options.{IsInfo, MayAcknowledge, MayAnswer, acknowledged, answered_option, chosen, is_error, last_info, next_phase}
-use Rattle.nbd_wire.specs.Payloads.{content_of, failure_of, info_of, number_at}
-use Rattle.nbd_wire.specs.Replies.{IsChunk, IsContent, IsFailure, IsSimpleReply, MayFinish, MayReply, simple_length}
-use Rattle.nbd_wire.specs.Report.{Asked, asked_at, entries_of, export_in, export_of, known, known_from, known_if, first_known, report, told, told_from}
+use Rattle.nbd_wire.specs.Options.{IsInfo, MayAcknowledge, MayAnswer, acknowledged, answered_option, chosen, last_info, next_phase}
+use Rattle.nbd_wire.specs.Payloads.{info_of}
+use Rattle.nbd_wire.specs.Report.{Asked, entries_of, export_in, export_of, known, known_from, known_if, first_known, report, told, told_from}
 use Rattle.nbd_wire.specs.Requests.{Covers, Entry, Exporting, Outcome, Success, Pending, any, byte_at, chunk_piece, ends_reply, has, has_failed, has_range, holds, is_failing, is_finished, is_in, is_proper, outcome, piece_of, piece_offset, piece_size, pieces, pieces_of, simple_piece}
 use Rattle.nbd_wire.specs.Requests as requests
-use Rattle.nbd_wire.specs.Rules.{AnswersOne, IsRun, MayAsk, MayComplete, answered_by, complete, ends_at, reply_to, requested, target_of}
+use Rattle.nbd_wire.specs.Rules.{MayComplete, answered_by, complete, ends_at, reply_to, requested}
 use Rattle.nbd_wire.specs.Sendable.{IsSendable}
 use Rattle.nbd_wire.specs.States.{Core, Phase, Greet, Flags, Choosing, Naming, Aborting, Answering, Ended, Transmission, answered, entry, start, target, with_reply}
 use Rattle.nbd_session.specs.Soundness.{IsSoundAsked, IsSoundReport, ReportsAreSound}
 use Rattle.nbd_session.proofs.Fronts.{InTransmission, asks, gives, phase-complete, replies, transmission_row}
-use Rattle.nbd_session.proofs.Laid.{AreApart, AreInside, apart_snoc, are_laid, inside_snoc, pieces-snoc}
+use Rattle.nbd_session.proofs.Laid.{are_laid}
 use Rattle.nbd_session.proofs.Latest.{core_end, entries_grow}
 use Rattle.nbd_session.proofs.Machine.{IsReached, at_start, after_message}
-use Rattle.nbd_session.proofs.Outstanding.{IsFound, any-snoc, both_true, find, unfinished}
+use Rattle.nbd_session.proofs.Outstanding.{IsFound, both_true, find, unfinished}
 use Rattle.nbd_session.proofs.Reached.{run_reaches}
 use Rattle.nbd_session.proofs.Runs.{core_end-ends_at}
 use Rattle.nbd_session.proofs.Told.{asked-report, length-report, told_if}

@@ -1,10 +1,10 @@
 -- A report tells of each request what the run does.
-use Rattle.std.proofs.Common.{◌≡◌, ℕ, zero, suc, ◌+◌, ◌<◌, ◌≤◌, List, [], ◌∷◌, length, refl, sym, ◌∙◌, ap, subst, Option, Some, None, arith, slice_get}
+use Rattle.std.proofs.Common.{◌≡◌, ℕ, zero, suc, ◌+◌, ◌<◌, ◌≤◌, List, [], ◌∷◌, length, refl, sym, ◌∙◌, ap, Option, Some, None, arith, slice_get}
 use Rattle.nbd_wire.specs.Items.{Item}
 use Rattle.nbd_wire.specs.Report.{Asked, asked_at, entries_of, export_of, known, known_in, known_of, report, told, told_from}
 use Rattle.nbd_wire.specs.Requests.{Entry, Exporting}
 use Rattle.nbd_wire.specs.Rules.{IsRun}
-use Rattle.nbd_wire.specs.States.{entry, start}
+use Rattle.nbd_wire.specs.States.{entry}
 use Rattle.nbd_session.proofs.Ordered.{known_within}
 
 pub length-told : (n : ℕ) (export : Option Exporting) (κ : ℕ → Option ℕ) (es : List Entry) → length (told_from n export κ es) ≡ length es

@@ -1,5 +1,5 @@
 -- What a machine read is a run with exactly the pairs that it read.
-use Rattle.std.proofs.Common.{◌≡◌, ℕ, suc, zero, ◌+◌, ◌<◌, ◌≤◌, ◌≢◌, ◌⊎◌, List, [], ◌∷◌, ◌++◌, length, refl, sym, ◌∙◌, ap, subst, inl, inr, Result, Ok, Err, Option, Some, None, append_assoc, append-nil, arith, true, false, Bool, not, ◌==◌, ◌&&◌, if◌then◌else◌, nat_eq, length-append, add-one, le_refl, eq-or-lt_of_le}
+use Rattle.std.proofs.Common.{◌≡◌, ℕ, suc, zero, ◌+◌, ◌<◌, ◌≤◌, ◌⊎◌, List, [], ◌∷◌, ◌++◌, length, refl, sym, ◌∙◌, ap, subst, inl, inr, Ok, Option, Some, None, append_assoc, append-nil, arith, true, false, Bool, not, ◌==◌, ◌&&◌, if◌then◌else◌, length-append, add-one, le_refl, eq-or-lt_of_le}
 use Rattle.nbd_wire.specs.declared.message.Side.{Side}
 use Rattle.nbd_wire.specs.declared.message.Side.TheVariants.{Client, Server}
 use Rattle.nbd_wire.specs.declared.message.Message.{Message}
@@ -10,9 +10,8 @@ use Rattle.nbd_wire.specs.Items.{Item, Byte, Starts, Completes, Serves, Pair, pa
 use Rattle.nbd_wire.specs.Requests.{Entry, is_finished}
 use Rattle.nbd_wire.specs.States.{Core, State, Names, target, target_from, answered}
 use Rattle.nbd_wire.specs.Sendable.{IsSendable}
-use Rattle.nbd_wire.specs.Rules.{MayStart, MayComplete, complete, reply_to, requested, Obeys, after, answered_by, cookie_of, IsServedFor}
-use Rattle.nbd_session.specs.declared.fault.WireFault.{WireFault}
-use Rattle.nbd_session.proofs.Machine.{old-empty, old-filled, IsFilled-snoc, IsMoreAt, AreHeld, kept_next, held_more, held_whole, led, ended_by, with_byte, IsMore, Tracks, Both, get, put, get-put_same, get-put_other, put-put, same_or_not, Open, Idle, Busy, Loose, IsNotBusy, IsFilled, Walk, ended, serving, opening, middle, final, loose, Rest, Machine, Reading, More, Whole, Bad, old_of, old_by, settle, Judge, grown, step, reads, on_ok, IsSoundAt, IsSound}
+use Rattle.nbd_wire.specs.Rules.{MayStart, complete, reply_to, requested, Obeys, answered_by, IsServedFor}
+use Rattle.nbd_session.proofs.Machine.{old-empty, old-filled, IsFilled-snoc, IsMoreAt, AreHeld, kept_next, held_more, held_whole, led, ended_by, with_byte, IsMore, Tracks, Both, get, put, get-put_same, get-put_other, put-put, same_or_not, Open, Idle, Busy, Loose, IsNotBusy, IsFilled, Walk, ended, serving, opening, middle, final, loose, Rest, Machine, Reading, More, Whole, Bad, settle, Judge, grown, reads, on_ok, IsSoundAt, IsSound}
 
 -- each request that has completed was served, and no other
 pub record IsCanonical (state : State) : Type 0 where

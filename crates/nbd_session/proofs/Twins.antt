@@ -4,7 +4,7 @@ use Rattle.nbd_wire.specs.declared.message.Side.{Side}
 use Rattle.nbd_wire.specs.declared.message.Side.TheVariants.{Client, Server}
 use Rattle.nbd_wire.specs.declared.message.Message.{Message}
 use Rattle.nbd_wire.specs.Encoding.{enc}
-use Rattle.nbd_wire.specs.Items.{Item, Byte, Starts, Completes, Serves, Pair, pairs}
+use Rattle.nbd_wire.specs.Items.{Item, Byte, Starts, Completes, Pair, pairs}
 use Rattle.nbd_wire.specs.Rules.{MayComplete, complete}
 use Rattle.nbd_wire.specs.Side.{side}
 use Rattle.nbd_wire.specs.States.{Core}

@@ -1,11 +1,10 @@
 -- What a run leads to and tells does not depend on the moments of service.
-use Rattle.std.proofs.Common.{◌≡◌, ℕ, List, [], ◌∷◌, length, refl, sym, ◌∙◌, ap, Option}
+use Rattle.std.proofs.Common.{◌≡◌, ℕ, List, [], ◌∷◌, refl, sym, ◌∙◌, ap, Option}
 use Rattle.nbd_wire.specs.declared.message.Side.TheVariants.{Client, Server}
-use Rattle.nbd_wire.specs.Report.{entries_of, export_in, export_of}
-use Rattle.nbd_wire.specs.Items.{Item, Byte, Starts, Completes, Serves, pairs, unserved}
+use Rattle.nbd_wire.specs.Report.{export_in}
+use Rattle.nbd_wire.specs.Items.{Item, Byte, Starts, Completes, Serves, unserved}
 use Rattle.nbd_wire.specs.Report.{Report, first_known, known, known_from, report, told_from}
-use Rattle.nbd_wire.specs.Requests.{Exporting}
-use Rattle.nbd_wire.specs.Rules.{IsRun, answered_by, complete, ends_at}
+use Rattle.nbd_wire.specs.Rules.{answered_by, complete, ends_at}
 use Rattle.nbd_wire.specs.States.{Core, start}
 use Rattle.nbd_session.proofs.Follow.{bare, follows, follows_unserved, pairs_unserved, walk_unserved}
 use Rattle.nbd_session.proofs.Latest.{core_end}

@@ -1,13 +1,8 @@
 -- Explicit runs of structured replies: each is checked by computing.
-use Rattle.std.proofs.Common.{◌≡◌, ℕ, zero, suc, ◌+◌, ◌<◌, List, [], ◌∷◌, ◌++◌, length, slice_index, refl, true, false, inl, inr, lit<, lit≤, arith}
-use Rattle.byteorder.specs.Endian.{big_bytes}
-use Rattle.nbd_wire.specs.declared.answers.TheConstants as answers
-use Rattle.nbd_wire.specs.declared.commands.TheConstants as commands
-use Rattle.nbd_wire.specs.declared.options.TheConstants as options
-use Rattle.nbd_wire.specs.declared.message.Message.TheVariants.{Greeting, ClientFlags, Choice, Answer, Exported}
+use Rattle.std.proofs.Common.{List, [], ◌∷◌, ◌++◌, refl, inl, inr}
 use Rattle.nbd_wire.specs.Encoding.{enc, head, tail}
 use Rattle.nbd_wire.specs.Exchanges.{exchanges}
-use Rattle.nbd_wire.specs.Explains.{Image, Unknown, Zeroes, start_byte}
+use Rattle.nbd_wire.specs.Explains.{Zeroes, start_byte}
 use Rattle.nbd_wire.specs.Items.{Item, Serves, flat}
 use Rattle.nbd_wire.specs.Options.{is_proper_option, next_phase}
 use Rattle.nbd_wire.specs.Payloads.{content_of, failure_of, info_of, is_go, is_listed}
@@ -20,7 +15,7 @@ use Rattle.nbd_session.specs.Explaining.{IsNo, IsYes}
 use Rattle.nbd_session.proofs.DecidingReads.{none_wrong, wrong}
 use Rattle.nbd_session.proofs.DecidingRuns.{is_run}
 use Rattle.nbd_session.proofs.Explaining.{counts_of, refused}
-use Rattle.nbd_session.proofs.Sessions.{broken, content, disconnect, done, fails, flagged, gives, gone, gone_with, greeted, hole, read, sends, structured, succeeds, trim, within, write, zero_out}
+use Rattle.nbd_session.proofs.Sessions.{broken, content, done, gone, greeted, hole, read, sends, structured, write}
 
 structured_read_items : List Item
 structured_read_items = sends (greeted ++ structured ++ gone ++ write 1 4 (10 ∷ 11 ∷ 12 ∷ 13 ∷ []) ∷ []) ++ Serves 1 ∷ sends (done 1 ∷ read 2 0 8 ∷ []) ++ Serves 2 ∷ sends (content 2 4 (10 ∷ 11 ∷ 12 ∷ 13 ∷ []) ∷ hole 2 0 4 ∷ done 2 ∷ [])

@@ -1,13 +1,12 @@
 -- Explicit runs of negotiation: each is checked by computing.
-use Rattle.std.proofs.Common.{◌≡◌, ℕ, zero, suc, ◌+◌, ◌<◌, List, [], ◌∷◌, ◌++◌, length, slice_index, refl, true, false, inl, inr, lit<, lit≤, arith}
+use Rattle.std.proofs.Common.{◌+◌, List, [], ◌∷◌, ◌++◌, refl, true, false}
 use Rattle.byteorder.specs.Endian.{big_bytes}
 use Rattle.nbd_wire.specs.declared.answers.TheConstants as answers
-use Rattle.nbd_wire.specs.declared.commands.TheConstants as commands
 use Rattle.nbd_wire.specs.declared.options.TheConstants as options
 use Rattle.nbd_wire.specs.declared.message.Message.TheVariants.{Greeting, ClientFlags, Choice, Answer, Exported}
 use Rattle.nbd_wire.specs.Encoding.{enc, head, tail}
 use Rattle.nbd_wire.specs.Exchanges.{exchanges}
-use Rattle.nbd_wire.specs.Explains.{Image, Unknown, Zeroes, start_byte}
+use Rattle.nbd_wire.specs.Explains.{Zeroes, start_byte}
 use Rattle.nbd_wire.specs.Items.{Item, Serves, flat}
 use Rattle.nbd_wire.specs.Options.{is_proper_option, next_phase}
 use Rattle.nbd_wire.specs.Payloads.{content_of, failure_of, info_of, is_go, is_listed}
@@ -16,11 +15,11 @@ use Rattle.nbd_wire.specs.Requests.{ends_reply, has, has_only, is_failing, is_pr
 use Rattle.nbd_wire.specs.Rules.{IsRun, complete}
 use Rattle.nbd_wire.specs.States.{target}
 use Rattle.nbd_session.specs.CapturesOptions as captures
-use Rattle.nbd_session.specs.Explaining.{IsNo, IsYes}
-use Rattle.nbd_session.proofs.DecidingReads.{none_wrong, wrong}
+use Rattle.nbd_session.specs.Explaining.{IsYes}
+use Rattle.nbd_session.proofs.DecidingReads.{none_wrong}
 use Rattle.nbd_session.proofs.DecidingRuns.{is_run}
-use Rattle.nbd_session.proofs.Explaining.{counts_of, refused}
-use Rattle.nbd_session.proofs.Sessions.{broken, content, disconnect, done, fails, flagged, gives, gone, gone_with, greeted, hole, read, sends, structured, succeeds, trim, within, write, zero_out}
+use Rattle.nbd_session.proofs.Explaining.{counts_of}
+use Rattle.nbd_session.proofs.Sessions.{gives, gone, greeted, read, sends}
 
 padded_export_items : List Item
 padded_export_items = sends (Greeting 3 ∷ ClientFlags 1 ∷ Choice options.EXPORT_NAME (100 ∷ 105 ∷ 115 ∷ 107 ∷ []) ∷ Exported 8 109 true ∷ read 1 0 1 ∷ []) ++ Serves 1 ∷ sends (gives 1 (0 ∷ []) ∷ [])

@@ -1,10 +1,5 @@
 -- Explicit runs of reads and writes: each is checked by computing.
-use Rattle.std.proofs.Common.{◌≡◌, ℕ, zero, suc, ◌+◌, ◌<◌, List, [], ◌∷◌, ◌++◌, length, slice_index, refl, true, false, inl, inr, lit<, lit≤, arith}
-use Rattle.byteorder.specs.Endian.{big_bytes}
-use Rattle.nbd_wire.specs.declared.answers.TheConstants as answers
-use Rattle.nbd_wire.specs.declared.commands.TheConstants as commands
-use Rattle.nbd_wire.specs.declared.options.TheConstants as options
-use Rattle.nbd_wire.specs.declared.message.Message.TheVariants.{Greeting, ClientFlags, Choice, Answer, Exported}
+use Rattle.std.proofs.Common.{◌≡◌, ℕ, zero, suc, ◌<◌, List, [], ◌∷◌, ◌++◌, length, slice_index, refl, inl, inr, lit<, lit≤, arith}
 use Rattle.nbd_wire.specs.Encoding.{enc, head, tail}
 use Rattle.nbd_wire.specs.Exchanges.{exchanges}
 use Rattle.nbd_wire.specs.Explains.{Image, Unknown, Zeroes, start_byte}
@@ -20,7 +15,7 @@ use Rattle.nbd_session.specs.Explaining.{IsNo, IsYes}
 use Rattle.nbd_session.proofs.DecidingReads.{none_wrong, wrong}
 use Rattle.nbd_session.proofs.DecidingRuns.{is_run}
 use Rattle.nbd_session.proofs.Explaining.{counts_of, refused}
-use Rattle.nbd_session.proofs.Sessions.{broken, content, disconnect, done, fails, flagged, gives, gone, gone_with, greeted, hole, read, sends, structured, succeeds, trim, within, write, zero_out}
+use Rattle.nbd_session.proofs.Sessions.{disconnect, fails, gives, gone, greeted, read, sends, succeeds, trim, within, write, zero_out}
 
 -- the order 1 does not name 2
 one_entry : (i : ℕ) → i < length {A = ℕ} (1 ∷ []) → slice_index (1 ∷ []) i ≡ 2 → ⊥

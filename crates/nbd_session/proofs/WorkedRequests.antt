@@ -1,13 +1,9 @@
 -- Explicit runs of proper and improper requests: each is checked by computing.
-use Rattle.std.proofs.Common.{◌≡◌, ℕ, zero, suc, ◌+◌, ◌<◌, List, [], ◌∷◌, ◌++◌, length, slice_index, refl, true, false, inl, inr, lit<, lit≤, arith}
-use Rattle.byteorder.specs.Endian.{big_bytes}
-use Rattle.nbd_wire.specs.declared.answers.TheConstants as answers
+use Rattle.std.proofs.Common.{List, [], ◌∷◌, ◌++◌, refl}
 use Rattle.nbd_wire.specs.declared.commands.TheConstants as commands
-use Rattle.nbd_wire.specs.declared.options.TheConstants as options
-use Rattle.nbd_wire.specs.declared.message.Message.TheVariants.{Greeting, ClientFlags, Choice, Answer, Exported}
 use Rattle.nbd_wire.specs.Encoding.{enc, head, tail}
 use Rattle.nbd_wire.specs.Exchanges.{exchanges}
-use Rattle.nbd_wire.specs.Explains.{Image, Unknown, Zeroes, start_byte}
+use Rattle.nbd_wire.specs.Explains.{Zeroes, start_byte}
 use Rattle.nbd_wire.specs.Items.{Item, Serves, flat}
 use Rattle.nbd_wire.specs.Options.{is_proper_option, next_phase}
 use Rattle.nbd_wire.specs.Payloads.{content_of, failure_of, info_of, is_go, is_listed}
@@ -16,11 +12,11 @@ use Rattle.nbd_wire.specs.Requests.{ends_reply, has, has_only, is_failing, is_pr
 use Rattle.nbd_wire.specs.Rules.{IsRun, complete}
 use Rattle.nbd_wire.specs.States.{target}
 use Rattle.nbd_session.specs.CapturesRequests as captures
-use Rattle.nbd_session.specs.Explaining.{IsNo, IsYes}
-use Rattle.nbd_session.proofs.DecidingReads.{none_wrong, wrong}
+use Rattle.nbd_session.specs.Explaining.{IsYes}
+use Rattle.nbd_session.proofs.DecidingReads.{none_wrong}
 use Rattle.nbd_session.proofs.DecidingRuns.{is_run}
-use Rattle.nbd_session.proofs.Explaining.{counts_of, refused}
-use Rattle.nbd_session.proofs.Sessions.{broken, content, disconnect, done, fails, flagged, gives, gone, gone_with, greeted, hole, read, sends, structured, succeeds, trim, within, write, zero_out}
+use Rattle.nbd_session.proofs.Explaining.{counts_of}
+use Rattle.nbd_session.proofs.Sessions.{fails, flagged, gives, gone, gone_with, greeted, read, sends, succeeds, trim, write, zero_out}
 
 proper_requests_items : List Item
 proper_requests_items = sends (greeted ++ gone_with 2285 ++ flagged 1 commands.FLUSH 1 0 0 [] ∷ []) ++ Serves 1 ∷ sends (succeeds 1 ∷ flagged 1 commands.WRITE 2 0 1 (171 ∷ []) ∷ []) ++ Serves 2 ∷ sends (succeeds 2 ∷ flagged 19 commands.WRITE_ZEROES 3 1 1 [] ∷ []) ++ Serves 3 ∷ sends (succeeds 3 ∷ flagged 5 commands.READ 4 0 1 [] ∷ []) ++ Serves 4 ∷ sends (gives 4 (171 ∷ []) ∷ flagged 1 commands.CACHE 5 0 8 [] ∷ []) ++ Serves 5 ∷ sends (succeeds 5 ∷ flagged 1 commands.TRIM 6 7 1 [] ∷ []) ++ Serves 6 ∷ sends (succeeds 6 ∷ [])

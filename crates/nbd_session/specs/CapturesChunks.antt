@@ -1,6 +1,6 @@
 -- Captures of structured replies.
 use Rattle.std.specs.Prelude.{[], ◌∷◌, ◌++◌}
-use Rattle.nbd_session.specs.Captures.{Chunks, client, opening, opening_bare, opening_flags, opening_read_only, opening_structured, server}
+use Rattle.nbd_session.specs.Captures.{Chunks, client, opening_structured, server}
 
 -- a READ whose second half comes before its first, a hole
 abbrev pub structured_read : Chunks

@@ -1,6 +1,6 @@
 -- Captures of negotiation.
-use Rattle.std.specs.Prelude.{[], ◌∷◌, ◌++◌}
-use Rattle.nbd_session.specs.Captures.{Chunks, client, opening, opening_bare, opening_flags, opening_read_only, opening_structured, server}
+use Rattle.std.specs.Prelude.{[], ◌∷◌}
+use Rattle.nbd_session.specs.Captures.{Chunks, client, server}
 
 -- EXPORT_NAME of a client that did not take NO_ZEROES, and a READ
 abbrev pub padded_export : Chunks

@@ -1,6 +1,6 @@
 -- Captures of reads and writes.
 use Rattle.std.specs.Prelude.{[], ◌∷◌, ◌++◌}
-use Rattle.nbd_session.specs.Captures.{Chunks, client, opening, opening_bare, opening_flags, opening_read_only, opening_structured, server}
+use Rattle.nbd_session.specs.Captures.{Chunks, client, opening, server}
 
 -- a READ of four zeroes
 abbrev pub first_run : Chunks

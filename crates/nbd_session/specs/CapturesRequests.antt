@@ -1,6 +1,6 @@
 -- Captures of proper and improper requests.
 use Rattle.std.specs.Prelude.{[], ◌∷◌, ◌++◌}
-use Rattle.nbd_session.specs.Captures.{Chunks, client, opening, opening_bare, opening_flags, opening_read_only, opening_structured, server}
+use Rattle.nbd_session.specs.Captures.{Chunks, client, opening, opening_bare, opening_flags, opening_read_only, server}
 
 -- requests with every flag that the export allows
 abbrev pub proper_requests : Chunks

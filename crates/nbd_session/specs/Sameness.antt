@@ -1,6 +1,6 @@
 -- The bytes of a run determine all of it but the moments of service.
 use Rattle.std.specs.Prelude.{◌≡◌, List}
-use Rattle.nbd_wire.specs.Items.{Item, ArePairs, pairs, unserved}
+use Rattle.nbd_wire.specs.Items.{Item, pairs, unserved}
 use Rattle.nbd_wire.specs.Report.{report}
 use Rattle.nbd_wire.specs.Rules.{IsRun}
 
