@@ -34,3 +34,4 @@ pub mod WorkedRequests
 pub mod WorkedOptions
 pub mod WorkedRefusals
 pub mod Holding
+pub mod Ending

@@ -185,7 +185,7 @@ answers_found front m cookie k d c h n =
       },
     )
 
-in_transmission : (phase : Phase) (export : Exporting) → export_in phase ≡ Some export → phase ≡ Transmission export
+pub in_transmission : (phase : Phase) (export : Exporting) → export_in phase ≡ Some export → phase ≡ Transmission export
 in_transmission (Transmission export') export e = (let q : export' ≡ export = cc in ap Transmission q)
 in_transmission Greet export e = absurd (cc)
 in_transmission Flags export e = absurd (cc)

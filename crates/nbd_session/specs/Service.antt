@@ -8,8 +8,9 @@ use Rattle.nbd_wire.specs.Explains.{Explained, Start}
 use Rattle.nbd_wire.specs.Report.{entries_of, export_of}
 use Rattle.nbd_wire.specs.Items.{Item, Completes, Starts, Serves, served}
 use Rattle.nbd_wire.specs.Requests.{Entry, Exporting, is_finished}
-use Rattle.nbd_wire.specs.Rules.{IsRun, cookie_of}
-use Rattle.nbd_wire.specs.States.{Names, entry}
+use Rattle.nbd_wire.specs.Rules.{IsRun, answered_by, cookie_of, ends_at}
+use Rattle.nbd_wire.specs.States.{Names, entry, start}
+use Rattle.nbd_session.specs.Fronts.{ended}
 
 -- request k is outstanding behind these items
 pub record IsOutstanding (front : List Item) (k : ℕ) (e : Entry) : Type 0 where
@@ -52,3 +53,9 @@ DisconnectsAreEmpty = (front back : List Item) (flags cookie offset len : ℕ) (
 abbrev pub NothingBehindDisconnect : Type 0
 NothingBehindDisconnect = (front middle back : List Item) (flags cookie offset len : ℕ) (payload : List ℕ) (m : Message) →
     IsRun (front ++ Completes Client (Request flags commands.DISC cookie offset len payload) ∷ (middle ++ Starts Client m ∷ back)) → ⊥
+
+-- the reply that completes next is the one that started, and it still answers the same request
+abbrev pub RepliesEndAsTheyStart : Type 0
+RepliesEndAsTheyStart = (front middle back : List Item) (m n : Message) (export : Exporting) →
+    IsRun (front ++ Starts Server m ∷ (middle ++ Completes Server n ∷ back)) → export_of front ≡ Some export → ended Server middle ≡ [] →
+    (n ≡ m) × (answered_by (ends_at start (front ++ Starts Server m ∷ middle)).core m ≡ answered_by (ends_at start front).core m)

@@ -6,7 +6,7 @@ ghost use Rattle.nbd_session.specs.Moments.{LatestMoments, OrdersAreFaultless};
 ghost use Rattle.nbd_session.specs.Negotiating.{AnswersFollowChoices, HandshakesAreFair};
 ghost use Rattle.nbd_session.specs.Replying.{RepliesAreWhole};
 ghost use Rattle.nbd_session.specs.Sameness.{SameMarks, SameReports, ReportsIgnoreService};
-ghost use Rattle.nbd_session.specs.Service.{CookiesAreDistinct, DisconnectsAreEmpty, EachReplyAnswersOne, EmptyIsExplained, NothingBehindDisconnect, ServedOnceBehindCompletion};
+ghost use Rattle.nbd_session.specs.Service.{CookiesAreDistinct, DisconnectsAreEmpty, EachReplyAnswersOne, EmptyIsExplained, NothingBehindDisconnect, RepliesEndAsTheyStart, ServedOnceBehindCompletion};
 ghost use Rattle.nbd_session.specs.Explaining.{PassingIsExplained, ExplainedPasses};
 
 /// A run with given bytes and a given order of service exists exactly where a run with these bytes
@@ -123,4 +123,10 @@ pub fn cuts_do_not_count()
 /// What a session holds gives back each side's bytes: its messages' encodings and what came behind them.
 pub fn pushed_holds_each_side()
     ensures { PushedHoldsEachSide }
+{}
+
+/// The server's message that completes next is the one that started, and it still answers the same
+/// request.
+pub fn replies_end_as_they_start()
+    ensures { RepliesEndAsTheyStart }
 {}
