@@ -138,12 +138,12 @@ by_front {m} {n} {m'} {n'} {left} p q front sn sn' e =
     (p ∙ r.0 ∙ sym q, r.1)
 
 -- what may complete in a phase of the negotiation
-greet_row : (core : Core) (m : Message) → MayComplete core Greet m → (flags : ℕ) × (m ≡ Greeting flags)
+pub greet_row : (core : Core) (m : Message) → MayComplete core Greet m → (flags : ℕ) × (m ≡ Greeting flags)
 unfolding MayComplete
 greet_row core (Greeting flags) ok = (flags, refl)
 greet_row core m ok = absurd ok
 
-flags_row : (core : Core) (m : Message) → MayComplete core Flags m → (flags : ℕ) × (m ≡ ClientFlags flags)
+pub flags_row : (core : Core) (m : Message) → MayComplete core Flags m → (flags : ℕ) × (m ≡ ClientFlags flags)
 unfolding MayComplete
 flags_row core (ClientFlags flags) ok = (flags, refl)
 flags_row core m ok = absurd ok

@@ -18,7 +18,15 @@ pub mod Told
 pub mod Explaining
 pub mod Deciding
 pub mod Sessions
-pub mod Worked
 pub mod Reached
 pub mod Laid
 pub mod Soundness
+pub mod Disconnected
+pub mod Replying
+pub mod Negotiating
+pub mod WorkedReads
+pub mod WorkedChunks
+pub mod WorkedRequests
+pub mod WorkedOptions
+pub mod WorkedRefusals
+pub mod Holding

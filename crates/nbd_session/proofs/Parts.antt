@@ -3,13 +3,14 @@ use Rattle.std.proofs.Common.{◌≡◌, ℕ, ◌⊎◌, ◌+◌, ◌<◌, List,
 use Rattle.nbd_wire.specs.declared.message.Side.{Side}
 use Rattle.nbd_wire.specs.declared.message.Side.TheVariants.{Client, Server}
 use Rattle.nbd_wire.specs.declared.message.Message.{Message}
+use Rattle.nbd_wire.specs.Encoding.{enc}
 use Rattle.nbd_wire.specs.Items.{Item, Byte, Starts, Completes, Serves, served}
 use Rattle.nbd_wire.specs.Rules.{Obeys, after, complete, ends_at}
 use Rattle.nbd_wire.specs.States.{Core, State, start}
 use Rattle.nbd_session.proofs.Machine.{Both, get, put, get-put_same, get-put_other, same_or_not, Open, Idle, Busy, Loose, IsNotBusy, Walk, ended, serving, opening, middle, final, loose}
 use Rattle.nbd_session.proofs.Blocks.{Idles}
 use Rattle.nbd_session.proofs.Runs.{run_of, walk_of}
-use Rattle.nbd_session.specs.Fronts.{FrontsAreRuns, HasNoneOpen, started}
+use Rattle.nbd_session.specs.Fronts.{CompletionsStandBehindBytes, FrontsAreRuns, HasNoneOpen, StartsStandBeforeBytes, started}
 use Rattle.nbd_session.specs.Fronts as fronts
 
 pub obeys_front : (state : State) (front back : List Item) → Obeys state (front ++ back) → Obeys state front
@@ -139,3 +140,55 @@ fronts_are_runs front back run none =
     even : IsEven Idles front
     even Client = zero-add (length (started Client front)) ∙ ap length (none Client)
     even Server = zero-add (length (started Server front)) ∙ ap length (none Server)
+
+-- what stands behind the start of a message
+start_at : {o : Both Open} {items : List Item} → Walk ⊥ o items → (front back : List Item) (s : Side) (m : Message) → items ≡ front ++ Starts s m ∷ back →
+    (b : ℕ) × (left : List ℕ) × (rest : List Item) × (back ≡ Byte s b ∷ rest) × (enc m ≡ b ∷ left)
+start_at (ended c d) [] back s m e = absurd (cc)
+start_at (ended c d) (x ∷ front) back s m e = absurd (cc)
+start_at (serving k w) [] back s m e = absurd (cc)
+start_at (serving k w) (x ∷ front) back s m e = start_at w front back s m (cc)
+start_at (opening t n b left {items = items} i f g w) [] back s m e =
+    let q : t ≡ s = cc in
+    let p : n ≡ m = cc in
+    let r : Byte t b ∷ items ≡ back = cc in
+    (b, left, items, sym r ∙ ap (λ u. Byte u b ∷ items) q, ap enc (sym p) ∙ f)
+start_at (opening t n b left i f g w) (x ∷ []) back s m e = absurd (cc)
+start_at (opening t n b left i f g w) (x ∷ y ∷ front) back s m e = start_at w front back s m (cc)
+start_at (middle t n b left i f w) [] back s m e = absurd (cc)
+start_at (middle t n b left i f w) (x ∷ front) back s m e = start_at w front back s m (cc)
+start_at (final t n b i w) [] back s m e = absurd (cc)
+start_at (final t n b i w) (x ∷ []) back s m e = absurd (cc)
+start_at (final t n b i w) (x ∷ y ∷ front) back s m e = start_at w front back s m (cc)
+start_at (loose t b p i w) front back s m e = absurd p
+
+pub starts_stand_before_bytes : StartsStandBeforeBytes
+starts_stand_before_bytes front back s m run = start_at (walk_of run) front back s m refl
+
+-- what stands before the completion of a message
+abbrev EndsWithByte : Side → List Item → Type 0
+EndsWithByte s front = (first : List Item) × (b : ℕ) × (front ≡ first ++ Byte s b ∷ [])
+
+behind : (s : Side) (x : Item) (front : List Item) → EndsWithByte s front → EndsWithByte s (x ∷ front)
+behind s x front e = (x ∷ e.0, e.1, ap (λ l. x ∷ l) e.2)
+
+completion_at : {o : Both Open} {items : List Item} → Walk ⊥ o items → (front back : List Item) (s : Side) (m : Message) → items ≡ front ++ Completes s m ∷ back → EndsWithByte s front
+completion_at (ended c d) [] back s m e = absurd (cc)
+completion_at (ended c d) (x ∷ front) back s m e = absurd (cc)
+completion_at (serving k w) [] back s m e = absurd (cc)
+completion_at (serving k w) (x ∷ front) back s m e = behind s x front (completion_at w front back s m (cc))
+completion_at (opening t n b left i f g w) [] back s m e = absurd (cc)
+completion_at (opening t n b left i f g w) (x ∷ []) back s m e = absurd (cc)
+completion_at (opening t n b left i f g w) (x ∷ y ∷ front) back s m e = behind s x (y ∷ front) (behind s y front (completion_at w front back s m (cc)))
+completion_at (middle t n b left i f w) [] back s m e = absurd (cc)
+completion_at (middle t n b left i f w) (x ∷ front) back s m e = behind s x front (completion_at w front back s m (cc))
+completion_at (final t n b i w) [] back s m e = absurd (cc)
+completion_at (final t n b i w) (x ∷ []) back s m e =
+    let q : Byte t b ≡ x = cc in
+    let p : t ≡ s = cc in
+    ([], b, ap (λ y. y ∷ []) (sym q ∙ ap (λ u. Byte u b) p))
+completion_at (final t n b i w) (x ∷ y ∷ front) back s m e = behind s x (y ∷ front) (behind s y front (completion_at w front back s m (cc)))
+completion_at (loose t b p i w) front back s m e = absurd p
+
+pub completions_stand_behind_bytes : CompletionsStandBehindBytes
+completions_stand_behind_bytes front back s m run = completion_at (walk_of run) front back s m refl

@@ -34,4 +34,4 @@ reached {P} {o} (loose s b p i w) core f h r = reached w core f (each_with IsSen
 pub run_reaches : (items : List Item) → IsRun items → IsReached (ends_at start items).core
 run_reaches items run =
     subst IsReached (core_end-ends_at start.core [] items)
-        (reached (walk_of run) start.core (follows items start run.obeys) (elim [ Client ↦ tt | Server ↦ tt ]) at_start)
+    (reached (walk_of run) start.core (follows items start run.obeys) (elim [ Client ↦ tt | Server ↦ tt ]) at_start)

@@ -24,6 +24,10 @@ trim cookie offset len = Request 0 commands.TRIM cookie offset len []
 abbrev pub zero_out : (cookie offset len : ℕ) → Message
 zero_out cookie offset len = Request 0 commands.WRITE_ZEROES cookie offset len []
 
+-- a request with flags
+abbrev pub flagged : (flags command cookie offset len : ℕ) (bytes : List ℕ) → Message
+flagged flags command cookie offset len bytes = Request flags command cookie offset len bytes
+
 abbrev pub disconnect : Message
 disconnect = Request 0 commands.DISC 9 0 0 []
 
@@ -76,9 +80,12 @@ greeted = Greeting 3 ∷ ClientFlags 3 ∷ []
 abbrev pub structured : List Message
 structured = Choice options.STRUCTURED_REPLY [] ∷ Answer options.STRUCTURED_REPLY answers.ACK [] ∷ []
 
-abbrev pub gone : List Message
-gone =
+abbrev pub gone_with : ℕ → List Message
+gone_with flags =
     Choice options.GO (big_bytes 6 0)
-    ∷ Answer options.GO answers.INFO (big_bytes 2 0 ++ big_bytes 8 8 ++ big_bytes 2 109)
+    ∷ Answer options.GO answers.INFO (big_bytes 2 0 ++ big_bytes 8 8 ++ big_bytes 2 flags)
     ∷ Answer options.GO answers.ACK []
     ∷ []
+
+abbrev pub gone : List Message
+gone = gone_with 109

@@ -3,6 +3,7 @@ use Rattle.std.proofs.Common.{◌≡◌, ℕ, zero, suc, ◌<◌, ◌≤◌, ◌
 use Rattle.std.proofs.lemmas.Bool.{leb-true, ltb-true}
 use Rattle.nbd_wire.specs.declared.answers.TheConstants as answers
 use Rattle.nbd_wire.specs.declared.chunks.TheConstants as chunks
+use Rattle.nbd_wire.specs.declared.command_flags.TheConstants as command_flags
 use Rattle.nbd_wire.specs.declared.commands.TheConstants as commands
 use Rattle.nbd_wire.specs.declared.limits.TheConstants.{EXPORT_SIZE}
 use Rattle.nbd_wire.specs.declared.options.TheConstants as options
@@ -41,6 +42,7 @@ pub record IsGood (export : Exporting) (e : Entry) : Type 0 where
   pub inside : AreInside e.offset e.length (pieces e)
   pub apart : AreApart (pieces e)
   pub reads : (e.command ≡ commands.READ → ⊥) → pieces e ≡ []
+  pub single : IsTrue (is_proper export e) → IsTrue (has e.flags command_flags.DF) → length (pieces e) ≤ 1
   pub success : outcome e ≡ Success → IsTrue (is_proper export e)
   pub covered : outcome e ≡ Success → e.command ≡ commands.READ → Covers e (pieces e)
 
@@ -93,8 +95,8 @@ failure_kind : (kind : ℕ) (bytes : List ℕ) (f : Failure) → failure_of kind
 unfolding failure_of
 failure_kind kind bytes f e =
     pick (number_at 0 4 bytes == 0) ((kind == chunks.ERROR) && nat_le (6 + number_at 4 2 bytes) (length bytes)) ((kind == chunks.ERROR_OFFSET) && nat_le (14 + number_at 4 2 bytes) (length bytes)) _ _
-        (λ h. eqb-true kind chunks.ERROR (both_true (kind == chunks.ERROR) (nat_le (6 + number_at 4 2 bytes) (length bytes)) h).0)
-        (λ h. eqb-true kind chunks.ERROR_OFFSET (both_true (kind == chunks.ERROR_OFFSET) (nat_le (14 + number_at 4 2 bytes) (length bytes)) h).0) e
+    (λ h. eqb-true kind chunks.ERROR (both_true (kind == chunks.ERROR) (nat_le (6 + number_at 4 2 bytes) (length bytes)) h).0)
+    (λ h. eqb-true kind chunks.ERROR_OFFSET (both_true (kind == chunks.ERROR_OFFSET) (nat_le (14 + number_at 4 2 bytes) (length bytes)) h).0) e
   where
     pick : (z a b : Bool) (x y : Failure) → (a ≡ true → kind ≡ chunks.ERROR) → (b ≡ true → kind ≡ chunks.ERROR_OFFSET) →
         (if z then None else if a then Some x else if b then Some y else None) ≡ Some f → (kind ≡ chunks.ERROR) ⊎ (kind ≡ chunks.ERROR_OFFSET)
@@ -107,8 +109,9 @@ failure_kind kind bytes f e =
 no_content : (kind : ℕ) (bytes : List ℕ) (f : Failure) → failure_of kind bytes ≡ Some f → content_of kind bytes ≡ None
 unfolding content_of
 no_content kind bytes f e = elim (failure_kind kind bytes f e) [
-    inl q ↦ subst (λ k. content_of k bytes ≡ None) (sym q) refl
-    | inr q ↦ subst (λ k. content_of k bytes ≡ None) (sym q) refl ]
+  | inl q ↦ subst (λ k. content_of k bytes ≡ None) (sym q) refl
+  | inr q ↦ subst (λ k. content_of k bytes ≡ None) (sym q) refl
+]
 
 none_content : (kind : ℕ) (bytes : List ℕ) → kind ≡ chunks.NONE → content_of kind bytes ≡ None
 unfolding content_of
@@ -127,40 +130,49 @@ unfolding piece_of
 one_piece e flags kind cookie payload piece q = pieces-with_reply e (Chunk flags kind cookie payload) ∙ ap (λ o. pieces e ++ chunk_piece o) q
 
 -- what a request with one more reply keeps
-record Keeps (e : Entry) (ps : List Piece) : Type 0 where
+record Keeps (export : Exporting) (e : Entry) (ps : List Piece) : Type 0 where
   inside : AreInside e.offset e.length ps
   apart : AreApart ps
   reads : (e.command ≡ commands.READ → ⊥) → ps ≡ []
+  single : IsTrue (is_proper export e) → IsTrue (has e.flags command_flags.DF) → length ps ≤ 1
 
-kept_chunk : (export : Exporting) (e : Entry) (flags kind cookie : ℕ) (payload : List ℕ) → IsGood export e → IsChunk export e flags kind payload → Keeps e (pieces (with_reply e (Chunk flags kind cookie payload)))
+and_both : {a b : Bool} → IsTrue a → IsTrue b → IsTrue (a && b)
+and_both {a} {b} p q = ap (λ x. x && b) p ∙ q
+
+kept_chunk : (export : Exporting) (e : Entry) (flags kind cookie : ℕ) (payload : List ℕ) → IsGood export e → IsChunk export e flags kind payload → Keeps export e (pieces (with_reply e (Chunk flags kind cookie payload)))
 kept_chunk export e flags kind cookie payload g h = elim h [
-    inl q ↦ same (no_piece e flags kind cookie payload (none_content kind payload q.0))
-    | inr r ↦ elim r [
-        inl (piece, is, fit) ↦ (let s : pieces e ++ piece ∷ [] ≡ pieces (with_reply e (Chunk flags kind cookie payload)) = sym (one_piece e flags kind cookie payload piece is) in
-            subst (Keeps e) s (record {
-                inside = inside_snoc e.offset e.length (pieces e) piece g.inside fit.1 fit.2;
-                apart = apart_snoc (pieces e) piece g.apart fit.3;
-                reads = λ n. absurd (n fit.0) }))
-        | inr (f, is, x) ↦ same (no_piece e flags kind cookie payload (no_content kind payload f is)) ] ]
+  | inl q ↦ same (no_piece e flags kind cookie payload (none_content kind payload q.0))
+  | inr r ↦ elim r [
+    | inl (piece, is, fit) ↦ (let s : pieces e ++ piece ∷ [] ≡ pieces (with_reply e (Chunk flags kind cookie payload)) = sym (one_piece e flags kind cookie payload piece is) in
+        subst (Keeps export e) s (record {
+          inside = inside_snoc e.offset e.length (pieces e) piece g.inside fit.1 fit.2;
+          apart = apart_snoc (pieces e) piece g.apart fit.3;
+          reads = λ n. absurd (n fit.0);
+          single = λ p d. subst (λ l. length (l ++ piece ∷ []) ≤ 1) (sym (fit.4 (and_both p d))) (le_refl 1);
+        }))
+    | inr (f, is, x) ↦ same (no_piece e flags kind cookie payload (no_content kind payload f is))
+  ]
+]
   where
-    same : pieces (with_reply e (Chunk flags kind cookie payload)) ≡ pieces e → Keeps e (pieces (with_reply e (Chunk flags kind cookie payload)))
-    same s = subst (Keeps e) (sym s) (record { inside = g.inside; apart = g.apart; reads = g.reads })
+    same : pieces (with_reply e (Chunk flags kind cookie payload)) ≡ pieces e → Keeps export e (pieces (with_reply e (Chunk flags kind cookie payload)))
+    same s = subst (Keeps export e) (sym s) (record { inside = g.inside; apart = g.apart; reads = g.reads; single = g.single })
 
 -- a chunk
 good_chunk : (structured : Bool) (export : Exporting) (e : Entry) (flags kind cookie : ℕ) (payload : List ℕ) → IsGood export e → is_finished e ≡ false → MayReply structured export e (Chunk flags kind cookie payload) →
     IsGood export (with_reply e (Chunk flags kind cookie payload))
-unfolding MayReply ends_reply
+unfolding MayReply ends_reply is_proper
 good_chunk structured export e flags kind cookie payload g unfinished h =
-    let k : Keeps e (pieces (with_reply e (Chunk flags kind cookie payload))) = kept_chunk export e flags kind cookie payload g h.1 in
-    record { carried = g.carried; inside = k.inside; apart = k.apart; reads = k.reads; success = λ s. (finish s).0; covered = λ s. (finish s).1 }
+    let k : Keeps export e (pieces (with_reply e (Chunk flags kind cookie payload))) = kept_chunk export e flags kind cookie payload g h.1 in
+    record { carried = g.carried; inside = k.inside; apart = k.apart; reads = k.reads; single = k.single; success = λ s. (finish s).0; covered = λ s. (finish s).1 }
   where
     finish : outcome (with_reply e (Chunk flags kind cookie payload)) ≡ Success →
         IsTrue (is_proper export (with_reply e (Chunk flags kind cookie payload))) × (e.command ≡ commands.READ → Covers e (pieces (with_reply e (Chunk flags kind cookie payload))))
     finish s =
         let w : Succeeds (with_reply e (Chunk flags kind cookie payload)) = succeeds (with_reply e (Chunk flags kind cookie payload)) s in
         elim (h.2 (any-last ends_reply e.replies (Chunk flags kind cookie payload) unfinished w.finished)) [
-            inl f ↦ absurd (let q : true ≡ false = sym f ∙ w.unfailed in (cc))
-            | inr r ↦ r ]
+          | inl f ↦ absurd (let q : true ≡ false = sym f ∙ w.unfailed in (cc))
+          | inr r ↦ r
+        ]
 
 -- a request with one simple reply
 abbrev once : Entry → (error cookie : ℕ) (payload : List ℕ) → Entry
@@ -191,11 +203,14 @@ simple_none e error n = go (e.command == commands.READ) refl
 simple_all : (e : Entry) (error : ℕ) → e.command ≡ commands.READ → error ≡ 0 → simple_length e error ≡ e.length
 simple_all e error c z = ap (λ b. if b && (error == 0) then e.length else 0) (eq-eqb e.command commands.READ c) ∙ ap (λ b. if true && b then e.length else 0) (eq-eqb error 0 z)
 
-simple_keeps : (e : Entry) (payload : List ℕ) → length payload ≤ e.length → ((e.command ≡ commands.READ → ⊥) → length payload ≡ 0) → Keeps e (simple_piece e.offset payload ++ [])
-simple_keeps e [] l r = record { inside = tt; apart = tt; reads = λ n. refl }
-simple_keeps e (b ∷ bytes) l r = record {
-    inside = ((omega arith, omega (arith, l)), tt); apart = ((λ x h. refl), tt);
-    reads = λ n. (let z : length (b ∷ bytes) ≡ 0 = r n in absurd (omega arith)) }
+simple_keeps : (export : Exporting) (e : Entry) (payload : List ℕ) → length payload ≤ e.length → ((e.command ≡ commands.READ → ⊥) → length payload ≡ 0) → Keeps export e (simple_piece e.offset payload ++ [])
+simple_keeps export e [] l r = record { inside = tt; apart = tt; reads = λ n. refl; single = λ p d. omega arith }
+simple_keeps export e (b ∷ bytes) l r = record {
+  inside = ((omega arith, omega (arith, l)), tt);
+  apart = ((λ x h. refl), tt);
+  reads = λ n. (let z : length (b ∷ bytes) ≡ 0 = r n in absurd (omega arith));
+  single = λ p d. le_refl 1;
+}
 
 simple_covers : (e : Entry) (payload : List ℕ) → length payload ≡ e.length → Covers e (simple_piece e.offset payload ++ [])
 simple_covers e [] l x i =
@@ -212,21 +227,32 @@ simple_covers e (b ∷ bytes) l x i = go (holds (Bytes e.offset (b ∷ bytes)) x
 good_simple : (structured : Bool) (export : Exporting) (e : Entry) (error cookie : ℕ) (payload : List ℕ) → IsGood export e → MayReply structured export e (Simple error cookie payload) → IsGood export (with_reply e (Simple error cookie payload))
 unfolding MayReply piece_of is_proper
 good_simple structured export e error cookie payload g h =
-    let k : Keeps e (simple_piece e.offset payload ++ []) = simple_keeps e payload
-        (let m : simple_length e error ≤ e.length = simple_most e error in let q : length payload ≡ simple_length e error = h.2 in omega arith)
-        (λ n. h.2 ∙ simple_none e error n) in
+    let k : Keeps export e (simple_piece e.offset payload ++ []) = simple_keeps export e payload
+    (let m : simple_length e error ≤ e.length = simple_most e error in let q : length payload ≡ simple_length e error = h.2 in omega arith)
+    (λ n. h.2 ∙ simple_none e error n) in
     let good : IsGood export (once e error cookie payload) = record {
-        carried = g.carried; inside = k.inside; apart = k.apart; reads = k.reads;
-        success = λ s. h.3 (no_error e error cookie payload s);
-        covered = λ s c. simple_covers e payload (h.2 ∙ simple_all e error c (no_error e error cookie payload s)) } in
+      carried = g.carried;
+      inside = k.inside;
+      apart = k.apart;
+      reads = k.reads;
+      single = k.single;
+      success = λ s. h.3 (no_error e error cookie payload s);
+      covered = λ s c. simple_covers e payload (h.2 ∙ simple_all e error c (no_error e error cookie payload s));
+    } in
     subst (λ rs. IsGood export (record e { replies = rs ++ Simple error cookie payload ∷ [] })) (sym h.0) good
 
 good_new : (export : Exporting) (flags command cookie offset len : ℕ) (payload : List ℕ) → IsSendable (Request flags command cookie offset len payload) →
     IsGood export (record { flags = flags; command = command; cookie = cookie; offset = offset; length = len; payload = payload; replies = [] })
 unfolding IsSendable
 good_new export flags command cookie offset len payload sn = record {
-    carried = λ c. sn.5 ∙ ap (λ b. if b then len else 0) (eq-eqb command commands.WRITE c);
-    inside = tt; apart = tt; reads = λ n. refl; success = λ s. absurd (cc); covered = λ s. absurd (cc) }
+  carried = λ c. sn.5 ∙ ap (λ b. if b then len else 0) (eq-eqb command commands.WRITE c);
+  inside = tt;
+  apart = tt;
+  reads = λ n. refl;
+  single = λ p d. omega arith;
+  success = λ s. absurd (cc);
+  covered = λ s. absurd (cc);
+}
 
 -- what a phase says of its requests
 abbrev pub InPhase : Phase → List Entry → Type 0
@@ -239,7 +265,7 @@ good_reply_to core export cookie m (Some j) g k e q is r = (let s : k ≡ j = cc
 good_reply_to core export cookie m None g k e q is r = absurd (cc)
 
 -- the request that a reply answers is not finished
-open_target : (core : Core) (cookie k : ℕ) (e : Entry) → target cookie core.entries ≡ Some k → entry k core.entries ≡ Some e → is_finished e ≡ false
+pub open_target : (core : Core) (cookie k : ℕ) (e : Entry) → target cookie core.entries ≡ Some k → entry k core.entries ≡ Some e → is_finished e ≡ false
 open_target core cookie k e t is =
     let f : IsFound cookie k core.entries = find cookie core.entries k t in
     let s : f.found ≡ e = (let q : Some f.found ≡ Some e = sym f.numbered ∙ is in cc) in
@@ -256,7 +282,7 @@ good_transmitted core export m (replies error cookie p (k, e, found, is, h)) sn 
     good_reply_to core export cookie (Simple error cookie p) (target cookie core.entries) g k e found is (good_simple core.structured export e error cookie p (good_entry export k core.entries e g is) h)
 good_transmitted core export m (gives flags kind cookie p (k, e, found, is, h)) sn g =
     good_reply_to core export cookie (Chunk flags kind cookie p) (target cookie core.entries) g k e found is
-        (good_chunk core.structured export e flags kind cookie p (good_entry export k core.entries e g is) (open_target core cookie k e found is) h)
+    (good_chunk core.structured export e flags kind cookie p (good_entry export k core.entries e g is) (open_target core cookie k e found is) h)
 
 -- behind an answer to an option
 module _ (asked : ℕ) (asked_with : List ℕ) (info : Option Exporting) (es : List Entry) (g : InPhase (Answering asked asked_with info) es) where
@@ -274,12 +300,15 @@ module _ (asked : ℕ) (asked_with : List ℕ) (info : Option Exporting) (es : L
     where
       limit : (export : Exporting) → info ≡ Some export → asked ≡ options.GO → export.size ≤ EXPORT_SIZE
       limit export q go_on = elim ok [
-          inl l ↦ absurd (omega arith)
+        | inl l ↦ absurd (omega arith)
+        | inr r ↦ elim r [
+          | inl l ↦ absurd (omega arith)
           | inr r ↦ elim r [
-              inl l ↦ absurd (omega arith)
-              | inr r ↦ elim r [
-                  inl l ↦ (let x : asked ≡ options.INFO = l.0 in absurd (omega arith))
-                  | inr l ↦ (let same : l.1.0 ≡ export = (let w : Some l.1.0 ≡ Some export = sym l.1.1 ∙ q in cc) in subst (λ (x : Exporting). x.size ≤ EXPORT_SIZE) same l.1.2) ] ] ]
+            | inl l ↦ (let x : asked ≡ options.INFO = l.0 in absurd (omega arith))
+            | inr l ↦ (let same : l.1.0 ≡ export = (let w : Some l.1.0 ≡ Some export = sym l.1.1 ∙ q in cc) in subst (λ (x : Exporting). x.size ≤ EXPORT_SIZE) same l.1.2)
+          ]
+        ]
+      ]
 
       go : (o : Option Exporting) → info ≡ o → InPhase (acknowledged asked o) es
       go None q = g.0
@@ -298,12 +327,15 @@ module _ (asked : ℕ) (asked_with : List ℕ) (info : Option Exporting) (es : L
   answered_in : (kind : ℕ) (p : List ℕ) → MayAnswer asked asked_with info kind p → phase_by kind p
   unfolding has
   answered_in kind p ok = elim ok [
-      inl e ↦ subst (λ b. InPhase (if b then Choosing else rest_of kind p) es) (sym e) g.0
+    | inl e ↦ subst (λ b. InPhase (if b then Choosing else rest_of kind p) es) (sym e) g.0
+    | inr ok ↦ elim ok [
+      | inl a ↦ subst (λ k. phase_by k p) (sym a.1) (acknowledged_in a.3)
       | inr ok ↦ elim ok [
-          inl a ↦ subst (λ k. phase_by k p) (sym a.1) (acknowledged_in a.3)
-          | inr ok ↦ elim ok [
-              inl a ↦ subst (λ k. phase_by k p) (sym a.1) g
-              | inr a ↦ subst (λ k. phase_by k p) (sym a.1) (g.0, informed (info_of p) (told_info p a.3)) ] ] ]
+        | inl a ↦ subst (λ k. phase_by k p) (sym a.1) g
+        | inr a ↦ subst (λ k. phase_by k p) (sym a.1) (g.0, informed (info_of p) (told_info p a.3))
+      ]
+    ]
+  ]
 
 -- the phase behind a chosen option
 chosen_in : (id : ℕ) (p : List ℕ) (es : List Entry) → es ≡ [] → InPhase (chosen id p) es
@@ -379,9 +411,10 @@ reports_are_sound items run = go (ends_at start items).core.phase refl (sound (r
 
     no_requests : entries_of items ≡ [] → export_of items ≡ None → IsSoundReport (report items)
     no_requests e x = record {
-        limit = λ export q. absurd (let r : None ≡ Some export = sym x ∙ q in (cc));
-        none = λ q. asked_none (entries_of items) e;
-        each = λ export k a q. absurd (let r : None ≡ Some export = sym x ∙ q in (cc)) }
+      limit = λ export q. absurd (let r : None ≡ Some export = sym x ∙ q in (cc));
+      none = λ q. asked_none (entries_of items) e;
+      each = λ export k a q. absurd (let r : None ≡ Some export = sym x ∙ q in (cc));
+    }
       where
         asked_none : (es : List Entry) → es ≡ [] → told_from 0 (export_of items) (known items) es ≡ []
         asked_none [] e = refl
@@ -389,22 +422,28 @@ reports_are_sound items run = go (ends_at start items).core.phase refl (sound (r
 
     one : (export : Exporting) (k : ℕ) (e : Entry) (a : Asked) → export_of items ≡ Some export → IsGood export e → told (export_of items) (known items k) e ≡ a → IsSoundAsked export.size (length (report items).asked) k a
     one export k e a x g q = subst (λ (a : Asked). IsSoundAsked export.size (length (report items).asked) k a) (ap (λ o. told o (known items k) e) (sym x) ∙ q) (record {
-        known = λ n h. (let b : (k ≤ n) × (n ≤ length (core_end start.core items).entries) = known_between start.core items k n h in (b.0, subst (λ c. n ≤ c) count b.1));
-        carried = g.carried; success = g.success; inside = λ p r. proper_range export e p r; reads = g.reads;
-        laid = are_laid e.offset e.length (pieces e) g.inside g.apart;
-        covered = λ c s. g.covered s c })
+      known = λ n h. (let b : (k ≤ n) × (n ≤ length (core_end start.core items).entries) = known_between start.core items k n h in (b.0, subst (λ c. n ≤ c) count b.1));
+      carried = g.carried;
+      success = g.success;
+      inside = λ p r. proper_range export e p r;
+      reads = g.reads;
+      single = g.single;
+      laid = are_laid e.offset e.length (pieces e) g.inside g.apart;
+      covered = λ c s. g.covered s c;
+    })
 
     go : (phase : Phase) → (ends_at start items).core.phase ≡ phase → InPhase (ends_at start items).core.phase (entries_of items) → IsSoundReport (report items)
     go (Transmission export) q h =
         let x : export_of items ≡ Some export = ap export_in q in
         let i : InPhase (Transmission export) (entries_of items) = subst (λ phase. InPhase phase (entries_of items)) q h in
         record {
-            limit = λ export' y. (let same : export ≡ export' = (let w : Some export ≡ Some export' = sym x ∙ y in cc) in
-                subst (λ (e : Exporting). (e.size ≤ EXPORT_SIZE) × IsTrue (has e.flags transmission.HAS_FLAGS)) same (i.0, i.1));
-            none = λ y. absurd (let w : Some export ≡ None = sym x ∙ y in (cc));
-            each = λ export' k a y at. (let same : export ≡ export' = (let w : Some export ≡ Some export' = sym x ∙ y in cc) in
-                subst (λ (e : Exporting). IsSoundAsked e.size (length (report items).asked) k a) same
-                    (numbered export k a x i.2 (entry k (entries_of items)) refl (sym (asked-report items k) ∙ at))) }
+          limit = λ export' y. (let same : export ≡ export' = (let w : Some export ≡ Some export' = sym x ∙ y in cc) in
+              subst (λ (e : Exporting). (e.size ≤ EXPORT_SIZE) × IsTrue (has e.flags transmission.HAS_FLAGS)) same (i.0, i.1));
+          none = λ y. absurd (let w : Some export ≡ None = sym x ∙ y in (cc));
+          each = λ export' k a y at. (let same : export ≡ export' = (let w : Some export ≡ Some export' = sym x ∙ y in cc) in
+              subst (λ (e : Exporting). IsSoundAsked e.size (length (report items).asked) k a) same
+              (numbered export k a x i.2 (entry k (entries_of items)) refl (sym (asked-report items k) ∙ at)));
+        }
       where
         numbered : (export : Exporting) (k : ℕ) (a : Asked) → export_of items ≡ Some export → AreGood export (entries_of items) → (o : Option Entry) → entry k (entries_of items) ≡ o → told_if (export_of items) (known items k) o ≡ Some a →
             IsSoundAsked export.size (length (report items).asked) k a

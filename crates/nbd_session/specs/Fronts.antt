@@ -38,3 +38,13 @@ HasNoneOpen items = (s : Side) → started s items ≡ ended s items
 -- a front of a run at which no message is open is a run
 abbrev pub FrontsAreRuns : Type 0
 FrontsAreRuns = (front back : List Item) → IsRun (front ++ back) → HasNoneOpen front → IsRun front
+
+-- a message starts directly before its first byte
+abbrev pub StartsStandBeforeBytes : Type 0
+StartsStandBeforeBytes = (front back : List Item) (s : Side) (m : Message) → IsRun (front ++ Starts s m ∷ back) →
+    (b : ℕ) × (left : List ℕ) × (rest : List Item) × (back ≡ Byte s b ∷ rest) × (enc m ≡ b ∷ left)
+
+-- a message completes directly behind a byte of its side
+abbrev pub CompletionsStandBehindBytes : Type 0
+CompletionsStandBehindBytes = (front back : List Item) (s : Side) (m : Message) → IsRun (front ++ Completes s m ∷ back) →
+    (first : List Item) × (b : ℕ) × (front ≡ first ++ Byte s b ∷ [])

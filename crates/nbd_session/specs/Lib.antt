@@ -3,5 +3,12 @@ pub mod Moments
 pub mod Sameness
 pub mod Service
 pub mod Explaining
-pub mod Captures
 pub mod Soundness
+pub mod Negotiating
+pub mod Replying
+pub mod Captures
+pub mod CapturesReads
+pub mod CapturesChunks
+pub mod CapturesRequests
+pub mod CapturesOptions
+pub mod Holding

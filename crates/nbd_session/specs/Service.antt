@@ -1,10 +1,12 @@
 -- What a run says of its requests at a moment: behind its first items, `front`.
 use Rattle.std.specs.Prelude.{◌≡◌, ◌<◌, ◌≤◌, ℕ, List, [], ◌∷◌, ◌++◌, Option, Some, false, length}
-use Rattle.nbd_wire.specs.declared.message.Side.TheVariants.{Server}
+use Rattle.nbd_wire.specs.declared.commands.TheConstants as commands
+use Rattle.nbd_wire.specs.declared.message.Side.TheVariants.{Client, Server}
 use Rattle.nbd_wire.specs.declared.message.Message.{Message}
+use Rattle.nbd_wire.specs.declared.message.Message.TheVariants.{Request}
 use Rattle.nbd_wire.specs.Explains.{Explained, Start}
 use Rattle.nbd_wire.specs.Report.{entries_of, export_of}
-use Rattle.nbd_wire.specs.Items.{Item, Starts, Serves, served}
+use Rattle.nbd_wire.specs.Items.{Item, Completes, Starts, Serves, served}
 use Rattle.nbd_wire.specs.Requests.{Entry, Exporting, is_finished}
 use Rattle.nbd_wire.specs.Rules.{IsRun, cookie_of}
 use Rattle.nbd_wire.specs.States.{Names, entry}
@@ -40,3 +42,13 @@ ServedOnceBehindCompletion = (front back : List Item) (k : ℕ) → IsRun (front
 -- the empty capture is explained by the empty order, from every start
 abbrev pub EmptyIsExplained : Type 0
 EmptyIsExplained = (initial : Start) → Explained [] [] initial
+
+-- a DISC is empty
+abbrev pub DisconnectsAreEmpty : Type 0
+DisconnectsAreEmpty = (front back : List Item) (flags cookie offset len : ℕ) (payload : List ℕ) →
+    IsRun (front ++ Completes Client (Request flags commands.DISC cookie offset len payload) ∷ back) → (offset ≡ 0) × (len ≡ 0)
+
+-- the client starts nothing behind a DISC
+abbrev pub NothingBehindDisconnect : Type 0
+NothingBehindDisconnect = (front middle back : List Item) (flags cookie offset len : ℕ) (payload : List ℕ) (m : Message) →
+    IsRun (front ++ Completes Client (Request flags commands.DISC cookie offset len payload) ∷ (middle ++ Starts Client m ∷ back)) → ⊥

@@ -1,5 +1,6 @@
 -- What the report of every run has, whatever the bytes.
 use Rattle.std.specs.Prelude.{◌≡◌, ◌+◌, ◌<◌, ◌≤◌, ℕ, List, [], Option, Some, None, length, IsTrue, is_some, slice_get}
+use Rattle.nbd_wire.specs.declared.command_flags.TheConstants as command_flags
 use Rattle.nbd_wire.specs.declared.commands.TheConstants as commands
 use Rattle.nbd_wire.specs.declared.limits.TheConstants.{EXPORT_SIZE}
 use Rattle.nbd_wire.specs.declared.transmission.TheConstants as transmission
@@ -27,6 +28,8 @@ pub record IsSoundAsked (size count k : ℕ) (a : Asked) : Type 0 where
   -- only a READ has pieces
   pub reads : (a.command ≡ commands.READ → ⊥) → a.pieces ≡ []
   pub laid : AreLaid a.offset a.length a.pieces
+  -- a proper request with DF has one piece at most
+  pub single : IsTrue a.proper → IsTrue (has a.flags command_flags.DF) → length a.pieces ≤ 1
   -- the pieces of a successful READ cover its range
   pub covered : a.command ≡ commands.READ → a.outcome ≡ Success → (x : ℕ) → IsTrue (is_in a.offset a.length x) → IsTrue (is_some (byte_at a.pieces x))
 

@@ -1,9 +1,12 @@
 //! Laws over the definitions of nbd_wire: each is the contract of a function that does nothing.
 ghost use Rattle.nbd_session.specs.Soundness.{ReportsAreSound};
-ghost use Rattle.nbd_session.specs.Fronts.{NoProperFront, FrontsAreRuns};
+ghost use Rattle.nbd_session.specs.Fronts.{CompletionsStandBehindBytes, FrontsAreRuns, NoProperFront, StartsStandBeforeBytes};
+ghost use Rattle.nbd_session.specs.Holding.{CutsDoNotCount, PushedHoldsEachSide};
 ghost use Rattle.nbd_session.specs.Moments.{LatestMoments, OrdersAreFaultless};
+ghost use Rattle.nbd_session.specs.Negotiating.{AnswersFollowChoices, HandshakesAreFair};
+ghost use Rattle.nbd_session.specs.Replying.{RepliesAreWhole};
 ghost use Rattle.nbd_session.specs.Sameness.{SameMarks, SameReports, ReportsIgnoreService};
-ghost use Rattle.nbd_session.specs.Service.{EmptyIsExplained, CookiesAreDistinct, EachReplyAnswersOne, ServedOnceBehindCompletion};
+ghost use Rattle.nbd_session.specs.Service.{CookiesAreDistinct, DisconnectsAreEmpty, EachReplyAnswersOne, EmptyIsExplained, NothingBehindDisconnect, ServedOnceBehindCompletion};
 ghost use Rattle.nbd_session.specs.Explaining.{PassingIsExplained, ExplainedPasses};
 
 /// A run with given bytes and a given order of service exists exactly where a run with these bytes
@@ -72,5 +75,51 @@ pub fn explained_exactly()
 /// and where it is a READ has pieces in its range that share no offset and, at success, cover it.
 pub fn reports_are_sound()
     ensures { ReportsAreSound }
-{
-}
+{}
+
+/// A message starts directly before its first byte.
+pub fn starts_stand_before_bytes()
+    ensures { StartsStandBeforeBytes }
+{}
+
+/// A message completes directly behind a byte of its side.
+pub fn completions_stand_behind_bytes()
+    ensures { CompletionsStandBehindBytes }
+{}
+
+/// A DISC has offset 0 and length 0.
+pub fn disconnects_are_empty()
+    ensures { DisconnectsAreEmpty }
+{}
+
+/// The client starts nothing behind a DISC.
+pub fn nothing_behind_disconnect()
+    ensures { NothingBehindDisconnect }
+{}
+
+/// The replies to a request have its cookie and are one simple reply, or chunks of which only the last
+/// ends the reply; each is of a form that the request and the structured replies in force allow.
+pub fn replies_are_whole()
+    ensures { RepliesAreWhole }
+{}
+
+/// A session begins with a fixed newstyle greeting and client flags that were offered.
+pub fn handshakes_are_fair()
+    ensures { HandshakesAreFair }
+{}
+
+/// An answer is to the option that was chosen last; an ACK is empty, and to INFO or GO an info on an
+/// export came before it.
+pub fn answers_follow_choices()
+    ensures { AnswersFollowChoices }
+{}
+
+/// A chunk cut in two leaves the flat capture as it is.
+pub fn cuts_do_not_count()
+    ensures { CutsDoNotCount }
+{}
+
+/// What a session holds gives back each side's bytes: its messages' encodings and what came behind them.
+pub fn pushed_holds_each_side()
+    ensures { PushedHoldsEachSide }
+{}

@@ -1,4 +1,4 @@
-use Rattle.nbd_session.proofs.Worked as worked
+use Rattle.nbd_session.proofs.WorkedOptions as worked
 use Rattle.nbd_session.proofs.examples.listed.Goals as goal
 
 pub returns : goal.returns

@@ -1,4 +1,4 @@
-use Rattle.nbd_session.proofs.Worked as worked
+use Rattle.nbd_session.proofs.WorkedReads as worked
 use Rattle.nbd_session.proofs.examples.read_before_reply.Goals as goal
 
 pub returns : goal.returns

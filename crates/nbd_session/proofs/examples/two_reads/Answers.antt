@@ -1,4 +1,4 @@
-use Rattle.nbd_session.proofs.Worked as worked
+use Rattle.nbd_session.proofs.WorkedReads as worked
 use Rattle.nbd_session.proofs.examples.two_reads.Goals as goal
 
 pub returns-clause-yes : goal.returns-clause-yes

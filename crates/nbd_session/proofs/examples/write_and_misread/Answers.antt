@@ -1,4 +1,4 @@
-use Rattle.nbd_session.proofs.Worked as worked
+use Rattle.nbd_session.proofs.WorkedReads as worked
 use Rattle.nbd_session.proofs.examples.write_and_misread.Goals as goal
 
 pub returns : goal.returns

@@ -1,4 +1,4 @@
-use Rattle.nbd_session.proofs.Worked as worked
+use Rattle.nbd_session.proofs.WorkedRefusals as worked
 use Rattle.nbd_session.proofs.examples.wrong_image.Goals as goal
 
 pub returns : goal.returns
