@@ -8,14 +8,14 @@ use Rattle.nbd_wire.specs.declared.message.Side.TheVariants.{Client, Server}
 use Rattle.nbd_wire.specs.declared.message.Message.{Message}
 use Rattle.nbd_wire.specs.declared.message.Message.TheVariants.{Greeting, ClientFlags, Choice, Answer, Exported, Request, Simple, Chunk}
 use Rattle.nbd_wire.specs.Items.{Item, Byte, Starts, Completes, Serves, completed}
-use Rattle.nbd_wire.specs.Options.{MayAcknowledge, MayAnswer, acknowledged, answered_option, chosen, is_error, last_info, next_phase}
+use Rattle.nbd_wire.specs.Options.{MayAcknowledge, MayAnswer, acknowledged, answered_option, chosen, is_error, is_proper_option, last_info, next_phase}
 use Rattle.nbd_wire.specs.Payloads.{info_of}
 use Rattle.nbd_wire.specs.Requests.{Exporting, has, has_only}
 use Rattle.nbd_wire.specs.Rules.{AreClientFlags, IsRun, MayComplete, MayEnd, complete}
 use Rattle.nbd_wire.specs.States.{Core, Phase, Greet, Flags, Choosing, Naming, Aborting, Answering, Ended, Transmission, start}
 use Rattle.nbd_session.proofs.Follow.{Follows, follows}
 use Rattle.nbd_session.proofs.Fronts.{flags_row, greet_row, phase-complete, transmission_row}
-use Rattle.nbd_session.specs.Negotiating.{AnswersFollowChoices, AreFairFlags, BeginsWithFlags, HandshakesAreFair, choice_behind, info_behind}
+use Rattle.nbd_session.specs.Negotiating.{AnswersFollowChoices, AreFairFlags, BeginsWithFlags, Chosen, HandshakesAreFair, IsAcknowledged, IsAnswer, choice_behind, info_behind}
 
 fair : (offered flags : ℕ) → AreClientFlags offered flags → AreFairFlags offered flags
 unfolding has has_only
@@ -78,26 +78,26 @@ pub handshakes_are_fair : HandshakesAreFair
 handshakes_are_fair items run = greeting_first items start.core (follows items start run.obeys) refl
 
 -- what the phase knows of the choice and its infos
-abbrev Knows : Phase → Option ℕ → Option Exporting → Type 0
-Knows (Answering asked asked_with info) choice last = (choice ≡ Some asked) × (last ≡ info)
-Knows Aborting choice last = choice ≡ Some options.ABORT
+abbrev Knows : Phase → Option Chosen → Option Exporting → Type 0
+Knows (Answering asked asked_with info) choice last = (choice ≡ Some (record { option = asked; payload = asked_with })) × (last ≡ info)
+Knows Aborting choice last = (asked_with : List ℕ) × (choice ≡ Some (record { option = options.ABORT; payload = asked_with }))
 Knows _ choice last = Unit {0}
 
 abbrev knows_chosen : ℕ → List ℕ → Type 0
-knows_chosen id p = Knows (chosen id p) (Some id) None
+knows_chosen id p = Knows (chosen id p) (Some (record { option = id; payload = p })) None
 
 chosen_knows : (id : ℕ) (p : List ℕ) → knows_chosen id p
 chosen_knows id p = go (id == options.EXPORT_NAME) (id == options.ABORT) refl
   where
-    go : (a b : Bool) → (id == options.ABORT) ≡ b → Knows (if a then Naming else if b then Aborting else Answering id p None) (Some id) None
+    go : (a b : Bool) → (id == options.ABORT) ≡ b → Knows (if a then Naming else if b then Aborting else Answering id p None) (Some (record { option = id; payload = p })) None
     go true b q = tt
-    go false true q = ap Some (eqb-true id options.ABORT q)
+    go false true q = (p, ap (λ n. Some (record { option = n; payload = p })) (eqb-true id options.ABORT q))
     go false false q = (refl, refl)
 
 abbrev info_then : ℕ → List ℕ → Option Exporting → Option Exporting
 info_then kind p last = if kind == answers.INFO then last_info (info_of p) last else last
 
-acknowledged_knows : (option : ℕ) (info : Option Exporting) (choice : Option ℕ) (last : Option Exporting) → Knows (acknowledged option info) choice last
+acknowledged_knows : (option : ℕ) (info : Option Exporting) (choice : Option Chosen) (last : Option Exporting) → Knows (acknowledged option info) choice last
 acknowledged_knows option None choice last = tt
 acknowledged_knows option (Some export) choice last = go (option == options.GO)
   where
@@ -105,7 +105,7 @@ acknowledged_knows option (Some export) choice last = go (option == options.GO)
     go true = tt
     go false = tt
 
-answered_knows : (asked : ℕ) (asked_with : List ℕ) (info : Option Exporting) (kind : ℕ) (p : List ℕ) (choice : Option ℕ) (last : Option Exporting) → choice ≡ Some asked → last ≡ info →
+answered_knows : (asked : ℕ) (asked_with : List ℕ) (info : Option Exporting) (kind : ℕ) (p : List ℕ) (choice : Option Chosen) (last : Option Exporting) → choice ≡ Some (record { option = asked; payload = asked_with }) → last ≡ info →
     Knows (answered_option asked asked_with info kind p) choice (info_then kind p last)
 answered_knows asked asked_with info kind p choice last c l = go (is_error kind) (kind == answers.SERVER) (kind == answers.INFO) refl refl
   where
@@ -118,8 +118,8 @@ answered_knows asked asked_with info kind p choice last c l = go (is_error kind)
     go false false false q r = acknowledged_knows asked info choice last
 
 -- what one message does to the choice and its infos
-abbrev choice_step : Option ℕ → Message → Option ℕ
-choice_step last (Choice id p) = Some id
+abbrev choice_step : Option Chosen → Message → Option Chosen
+choice_step last (Choice id p) = Some (record { option = id; payload = p })
 choice_step last m = last
 
 abbrev info_step : Option Exporting → Message → Option Exporting
@@ -127,7 +127,7 @@ info_step last (Choice id p) = None
 info_step last (Answer option kind p) = info_then kind p last
 info_step last m = last
 
-choice_steps : (last : Option ℕ) (m : Message) (ms : List Message) → choice_behind last (m ∷ ms) ≡ choice_behind (choice_step last m) ms
+choice_steps : (last : Option Chosen) (m : Message) (ms : List Message) → choice_behind last (m ∷ ms) ≡ choice_behind (choice_step last m) ms
 choice_steps last (Choice id p) ms = refl
 choice_steps last (Greeting flags) ms = refl
 choice_steps last (ClientFlags flags) ms = refl
@@ -147,14 +147,14 @@ info_steps last (Request flags command cookie offset len p) ms = refl
 info_steps last (Simple error cookie p) ms = refl
 info_steps last (Chunk flags kind cookie p) ms = refl
 
-knows_complete : (core : Core) (phase : Phase) (m : Message) (choice : Option ℕ) (last : Option Exporting) → core.phase ≡ phase → MayComplete core phase m → Knows phase choice last →
+knows_complete : (core : Core) (phase : Phase) (m : Message) (choice : Option Chosen) (last : Option Exporting) → core.phase ≡ phase → MayComplete core phase m → Knows phase choice last →
     Knows (complete core m).phase (choice_step choice m) (info_step last m)
 unfolding MayComplete complete next_phase
 knows_complete core (Transmission export) m choice last q ok k =
     subst (λ phase. Knows phase (choice_step choice m) (info_step last m)) (sym (phase-complete core export m (transmission_row core export m ok) ∙ q)) tt
 knows_complete core Greet (Greeting flags) choice last q ok k = subst (λ phase. Knows (next_phase phase (Greeting flags)) choice last) (sym q) tt
 knows_complete core Flags (ClientFlags flags) choice last q ok k = subst (λ phase. Knows (next_phase phase (ClientFlags flags)) choice last) (sym q) tt
-knows_complete core Choosing (Choice id p) choice last q ok k = subst (λ phase. Knows (next_phase phase (Choice id p)) (Some id) None) (sym q) (chosen_knows id p)
+knows_complete core Choosing (Choice id p) choice last q ok k = subst (λ phase. Knows (next_phase phase (Choice id p)) (Some (record { option = id; payload = p })) None) (sym q) (chosen_knows id p)
 knows_complete core Naming (Exported size flags padded) choice last q ok k = subst (λ phase. Knows (next_phase phase (Exported size flags padded)) choice last) (sym q) tt
 knows_complete core Aborting (Answer option kind p) choice last q ok k = subst (λ phase. Knows (next_phase phase (Answer option kind p)) choice (info_then kind p last)) (sym q) tt
 knows_complete core (Answering asked asked_with info) (Answer option kind p) choice last q ok k =
@@ -162,12 +162,12 @@ knows_complete core (Answering asked asked_with info) (Answer option kind p) cho
 knows_complete core phase m choice last q ok k = absurd ok
 
 -- behind the first items
-record IsKnown (core : Core) (choice : Option ℕ) (last : Option Exporting) (front back : List Item) : Type 0 where
+record IsKnown (core : Core) (choice : Option Chosen) (last : Option Exporting) (front back : List Item) : Type 0 where
   here : Core
   knows : Knows here.phase (choice_behind choice (completed front)) (info_behind last (completed front))
   follows_on : Follows here back
 
-known_at : (front back : List Item) (core : Core) (choice : Option ℕ) (last : Option Exporting) → Follows core (front ++ back) → Knows core.phase choice last → IsKnown core choice last front back
+known_at : (front back : List Item) (core : Core) (choice : Option Chosen) (last : Option Exporting) → Follows core (front ++ back) → Knows core.phase choice last → IsKnown core choice last front back
 known_at [] back core choice last f k = record { here = core; knows = k; follows_on = f }
 known_at (Byte s b ∷ front) back core choice last f k =
     (let r : IsKnown core choice last front back = known_at front back core choice last f k in record { here = r.here; knows = r.knows; follows_on = r.follows_on })
@@ -185,53 +185,54 @@ known_at (Completes s m ∷ front) back core choice last f k =
       follows_on = r.follows_on;
     }
 
-abbrev Follow : (choice : Option ℕ) (last : Option Exporting) (option kind : ℕ) (p : List ℕ) → Type 0
-Follow choice last option kind p = (choice ≡ Some option) × (kind ≡ answers.ACK → (p ≡ []) × ((option ≡ options.INFO) ⊎ (option ≡ options.GO) → IsTrue (is_some last)))
+-- an answer to the option that was chosen last
+abbrev IsFollowing : (choice : Option Chosen) (last : Option Exporting) (option kind : ℕ) (p : List ℕ) → Type 0
+IsFollowing choice last option kind p = (asked : Chosen) × (choice ≡ Some asked) × (asked.option ≡ option) × IsAnswer asked last kind p
 
-no_error : (kind : ℕ) → kind ≡ answers.ACK → IsTrue (is_error kind) → ⊥
-unfolding has
-no_error kind a e = (let q : IsTrue (is_error answers.ACK) = subst (λ k. IsTrue (is_error k)) a e in absurd (cc))
-
-needs_info : (option : ℕ) (info : Option Exporting) → MayAcknowledge option info → (option ≡ options.INFO) ⊎ (option ≡ options.GO) → IsTrue (is_some info)
-needs_info option info ok w = elim ok [
-  | inl a ↦ absurd (elim w [ inl q ↦ omega (arith, a, q) | inr q ↦ omega (arith, a, q) ])
+is_acknowledged : (option : ℕ) (info : Option Exporting) → MayAcknowledge option info → IsAcknowledged option info
+is_acknowledged option info ok = elim ok [
+  | inl a ↦ inr (inl a)
   | inr ok ↦ elim ok [
-    | inl a ↦ absurd (elim w [ inl q ↦ omega (arith, a, q) | inr q ↦ omega (arith, a, q) ])
-    | inr ok ↦ elim ok [ inl a ↦ a.1 | inr a ↦ subst (λ o. IsTrue (is_some o)) (sym a.1.1) refl ]
-  ]
-]
-
-acknowledged_follow : (asked : ℕ) (asked_with : List ℕ) (info : Option Exporting) (kind : ℕ) (p : List ℕ) → MayAnswer asked asked_with info kind p → kind ≡ answers.ACK → (p ≡ []) × ((asked ≡ options.INFO) ⊎ (asked ≡ options.GO) → IsTrue (is_some info))
-acknowledged_follow asked asked_with info kind p ok a = elim ok [
-  | inl e ↦ absurd (no_error kind a e)
-  | inr ok ↦ elim ok [
-    | inl x ↦ (x.2, needs_info asked info x.3)
+    | inl a ↦ inr (inr (inl a))
     | inr ok ↦ elim ok [
-      | inl x ↦ absurd (let y : kind ≡ 2 = x.1 in let z : kind ≡ 1 = a in omega arith)
-      | inr x ↦ absurd (let y : kind ≡ 3 = x.1 in let z : kind ≡ 1 = a in omega arith)
+      | inl a ↦ inr (inr (inr (inl a.0, a.1)))
+      | inr a ↦ inr (inr (inr (inr a.0, subst (λ o. IsTrue (is_some o)) (sym a.1.1) refl)))
     ]
   ]
 ]
 
-follow : (core : Core) (phase : Phase) (option kind : ℕ) (p : List ℕ) (choice : Option ℕ) (last : Option Exporting) → MayComplete core phase (Answer option kind p) → Knows phase choice last → Follow choice last option kind p
+is_answer : (asked : ℕ) (asked_with : List ℕ) (info : Option Exporting) (kind : ℕ) (p : List ℕ) → MayAnswer asked asked_with info kind p → IsAnswer (record { option = asked; payload = asked_with }) info kind p
+is_answer asked asked_with info kind p ok = elim ok [
+  | inl e ↦ inl e
+  | inr ok ↦ elim ok [
+    | inl x ↦ inr (x.0, inl (x.1, x.2, is_acknowledged asked info x.3))
+    | inr ok ↦ elim ok [
+      | inl x ↦ inr (x.0, inr (inl (x.1, x.2)))
+      | inr x ↦ inr (x.0, inr (inr (x.1, x.2)))
+    ]
+  ]
+]
+
+abort_is_proper : (p : List ℕ) → IsTrue (is_proper_option options.ABORT p)
+unfolding is_proper_option
+abort_is_proper p = refl
+
+follow : (core : Core) (phase : Phase) (option kind : ℕ) (p : List ℕ) (choice : Option Chosen) (last : Option Exporting) → MayComplete core phase (Answer option kind p) → Knows phase choice last → IsFollowing choice last option kind p
 unfolding MayComplete
 follow core Aborting option kind p choice last ok k = (
-  k ∙ ap Some (sym ok.0),
-  λ a. elim ok.1 [
-    | inl e ↦ absurd (no_error kind a e)
-    | inr x ↦ (
-      x.1,
-      λ w. absurd (elim w [
-        | inl q ↦ (let y : option ≡ 2 = ok.0 in let z : option ≡ 6 = q in omega arith)
-        | inr q ↦ (let y : option ≡ 2 = ok.0 in let z : option ≡ 7 = q in omega arith)
-      ]),
-    )
+  record { option = options.ABORT; payload = k.0 },
+  k.1,
+  sym ok.0,
+  elim ok.1 [
+    | inl e ↦ inl e
+    | inr x ↦ inr (abort_is_proper k.0, inl (x.0, x.1, inl refl))
   ],
 )
 follow core (Answering asked asked_with info) option kind p choice last ok k = (
-  k.0 ∙ ap Some (sym ok.0),
-  λ a. (let r = acknowledged_follow asked asked_with info kind p ok.1 a in
-      (r.0, λ w. subst (λ o. IsTrue (is_some o)) (sym k.1) (r.1 (subst (λ o. (o ≡ options.INFO) ⊎ (o ≡ options.GO)) ok.0 w)))),
+  record { option = asked; payload = asked_with },
+  k.0,
+  sym ok.0,
+  subst (λ i. IsAnswer (record { option = asked; payload = asked_with }) i kind p) (sym k.1) (is_answer asked asked_with info kind p ok.1),
 )
 follow core phase option kind p choice last ok k = absurd ok
 

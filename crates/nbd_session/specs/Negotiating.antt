@@ -7,7 +7,7 @@ use Rattle.nbd_wire.specs.declared.message.Message.{Message}
 use Rattle.nbd_wire.specs.declared.message.Message.TheVariants.{Greeting, ClientFlags, Choice, Answer}
 use Rattle.nbd_wire.specs.declared.message.Side.TheVariants.{Server}
 use Rattle.nbd_wire.specs.Items.{Item, Completes, completed}
-use Rattle.nbd_wire.specs.Options.{last_info}
+use Rattle.nbd_wire.specs.Options.{is_error, is_proper_option, last_info}
 use Rattle.nbd_wire.specs.Payloads.{info_of}
 use Rattle.nbd_wire.specs.Requests.{Exporting, has}
 use Rattle.nbd_wire.specs.Rules.{IsRun}
@@ -27,10 +27,15 @@ abbrev pub HandshakesAreFair : Type 0
 HandshakesAreFair = (items : List Item) → IsRun items →
     (completed items ≡ []) ⊎ ((flags : ℕ) × (rest : List Message) × (completed items ≡ Greeting flags ∷ rest) × IsTrue (has flags handshake.FIXED_NEWSTYLE) × BeginsWithFlags flags rest)
 
+-- an option with its data
+pub record Chosen : Type 0 where
+  pub option : ℕ
+  pub payload : List ℕ
+
 -- the option that was chosen last, at first this one
-abbrev pub choice_behind : Option ℕ → List Message → Option ℕ
+abbrev pub choice_behind : Option Chosen → List Message → Option Chosen
 choice_behind last [] = last
-choice_behind last (Choice id payload ∷ messages) = choice_behind (Some id) messages
+choice_behind last (Choice id payload ∷ messages) = choice_behind (Some (record { option = id; payload = payload })) messages
 choice_behind last (m ∷ messages) = choice_behind last messages
 
 -- the last info on an export since an option was chosen, at first this one
@@ -40,8 +45,22 @@ info_behind last (Choice id payload ∷ messages) = info_behind None messages
 info_behind last (Answer option kind payload ∷ messages) = info_behind (if kind == answers.INFO then last_info (info_of payload) last else last) messages
 info_behind last (m ∷ messages) = info_behind last messages
 
--- an answer is to the option that was chosen last; an ACK is empty, and to INFO or GO an info on an export came before it
+-- what may be acknowledged: ABORT, LIST and STRUCTURED_REPLY, and behind an info on an export INFO and GO
+abbrev pub IsAcknowledged : (option : ℕ) (info : Option Exporting) → Type 0
+IsAcknowledged option info =
+    (option ≡ options.ABORT) ⊎ (option ≡ options.LIST) ⊎ (option ≡ options.STRUCTURED_REPLY)
+    ⊎ ((option ≡ options.INFO) ⊎ (option ≡ options.GO)) × IsTrue (is_some info)
+
+-- an error, or where the option's data has its form an ACK without payload, a name for LIST, an info for INFO and GO
+abbrev pub IsAnswer : Chosen → (info : Option Exporting) (kind : ℕ) (payload : List ℕ) → Type 0
+IsAnswer asked info kind payload =
+    IsTrue (is_error kind)
+    ⊎ IsTrue (is_proper_option asked.option asked.payload) × (
+    (kind ≡ answers.ACK) × (payload ≡ []) × IsAcknowledged asked.option info
+    ⊎ (kind ≡ answers.SERVER) × (asked.option ≡ options.LIST)
+    ⊎ (kind ≡ answers.INFO) × ((asked.option ≡ options.INFO) ⊎ (asked.option ≡ options.GO)))
+
+-- an answer is one to the option that was chosen last
 abbrev pub AnswersFollowChoices : Type 0
 AnswersFollowChoices = (front back : List Item) (option kind : ℕ) (payload : List ℕ) → IsRun (front ++ Completes Server (Answer option kind payload) ∷ back) →
-    (choice_behind None (completed front) ≡ Some option)
-    × (kind ≡ answers.ACK → (payload ≡ []) × ((option ≡ options.INFO) ⊎ (option ≡ options.GO) → IsTrue (is_some (info_behind None (completed front)))))
+    (asked : Chosen) × (choice_behind None (completed front) ≡ Some asked) × (asked.option ≡ option) × IsAnswer asked (info_behind None (completed front)) kind payload

@@ -108,8 +108,9 @@ pub fn handshakes_are_fair()
     ensures { HandshakesAreFair }
 {}
 
-/// An answer is to the option that was chosen last; an ACK is empty, and to INFO or GO an info on an
-/// export came before it.
+/// An answer is one to the option that was chosen last: an error, or where the option's data has its
+/// form an ACK without payload, a name for LIST, an info for INFO and GO. The ACK to INFO or GO comes
+/// behind an info on an export.
 pub fn answers_follow_choices()
     ensures { AnswersFollowChoices }
 {}
