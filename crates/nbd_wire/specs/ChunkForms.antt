@@ -2,9 +2,9 @@
 use Rattle.std.proofs.Common.{◌≡◌, ℕ, ◌+◌, ◌<◌, ◌≤◌, ◌^◌, ◌==◌, List, [], ◌++◌, length, take, drop, Option, Some, None, true, false, not, nat_le, ◌&&◌, refl, sym, ◌∙◌, ap, arith, length-drop, length-append, subst}
 use Rattle.std.proofs.Math.Seq.{drop-append_seam}
 use Rattle.std.proofs.lemmas.Bool.{cond_both, cond-true, cond-false, eqb-true, eqb-false, ne_eqb, not-true, leb-true, le-leb, and_parts}
-use Rattle.std.proofs.lemmas.List.{take-append-drop, drop-drop, length-take-le}
+use Rattle.std.proofs.lemmas.List.{take-append-drop, length-take-le}
 use Rattle.std.proofs.lemmas.Option.{same_Some, none-some}
-use Rattle.byteorder.specs.Endian.{big_bytes, big_number}
+use Rattle.byteorder.specs.Endian.{big_bytes}
 use Rattle.byteorder.specs.Numbers.{big_number-reads_back}
 use Rattle.nbd_wire.specs.declared.chunks.TheConstants.{OFFSET_DATA, OFFSET_HOLE, ERROR, ERROR_OFFSET}
 use Rattle.nbd_wire.specs.declared.payloads.Piece.{Piece}
@@ -12,10 +12,13 @@ use Rattle.nbd_wire.specs.declared.payloads.Piece.TheVariants.{Bytes, Hole}
 use Rattle.nbd_wire.specs.declared.payloads.Failure.{Failure}
 use Rattle.nbd_wire.specs.Encoding.{AreBytes}
 use Rattle.nbd_wire.specs.Forms.{HasContentForm, HasFailureForm, GoesOn}
-use Rattle.nbd_wire.specs.Parse.{AreBytes-drop, number_at-lt}
+use Rattle.nbd_wire.specs.Parse.{AreBytes-drop, number_at-drop, number_at-lt}
 use Rattle.nbd_wire.specs.Payloads.{number_at, content_of, failure_of}
 use Rattle.nbd_wire.specs.Places.{with_next, with_last}
 use Rattle.nbd_wire.specs.Reads.{Reads}
+
+above_zero : (n : ℕ) → (n ≡ 0 → ⊥) → 0 < n
+above_zero n h = omega arith
 
 data-found : (bytes : List ℕ) → AreBytes bytes → 9 ≤ length bytes → HasContentForm OFFSET_DATA (Bytes (number_at 0 8 bytes) (drop 8 bytes)) bytes
 unfolding HasContentForm
@@ -26,16 +29,13 @@ hole-found : (bytes : List ℕ) → AreBytes bytes → length bytes ≡ 12 → (
 unfolding HasContentForm
 hole-found bytes b l s =
     let size : ℕ = number_at 8 4 bytes in
-    let above : 0 < size = nonzero size s in (
+    let above : 0 < size = above_zero size s in (
       refl,
       omega (arith, number_at-lt 0 8 bytes b),
       above,
       omega (arith, number_at-lt 8 4 bytes b),
       with_next 0 8 bytes _ b (omega arith) (with_last 8 4 bytes b l),
     )
-  where
-    nonzero : (n : ℕ) → (n ≡ 0 → ⊥) → 0 < n
-    nonzero n h = omega arith
 
 content-found : (kind : ℕ) (bytes : List ℕ) → AreBytes bytes → (piece : Piece) → content_of kind bytes ≡ Some piece → HasContentForm kind piece bytes
 unfolding content_of
@@ -82,10 +82,6 @@ content_of-reads kind bytes b = λ piece. (content-found kind bytes b piece, con
 abbrev failure_bytes : ℕ → List ℕ → List ℕ → List ℕ
 failure_bytes error message rest = big_bytes 4 error ++ big_bytes 2 (length message) ++ message ++ rest
 
--- where the rest begins
-at_rest : (n : ℕ) (bytes : List ℕ) → number_at (6 + n) 8 bytes ≡ number_at 0 8 (drop n (drop 6 bytes))
-at_rest n bytes = ap (big_number 8) (sym (drop-drop n 6 bytes))
-
 error-found : (kind : ℕ) (offset : Option ℕ) (bytes : List ℕ) → AreBytes bytes → (number_at 0 4 bytes ≡ 0 → ⊥) → 6 + number_at 4 2 bytes ≤ length bytes
     → GoesOn kind offset (drop (number_at 4 2 bytes) (drop 6 bytes)) → HasFailureForm kind (record { error = number_at 0 4 bytes; offset = offset }) bytes
 unfolding HasFailureForm
@@ -98,13 +94,10 @@ error-found kind offset bytes b e l more =
     let fits : length message < 2 ^ 16 = omega (arith, is, number_at-lt 4 2 bytes b) in
     let begins : drop 4 bytes ≡ big_bytes 2 t ++ (message ++ rest) = with_next 4 2 bytes (message ++ rest) b (omega (arith, l)) (sym (take-append-drop t (drop 6 bytes))) in
     let all : bytes ≡ big_bytes 4 error ++ (big_bytes 2 t ++ (message ++ rest)) = with_next 0 4 bytes (big_bytes 2 t ++ (message ++ rest)) b (omega (arith, l)) begins in (
-      nonzero error e,
+      above_zero error e,
       omega (arith, number_at-lt 0 4 bytes b),
       (message, rest, fits, more, all ∙ ap (λ k. big_bytes 4 error ++ (big_bytes 2 k ++ (message ++ rest))) (sym is)),
     )
-  where
-    nonzero : (n : ℕ) → (n ≡ 0 → ⊥) → 0 < n
-    nonzero n h = omega arith
 
 failure-found : (kind : ℕ) (bytes : List ℕ) → AreBytes bytes → (failure : Failure) → failure_of kind bytes ≡ Some failure → HasFailureForm kind failure bytes
 unfolding failure_of
@@ -127,7 +120,7 @@ failure-found kind bytes b failure =
     let long : 14 + t ≤ length bytes = leb-true (14 + t) (length bytes) p.1 in
     let r : AreBytes rest = AreBytes-drop t (drop 6 bytes) (AreBytes-drop 6 bytes b) in
     let o : ℕ = number_at 0 8 rest in
-    let same : number_at (6 + t) 8 bytes ≡ o = at_rest t bytes in
+    let same : number_at (6 + t) 8 bytes ≡ o = number_at-drop 6 t 8 bytes in
     let fits : number_at (6 + t) 8 bytes < 2 ^ 64 = omega (arith, number_at-lt (6 + t) 8 bytes b) in
     let behind : rest ≡ big_bytes 8 (number_at (6 + t) 8 bytes) ++ drop 8 rest =
     with_next 0 8 rest (drop 8 rest) r (omega (arith, long, length-drop t (drop 6 bytes), length-drop 6 bytes)) refl ∙ ap (λ k. big_bytes 8 k ++ drop 8 rest) (sym same) in
@@ -156,7 +149,7 @@ failure-only kind error (Some offset) message rest bytes above below fits goes s
     let behind : length rest ≡ 8 + length more = omega (arith, ap length goes.2.1) in
     let long : 14 + number_at 4 2 cells ≤ length cells = omega (arith, t, length-append message rest, behind) in
     let o : number_at (6 + number_at 4 2 cells) 8 cells ≡ offset =
-    at_rest (number_at 4 2 cells) cells ∙ ap (λ k. number_at 0 8 (drop k (message ++ rest))) t ∙ ap (number_at 0 8) (drop-append_seam message rest)
+    number_at-drop 6 (number_at 4 2 cells) 8 cells ∙ ap (λ k. number_at 0 8 (drop k (message ++ rest))) t ∙ ap (number_at 0 8) (drop-append_seam message rest)
     ∙ ap (number_at 0 8) goes.2.1 ∙ big_number-reads_back 8 offset more (omega (arith, goes.1)) in
     ap (λ k. failure_of k bytes) goes.0 ∙ ap (failure_of ERROR_OFFSET) same
     ∙ cond-false (number_at 0 4 cells == 0) _ _ some

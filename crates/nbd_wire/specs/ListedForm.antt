@@ -3,12 +3,12 @@ use Rattle.std.proofs.Common.{◌≡◌, ℕ, ◌+◌, ◌*◌, ◌<◌, ◌≤�
 use Rattle.std.specs.Prelude.{◌↔◌}
 use Rattle.std.proofs.Math.Seq.{take-append_seam, drop-append_seam}
 use Rattle.std.proofs.lemmas.Bool.{eqb-true, eq-eqb, leb-true, le-leb, and_parts, and_from}
-use Rattle.std.proofs.lemmas.List.{take-append-drop, drop-drop, length-take-le}
-use Rattle.byteorder.specs.Endian.{big_bytes, big_number}
+use Rattle.std.proofs.lemmas.List.{take-append-drop, length-take-le}
+use Rattle.byteorder.specs.Endian.{big_bytes}
 use Rattle.byteorder.specs.Numbers.{big_number-reads_back}
 use Rattle.nbd_wire.specs.Encoding.{AreBytes}
 use Rattle.nbd_wire.specs.Forms.{HasListedForm, HasGoForm}
-use Rattle.nbd_wire.specs.Parse.{AreBytes-drop, number_at-lt}
+use Rattle.nbd_wire.specs.Parse.{AreBytes-drop, number_at-drop, number_at-lt}
 use Rattle.nbd_wire.specs.Payloads.{number_at, is_listed, is_go}
 use Rattle.nbd_wire.specs.Places.{with_next}
 
@@ -89,10 +89,6 @@ go-only name bytes count h =
       omega (arith, h.2.1),
     )
 
--- the number behind a name stands at the front of the rest
-at_rest : (n : ℕ) (bytes : List ℕ) → number_at (4 + n) 2 bytes ≡ number_at 0 2 (drop n (drop 4 bytes))
-at_rest n bytes = ap (big_number 2) (sym (drop-drop n 4 bytes))
-
 -- the test for the data of INFO and GO
 pub is_go-exact : (bytes : List ℕ) → AreBytes bytes → IsTrue (is_go bytes) ↔ ((name : List ℕ) × (count : ℕ) × HasGoForm name count bytes)
 unfolding is_go
@@ -109,14 +105,14 @@ is_go-exact bytes b =
             name,
             number_at 0 2 rest,
             go-found name rest bytes (number_at 0 2 rest) (AreBytes-drop n (drop 4 bytes) (AreBytes-drop 4 bytes b)) form refl
-                (omega (arith, all, at_rest n bytes, length-drop n (drop 4 bytes), length-drop 4 bytes)),
+                (omega (arith, all, number_at-drop 4 n 2 bytes, length-drop n (drop 4 bytes), length-drop 4 bytes)),
           ),
       λ (name, count, h).
           let g = go-only name bytes count h in
           let rest : List ℕ = g.0 in
           let c : Counted name rest bytes = listed-only name rest bytes g.1 in
           let counted : number_at (4 + n) 2 bytes ≡ count =
-          at_rest n bytes ∙ ap (λ k. number_at 0 2 (drop k (drop 4 bytes))) c.count ∙ ap (number_at 0 2) c.rest_is ∙ g.2 in
+          number_at-drop 4 n 2 bytes ∙ ap (λ k. number_at 0 2 (drop k (drop 4 bytes))) c.count ∙ ap (number_at 0 2) c.rest_is ∙ g.2 in
           let of_rest : length bytes ≡ 4 + length name + length rest =
           omega (arith, c.whole, ap length c.rest_is, length-drop (length name) (drop 4 bytes), length-drop 4 bytes) in
           and_from fits whole (le-leb (6 + n) (length bytes) (omega (arith, of_rest, c.count, g.3)))

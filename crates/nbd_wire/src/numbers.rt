@@ -1,4 +1,4 @@
-//! Numbers at a place of a slice. They are big-endian (proto.md, "Conventions").
+//! Numbers at a place of a slice. They are big-endian, as all numbers of the protocol.
 
 ghost use Rattle.std.specs.Prelude.{◌≡◌, ◌≤◌, ◌+◌, length};
 ghost use Rattle.nbd_wire.specs.Payloads.{number_at};

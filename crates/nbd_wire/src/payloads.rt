@@ -2,46 +2,75 @@
 
 use crate::Bytes;
 
-/// What an INFO answer tells of an export.
+/// What an INFO answer tells of an export (proto.md, "Option reply types").
 #[derive(Clone, Copy, Debug, PartialEq, Eq, Drop)]
 pub enum Info {
-    /// Its size in bytes and its transmission flags.
+    /// The export itself.
     Export {
+        /// Its size in bytes.
         size: u64,
+        /// Its transmission flags, masks of the module `transmission`.
         flags: u16,
     },
-    /// The block sizes that the server prefers, in bytes.
+    /// The block sizes that the server asks for.
     BlockSize {
+        /// The least that a request may have, in bytes.
         least: u32,
+        /// The size that serves best, in bytes.
         preferred: u32,
+        /// The most that a request may have, in bytes.
         most: u32,
     },
-    /// Anything else, by its number.
+    /// Anything else.
     Other {
+        /// Its number, none of those above.
         kind: u16,
     },
 }
 
-/// What a content chunk carries, at an offset of the export: bytes, or a hole of `size` bytes, which
-/// reads as zeroes.
+/// What a content chunk carries (proto.md, "Structured reply types").
 #[derive(Clone, Copy, Debug, PartialEq, Eq, Drop)]
 pub enum Content<'a> {
-    Bytes { offset: u64, bytes: &'a [u8] },
-    Hole { offset: u64, size: u32 },
+    /// Bytes of the export.
+    Bytes {
+        /// Where in the export they begin, in bytes.
+        offset: u64,
+        /// The bytes, at least one.
+        bytes: &'a [u8],
+    },
+    /// A hole, which reads as zeroes.
+    Hole {
+        /// Where in the export it begins, in bytes.
+        offset: u64,
+        /// Its length in bytes, not 0.
+        size: u32,
+    },
 }
 
-/// A piece of what a READ was answered, at an offset of the export: bytes, or a hole of `size`
-/// bytes, which reads as zeroes.
+/// A piece of what a READ was answered, as `Content` that owns its bytes.
 #[derive(Debug, PartialEq, Eq, Drop)]
 pub enum Piece {
-    Bytes { offset: u64, bytes: Bytes },
-    Hole { offset: u64, size: u32 },
+    /// Bytes of the export.
+    Bytes {
+        /// Where in the export they begin, in bytes.
+        offset: u64,
+        /// The bytes.
+        bytes: Bytes,
+    },
+    /// A hole, which reads as zeroes.
+    Hole {
+        /// Where in the export it begins, in bytes.
+        offset: u64,
+        /// Its length in bytes.
+        size: u32,
+    },
 }
 
-/// What an error chunk tells: an error other than 0, and the offset at which it happened where the
-/// chunk has one.
+/// What an error chunk tells (proto.md, "Structured reply types").
 #[derive(Clone, Copy, Debug, PartialEq, Eq, Drop)]
 pub struct Failure {
+    /// The error, not 0.
     pub error: u32,
+    /// Where in the export it happened, in bytes, where the chunk says so.
     pub offset: Option<u64>,
 }

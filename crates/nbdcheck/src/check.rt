@@ -91,10 +91,7 @@ fn verdict_of(
     }
 }
 
-fn transcript_of(
-    alloc: Global,
-    chunks: &[(Side, Vec<u8>)],
-) -> Result<Transcript, SessionFault>
+fn transcript_of(alloc: Global, chunks: &[(Side, Vec<u8>)]) -> Result<Transcript, SessionFault>
     requires { total_size chunks.now < 2 ^ 63 }
 {
     let mut session = Session::new(alloc);

@@ -22,7 +22,8 @@ const MEMORY: u8 = 4;
 
 const ABOUT: &str = "Checks recorded sessions between an NBD client and an NBD server";
 
-const CHECK_ABOUT: &str = "Did both ends keep the protocol, and did every read return the right bytes?";
+const CHECK_ABOUT: &str =
+    "Did both ends keep the protocol, and did every read return the right bytes?";
 
 const CHECK_HELP: &str = "\
 Example:

@@ -13,12 +13,7 @@ use std::alloc::Global;
 use std::test::Fail;
 
 /// What a run wrote, with its exit status before it, or its fault.
-fn answer(
-    alloc: Global,
-    capture: &[u8],
-    order: &[u8],
-    start: StartFrom,
-) -> Result<String, Fail> {
+fn answer(alloc: Global, capture: &[u8], order: &[u8], start: StartFrom) -> Result<String, Fail> {
     let mut out = Vec::new(alloc);
     match run_check(alloc, capture, order, start, &mut out) {
         Ok(is_yes) => {

@@ -16,9 +16,15 @@ pub enum Verdict {
         improper: u64,
     },
     /// The session was refused at a byte of the capture, counted from 1.
-    Wire { at: u64, fault: WireFault },
+    Wire {
+        at: u64,
+        fault: WireFault,
+    },
     /// The byte that a READ, by its number, got for an offset of the export was not the export's.
-    Content { request: u64, offset: u64 },
+    Content {
+        request: u64,
+        offset: u64,
+    },
 }
 
 impl Verdict {

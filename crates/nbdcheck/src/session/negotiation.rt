@@ -3,8 +3,8 @@
 use super::fault::WireFault;
 use super::phase::{Export, Phase, Step};
 use nbd_wire::{
-    AnswerHead, Info, answer_head, answers, choice_head, client_flags_head, go_of, greeting_head, head_lengths,
-    handshake, info_of, options, transmission,
+    AnswerHead, Info, answer_head, answers, choice_head, client_flags_head, go_of, greeting_head,
+    handshake, head_lengths, info_of, options, transmission,
 };
 
 /// The most bytes that an export may have, until contents cost less than a cell a byte.

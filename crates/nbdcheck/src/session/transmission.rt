@@ -5,8 +5,8 @@ use super::incoming::Incoming;
 use super::phase::{Export, Step};
 use super::transcript::Asked;
 use nbd_wire::{
-    RequestHead, chunk_head, command_flags, commands, head_lengths, magics, request_head, simple_head,
-    transmission,
+    RequestHead, chunk_head, command_flags, commands, head_lengths, magics, request_head,
+    simple_head, transmission,
 };
 
 const MAGIC_LENGTH: usize = 4;

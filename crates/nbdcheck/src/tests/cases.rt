@@ -16,6 +16,7 @@ const INFO: &str = "S 0003e889045565a900000007000000030000000c000000000000000000
 const ACK: &str = "S 0003e889045565a9000000070000000100000000\n";
 /// A READ with cookie 1 at offset 0 of 4 bytes, and of 1 byte.
 const READ_4: &str = "C 25609513000000000000000000000001000000000000000000000004\n";
+
 const READ_1: &str = "C 25609513000000000000000000000001000000000000000000000001\n";
 
 /// A capture, made of these texts, with an order and a start, and what a run answers: its exit status
@@ -30,10 +31,15 @@ struct Case {
 }
 
 const ZERO: StartFrom = StartFrom::Zeroes;
+
 const UNKNOWN: StartFrom = StartFrom::Unknown;
 
 /// A case over zeroes with the order 1.
-const fn over_zeroes(name: &'static str, capture: &'static [&'static str], want: &'static str) -> Case {
+const fn over_zeroes(
+    name: &'static str,
+    capture: &'static [&'static str],
+    want: &'static str,
+) -> Case {
     Case {
         name,
         capture,
@@ -76,30 +82,63 @@ fn a_read_and_its_reply(rt: HostRuntime) -> Result<(), Fail> {
         &[
             over_zeroes(
                 "zeroes were read from zeroes",
-                &[FLAGS, GO, INFO, ACK, READ_4, "S 6744669800000000000000000000000100000000\n"],
+                &[
+                    FLAGS,
+                    GO,
+                    INFO,
+                    ACK,
+                    READ_4,
+                    "S 6744669800000000000000000000000100000000\n",
+                ],
                 "0 yes requests 1 answered 1 improper 0\n",
             ),
             over_zeroes(
                 "the third byte is wrong",
-                &[FLAGS, GO, INFO, ACK, READ_4, "S 6744669800000000000000000000000100000100\n"],
+                &[
+                    FLAGS,
+                    GO,
+                    INFO,
+                    ACK,
+                    READ_4,
+                    "S 6744669800000000000000000000000100000100\n",
+                ],
                 "1 no content request 1 offset 2\n",
             ),
             Case {
                 name: "the third byte may be anything",
-                capture: &[FLAGS, GO, INFO, ACK, READ_4, "S 6744669800000000000000000000000100000100\n"],
+                capture: &[
+                    FLAGS,
+                    GO,
+                    INFO,
+                    ACK,
+                    READ_4,
+                    "S 6744669800000000000000000000000100000100\n",
+                ],
                 order: "1\n",
                 start: UNKNOWN,
                 want: "0 yes requests 1 answered 1 improper 0\n",
             },
             over_zeroes(
                 "the reply's last byte is not there",
-                &[FLAGS, GO, INFO, ACK, READ_4, "S 67446698000000000000000000000001000000\n"],
+                &[
+                    FLAGS,
+                    GO,
+                    INFO,
+                    ACK,
+                    READ_4,
+                    "S 67446698000000000000000000000001000000\n",
+                ],
                 "1 no at byte 143: Unfinished\n",
             ),
             Case {
                 name: "two reads in the order of their numbers",
                 capture: &[
-                    FLAGS, GO, INFO, ACK, READ_1, "S 6744669800000000000000000000000100\n",
+                    FLAGS,
+                    GO,
+                    INFO,
+                    ACK,
+                    READ_1,
+                    "S 6744669800000000000000000000000100\n",
                     "C 25609513000000000000000000000002000000000000000000000001\n",
                     "S 6744669800000000000000000000000200\n",
                 ],
@@ -116,7 +155,14 @@ fn a_read_and_its_reply(rt: HostRuntime) -> Result<(), Fail> {
             },
             Case {
                 name: "a request that the order does not name",
-                capture: &[FLAGS, GO, INFO, ACK, READ_4, "S 6744669800000000000000000000000100000000\n"],
+                capture: &[
+                    FLAGS,
+                    GO,
+                    INFO,
+                    ACK,
+                    READ_4,
+                    "S 6744669800000000000000000000000100000000\n",
+                ],
                 order: "",
                 start: ZERO,
                 want: "3 fault unsupported\n",
@@ -130,7 +176,11 @@ fn faults_of_the_negotiation(rt: HostRuntime) -> Result<(), Fail> {
     run(
         &rt,
         &[
-            over_zeroes("the client begins", &["C 00\n"], "1 no at byte 1: OutOfTurn\n"),
+            over_zeroes(
+                "the client begins",
+                &["C 00\n"],
+                "1 no at byte 1: OutOfTurn\n",
+            ),
             over_zeroes(
                 "the greeting's last magic byte is wrong",
                 &["S 4e42444d4147494349484156454f50550003\n"],
@@ -168,12 +218,21 @@ fn faults_of_the_negotiation(rt: HostRuntime) -> Result<(), Fail> {
             ),
             over_zeroes(
                 "an EXPORT info of 11 bytes",
-                &[FLAGS, GO, "S 0003e889045565a900000007000000030000000b0000000000000000000800\n"],
+                &[
+                    FLAGS,
+                    GO,
+                    "S 0003e889045565a900000007000000030000000b0000000000000000000800\n",
+                ],
                 "1 no at byte 75: BadReplyPayload\n",
             ),
             over_zeroes(
                 "an export of a byte more than the limit",
-                &[FLAGS, GO, "S 0003e889045565a900000007000000030000000c00000000000000100001006d\n", ACK],
+                &[
+                    FLAGS,
+                    GO,
+                    "S 0003e889045565a900000007000000030000000c00000000000000100001006d\n",
+                    ACK,
+                ],
                 "1 no at byte 96: ExportTooLarge\n",
             ),
         ],
@@ -192,14 +251,26 @@ fn faults_of_the_transmission(rt: HostRuntime) -> Result<(), Fail> {
             ),
             over_zeroes(
                 "a chunk, though structured replies were not agreed",
-                &[FLAGS, GO, INFO, ACK, READ_1, "S 668e33ef00010000000000000000000100000000\n"],
+                &[
+                    FLAGS,
+                    GO,
+                    INFO,
+                    ACK,
+                    READ_1,
+                    "S 668e33ef00010000000000000000000100000000\n",
+                ],
                 "1 no at byte 144: ChunkForbidden\n",
             ),
             over_zeroes(
                 "a reply that began before its request was whole",
                 &[
-                    FLAGS, GO, INFO, ACK, "C 256095130000000000000000000000010000000000000000000000\n",
-                    "S 67\nC 01\n", "S 446698000000000000000000000001\n",
+                    FLAGS,
+                    GO,
+                    INFO,
+                    ACK,
+                    "C 256095130000000000000000000000010000000000000000000000\n",
+                    "S 67\nC 01\n",
+                    "S 446698000000000000000000000001\n",
                 ],
                 "1 no at byte 140: UnknownCookie\n",
             ),

@@ -74,12 +74,20 @@ fn a_writer_that_fails(rt: HostRuntime) {
     let line = b"yes requests 0 answered 0 improper 0\n";
     for stop in [None, Some(ErrorKind::Other), Some(ErrorKind::Interrupted)] {
         for most in 0..line.len() {
-            let mut out = Short { taken: Vec::new(alloc), most, stop };
+            let mut out = Short {
+                taken: Vec::new(alloc),
+                most,
+                stop,
+            };
             let found = run_check(alloc, &b""[..], &b""[..], StartFrom::Zeroes, &mut out);
             assert!(rt; matches!(&found, Err(RunFault::Write)));
             assert_eq!(rt; out.taken.as_slice(), &line[..most]);
         }
-        let mut out = Short { taken: Vec::new(alloc), most: line.len(), stop };
+        let mut out = Short {
+            taken: Vec::new(alloc),
+            most: line.len(),
+            stop,
+        };
         let found = run_check(alloc, &b""[..], &b""[..], StartFrom::Zeroes, &mut out);
         assert!(rt; matches!(&found, Ok(true)));
         assert_eq!(rt; out.taken.as_slice(), line.as_slice());

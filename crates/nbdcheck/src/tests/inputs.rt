@@ -14,7 +14,12 @@ fn bad_lines(rt: HostRuntime) -> Result<(), Fail> {
         ("", "01\n", "3 fault order line 1\n"),
         ("C 00\n", "1\n\n", "3 fault order line 2\n"),
     ] {
-        let found = answer(alloc, capture.as_bytes(), order.as_bytes(), StartFrom::Zeroes)?;
+        let found = answer(
+            alloc,
+            capture.as_bytes(),
+            order.as_bytes(),
+            StartFrom::Zeroes,
+        )?;
         assert_eq!(rt; found.as_str(), want, "{capture:?} {order:?}");
     }
     Ok(())

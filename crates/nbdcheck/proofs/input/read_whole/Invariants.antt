@@ -6,8 +6,9 @@ use Rattle.nbdcheck.proofs.input.read_whole.Given as goal
 
 abbrev pub invariant-loop-reader : goal.invariant-loop-reader
 invariant-loop-reader g l = record {
-    read : Consumes (g.R.Read.remaining l.initial.reader) (g.R.Read.remaining l.reader) (vec_items l.text);
-    room : vec_len l.portion ≡ PORTION }
+  read : Consumes (g.R.Read.remaining l.initial.reader) (g.R.Read.remaining l.reader) (vec_items l.text);
+  room : vec_len l.portion ≡ PORTION;
+}
 
 abbrev pub decreases-loop-reader : goal.decreases-loop-reader
 decreases-loop-reader g l = READ_LIMIT + 1 - vec_len l.text
