@@ -1,4 +1,5 @@
-//! The faults that a session is refused with.
+//! The faults that a session is refused with: of those that stand at one byte the first in this list is
+//! answered.
 
 /// A rule that the recorded bytes break.
 #[derive(Clone, Copy, Debug, PartialEq, Eq, Drop)]
@@ -9,7 +10,7 @@ pub enum WireFault {
     NotFixedNewstyle,
     /// The client sets a flag that is unknown or was not offered.
     BadClientFlags,
-    /// A side sends where it is not its turn, or the client sends behind DISC.
+    /// A side sends where it is not its turn, behind an answered ABORT, or the client behind DISC.
     OutOfTurn,
     /// An answer repeats another option's number.
     WrongOption,
@@ -17,9 +18,9 @@ pub enum WireFault {
     BadReplyKind,
     /// An option that this project does not follow is answered by anything but an error.
     OutOfProfile,
-    /// An answer's payload does not have its form.
+    /// An answer's payload does not have its form, or an info on the export lacks HAS_FLAGS.
     BadReplyPayload,
-    /// INFO or GO is acknowledged before an info on the export.
+    /// A proper INFO or GO is acknowledged before an info on the export.
     MissingExportInfo,
     /// The answer to EXPORT_NAME lacks HAS_FLAGS or one of its zeroes.
     BadExport,
@@ -27,7 +28,8 @@ pub enum WireFault {
     ExportTooLarge,
     /// A request has the cookie of an outstanding one.
     CookieInUse,
-    /// A reply has the cookie of no request that had completed when the reply started.
+    /// A reply has the cookie of no request that had completed when the reply started and was then
+    /// outstanding.
     UnknownCookie,
     /// A simple reply answers a READ where structured replies are in force, or a request that has
     /// received a chunk.
@@ -36,7 +38,8 @@ pub enum WireFault {
     ChunkForbidden,
     /// A chunk's type is unknown, or its payload does not have the form of its type.
     BadChunk,
-    /// A content chunk or the offset of an error chunk does not fit its request.
+    /// A content chunk answers no READ, leaves its READ's range, shares an offset with an earlier one, or
+    /// is the second of a proper READ with DF; or the offset of an error chunk leaves its request's range.
     BadContent,
     /// A READ is finished with success before its range is covered.
     IncompleteRead,

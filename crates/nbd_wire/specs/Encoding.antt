@@ -4,7 +4,8 @@ use Rattle.nbd_wire.specs.Layouts.{greeting_bytes, client_flags_bytes, choice_by
 use Rattle.nbd_wire.specs.declared.message.Message.{Message}
 use Rattle.nbd_wire.specs.declared.message.Message.TheVariants.{Greeting, ClientFlags, Choice, Answer, Exported, Request, Simple, Chunk}
 
--- the fixed part of a message
+-- the fixed part of a message (proto.md, "Newstyle negotiation", "Request message", "Simple reply message",
+-- "Structured reply chunk message")
 unfoldable pub head : Message → List ℕ
 head (Greeting flags) = greeting_bytes flags
 head (ClientFlags flags) = client_flags_bytes flags

@@ -1,5 +1,5 @@
 -- The export's bytes, looked up backwards from a request.
-use Rattle.std.specs.Prelude.{ℕ, List, [], ◌∷◌, ◌≡◌, ◌+◌, ◌-◌, ◌==◌, ◌&&◌, Bool, true, false, if◌then◌else◌, Option, Some, None, slice_get, IsTrue}
+use Rattle.std.specs.Prelude.{ℕ, List, [], ◌∷◌, ◌≡◌, ◌-◌, ◌==◌, ◌&&◌, Bool, true, false, if◌then◌else◌, Option, Some, None, slice_get, IsTrue}
 use Rattle.nbd_wire.specs.declared.commands.TheConstants as commands
 use Rattle.nbd_wire.specs.Report.{Asked, Report, asked_at}
 use Rattle.nbd_wire.specs.Requests.{Outcome, Success, Failure, Pending, byte_at, is_change, is_in}
@@ -13,11 +13,13 @@ pub record Exchange : Type 0 where
   pub succeeded : Bool
   pub read : ℕ → Option ℕ
 
+-- the outcome is a success
 abbrev pub is_success : Outcome → Bool
 is_success Success = true
 is_success Failure = false
 is_success Pending = false
 
+-- what of a request the export's bytes depend on
 abbrev pub exchange : Asked → Exchange
 exchange a = record {
   command = a.command;
@@ -28,6 +30,7 @@ exchange a = record {
   read = byte_at a.pieces;
 }
 
+-- the same, of a request if there is one
 abbrev pub exchange_if : Option Asked → Option Exchange
 exchange_if (Some a) = Some (exchange a)
 exchange_if None = None
@@ -55,10 +58,12 @@ abbrev pub before : ℕ → List ℕ → List ℕ
 before k [] = []
 before k (j ∷ order) = if j == k then [] else j ∷ before k order
 
+-- the request, where it touches x
 abbrev pub touching : Option Exchange → ℕ → Option Exchange
 touching (Some e) x = if touches e x then Some e else None
 touching None x = None
 
+-- the later of two, if there is one
 abbrev pub later : Option Exchange → Option Exchange → Option Exchange
 later (Some e) earlier = Some e
 later None earlier = earlier
@@ -68,6 +73,7 @@ abbrev pub last_touch : (ℕ → Option Exchange) → ℕ → List ℕ → Optio
 last_touch requests x [] = None
 last_touch requests x (k ∷ order) = later (last_touch requests x order) (touching (requests k) x)
 
+-- what a change left at x, or the byte at the start where none did
 abbrev pub left_or : Option Exchange → (ℕ → Option ℕ) → ℕ → Option ℕ
 left_or (Some e) initial x = left_at e x
 left_or None initial x = initial x

@@ -13,6 +13,7 @@ pub data Start : Type 0 where
   Zeroes : Start
   Image : (bytes : List ℕ) → Start
 
+-- the byte at x of the start, if it is known
 abbrev pub start_byte : Start → ℕ → Option ℕ
 start_byte Unknown x = None
 start_byte Zeroes x = Some 0

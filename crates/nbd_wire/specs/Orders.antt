@@ -14,6 +14,7 @@ NamesNone count order i = (i < length order) × ((slice_index order i ≡ 0) ⊎
 abbrev pub NamesAgain : List ℕ → ℕ → Type 0
 NamesAgain order i = (i < length order) × ((j : ℕ) × (j < i) × (slice_index order j ≡ slice_index order i))
 
+-- entry i has one of these two faults
 abbrev pub IsBad : ℕ → List ℕ → ℕ → Type 0
 IsBad count order i = NamesNone count order i ⊎ NamesAgain order i
 

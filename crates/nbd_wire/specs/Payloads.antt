@@ -10,6 +10,8 @@ use Rattle.byteorder.specs.Endian.{big_number}
 abbrev pub number_at : ℕ → ℕ → List ℕ → ℕ
 number_at place n bytes = big_number n (drop place bytes)
 
+-- an INFO answer: EXPORT (0) with a size and flags, BLOCK_SIZE (3) with three sizes, or any other type
+-- (proto.md, "Option reply types")
 unfoldable pub info_of : List ℕ → Option Info
 info_of bytes =
     let kind : ℕ = number_at 0 2 bytes in
@@ -18,22 +20,26 @@ info_of bytes =
     else if kind == 3 then (if length bytes == 14 then Some (BlockSize (number_at 2 4 bytes) (number_at 6 4 bytes) (number_at 10 4 bytes)) else None)
     else Some (Other kind)
 
--- a SERVER payload: a name's length, the name, free text
+-- a SERVER payload: a name's length, the name, free text (proto.md, "Option reply types")
 unfoldable pub is_listed : List ℕ → Bool
 is_listed bytes = nat_le 4 (length bytes) && nat_le (4 + number_at 0 4 bytes) (length bytes)
 
--- INFO or GO data: a name's length, the name, a count, two bytes for each
+-- INFO or GO data: a name's length, the name, a count, two bytes for each (proto.md, "Option types")
 unfoldable pub is_go : List ℕ → Bool
 is_go bytes =
     let name : ℕ = number_at 0 4 bytes in
     nat_le (6 + name) (length bytes) && (length bytes == 6 + name + 2 * number_at (4 + name) 2 bytes)
 
+-- a content chunk: OFFSET_DATA (1) with an offset and at least one byte, or OFFSET_HOLE (2) with an offset
+-- and a size above 0 (proto.md, "Structured reply types")
 unfoldable pub content_of : ℕ → List ℕ → Option Piece
 content_of kind bytes =
     if kind == 1 then (if nat_le 9 (length bytes) then Some (Bytes (number_at 0 8 bytes) (drop 8 bytes)) else None)
     else if (kind == 2) && ((length bytes == 12) && not (number_at 8 4 bytes == 0)) then Some (Hole (number_at 0 8 bytes) (number_at 8 4 bytes))
     else None
 
+-- an error chunk: ERROR (0x8001), or ERROR_OFFSET (0x8002) with the offset behind the text; an error above 0,
+-- a text's length and the text; what comes behind is ignored (this project's choice)
 unfoldable pub failure_of : ℕ → List ℕ → Option Failure
 failure_of kind bytes =
     let error : ℕ = number_at 0 4 bytes in

@@ -17,6 +17,7 @@ abbrev pub bytes_of : Side → List Message → List ℕ
 bytes_of s [] = []
 bytes_of s (m ∷ messages) = if same_side s (side m) then enc m ++ bytes_of s messages else bytes_of s messages
 
+-- a side's bytes of two
 abbrev pub of_two : Side → (client server : List ℕ) → List ℕ
 of_two Client client server = client
 of_two Server client server = server

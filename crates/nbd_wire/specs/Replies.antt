@@ -1,5 +1,5 @@
 -- What may stand in the reply to a request (proto.md, "Simple reply message", "Structured reply chunk message").
-use Rattle.std.specs.Prelude.{ℕ, List, [], ◌≡◌, ◌+◌, ◌≤◌, ◌⊎◌, ◌==◌, ◌&&◌, Bool, true, if◌then◌else◌, false, Option, Some, length, IsTrue}
+use Rattle.std.specs.Prelude.{ℕ, List, [], ◌≡◌, ◌+◌, ◌≤◌, ◌⊎◌, ◌==◌, ◌&&◌, Bool, true, if◌then◌else◌, false, Some, length, IsTrue}
 use Rattle.nbd_wire.specs.declared.message.Message.{Message}
 use Rattle.nbd_wire.specs.declared.message.Message.TheVariants.{Simple, Chunk}
 use Rattle.nbd_wire.specs.declared.payloads.Failure.{Failure}
@@ -15,7 +15,7 @@ use Rattle.nbd_wire.specs.States.{with_reply}
 abbrev pub simple_length : Entry → ℕ → ℕ
 simple_length e error = if (e.command == commands.READ) && (error == 0) then e.length else 0
 
--- a simple reply: no chunk came before it, it answers no READ where structured replies are in force,
+-- a simple reply, any number but 0 being an error: no chunk came before it, it answers no READ where structured replies are in force,
 -- it carries the bytes of a successful READ, and success is that of a proper request
 abbrev pub IsSimpleReply : Bool → Exporting → Entry → (error : ℕ) (payload : List ℕ) → Type 0
 IsSimpleReply structured export e error payload =

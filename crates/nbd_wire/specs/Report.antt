@@ -11,6 +11,7 @@ use Rattle.nbd_wire.specs.States.{Core, Phase, Transmission, start}
 abbrev pub entries_of : List Item → List Entry
 entries_of items = (ends_at start items).core.entries
 
+-- the export of a phase: in transmission, the one that was entered
 abbrev pub export_in : Phase → Option Exporting
 export_in (Transmission export) = Some export
 export_in _ = None
@@ -19,14 +20,17 @@ export_in _ = None
 abbrev pub export_of : List Item → Option Exporting
 export_of items = export_in (ends_at start items).core.phase
 
+-- the count of requests here where the condition holds, or else what came later
 abbrev pub known_if : Bool → Core → Option ℕ → Option ℕ
 known_if true core later = Some (length core.entries)
 known_if false core later = later
 
+-- a reply to j starts: the count here where j is k, or else what came later
 abbrev pub first_known : Option ℕ → Core → ℕ → Option ℕ → Option ℕ
 first_known (Some j) core k later = known_if (j == k) core later
 first_known None core k later = later
 
+-- how many had completed when the first reply to request k started, walking from here
 abbrev pub known_from : Core → ℕ → List Item → Option ℕ
 known_from core k [] = None
 known_from core k (Starts Server m ∷ items) = first_known (answered_by core m) core k (known_from core k items)
@@ -58,10 +62,12 @@ pub record Report : Type 0 where
   pub export : Option Exporting
   pub asked : List Asked
 
+-- proper on the export, if there is one
 abbrev pub proper_on : Option Exporting → Entry → Bool
 proper_on (Some export) e = is_proper export e
 proper_on None e = false
 
+-- a request as a report tells it
 abbrev pub told : Option Exporting → Option ℕ → Entry → Asked
 told export known_at e = record {
   flags = e.flags;
@@ -81,6 +87,7 @@ abbrev pub told_from : ℕ → Option Exporting → (ℕ → Option ℕ) → Lis
 told_from k export known_at [] = []
 told_from k export known_at (e ∷ entries) = told export (known_at (suc k)) e ∷ told_from (suc k) export known_at entries
 
+-- the export and the numbered requests that a run leads to
 unfoldable pub report : List Item → Report
 report items = record { export = export_of items; asked = told_from 0 (export_of items) (known items) (entries_of items) }
 

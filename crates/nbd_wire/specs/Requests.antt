@@ -1,5 +1,5 @@
 -- A numbered request, its replies, and what became of it.
-use Rattle.std.specs.Prelude.{ℕ, List, [], ◌∷◌, ◌++◌, ◌≡◌, ◌+◌, ◌-◌, ◌<◌, ◌≤◌, Bool, true, false, not, ◌&&◌, ◌||◌, ◌==◌, nat_le, nat_lt, if◌then◌else◌, Option, Some, None, length, IsTrue, slice_index, is_some, bit_and}
+use Rattle.std.specs.Prelude.{ℕ, List, [], ◌∷◌, ◌++◌, ◌≡◌, ◌+◌, ◌-◌, Bool, true, false, not, ◌&&◌, ◌||◌, ◌==◌, nat_le, nat_lt, if◌then◌else◌, Option, Some, None, length, IsTrue, slice_index, is_some, bit_and}
 use Rattle.nbd_wire.specs.declared.message.Message.{Message}
 use Rattle.nbd_wire.specs.declared.message.Message.TheVariants.{Simple, Chunk}
 use Rattle.nbd_wire.specs.declared.payloads.Piece.{Piece}
@@ -86,6 +86,7 @@ piece_of offset (Simple error cookie payload) = simple_piece offset payload
 piece_of offset (Chunk flags kind cookie payload) = chunk_piece (content_of kind payload)
 piece_of offset _ = []
 
+-- what these messages give, one after the other
 abbrev pub pieces_of : ℕ → List Message → List Piece
 pieces_of offset [] = []
 pieces_of offset (m ∷ messages) = piece_of offset m ++ pieces_of offset messages
@@ -94,10 +95,12 @@ pieces_of offset (m ∷ messages) = piece_of offset m ++ pieces_of offset messag
 abbrev pub pieces : Entry → List Piece
 pieces e = pieces_of e.offset e.replies
 
+-- where a piece begins, in bytes from the start of the export
 abbrev pub piece_offset : Piece → ℕ
 piece_offset (Bytes offset bytes) = offset
 piece_offset (Hole offset size) = offset
 
+-- how many bytes a piece stands for
 abbrev pub piece_size : Piece → ℕ
 piece_size (Bytes offset bytes) = length bytes
 piece_size (Hole offset size) = size
@@ -111,6 +114,7 @@ piece_byte (Hole offset size) x = 0
 abbrev pub is_in : ℕ → ℕ → ℕ → Bool
 is_in offset len x = nat_le offset x && nat_lt x (offset + len)
 
+-- the piece stands for the byte at x
 abbrev pub holds : Piece → ℕ → Bool
 holds piece x = is_in (piece_offset piece) (piece_size piece) x
 
@@ -150,6 +154,7 @@ is_offered export command =
     && (not (command == commands.TRIM) || has export transmission.SEND_TRIM)
     && (not (command == commands.WRITE_ZEROES) || has export transmission.SEND_WRITE_ZEROES)
 
+-- a mask where a condition holds, no flag otherwise
 abbrev pub mask_if : Bool → ℕ → ℕ
 mask_if b mask = if b then mask else 0
 

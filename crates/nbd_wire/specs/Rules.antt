@@ -15,7 +15,7 @@ use Rattle.nbd_wire.specs.Replies.{MayReply}
 use Rattle.nbd_wire.specs.Requests.{Entry, Exporting, has, has_only}
 use Rattle.nbd_wire.specs.Sendable.{IsSendable}
 use Rattle.nbd_wire.specs.Side.{side}
-use Rattle.nbd_wire.specs.States.{Core, Names, Phase, State, Greet, Flags, Choosing, Naming, Aborting, Answering, Ended, Transmission, answered, entry, start, target}
+use Rattle.nbd_wire.specs.States.{Core, Names, Phase, State, Greet, Flags, Choosing, Naming, Aborting, Answering, Transmission, answered, entry, start, target}
 
 -- the cookie that a reply repeats
 abbrev pub cookie_of : Message → Option ℕ
@@ -23,6 +23,7 @@ cookie_of (Simple error cookie payload) = Some cookie
 cookie_of (Chunk flags kind cookie payload) = Some cookie
 cookie_of _ = None
 
+-- the request of a cookie, if there is a cookie
 abbrev pub target_of : Option ℕ → List Entry → Option ℕ
 target_of (Some cookie) entries = target cookie entries
 target_of None entries = None
@@ -31,6 +32,7 @@ target_of None entries = None
 abbrev pub answered_by : Core → Message → Option ℕ
 answered_by core m = target_of (cookie_of m) core.entries
 
+-- the message is a request
 abbrev pub is_request : Message → Bool
 is_request (Request _ _ _ _ _ _) = true
 is_request _ = false
@@ -42,6 +44,7 @@ MayStartIn (Transmission export) core Client m = IsTrue (is_request m) × (core.
 MayStartIn (Transmission export) core Server m = IsTrue (is_some (answered_by core m))
 MayStartIn phase core s m = turn phase ≡ Some s
 
+-- the same, in the phase where the session stands
 abbrev pub MayStart : Core → Side → Message → Type 0
 MayStart core s m = MayStartIn core.phase core s m
 
@@ -89,6 +92,7 @@ abbrev pub reply_to : Option ℕ → Core → Message → Core
 reply_to (Some k) core m = record core { entries = answered k m core.entries }
 reply_to None core m = core
 
+-- a reply joins the replies of the request that it answers
 abbrev pub replied : Core → Message → Core
 replied core m = reply_to (answered_by core m) core m
 

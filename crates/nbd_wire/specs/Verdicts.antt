@@ -26,17 +26,20 @@ FirstWrong r order initial request offset =
     ((i : ℕ) × (slice_index order i ≡ request) × IsFirst (HasWrong r order initial) i)
     × IsFirst (IsWrong (exchanges r) order (start_byte initial) request) offset
 
+-- the reply was finished
 abbrev pub is_answered : Outcome → Bool
 is_answered Success = true
 is_answered Failure = true
 is_answered Pending = false
 
--- the counts of a yes: numbered requests, finished ones, improper ones
+-- the counts of a yes: how many numbered requests there are
 abbrev pub requests : Report → ℕ
 requests r = length r.asked
 
+-- how many requests were finished
 abbrev pub answered : Report → ℕ
 answered r = count_by (λ (a : Asked). is_answered a.outcome) r.asked
 
+-- how many requests were improper
 abbrev pub improper : Report → ℕ
 improper r = count_by (λ (a : Asked). not a.proper) r.asked
