@@ -4,8 +4,29 @@
 //! bytes are read.
 #![tactic(auto)]
 
+mod asked;
+mod chunks;
+mod completing;
 pub mod examples;
 pub mod fault;
+mod flags;
+mod heads;
+mod held;
 pub mod laws;
+mod leading;
+mod messages;
+mod negotiation;
+mod options;
+mod proper;
+mod reading;
+mod reading_state;
+mod recording;
+mod replies;
+mod requests;
+mod spans;
+mod state;
+mod whole;
 
+pub use asked::{Asked, Outcome};
 pub use fault::WireFault;
+pub use nbd_wire::Piece;

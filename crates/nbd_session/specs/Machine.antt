@@ -1,3 +1,4 @@
+-- Internal: no public contract names what stands here.
 -- A machine that reads pairs, over any judge of a side's bytes.
 use Rattle.std.proofs.Common.{◌≡◌, ℕ, ◌<◌, ◌⊎◌, List, [], ◌∷◌, ◌++◌, refl, sym, ◌∙◌, ap, subst, inl, inr, Result, Ok, Err}
 use Rattle.nbd_wire.specs.declared.message.Side.{Side}
@@ -136,6 +137,10 @@ pub data IsReached : Core → Type 0 where
 pub data Kept (judge : Judge) (s : Side) (old : Core) : Core → List ℕ → Type 0 where
   begun : (b : ℕ) → b < 256 → IsReached old → Kept judge s old old (b ∷ [])
   kept : {now next : Core} {bytes : List ℕ} (b : ℕ) → b < 256 → Kept judge s old now bytes → judge old now s bytes ≡ More → Later s now next → IsReached next → Kept judge s old next (bytes ++ b ∷ [])
+
+-- before the first byte
+abbrev pub fresh : Machine
+fresh = record { core = start.core; rests = record { client = record { bytes = []; since = start.core }; server = record { bytes = []; since = start.core } }; messages = [] }
 
 -- no byte of the next message has come
 abbrev pub ended_by : Rest → Rest
