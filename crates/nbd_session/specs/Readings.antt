@@ -34,3 +34,9 @@ reading_of d bytes =
 abbrev pub reading_if : Option Decision → List ℕ → Result Reading WireFault
 reading_if None bytes = Err OutOfTurn
 reading_if (Some d) bytes = reading_of d bytes
+
+-- the length that is awaited of bytes of which so many are there; where none is, the next one is
+abbrev pub until : Result Reading WireFault → (have : ℕ) → ℕ
+until (Ok (Await len)) have = len
+until (Ok Whole) have = have + 1
+until (Err fault) have = have + 1

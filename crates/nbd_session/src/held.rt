@@ -4,10 +4,12 @@ ghost use Rattle.std.specs.Prelude.{◌≡◌, ◌+◌, ◌-◌, ◌<◌, ◌≤
 ghost use Rattle.nbd_wire.specs.States.{start};
 ghost use Rattle.nbd_session.specs.Judge.{awaited};
 ghost use Rattle.nbd_session.specs.Machine.{Machine, get, old_of};
+ghost use Rattle.nbd_session.specs.Readings.{until};
 ghost use Rattle.nbd_session.specs.Shows.{Shows};
 ghost use Rattle.nbd_session.specs.Standing.{IsReadTo, noted, rest_of, span_total, with_taken};
 ghost use Rattle.nbd_session.specs.Holdings.{holding_of, is_of, spans_of};
 
+use crate::fault::WireFault;
 use crate::reading::Reading;
 use crate::state::State;
 use nbd_wire::{Message, Side};
@@ -68,10 +70,7 @@ impl Held {
         ensures { (machine : Machine) → IsReadTo (holding_of self.now) machine → Shows self.now.state machine.core → result ≡ awaited (old_of machine.core (get machine.rests side)) machine.core side (rest_of (holding_of self.now) side) }
     {
         let rest = self.rest(side);
-        match self.state.read(side, rest, self.counted) {
-            Ok(Reading::Await(length)) => length,
-            _ => rest.len() + 1,
-        }
+        until(self.state.read(side, rest, self.counted), rest.len())
     }
 
     /// Takes bytes of a side. After an `Err`, that memory ran out, nothing is known of what is held.
@@ -90,6 +89,19 @@ impl Held {
                 self.server.extend_from_slice(piece)
             }
         }
+    }
+}
+
+/// The length that is awaited of bytes that were read so and of which so many are there; where none is,
+/// the next one is.
+fn until(reading: Result<Reading, WireFault>, have: usize) -> usize
+    requires { have < 2 ^ 63 }
+    ensures { result ≡ until reading have }
+{
+    match reading {
+        Ok(Reading::Await(length)) => length,
+        Ok(Reading::Whole) => have + 1,
+        Err(_) => have + 1,
     }
 }
 
