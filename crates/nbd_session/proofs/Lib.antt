@@ -73,3 +73,4 @@ pub mod WholeFor
 pub mod Noting
 pub mod AwaitedHeld
 pub mod Ending
+pub mod Transcribing

@@ -29,3 +29,4 @@ pub mod Shows
 pub mod Completing
 pub mod WholeMessage
 pub mod Holdings
+pub mod Transcripts

@@ -25,8 +25,10 @@ mod replies;
 mod requests;
 mod spans;
 mod state;
+mod transcript;
 mod whole;
 
 pub use asked::{Asked, Outcome};
 pub use fault::WireFault;
 pub use nbd_wire::Piece;
+pub use transcript::Transcript;
