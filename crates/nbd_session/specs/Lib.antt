@@ -30,3 +30,5 @@ pub mod Completing
 pub mod WholeMessage
 pub mod Holdings
 pub mod Transcripts
+pub mod Sessions
+pub mod Steps

@@ -29,6 +29,6 @@ mod transcript;
 mod whole;
 
 pub use asked::{Asked, Outcome};
-pub use fault::WireFault;
+pub use fault::{SessionFault, WireFault};
 pub use nbd_wire::Piece;
 pub use transcript::Transcript;
