@@ -74,3 +74,4 @@ pub mod Noting
 pub mod AwaitedHeld
 pub mod Ending
 pub mod Transcribing
+pub mod Accepting

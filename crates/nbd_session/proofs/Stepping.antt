@@ -116,7 +116,7 @@ module _ (h : Holding) (machine : Machine) (r : IsReadTo h machine) (s : Side) (
   pairs_taken = subst ArePairs (sym (pairs-taken h s more (length machine.core.entries) r.are_spans)) (are_pairs-append (pairs_held h) (sent s more) r.are_pairs (are_pairs-sent s more bytes))
 
 -- the count at the first byte of the server's rest
-count_at : (server : List ℕ) (rest : Rest) (core : Core) (counted : ℕ) → rest.bytes ≡ server → (IsFilled server → counted ≡ length rest.since.entries) →
+pub count_at : (server : List ℕ) (rest : Rest) (core : Core) (counted : ℕ) → rest.bytes ≡ server → (IsFilled server → counted ≡ length rest.since.entries) →
     counted_at Server server counted (length core.entries) ≡ count_of core rest
 count_at [] rest core counted e h = ap (λ c. length c.entries) (sym (old-empty core rest e))
 count_at (b ∷ bytes) rest core counted e h = h tt ∙ ap (λ c. length c.entries) (sym (old-filled core rest (subst IsFilled (sym e) tt)))
@@ -219,6 +219,7 @@ pub record IsWholeTaken (h : Holding) (machine : Machine) (s : Side) (after : Ho
   pub decision : Decision
   pub decided_is : decided_counted counted machine.core s bytes ≡ Some decision
   pub at : IsSoundAt (old_of machine.core (get machine.rests s)) machine.core s bytes decision.message
+  pub judged_so : concrete (old_of machine.core (get machine.rests s)) machine.core s bytes ≡ Whole decision.message
   pub next : Rest
   pub read_to : IsReadTo (with_message after s decision.message)
       (record { core = complete machine.core decision.message; rests = put machine.rests s next; messages = machine.messages ++ decision.message ∷ [] })
@@ -242,6 +243,7 @@ module _ (h : Holding) (machine : Machine) (r : IsReadTo h machine) (s : Side) (
         decision = w.0;
         decided_is = w.1;
         at = at;
+        judged_so = subst (λ l. concrete (old_of machine.core (get machine.rests s)) machine.core s l ≡ Whole m) b judged_so;
         next = record (extended machine.core (get machine.rests s) more) { bytes = [] };
         read_to = record {
           are_pairs = subst ArePairs (sym same) (pairs_taken h machine r s more filled bytes up_to);
