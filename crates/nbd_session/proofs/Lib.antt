@@ -75,3 +75,4 @@ pub mod AwaitedHeld
 pub mod Ending
 pub mod Transcribing
 pub mod Accepting
+pub mod Settling

@@ -169,7 +169,7 @@ module _ (h : Holding) (machine : Machine) (r : IsReadTo h machine) (s : Side) (
   counted = counted_at s h.server h.counted (length machine.core.entries)
 
   -- what the judge says of the side's bytes with these, by what the program answers
-  says : (reading : Reading) → judged (decided_counted counted machine.core s (rest_of after s)) (rest_of after s) ≡ reading →
+  pub says : (reading : Reading) → judged (decided_counted counted machine.core s (rest_of after s)) (rest_of after s) ≡ reading →
       concrete (old_of machine.core (get machine.rests s)) machine.core s ((get machine.rests s).bytes ++ more) ≡ reading
   says reading e =
       ap (λ l. concrete (old_of machine.core (get machine.rests s)) machine.core s l) (bytes_taken h machine s more (length machine.core.entries) r)

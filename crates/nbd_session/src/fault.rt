@@ -64,6 +64,7 @@ pub enum SessionFault {
 }
 
 impl From<AllocError> for SessionFault {
+    ghost use Rattle.std.specs.Prelude.{◌≡◌};
     ghost use Rattle.nbd_session.specs.declared.fault.SessionFault.TheVariants.{Memory};
 
     ghost from_gives = { λ _ fault. fault ≡ Memory };
