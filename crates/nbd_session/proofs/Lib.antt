@@ -76,3 +76,4 @@ pub mod Ending
 pub mod Transcribing
 pub mod Accepting
 pub mod Settling
+pub mod Pieces

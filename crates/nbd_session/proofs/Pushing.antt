@@ -18,7 +18,7 @@ no_length (x ∷ xs) e = absurd (omega (arith, e))
 take_whole : (xs : List ℕ) (n : ℕ) → n ≡ length xs → take n xs ≡ xs
 take_whole xs n e = subst (λ m. take m xs ≡ xs) (sym e) (take-length xs)
 
-sent-append : (s : Side) (xs ys : List ℕ) → sent s (xs ++ ys) ≡ sent s xs ++ sent s ys
+pub sent-append : (s : Side) (xs ys : List ℕ) → sent s (xs ++ ys) ≡ sent s xs ++ sent s ys
 sent-append s [] ys = refl
 sent-append s (x ∷ xs) ys = ap (λ ps. record { from = s; byte = x } ∷ ps) (sent-append s xs ys)
 
@@ -43,12 +43,12 @@ left_alike Server Server Client n more bytes l = refl
 left_alike Server Server Server n more bytes l = drop-append-le n bytes more (l refl)
 
 -- behind the first span the others are of what is left
-left_spans : (t : Side) (n : ℕ) (spans : List Span) (client server : List ℕ) → AreSpansOf (record { from = t; length = n } ∷ spans) client server →
+pub left_spans : (t : Side) (n : ℕ) (spans : List Span) (client server : List ℕ) → AreSpansOf (record { from = t; length = n } ∷ spans) client server →
     AreSpansOf spans (left_of Client (record { from = t; length = n }) client) (left_of Server (record { from = t; length = n }) server)
 left_spans Client n spans client server h = record { of_client = omega (arith, h.of_client, length-drop n client); of_server = omega (arith, h.of_server) }
 left_spans Server n spans client server h = record { of_client = omega (arith, h.of_client); of_server = omega (arith, h.of_server, length-drop n server) }
 
-first_fits : (t u : Side) (n : ℕ) (spans : List Span) (client server : List ℕ) → AreSpansOf (record { from = t; length = n } ∷ spans) client server → u ≡ t → n ≤ length (of_two u client server)
+pub first_fits : (t u : Side) (n : ℕ) (spans : List Span) (client server : List ℕ) → AreSpansOf (record { from = t; length = n } ∷ spans) client server → u ≡ t → n ≤ length (of_two u client server)
 first_fits Client Client n spans client server h e = omega (arith, h.of_client)
 first_fits Server Server n spans client server h e = omega (arith, h.of_server)
 first_fits Client Server n spans client server h e = absurd (cc)

@@ -91,3 +91,8 @@ module _ (held : Held) (s : Side) (t : IsTaken held s) where
 pub memory_alone : (A : Type 0) (r : Result A SessionFault) (Q : SessionFault → Type 0) → IsErrAnd r (λ fault. fault ≡ Memory) → Q Memory → IfErr r Q
 memory_alone A (Ok a) Q e q = tt
 memory_alone A (Err fault) Q e q = subst Q (sym e) q
+
+-- the fault of a call is handed on
+pub handed_on : (A : Type 0) (r : Result A SessionFault) (fault : SessionFault) (Q : SessionFault → Type 0) → IsErrAnd r (λ other. other ≡ fault) → Q fault → IfErr r Q
+handed_on A (Ok a) fault Q e q = tt
+handed_on A (Err other) fault Q e q = subst Q (sym e) q
