@@ -97,7 +97,7 @@ impl Held {
         let mut left = piece;
         while !left.is_empty() {
             let count = self.step(alloc, side, left)?;
-            left = &left[count..];
+            left = left.split_at(count).1;
         }
         Ok(())
     }
