@@ -77,3 +77,5 @@ pub mod Transcribing
 pub mod Accepting
 pub mod Settling
 pub mod Pieces
+pub mod Reporting
+pub mod Beginning

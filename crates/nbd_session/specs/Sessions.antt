@@ -1,5 +1,5 @@
 -- What a session holds, what of a run that is, and what a piece adds to it.
-use Rattle.std.specs.Prelude.{◌≡◌, ◌++◌, ℕ, List, Option, Some, None, length}
+use Rattle.std.specs.Prelude.{◌≡◌, ◌++◌, ℕ, List, [], Option, Some, None, Result, Ok, Err, length}
 use Rattle.nbd_wire.specs.declared.message.Message.{Message}
 use Rattle.nbd_wire.specs.declared.message.Side.{Side}
 use Rattle.nbd_wire.specs.Items.{Item, Pair, completed, pairs, sent}
@@ -7,6 +7,8 @@ use Rattle.nbd_wire.specs.Pushed.{Span, pushed}
 use Rattle.nbd_wire.specs.Report.{Report, report}
 use Rattle.nbd_wire.specs.Rules.{IsRun, IsRunBut}
 use Rattle.nbd_session.specs.declared.fault.SessionFault.{SessionFault}
+use Rattle.nbd_session.specs.declared.fault.SessionFault.TheVariants.{Memory, Wire}
+use Rattle.nbd_session.specs.declared.fault.WireFault.TheVariants.{Unfinished}
 
 -- the accepted messages in the order of their completion, each side's bytes behind its messages, the
 -- spans of all bytes, and the fault that closed the session, if one did
@@ -45,9 +47,37 @@ pub record Adds (before after : List Pair) (earlier later : List Message) (s : S
   pub has_pairs : after ≡ before ++ sent s front
   pub has_messages : later ≡ earlier ++ more
 
--- the same, of what a session holds
-abbrev pub AddsTo : (old new : Recorded) → Side → (piece left : List ℕ) → Type 0
-AddsTo old new s piece left = Adds (pairs_of old) (pairs_of new) old.messages new.messages s piece left
+-- a front of a side's piece was taken, and more messages may have been accepted
+abbrev pub AddsFront : (old new : Recorded) → Side → (piece : List ℕ) → Type 0
+AddsFront old new s piece = (left : List ℕ) × Adds (pairs_of old) (pairs_of new) old.messages new.messages s piece left
+
+-- a wire fault names the last byte that was taken
+abbrev pub IsAtEnd : Recorded → SessionFault → Type 0
+IsAtEnd r (Wire at fault) = at ≡ taken r
+IsAtEnd r Memory = Unit {0}
+
+-- a message that started has not completed where bytes of a side stand behind its messages
+abbrev pub unfinished : (client server : List ℕ) → (at : ℕ) → Option SessionFault
+unfinished [] [] at = None
+unfinished client server at = Some (Wire at Unfinished)
+
+-- the fault that closed it, or else this one
+abbrev pub end_by : Option SessionFault → Option SessionFault → Option SessionFault
+end_by (Some fault) last = Some fault
+end_by None last = last
+
+-- the fault of a session that is to end
+abbrev pub fault_at_end : Recorded → Option SessionFault
+fault_at_end r = end_by r.closed (unfinished r.client r.server (taken r))
+
+-- the fault of an answer, if it is one
+abbrev pub fault_of : {A : Type 0} → Result A SessionFault → Option SessionFault
+fault_of (Ok a) = None
+fault_of (Err fault) = Some fault
+
+-- before the first byte
+abbrev pub none_taken : Recorded
+none_taken = record { messages = []; client = []; server = []; spans = []; closed = None }
 
 -- some run has exactly the bytes that were taken and these messages, and the report of any such run
 -- is this one

@@ -1,17 +1,17 @@
 -- Internal: no public contract names what stands here.
 -- What holds of a session under way between two steps, and of one that is closed.
-use Rattle.std.specs.Prelude.{◌≡◌, ◌≤◌, ◌++◌, ℕ, List, [], length, Ok, Err}
+use Rattle.std.specs.Prelude.{◌≡◌, ◌≤◌, ◌++◌, ℕ, List, [], length, Option, Some, None, Ok, Err}
 use Rattle.nbd_wire.specs.declared.message.Side.{Side}
 use Rattle.nbd_wire.specs.Encoding.{AreBytes}
 use Rattle.nbd_session.specs.declared.fault.SessionFault.{SessionFault}
 use Rattle.nbd_session.specs.declared.fault.SessionFault.TheVariants.{Memory, Wire}
 use Rattle.nbd_session.specs.declared.held.Held.{Held}
 use Rattle.nbd_session.specs.Concrete.{concrete}
-use Rattle.nbd_session.specs.Holdings.{holding_of}
+use Rattle.nbd_session.specs.Holdings.{holding_of, spans_of}
 use Rattle.nbd_session.specs.Judge.{awaited}
 use Rattle.nbd_session.specs.Logged.{logged}
 use Rattle.nbd_session.specs.Machine.{IsFilled, Machine, fresh, get, old_of, reads}
-use Rattle.nbd_session.specs.Sessions.{Adds, HasRun}
+use Rattle.nbd_session.specs.Sessions.{Adds, HasRun, Recorded}
 use Rattle.nbd_session.specs.Shows.{AreKnown, Shows}
 use Rattle.nbd_session.specs.Standing.{Holding, IsReadTo, pairs_held, rest_of, with_taken}
 
@@ -66,3 +66,18 @@ pub record IsRefused (old new : Held) (s : Side) (piece : List ℕ) (fault : Ses
 pub record IsSame (old new : Held) : Type 0 where
   pub adds : (s : Side) → AddsHeld old new s [] []
   pub taken_is : new.taken ≡ old.taken
+
+-- what is held between two calls: it stands, or it is closed
+abbrev pub IsKept : Held → Option SessionFault → Type 0
+IsKept held None = Stands held
+IsKept held (Some fault) = IsShut held fault
+
+-- what is held, as a session tells it
+abbrev pub recorded : Held → Option SessionFault → Recorded
+recorded held closed = record {
+  messages = held.messages.items;
+  client = held.client.items;
+  server = held.server.items;
+  spans = spans_of held.stretches.items;
+  closed = closed;
+}

@@ -1,6 +1,6 @@
 //! What a session under way holds of the bytes that it was given.
 
-ghost use Rattle.std.specs.Prelude.{◌≡◌, ◌+◌, ◌-◌, ◌<◌, ◌≤◌, ◌^◌, ◌++◌, ℕ, List, [], ◌∷◌, drop, length, if◌then◌else◌, IfErr, IfOk, OnErr, OnOk, Ok, slice_get};
+ghost use Rattle.std.specs.Prelude.{◌≡◌, ◌+◌, ◌-◌, ◌<◌, ◌≤◌, ◌^◌, ◌++◌, ℕ, List, [], ◌∷◌, drop, length, if◌then◌else◌, IfErr, IfOk, None, OnErr, OnOk, Ok, slice_get};
 ghost use Rattle.nbd_wire.specs.declared.message.Side.TheVariants.{Client, Server};
 ghost use Rattle.nbd_wire.specs.Side.{same_side};
 ghost use Rattle.nbd_wire.specs.States.{Core, start};
@@ -9,13 +9,15 @@ ghost use Rattle.nbd_session.specs.Holdings.{holding_of, is_of, spans_of};
 ghost use Rattle.nbd_session.specs.Judge.{awaited, decided_counted};
 ghost use Rattle.nbd_session.specs.Machine.{Machine, get, old_of};
 ghost use Rattle.nbd_session.specs.Readings.{reading_if, until};
+ghost use Rattle.nbd_session.specs.Sessions.{IsReported, fault_at_end, fault_of};
 ghost use Rattle.nbd_session.specs.Shows.{Shows};
 ghost use Rattle.nbd_session.specs.Standing.{IsReadTo, noted, rest_of, span_total, with_taken};
-ghost use Rattle.nbd_session.specs.Steps.{AddsHeld, IsRefused, IsSame, IsShut, IsTaken, Stands};
+ghost use Rattle.nbd_session.specs.Steps.{AddsHeld, IsRefused, IsSame, IsShut, IsTaken, Stands, recorded};
 
 use crate::fault::{SessionFault, WireFault};
 use crate::reading::Reading;
 use crate::state::State;
+use crate::transcript::Transcript;
 use nbd_wire::{Message, Side};
 use std::alloc::{AllocError, Global};
 
@@ -50,6 +52,7 @@ impl Held {
         ensures shows { Shows result.state start.core }
         ensures holds { holding_of result ≡ record { messages = []; client = []; server = []; counted = 0; spans = [] } }
         ensures none { result.state.exchanges.items ≡ [] }
+        ensures taken { result.taken ≡ 0 }
     {
         Held {
             state: State::new(alloc),
@@ -176,6 +179,22 @@ impl Held {
         self.messages.push(message)?;
         self.clear(side);
         Ok(())
+    }
+
+    /// What the session tells, unless bytes stand behind a side's messages.
+    pub(crate) fn finish(self) -> Result<Transcript, SessionFault>
+        requires { Stands self }
+        ensures told { IfOk result (λ told. IsReported (recorded self None) told) }
+        ensures fault { fault_of result ≡ fault_at_end (recorded self None) }
+    {
+        if self.client.is_empty() && self.server.is_empty() {
+            Ok(self.state.transcript())
+        } else {
+            Err(SessionFault::Wire {
+                at: self.taken,
+                fault: WireFault::Unfinished,
+            })
+        }
     }
 
     /// No more bytes of a side are behind its messages.

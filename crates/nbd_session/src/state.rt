@@ -1,6 +1,7 @@
 //! What the completed messages of a session have led to.
 
 use crate::asked::Exchange;
+use crate::transcript::Transcript;
 use std::alloc::Global;
 use std::collections::BTreeMap;
 
@@ -60,7 +61,10 @@ pub(crate) struct State {
 
 impl State {
     ghost use Rattle.nbd_wire.specs.States.{start};
+    ghost use Rattle.std.specs.Prelude.{◌≡◌};
     ghost use Rattle.nbd_session.specs.Shows.{Shows};
+    ghost use Rattle.nbd_session.specs.Soundness.{IsSoundReport};
+    ghost use Rattle.nbd_session.specs.Transcripts.{export_of, report_told};
 
     /// Before the first message; takes no memory.
     pub(crate) fn new(alloc: Global) -> State
@@ -75,5 +79,17 @@ impl State {
             exchanges: Vec::new(alloc),
             outstanding: BTreeMap::new(alloc),
         }
+    }
+
+    /// What a session that ends here tells.
+    pub(crate) fn transcript(self) -> Transcript
+        requires { IsSoundReport (report_told (export_of self.phase) self.exchanges.items) }
+        ensures { result ≡ report_told (export_of self.phase) self.exchanges.items }
+    {
+        let export = match self.phase {
+            Phase::Transmission(export) => Some(export),
+            _ => None,
+        };
+        Transcript::new(export, self.exchanges)
     }
 }
