@@ -18,7 +18,7 @@ use Rattle.nbd_session.specs.Folded.{core_from}
 use Rattle.nbd_session.specs.Holdings.{holding_of, spans_of}
 use Rattle.nbd_session.specs.Judge.{decided_counted}
 use Rattle.nbd_session.specs.Logged.{Logged, known_by, logged, messages_of}
-use Rattle.nbd_session.specs.Machine.{IsReached, Machine, Whole, fresh, get, old_of, put, reached_of, reads}
+use Rattle.nbd_laws.specs.Machine.{IsReached, Machine, Whole, fresh, get, old_of, put, reached_of, reads}
 use Rattle.nbd_session.specs.Readings.{reading_if, reading_of}
 use Rattle.nbd_session.specs.Shows.{AreKnown, Shows}
 use Rattle.nbd_session.specs.Standing.{Holding, IsReadTo, counted_at, pairs_held, rest_of, with_message, with_taken}

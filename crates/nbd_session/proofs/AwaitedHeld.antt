@@ -3,14 +3,14 @@ use Rattle.std.proofs.Common.{◌≡◌, ℕ, ◌+◌, ◌<◌, ◌≤◌, ◌�
 use Rattle.nbd_wire.specs.declared.message.Side.{Side}
 use Rattle.nbd_wire.specs.declared.message.Side.TheVariants.{Client, Server}
 use Rattle.nbd_wire.specs.States.{Core, Phase, Greet, Flags, Choosing, Naming, Aborting, Answering, Ended, Transmission}
-use Rattle.nbd_session.specs.declared.fault.WireFault.{WireFault}
+use Rattle.nbd_laws.specs.declared.fault.WireFault.{WireFault}
 use Rattle.nbd_session.specs.declared.reading.Reading.TheVariants as program
 use Rattle.nbd_session.specs.declared.reading.Reading as program_reading
 use Rattle.nbd_session.specs.Concrete.{concrete, judged}
 use Rattle.nbd_session.specs.Decisions.{Decision, awaited_by}
 use Rattle.nbd_session.specs.Judge.{awaited, decided, decided_counted, decided_with}
 use Rattle.nbd_session.specs.JudgeTransmission.{entry_counted}
-use Rattle.nbd_session.specs.Machine.{Bad, Held, IsFilled, Machine, More, Reading, Rest, Whole, at_once, get, none_held, old-empty, old_of, some_held}
+use Rattle.nbd_laws.specs.Machine.{Bad, Held, IsFilled, Machine, More, Reading, Rest, Whole, at_once, get, none_held, old-empty, old_of, some_held}
 use Rattle.nbd_session.specs.Readings.{reading_if, until}
 use Rattle.nbd_session.specs.Standing.{Holding, IsReadTo, counted_at, rest_of}
 use Rattle.nbd_session.proofs.Awaiting.{held_short, in_head}

@@ -12,7 +12,7 @@ use Rattle.nbd_session.specs.declared.fault.SessionFault.TheVariants.{Memory}
 use Rattle.nbd_session.specs.declared.held.Held.{Held}
 use Rattle.nbd_session.specs.Holdings.{holding_of, spans_of}
 use Rattle.nbd_session.specs.Judge.{awaited}
-use Rattle.nbd_session.specs.Machine.{IsFilled, Machine, fresh, get, old_of}
+use Rattle.nbd_laws.specs.Machine.{IsFilled, Machine, fresh, get, old_of}
 use Rattle.nbd_session.specs.Sessions.{Adds}
 use Rattle.nbd_session.specs.Concrete.{concrete}
 use Rattle.nbd_session.specs.Logged.{logged}

@@ -4,7 +4,7 @@ use Rattle.nbd_wire.specs.declared.message.Side.{Side}
 use Rattle.nbd_wire.specs.declared.message.Side.TheVariants.{Client, Server}
 use Rattle.nbd_session.specs.declared.fault.SessionFault.{SessionFault}
 use Rattle.nbd_session.specs.declared.fault.SessionFault.TheVariants.{Memory, Wire}
-use Rattle.nbd_session.specs.declared.fault.WireFault.{WireFault}
+use Rattle.nbd_laws.specs.declared.fault.WireFault.{WireFault}
 use Rattle.nbd_session.specs.declared.held.Held.{Held}
 use Rattle.nbd_session.specs.declared.reading.Reading as program
 use Rattle.nbd_session.specs.declared.reading.Reading.TheVariants.{Await}
@@ -13,7 +13,7 @@ use Rattle.nbd_session.specs.Concrete.{concrete}
 use Rattle.nbd_session.specs.Holdings.{holding_of}
 use Rattle.nbd_session.specs.Judge.{decided_counted}
 use Rattle.nbd_session.specs.Logged.{logged}
-use Rattle.nbd_session.specs.Machine.{Machine, More, fresh, get, old_of, put, reads}
+use Rattle.nbd_laws.specs.Machine.{Machine, More, fresh, get, old_of, put, reads}
 use Rattle.nbd_session.specs.Readings.{reading_if}
 use Rattle.nbd_session.specs.Shows.{AreKnown, Shows}
 use Rattle.nbd_session.specs.Standing.{Holding, IsReadTo, counted_at, pairs_held, rest_of, with_taken}

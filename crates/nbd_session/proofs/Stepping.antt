@@ -10,20 +10,20 @@ use Rattle.nbd_wire.specs.Rules.{MayComplete, complete}
 use Rattle.nbd_wire.specs.Sendable.{IsSendable}
 use Rattle.nbd_wire.specs.Side.{side, same_side}
 use Rattle.nbd_wire.specs.States.{Core, Phase, Greet, Flags, Choosing, Naming, Aborting, Answering, Ended, Transmission}
-use Rattle.nbd_session.specs.declared.fault.WireFault.{WireFault}
+use Rattle.nbd_laws.specs.declared.fault.WireFault.{WireFault}
 use Rattle.nbd_session.specs.declared.reading.Reading.TheVariants as program
 use Rattle.nbd_session.specs.Concrete.{concrete, judged}
 use Rattle.nbd_session.specs.Decisions.{Decision}
 use Rattle.nbd_session.specs.Judge.{decided, decided_counted, decided_with, awaited, awaited_counted}
 use Rattle.nbd_session.specs.JudgeTransmission.{entry_counted}
-use Rattle.nbd_session.specs.Machine.{Machine, Rest, Both, Reading, More, Whole, Bad, IsSoundAt, get, put, reads, fresh, old_of, settle, on_ok, IsFilled, Kept, Held, AreHeld, get-put_same, get-put_other, same_or_not, reads_held, old-empty, old-filled}
+use Rattle.nbd_laws.specs.Machine.{Machine, Rest, Both, Reading, More, Whole, Bad, IsSoundAt, get, put, reads, fresh, old_of, settle, on_ok, IsFilled, Kept, Held, AreHeld, get-put_same, get-put_other, same_or_not, reads_held, old-empty, old-filled}
 use Rattle.nbd_session.specs.Standing.{Holding, IsReadTo, AreSpansOf, noted, pairs_held, rest_of, with_message, with_more, with_taken, counted_at}
 use Rattle.nbd_session.specs.Readings.{reading_if}
 use Rattle.nbd_session.proofs.Awaiting.{reads_up_to}
 use Rattle.nbd_session.proofs.Blockwise.{judged_at_once, extended, reads-append}
 use Rattle.nbd_session.proofs.Counted.{held_counted, awaited_held, count_of}
 use Rattle.nbd_session.proofs.Pushing.{bytes_of-snoc, mixed-noted, spans-noted}
-use Rattle.nbd_session.proofs.Runs.{fresh_held}
+use Rattle.nbd_laws.specs.lemmas.Runs.{fresh_held}
 use Rattle.nbd_session.proofs.Sound.{sound}
 use Rattle.nbd_session.proofs.Taking.{judged_bad, judged_more, judged_whole, kept_more}
 

@@ -6,13 +6,13 @@ use Rattle.nbd_wire.specs.declared.message.Message.{Message}
 use Rattle.nbd_wire.specs.Encoding.{AreBytes}
 use Rattle.nbd_wire.specs.Items.{Pair, ArePairs, sent}
 use Rattle.nbd_wire.specs.States.{Core}
-use Rattle.nbd_session.specs.declared.fault.WireFault.{WireFault}
-use Rattle.nbd_session.specs.declared.fault.WireFault.TheVariants.{OutOfTurn}
+use Rattle.nbd_laws.specs.declared.fault.WireFault.{WireFault}
+use Rattle.nbd_laws.specs.declared.fault.WireFault.TheVariants.{OutOfTurn}
 use Rattle.nbd_session.specs.declared.reading.Reading.TheVariants as program
 use Rattle.nbd_session.specs.Concrete.{concrete, judged, read_by, staged_by, ended}
 use Rattle.nbd_session.specs.Decisions.{Decision, awaited_by}
 use Rattle.nbd_session.specs.Judge.{decided, decided_counted, awaited, awaited_counted}
-use Rattle.nbd_session.specs.Machine.{Machine, Rest, Both, Reading, More, Whole, Bad, get, put, reads, fresh, old_of, settle, on_ok, IsFilled, IsReached, Kept, kept, Held, AreHeld, kept_next, reached_of, at_once, old-filled, old-empty, grown, IsFilled-snoc}
+use Rattle.nbd_laws.specs.Machine.{Machine, Rest, Both, Reading, More, Whole, Bad, get, put, reads, fresh, old_of, settle, on_ok, IsFilled, IsReached, Kept, kept, Held, AreHeld, kept_next, reached_of, at_once, old-filled, old-empty, grown, IsFilled-snoc}
 use Rattle.nbd_session.specs.Readings.{reading_of, reading_if, unless_before, behind_head, at_end, or_fault}
 use Rattle.nbd_session.proofs.Awaiting.{reads_up_to, held_short}
 use Rattle.nbd_session.proofs.Blockwise.{GoesOn, judged_at_once, extended, reads-append}

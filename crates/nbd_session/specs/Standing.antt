@@ -9,7 +9,7 @@ use Rattle.nbd_wire.specs.Pushed.{Span, bytes_of, pushed}
 use Rattle.nbd_wire.specs.Side.{same_side}
 use Rattle.nbd_wire.specs.States.{Core}
 use Rattle.nbd_session.specs.Concrete.{concrete}
-use Rattle.nbd_session.specs.Machine.{Machine, Rest, get, reads, fresh, old_of, IsFilled}
+use Rattle.nbd_laws.specs.Machine.{Machine, Rest, get, reads, fresh, old_of, IsFilled}
 
 -- the spans' bytes of a side
 abbrev pub span_total : Side → List Span → ℕ

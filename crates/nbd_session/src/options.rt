@@ -9,7 +9,7 @@ ghost use Rattle.nbd_session.specs.Leading.{answer_fields_of, unless_fault};
 ghost use Rattle.nbd_session.specs.Readings.{at_end, reading_of};
 ghost use Rattle.nbd_session.specs.Showing.{exporting_if};
 
-use crate::fault::WireFault;
+use nbd_laws::WireFault;
 use crate::flags::has;
 use crate::leading::{leading_answer, leading_choice, of_length};
 use crate::reading::Reading;

@@ -14,7 +14,7 @@ ghost use Rattle.nbd_session.specs.Readings.{reading_if};
 ghost use Rattle.nbd_session.specs.Shows.{Shows};
 
 use crate::asked::Exchange;
-use crate::fault::WireFault;
+use nbd_laws::WireFault;
 use crate::flags::has;
 use crate::heads::cookie_in;
 use crate::negotiation::{read_client_flags, read_exported, read_greeting};

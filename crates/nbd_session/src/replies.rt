@@ -14,7 +14,7 @@ ghost use Rattle.nbd_session.specs.Showing.{IsShown};
 
 use crate::asked::{Asked, Exchange};
 use crate::chunks::read_chunk;
-use crate::fault::WireFault;
+use nbd_laws::WireFault;
 use crate::heads::{MAGIC_LENGTH, magic_in, simple_in};
 use crate::reading::Reading;
 use nbd_wire::{commands, head_lengths, magics};
