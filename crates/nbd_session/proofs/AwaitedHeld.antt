@@ -72,12 +72,12 @@ open_held {core} {s} {rest} (some_held r now f k m l) =
     let held : Held concrete core s rest = some_held r now f k m l in
     let short = (held_short held).short in
     inl (subst (λ bytes. concrete (old_of core rest) core s bytes ≡ More) (append-nil rest.bytes)
-        ((held_short held).goes [] (subst IsFilled (sym (append-nil rest.bytes)) f) (subst (λ bytes. length bytes < awaited (old_of core rest) core s rest.bytes) (sym (append-nil rest.bytes)) short)))
+    ((held_short held).goes [] (subst IsFilled (sym (append-nil rest.bytes)) f) (subst (λ bytes. length bytes < awaited (old_of core rest) core s rest.bytes) (sym (append-nil rest.bytes)) short)))
 
 open_rest : (h : Holding) (machine : Machine) (s : Side) → IsReadTo h machine → IsOpen (decided_counted h.counted machine.core s (rest_of h s)) (rest_of h s)
 open_rest h machine s r =
     subst (λ o. IsOpen o (rest_of h s)) (decided_rest h machine s r)
-        (subst (λ bytes. IsOpen (decided machine.core.phase (old_of machine.core (get machine.rests s)) machine.core s bytes) bytes) (r.rests_are s) (open_held (held_of h machine r s)))
+    (subst (λ bytes. IsOpen (decided machine.core.phase (old_of machine.core (get machine.rests s)) machine.core s bytes) bytes) (r.rests_are s) (open_held (held_of h machine r s)))
 
 never_whole : (o : Option Decision) (bytes : List ℕ) → IsOpen o bytes → reading_if o bytes ≡ Ok program.Whole → ⊥
 never_whole o bytes (inl m) e = let w = judged_whole o bytes e in let q : More ≡ Whole w.0.message = sym m ∙ w.2 in (cc)

@@ -19,7 +19,6 @@ use Rattle.nbd_session.proofs.Pieces.{standing_run}
 abbrev empty : Holding
 empty = record { messages = []; client = []; server = []; counted = 0; spans = [] }
 
-
 rest_empty : (s : Side) → (get fresh.rests s).bytes ≡ rest_of empty s
 rest_empty Client = refl
 rest_empty Server = refl

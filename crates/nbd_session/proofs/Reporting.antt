@@ -55,7 +55,7 @@ all_told : (n : ℕ) (export : Option Exporting) (known : ℕ → Option ℕ) (e
 all_told n export known [] [] s k = refl
 all_told n (Some export) known (e ∷ es) (x ∷ xs) s k =
     (λ i. one_told export e x (known (suc n)) s.0 (k 0 x refl ∙ ap (λ m. known (suc m)) (no_more n)) i
-        ∷ all_told (suc n) (Some export) known es xs s.1 (λ place y at. k (suc place) y at ∙ ap (λ m. known (suc m)) (one_more n place)) i)
+    ∷ all_told (suc n) (Some export) known es xs s.1 (λ place y at. k (suc place) y at ∙ ap (λ m. known (suc m)) (one_more n place)) i)
   where
     no_more : (n : ℕ) → n + 0 ≡ n
     no_more n = omega arith

@@ -44,8 +44,8 @@ pub spans-taken : (h : Holding) (s : Side) (more : List ℕ) (entries : ℕ) →
     AreSpansOf (noted h.spans s (length more)) (bytes_of Client h.messages ++ with_more s Client more h.client) (bytes_of Server h.messages ++ with_more s Server more h.server)
 spans-taken h s more entries are =
     subst (λ l. AreSpansOf (noted h.spans s (length more)) l (bytes_of Server h.messages ++ with_more s Server more h.server)) (sym (behind s Client more (bytes_of Client h.messages) h.client))
-        (subst (λ l. AreSpansOf (noted h.spans s (length more)) (with_more s Client more (bytes_of Client h.messages ++ h.client)) l) (sym (behind s Server more (bytes_of Server h.messages) h.server))
-            (spans-noted h.spans (bytes_of Client h.messages ++ h.client) (bytes_of Server h.messages ++ h.server) s more are))
+    (subst (λ l. AreSpansOf (noted h.spans s (length more)) (with_more s Client more (bytes_of Client h.messages ++ h.client)) l) (sym (behind s Server more (bytes_of Server h.messages) h.server))
+    (spans-noted h.spans (bytes_of Client h.messages ++ h.client) (bytes_of Server h.messages ++ h.server) s more are))
 
 -- a side's bytes are the same when its rest becomes a message
 of_side-completed : (s : Side) (messages : List Message) (m : Message) (bytes : List ℕ) → bytes ≡ enc m → side m ≡ s → bytes_of s (messages ++ m ∷ []) ++ [] ≡ bytes_of s messages ++ bytes
@@ -235,7 +235,7 @@ module _ (h : Holding) (machine : Machine) (r : IsReadTo h machine) (s : Side) (
       let b = bytes_taken h machine s more (length machine.core.entries) r in
       let judged_so : concrete (old_of machine.core (get machine.rests s)) machine.core s ((get machine.rests s).bytes ++ more) ≡ Whole m = says h machine r s more filled bytes up_to (Whole m) w.2 in
       let good : IsSoundAt (old_of machine.core (get machine.rests s)) machine.core s ((get machine.rests s).bytes ++ more) m =
-          sound _ _ _ _ m (kept_more machine.core s (get machine.rests s) more (held_of h machine r s) filled bytes up_to) judged_so in
+      sound _ _ _ _ m (kept_more machine.core s (get machine.rests s) more (held_of h machine r s) filled bytes up_to) judged_so in
       let at : IsSoundAt (old_of machine.core (get machine.rests s)) machine.core s (rest_of held s) m = subst (λ l. IsSoundAt (old_of machine.core (get machine.rests s)) machine.core s l m) b good in
       let same : pairs_held (with_message held s m) ≡ pairs_held held = pairs-message held s m at.encodes at.sided in
       let both = both-completed held s m at.encodes at.sided in
@@ -253,6 +253,6 @@ module _ (h : Holding) (machine : Machine) (r : IsReadTo h machine) (s : Side) (
           count_is = count_message h machine s m more (length machine.core.entries) r;
           are_spans = subst (λ spans. AreSpansOf spans (bytes_of Client (with_message held s m).messages ++ (with_message held s m).client) (bytes_of Server (with_message held s m).messages ++ (with_message held s m).server)) (sym (spans_message held s m))
               (subst (λ l. AreSpansOf held.spans l (bytes_of Server (with_message held s m).messages ++ (with_message held s m).server)) (sym both.0)
-                  (subst (λ l. AreSpansOf held.spans (bytes_of Client held.messages ++ held.client) l) (sym both.1) (spans-taken h s more (length machine.core.entries) r.are_spans)));
+              (subst (λ l. AreSpansOf held.spans (bytes_of Client held.messages ++ held.client) l) (sym both.1) (spans-taken h s more (length machine.core.entries) r.are_spans)));
         };
       }

@@ -82,9 +82,9 @@ kept_block s old core n bytes b (c ∷ more) r k lt l g =
     let here : concrete old core s (bytes ++ b ∷ []) ≡ More = g (b ∷ []) (IsFilled-snoc bytes b) short in
     let next : Kept concrete s old core ((bytes ++ b ∷ []) ++ c ∷ []) = kept c lt.0 k here at_once r in
     let goes : GoesOn concrete old core s (bytes ++ b ∷ []) n =
-        λ tail filled low. subst (λ bs. concrete old core s bs ≡ More) (sym (assoc tail)) (g (b ∷ tail) (subst IsFilled (assoc tail) filled) (subst (λ bs. length bs < n) (assoc tail) low)) in
+    λ tail filled low. subst (λ bs. concrete old core s bs ≡ More) (sym (assoc tail)) (g (b ∷ tail) (subst IsFilled (assoc tail) filled) (subst (λ bs. length bs < n) (assoc tail) low)) in
     subst (λ bs. Kept concrete s old core bs) (assoc (c ∷ more))
-        (kept_block s old core n (bytes ++ b ∷ []) c more r next lt.1 (subst (λ bs. length bs ≤ n) (sym (assoc (c ∷ more))) l) goes)
+    (kept_block s old core n (bytes ++ b ∷ []) c more r next lt.1 (subst (λ bs. length bs ≤ n) (sym (assoc (c ∷ more))) l) goes)
 
 pub kept_more : (core : Core) (s : Side) (rest : Rest) (more : List ℕ) → Held concrete core s rest → IsFilled more → AreBytes more →
     length (rest.bytes ++ more) ≤ awaited (old_of core rest) core s rest.bytes → Kept concrete s (old_of core rest) core (rest.bytes ++ more)

@@ -70,7 +70,8 @@ with_taken h s more entries = record {
   client = with_more s Client more h.client;
   server = with_more s Server more h.server;
   counted = counted_at s h.server h.counted entries;
-  spans = noted h.spans s (length more) }
+  spans = noted h.spans s (length more);
+}
 
 -- with a message of a side whose bytes were its rest
 abbrev pub with_message : Holding → Side → Message → Holding

@@ -20,11 +20,11 @@ ghost use Rattle.nbd_session.specs.Readings.{reading_of};
 ghost use Rattle.nbd_session.specs.Showing.{IsShown};
 
 use crate::asked::{Asked, Exchange};
-use nbd_laws::WireFault;
 use crate::heads::chunk_in;
 use crate::proper::has;
 use crate::reading::Reading;
 use crate::spans::{Span, content_span, given, is_apart_from, is_inside};
+use nbd_laws::WireFault;
 use nbd_wire::{ChunkHead, chunks, command_flags, commands, content_of, failure_of, head_lengths};
 
 /// What a server's bytes are that begin as a chunk; the exchange, if any, is the one that the chunk's

@@ -15,10 +15,10 @@ ghost use Rattle.nbd_session.specs.Standing.{IsReadTo, noted, rest_of, span_tota
 ghost use Rattle.nbd_session.specs.Steps.{AddsHeld, IsRefused, IsSame, IsShut, IsTaken, Stands, recorded};
 
 use crate::fault::SessionFault;
-use nbd_laws::WireFault;
 use crate::reading::Reading;
 use crate::state::State;
 use crate::transcript::Transcript;
+use nbd_laws::WireFault;
 use nbd_wire::{Message, Side};
 use std::alloc::{AllocError, Global};
 
