@@ -35,3 +35,4 @@ pub mod WorkedOptions
 pub mod WorkedRefusals
 pub mod Holding
 pub mod Ending
+mod Transcribing

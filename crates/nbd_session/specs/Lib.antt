@@ -12,3 +12,5 @@ pub mod CapturesChunks
 pub mod CapturesRequests
 pub mod CapturesOptions
 pub mod Holding
+pub mod Showing
+pub mod Transcripts

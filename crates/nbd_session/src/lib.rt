@@ -4,8 +4,14 @@
 //! bytes are read.
 #![tactic(auto)]
 
+mod asked;
 pub mod examples;
 pub mod fault;
 pub mod laws;
+mod state;
+mod transcript;
 
+pub use asked::{Asked, Outcome};
 pub use fault::WireFault;
+pub use nbd_wire::Piece;
+pub use transcript::Transcript;
