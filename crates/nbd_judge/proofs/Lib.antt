@@ -1,0 +1,10 @@
+mod Deciding
+mod Marked
+mod Lateness
+mod Comparing
+mod Forward
+mod Effects
+mod Sound
+mod Single
+mod Counting
+mod Named

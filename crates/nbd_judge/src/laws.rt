@@ -1,0 +1,20 @@
+//! Laws over the definitions of verdicts: each is the contract of a function that does nothing.
+
+ghost use Rattle.nbd_judge.specs.Folding.{Folding};
+ghost use Rattle.nbd_judge.specs.Uniqueness.{OneJudgement, OneVerdict};
+
+/// The contents behind the requests before `k`, each applied to those before it, are the export's bytes
+/// when `k` is served, each looked up backwards.
+pub fn folding()
+    ensures { Folding }
+{}
+
+/// A report, an order and bytes at first have one verdict at most.
+pub fn one_judgement()
+    ensures { OneJudgement }
+{}
+
+/// A report, an order and a start have one verdict at most: the cases exclude each other.
+pub fn one_verdict()
+    ensures { OneVerdict }
+{}

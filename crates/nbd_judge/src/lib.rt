@@ -1,0 +1,16 @@
+//! Whether a session and an order of service explain each other: the faults of the order, the wrong
+//! bytes of its reads, and the verdict.
+#![tactic(auto)]
+
+mod change;
+mod compare;
+mod judging;
+pub mod laws;
+mod least;
+mod order;
+mod replay;
+mod tally;
+pub mod verdict;
+
+pub use judging::judge;
+pub use verdict::{OrderFault, Verdict};
