@@ -8,3 +8,5 @@ mod Sound
 mod Single
 mod Counting
 mod Named
+mod Answering
+mod Starting

@@ -50,7 +50,7 @@ module _ (count : ℕ) (order : List ℕ) where
       before_end m n a b = omega arith
 
 module _ (r : Report) (order : List ℕ) where
-  has_fault : (e : ℕ) (p : OrderFault) → IsOrderFault r order e p → IsFaultless r order → ⊥
+  pub has_fault : (e : ℕ) (p : OrderFault) → IsOrderFault r order e p → IsFaultless r order → ⊥
   has_fault e NoSuchRequest f ok = ok.none_bad f.0 (inl f.2)
   has_fault e Twice f ok = ok.none_bad f.0 (inr f.2)
   has_fault e Late f ok = ok.none_late f.0 f.3.0
@@ -84,7 +84,7 @@ module _ (r : Report) (order : List ℕ) where
   one_fault d e Missing Missing f g = ap (λ n. Order n Missing) (one_first (IsMissing (length r.asked) (known_in r) order) d e f.2 g.2)
 
 module _ (r : Report) (order : List ℕ) (initial : ℕ → Option ℕ) where
-  has_wrong : (k x : ℕ) → FirstWrongFrom r order initial k x → HasNoneWrongFrom r order initial → ⊥
+  pub has_wrong : (k x : ℕ) → FirstWrongFrom r order initial k x → HasNoneWrongFrom r order initial → ⊥
   has_wrong k x w none = (let i = w.0 in let first = i.2.0 in none (slice_index order i.0) first.1.0 (named_at order i.0 first.0) first.1.1)
 
   one_wrong : (j k x y : ℕ) → FirstWrongFrom r order initial j x → FirstWrongFrom r order initial k y → Content j x ≡ Content k y
@@ -120,7 +120,7 @@ one_image (Some export) starts.Unknown i j s t v w = absurd v
 one_image (Some export) starts.Zeroes i j s t v w = absurd v
 one_image None start i j s t v w = absurd v
 
-fits_not : (o : Option Exporting) (start : Start) (i s : ℕ) → FitsImage o start → IsOtherSize o start i s → ⊥
+pub fits_not : (o : Option Exporting) (start : Start) (i s : ℕ) → FitsImage o start → IsOtherSize o start i s → ⊥
 fits_not (Some export) (starts.Image bytes) i s fits other = other.2 fits
 fits_not (Some export) starts.Unknown i s fits other = other
 fits_not (Some export) starts.Zeroes i s fits other = other

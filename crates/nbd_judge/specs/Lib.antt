@@ -7,3 +7,5 @@ pub mod Servable
 pub mod Folding
 pub mod Verdicts
 pub mod Uniqueness
+pub mod Beginnings
+pub mod Conclusions

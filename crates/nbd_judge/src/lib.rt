@@ -4,6 +4,7 @@
 
 mod change;
 mod compare;
+mod concluding;
 mod judging;
 pub mod laws;
 mod least;
@@ -12,5 +13,6 @@ mod replay;
 mod tally;
 pub mod verdict;
 
+pub use concluding::conclude;
 pub use judging::judge;
 pub use verdict::{OrderFault, Verdict};

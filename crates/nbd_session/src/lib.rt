@@ -8,10 +8,12 @@ mod asked;
 pub mod examples;
 pub mod fault;
 pub mod laws;
+mod session;
 mod state;
 mod transcript;
 
 pub use asked::{Asked, Outcome};
 pub use fault::WireFault;
 pub use nbd_wire::Piece;
+pub use session::SessionFault;
 pub use transcript::Transcript;
