@@ -5,7 +5,7 @@ use Rattle.nbd_wire.specs.declared.message.Side.TheVariants.{Client, Server}
 use Rattle.nbd_wire.specs.declared.message.Message.{Message}
 use Rattle.nbd_wire.specs.Encoding.{enc}
 use Rattle.nbd_wire.specs.Items.{Item, Byte, Starts, Completes, Serves, of_side, block, IsByteOf, MayFollow, IsTight, IsMarkedBut}
-use Rattle.nbd_session.proofs.Machine.{Both, get, put, get-put_same, get-put_other, same_or_not, Open, Idle, Busy, Loose, IsNotBusy, IsFilled, Walk, ended, serving, opening, middle, final, loose}
+use Rattle.nbd_session.specs.Machine.{Both, get, put, get-put_same, get-put_other, same_or_not, Open, Idle, Busy, Loose, IsNotBusy, IsFilled, Walk, ended, serving, opening, middle, final, loose}
 use Rattle.nbd_session.proofs.Trace.{enc-long}
 use Rattle.nbd_session.proofs.Follow.{each_with}
 

@@ -14,7 +14,7 @@ use Rattle.nbd_session.specs.Service.{RepliesEndAsTheyStart}
 use Rattle.nbd_session.proofs.Follow.{Follows, IsSidedOpen, each_with, follows}
 use Rattle.nbd_session.proofs.Fronts.{IsTarget, target_later}
 use Rattle.nbd_session.proofs.Latest.{core_end}
-use Rattle.nbd_session.proofs.Machine.{Both, get, put, get-put_same, get-put_other, same_or_not, Open, Idle, Busy, Walk, ended, serving, opening, middle, final, loose, Later, at_once, behind}
+use Rattle.nbd_session.specs.Machine.{Both, get, put, get-put_same, get-put_other, same_or_not, Open, Idle, Busy, Walk, ended, serving, opening, middle, final, loose, Later, at_once, behind}
 use Rattle.nbd_session.proofs.Outstanding.{IsFound, find, in_transmission}
 use Rattle.nbd_session.proofs.Parts.{obeys_back}
 use Rattle.nbd_session.proofs.Runs.{core_end-ends_at, walk_of}

@@ -8,7 +8,7 @@ use Rattle.nbd_wire.specs.Rules.{MayStart, MayComplete, Obeys, complete}
 use Rattle.nbd_wire.specs.Sendable.{IsSendable}
 use Rattle.nbd_wire.specs.Side.{side}
 use Rattle.nbd_wire.specs.States.{Core, State}
-use Rattle.nbd_session.proofs.Machine.{Both, get, put, get-put_same, get-put_other, same_or_not, Open, Idle, Busy, Loose, IsNotBusy, Walk, ended, serving, opening, middle, final, loose, Later, at_once, behind}
+use Rattle.nbd_session.specs.Machine.{Both, get, put, get-put_same, get-put_other, same_or_not, Open, Idle, Busy, Loose, IsNotBusy, Walk, ended, serving, opening, middle, final, loose, Later, at_once, behind}
 
 -- what a side needs to begin a message
 pub record IsBegun (old : Core) (s : Side) (m : Message) : Type 0 where

@@ -18,7 +18,7 @@ use Rattle.nbd_wire.specs.Side.{side}
 use Rattle.nbd_wire.specs.States.{Core, Phase, Greet, Flags, Choosing, Naming, Aborting, Answering, Ended, Transmission, is_awaiting, target, target_from, entry}
 use Rattle.nbd_session.specs.Fronts.{NoProperFront}
 use Rattle.nbd_session.proofs.Follow.{IsBegun}
-use Rattle.nbd_session.proofs.Machine.{Later, at_once, behind}
+use Rattle.nbd_session.specs.Machine.{Later, at_once, behind}
 
 -- the same message, and nothing behind it
 abbrev pub IsSame : Message → Message → List ℕ → Type 0

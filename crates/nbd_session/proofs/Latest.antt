@@ -7,7 +7,7 @@ use Rattle.nbd_wire.specs.States.{Core, Names}
 use Rattle.nbd_wire.specs.Rules.{complete, Obeys, answered_by}
 use Rattle.nbd_wire.specs.Report.{known_from, first_known, known_if}
 use Rattle.nbd_session.proofs.Entries.{IsOnce, IsInTime}
-use Rattle.nbd_session.proofs.Machine.{Both, Open, Walk, ended, serving, opening, middle, final, loose}
+use Rattle.nbd_session.specs.Machine.{Both, Open, Walk, ended, serving, opening, middle, final, loose}
 use Rattle.nbd_session.proofs.Trace.{Names-push, Names-left, Names-push_cases, answered_by-within, length-complete}
 
 -- the list, cut at k

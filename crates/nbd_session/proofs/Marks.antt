@@ -8,7 +8,7 @@ use Rattle.nbd_wire.specs.Items.{Item, Byte, Starts, Completes, Serves, Pair, pa
 use Rattle.nbd_wire.specs.States.{Core}
 use Rattle.nbd_wire.specs.Sendable.{IsSendable}
 use Rattle.nbd_wire.specs.Rules.{MayStart, MayComplete, complete, Obeys}
-use Rattle.nbd_session.proofs.Machine.{IsFilled-snoc, old-empty, old-filled, Kept, AreHeld, kept_next, held_more, held_whole, Both, get, put, get-put_same, get-put_other, same_or_not, Open, Idle, Busy, Loose, IsFilled, Walk, ended, serving, opening, middle, final, loose, Rest, Machine, Reading, More, Whole, Bad, old_of, settle, Judge, grown, reads, on_ok, Later, at_once, behind, Later-trans, IsExact}
+use Rattle.nbd_session.specs.Machine.{IsFilled-snoc, old-empty, old-filled, Kept, AreHeld, kept_next, held_more, held_whole, Both, get, put, get-put_same, get-put_other, same_or_not, Open, Idle, Busy, Loose, IsFilled, Walk, ended, serving, opening, middle, final, loose, Rest, Machine, Reading, More, Whole, Bad, old_of, settle, Judge, grown, reads, on_ok, Later, at_once, behind, Later-trans, IsExact}
 use Rattle.nbd_session.proofs.Follow.{HasEnd, IsSidedOpen, completes_later, each_with, follows}
 use Rattle.nbd_session.proofs.Trace.{IsWithin}
 
@@ -35,7 +35,7 @@ pub record IsRead (judge : Judge) (machine : Machine) (ps : List Pair) (messages
   pub reads_it : reads judge machine ps ≡ Ok end
   pub messages_are : end.messages ≡ machine.messages ++ messages
 
-in_step_sided : (machine : Machine) (o : Both Open) → AreInStep machine o → (u : Side) → IsSidedOpen u (get o u)
+pub in_step_sided : (machine : Machine) (o : Both Open) → AreInStep machine o → (u : Side) → IsSidedOpen u (get o u)
 in_step_sided machine o h u = go (get o u) (h u)
   where
     go : (x : Open) → InStep machine.core (get machine.rests u) u x → IsSidedOpen u x
@@ -43,7 +43,7 @@ in_step_sided machine o h u = go (get o u) (h u)
     go (Busy m left) i = i.0.sided
     go Loose i = tt
 
-in_step_with : (machine : Machine) (o : Both Open) (s : Side) (rest : Rest) (x : Open) → AreInStep machine o → InStep machine.core rest s x →
+pub in_step_with : (machine : Machine) (o : Both Open) (s : Side) (rest : Rest) (x : Open) → AreInStep machine o → InStep machine.core rest s x →
     AreInStep (record machine { rests = put machine.rests s rest }) (put o s x)
 in_step_with machine o s rest x all h u = go (same_or_not s u)
   where
@@ -53,7 +53,7 @@ in_step_with machine o s rest x all h u = go (same_or_not s u)
     go (inr ne) = subst (λ r. InStep machine.core r u (get (put o s x) u)) (sym (get-put_other machine.rests s u rest ne)) (subst (λ y. InStep machine.core (get machine.rests u) u y) (sym (get-put_other o s u x ne)) (all u))
 
 -- a completed message of side s leaves the other side in step
-in_step_completed : (machine : Machine) (o : Both Open) (s : Side) (m : Message) (rest : Rest) (ms : List Message) → AreInStep machine o → side m ≡ s → MayComplete machine.core machine.core.phase m → rest.bytes ≡ [] →
+pub in_step_completed : (machine : Machine) (o : Both Open) (s : Side) (m : Message) (rest : Rest) (ms : List Message) → AreInStep machine o → side m ≡ s → MayComplete machine.core machine.core.phase m → rest.bytes ≡ [] →
     AreInStep (record { core = complete machine.core m; rests = put machine.rests s rest; messages = ms }) (put o s Idle)
 in_step_completed machine o s m rest ms all sd ok e u = go (same_or_not s u)
   where
@@ -96,7 +96,7 @@ nothing_read : (judge : Judge) (machine : Machine) (messages : List Message) →
 nothing_read judge machine messages e = record { end = machine; reads_it = refl; messages_are = sym (append-nil machine.messages) ∙ ap (λ ms. machine.messages ++ ms) (sym e) }
 
 -- the rest with one more byte
-within_opening : (core : Core) (rest : Rest) (s : Side) (m : Message) (b : ℕ) (left : List ℕ) → rest.bytes ≡ [] → enc m ≡ b ∷ left → IsFilled left → side m ≡ s → IsSendable m → MayStart core s m →
+pub within_opening : (core : Core) (rest : Rest) (s : Side) (m : Message) (b : ℕ) (left : List ℕ) → rest.bytes ≡ [] → enc m ≡ b ∷ left → IsFilled left → side m ≡ s → IsSendable m → MayStart core s m →
     InStep core (grown core rest b) s (Busy m left)
 within_opening core rest s m b left e f g sd sn ms = (
   record {
@@ -110,7 +110,7 @@ within_opening core rest s m b left e f g sd sn ms = (
   subst (λ c. Later s c core) (sym (old-empty core rest e)) at_once,
 )
 
-within_middle : (core : Core) (rest : Rest) (s : Side) (m : Message) (b : ℕ) (left : List ℕ) → InStep core rest s (Busy m (b ∷ left)) → IsFilled left → InStep core (grown core rest b) s (Busy m left)
+pub within_middle : (core : Core) (rest : Rest) (s : Side) (m : Message) (b : ℕ) (left : List ℕ) → InStep core rest s (Busy m (b ∷ left)) → IsFilled left → InStep core (grown core rest b) s (Busy m left)
 within_middle core rest s m b left i g = (
   record {
     filled = IsFilled-snoc rest.bytes b;

@@ -13,7 +13,7 @@ use Rattle.nbd_session.proofs.Parts.{obeys_back, obeys_front, served_in}
 use Rattle.nbd_session.specs.Service.{AnswersRequest, CookiesAreDistinct, EachReplyAnswersOne, EmptyIsExplained, ServedOnceBehindCompletion}
 
 -- no outstanding request has this cookie
-abbrev Free : ℕ → List Entry → Type 0
+abbrev pub Free : ℕ → List Entry → Type 0
 Free cookie [] = Unit {0}
 Free cookie (e ∷ es) = (is_awaiting cookie e ≡ false) × Free cookie es
 
@@ -95,7 +95,7 @@ unfolding target
 distinct_requested true core e offset len h d = d
 distinct_requested false core e offset len h d = distinct-snoc core.entries e d (free_of 0 e.cookie core.entries h)
 
-distinct_complete : (core : Core) (phase : Phase) (m : Message) → MayComplete core phase m → AreDistinct core.entries → AreDistinct (complete core m).entries
+pub distinct_complete : (core : Core) (phase : Phase) (m : Message) → MayComplete core phase m → AreDistinct core.entries → AreDistinct (complete core m).entries
 unfolding MayComplete complete
 distinct_complete core phase (Greeting flags) ok d = d
 distinct_complete core phase (ClientFlags flags) ok d = d
@@ -114,7 +114,7 @@ distinct state (Starts s m ∷ items) ob d = distinct state items ob.1 d
 distinct state (Completes s m ∷ items) ob d = distinct (after state (Completes s m)) items ob.1 (distinct_complete state.core state.core.phase m ob.0 d)
 distinct state (Serves k ∷ items) ob d = distinct (after state (Serves k)) items ob.1 d
 
-free_at : (cookie k : ℕ) (es : List Entry) (e : Entry) → Free cookie es → entry k es ≡ Some e → e.cookie ≡ cookie → is_finished e ≡ false → ⊥
+pub free_at : (cookie k : ℕ) (es : List Entry) (e : Entry) → Free cookie es → entry k es ≡ Some e → e.cookie ≡ cookie → is_finished e ≡ false → ⊥
 free_at cookie k [] e f h c u = absurd (cc)
 free_at cookie zero (x ∷ es) e f h c u = absurd (cc)
 free_at cookie (suc zero) (x ∷ es) e f h c u =

@@ -7,7 +7,7 @@ use Rattle.nbd_wire.specs.Encoding.{enc}
 use Rattle.nbd_wire.specs.Items.{Item, Byte, Starts, Completes, Serves, served}
 use Rattle.nbd_wire.specs.Rules.{Obeys, after, ends_at}
 use Rattle.nbd_wire.specs.States.{State, start}
-use Rattle.nbd_session.proofs.Machine.{Both, get, put, get-put_same, get-put_other, same_or_not, Open, Idle, Busy, Loose, IsNotBusy, Walk, ended, serving, opening, middle, final, loose}
+use Rattle.nbd_session.specs.Machine.{Both, get, put, get-put_same, get-put_other, same_or_not, Open, Idle, Busy, Loose, IsNotBusy, Walk, ended, serving, opening, middle, final, loose}
 use Rattle.nbd_session.proofs.Blocks.{Idles}
 use Rattle.nbd_session.proofs.Runs.{run_of, walk_of}
 use Rattle.nbd_session.specs.Fronts.{CompletionsStandBehindBytes, FrontsAreRuns, HasNoneOpen, StartsStandBeforeBytes, started}

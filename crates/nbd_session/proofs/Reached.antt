@@ -8,7 +8,7 @@ use Rattle.nbd_wire.specs.Sendable.{IsSendable}
 use Rattle.nbd_wire.specs.States.{Core, start}
 use Rattle.nbd_session.proofs.Follow.{Follows, each_with, follows}
 use Rattle.nbd_session.proofs.Latest.{core_end}
-use Rattle.nbd_session.proofs.Machine.{Both, get, Open, Idle, Busy, Loose, Walk, ended, serving, opening, middle, final, loose, IsReached, at_start, after_message}
+use Rattle.nbd_session.specs.Machine.{Both, get, Open, Idle, Busy, Loose, Walk, ended, serving, opening, middle, final, loose, IsReached, at_start, after_message}
 use Rattle.nbd_session.proofs.Runs.{core_end-ends_at, walk_of}
 
 -- an open message has an encoding

@@ -9,7 +9,7 @@ use Rattle.nbd_wire.specs.Requests.{Entry, Exporting, any, ends_reply, is_finish
 use Rattle.nbd_wire.specs.Rules.{MayComplete, complete, cookie_of, ends_at, grants_structured, reply_to, requested}
 use Rattle.nbd_wire.specs.States.{Core, Phase, Greet, Flags, Choosing, Naming, Aborting, Answering, Transmission, answered, entry, start, target, with_reply}
 use Rattle.nbd_session.proofs.Fronts.{InTransmission, asks, gives, replies, transmission_row}
-use Rattle.nbd_session.proofs.Machine.{IsReached, at_start, after_message}
+use Rattle.nbd_session.specs.Machine.{IsReached, at_start, after_message}
 use Rattle.nbd_session.proofs.Outstanding.{IsFound, both_true, find}
 use Rattle.nbd_session.proofs.Reached.{run_reaches}
 use Rattle.nbd_session.proofs.Soundness.{InPhase, open_target, sound}

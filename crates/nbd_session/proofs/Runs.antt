@@ -8,7 +8,7 @@ use Rattle.nbd_wire.specs.Rules.{IsRun, IsRunBut, Obeys, complete, ends_at}
 use Rattle.nbd_wire.specs.Report.{entries_of, known}
 use Rattle.nbd_session.proofs.Entries.{HasNoFault}
 use Rattle.nbd_session.specs.declared.fault.WireFault.{WireFault}
-use Rattle.nbd_session.proofs.Machine.{AreHeld, none_held, at_start, Both, get, Walk, IsFilled, Open, Idle, Busy, Loose, Rest, Machine, Judge, reads, IsSound, IsExact}
+use Rattle.nbd_session.specs.Machine.{fresh, AreHeld, none_held, at_start, Both, get, Walk, IsFilled, Open, Idle, Busy, Loose, Rest, Machine, Judge, reads, IsSound, IsExact}
 use Rattle.nbd_session.proofs.Trace.{trace, IsTrace, IsCanonical, IsStray, Guess, not_empty}
 use Rattle.nbd_session.proofs.Marks.{marks, within, IsRead}
 use Rattle.nbd_session.proofs.Blocks.{marked, walked, Idles}
@@ -54,9 +54,6 @@ latest items order run fit =
       pairs_placed start.core order items,
       served_placed start.core order items,
     )
-
-abbrev pub fresh : Machine
-fresh = record { core = start.core; rests = record { client = record { bytes = []; since = start.core }; server = record { bytes = []; since = start.core } }; messages = [] }
 
 pub fresh_held : (judge : Judge) → AreHeld judge fresh
 fresh_held judge = elim [ Client ↦ none_held at_start refl | Server ↦ none_held at_start refl ]

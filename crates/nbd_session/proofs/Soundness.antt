@@ -24,7 +24,7 @@ use Rattle.nbd_session.specs.Soundness.{IsSoundAsked, IsSoundReport, ReportsAreS
 use Rattle.nbd_session.proofs.Fronts.{InTransmission, asks, gives, phase-complete, replies, transmission_row}
 use Rattle.nbd_session.proofs.Laid.{are_laid}
 use Rattle.nbd_session.proofs.Latest.{core_end, entries_grow}
-use Rattle.nbd_session.proofs.Machine.{IsReached, at_start, after_message}
+use Rattle.nbd_session.specs.Machine.{IsReached, at_start, after_message}
 use Rattle.nbd_session.proofs.Outstanding.{IsFound, both_true, find, unfinished}
 use Rattle.nbd_session.proofs.Reached.{run_reaches}
 use Rattle.nbd_session.proofs.Runs.{core_end-ends_at}

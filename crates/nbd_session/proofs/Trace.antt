@@ -11,7 +11,7 @@ use Rattle.nbd_wire.specs.Requests.{Entry, is_finished}
 use Rattle.nbd_wire.specs.States.{Core, State, Names, target, target_from, answered}
 use Rattle.nbd_wire.specs.Sendable.{IsSendable}
 use Rattle.nbd_wire.specs.Rules.{MayStart, complete, reply_to, requested, Obeys, answered_by, IsServedFor}
-use Rattle.nbd_session.proofs.Machine.{old-empty, old-filled, IsFilled-snoc, IsMoreAt, AreHeld, kept_next, held_more, held_whole, led, ended_by, with_byte, IsMore, Tracks, Both, get, put, get-put_same, get-put_other, put-put, same_or_not, Open, Idle, Busy, Loose, IsNotBusy, IsFilled, Walk, ended, serving, opening, middle, final, loose, Rest, Machine, Reading, More, Whole, Bad, settle, Judge, grown, reads, on_ok, IsSoundAt, IsSound}
+use Rattle.nbd_session.specs.Machine.{old-empty, old-filled, IsFilled-snoc, IsMoreAt, AreHeld, kept_next, held_more, held_whole, led, ended_by, with_byte, IsMore, Tracks, Both, get, put, get-put_same, get-put_other, put-put, same_or_not, Open, Idle, Busy, Loose, IsNotBusy, IsFilled, Walk, ended, serving, opening, middle, final, loose, Rest, Machine, Reading, More, Whole, Bad, settle, Judge, grown, reads, on_ok, IsSoundAt, IsSound}
 
 -- each request that has completed was served, and no other
 pub record IsCanonical (state : State) : Type 0 where

@@ -10,7 +10,7 @@ use Rattle.nbd_wire.specs.Side.{side}
 use Rattle.nbd_wire.specs.States.{Core}
 use Rattle.nbd_session.proofs.Follow.{IsBegun, Follows, IsBare, HasEnd, IsSidedOpen, completes_later}
 use Rattle.nbd_session.proofs.Fronts.{IsSame, same_message}
-use Rattle.nbd_session.proofs.Machine.{Both, get, put, get-put_same, get-put_other, same_or_not, Open, Idle, Busy, Loose, IsNotBusy, IsFilled, Walk, ended, serving, opening, middle, final, loose, Later, Later-trans, at_once, behind}
+use Rattle.nbd_session.specs.Machine.{Both, get, put, get-put_same, get-put_other, same_or_not, Open, Idle, Busy, Loose, IsNotBusy, IsFilled, Walk, ended, serving, opening, middle, final, loose, Later, Later-trans, at_once, behind}
 
 -- two messages that a side may be in, of which the same bytes have come
 pub record AreTwins (core : Core) (s : Side) (m n : Message) (left left' : List ℕ) : Type 0 where

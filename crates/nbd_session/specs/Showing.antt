@@ -1,11 +1,13 @@
 -- Internal: no public contract names what stands here.
 -- How the program's values show what the definitions speak of.
-use Rattle.std.specs.Prelude.{Option, Some, None}
-use Rattle.nbd_wire.specs.Requests.{Exporting}
+use Rattle.std.specs.Prelude.{◌≡◌, ℕ, Bool, not, Option, Some, None, is_some}
+use Rattle.nbd_wire.specs.Requests.{Entry, Exporting, is_proper, has_failed, outcome, pieces}
 use Rattle.nbd_wire.specs.Requests as definitions
+use Rattle.nbd_session.specs.declared.asked.Exchange.{Exchange}
 use Rattle.nbd_session.specs.declared.asked.Outcome.{Outcome}
 use Rattle.nbd_session.specs.declared.asked.Outcome.TheVariants.{Success, Failure, Pending}
 use Rattle.nbd_session.specs.declared.state.Export.{Export}
+use Rattle.nbd_session.specs.JudgeTransmission.{is_none_yet}
 
 abbrev pub exporting : Export → Exporting
 exporting export = record { size = export.size; flags = export.flags }
@@ -18,3 +20,17 @@ abbrev pub outcome_of : Outcome → definitions.Outcome
 outcome_of Success = definitions.Success
 outcome_of Failure = definitions.Failure
 outcome_of Pending = definitions.Pending
+
+-- an exchange shows a numbered request of a session on this export
+pub record IsShown (export : Exporting) (e : Entry) (x : Exchange) : Type 0 where
+  pub flags : x.asked.flags ≡ e.flags
+  pub command : x.asked.command ≡ e.command
+  pub cookie : x.asked.cookie ≡ e.cookie
+  pub offset : x.asked.offset ≡ e.offset
+  pub length : x.asked.length ≡ e.length
+  pub payload : x.asked.payload ≡ e.payload
+  pub proper : x.asked.proper ≡ is_proper export e
+  pub replied : is_some x.asked.known_at ≡ not (is_none_yet e.replies)
+  pub outcome_is : outcome_of x.asked.outcome ≡ outcome e
+  pub failed : x.failed ≡ has_failed e
+  pub pieces_are : x.asked.pieces.items ≡ pieces e

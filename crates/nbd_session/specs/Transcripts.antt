@@ -6,6 +6,8 @@ use Rattle.nbd_wire.specs.Requests.{Exporting}
 use Rattle.nbd_session.specs.declared.asked.Asked.{Asked}
 use Rattle.nbd_session.specs.declared.asked.Exchange.{Exchange}
 use Rattle.nbd_session.specs.declared.state.Export.{Export}
+use Rattle.nbd_session.specs.declared.state.Phase.{Phase}
+use Rattle.nbd_session.specs.declared.state.Phase.TheVariants.{Transmission}
 use Rattle.nbd_session.specs.Showing.{exporting_if, outcome_of}
 
 -- a request as a report tells it
@@ -36,3 +38,8 @@ size_and_flags None = None
 -- the report of this export and these exchanges
 abbrev pub report_told : Option Export → List Exchange → Report
 report_told export exchanges = record { export = exporting_if export; asked = map (λ x. asked_told x.asked) exchanges }
+
+-- the export of transmission, if it was reached
+abbrev pub export_of : Phase → Option Export
+export_of (Transmission export) = Some export
+export_of phase = None

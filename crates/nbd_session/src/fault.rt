@@ -1,6 +1,8 @@
 //! The faults that a session is refused with: of those that stand at one byte the first in this list is
 //! answered.
 
+use std::alloc::AllocError;
+
 /// A rule that the recorded bytes break.
 #[derive(Clone, Copy, Debug, PartialEq, Eq, Drop)]
 pub enum WireFault {
@@ -49,4 +51,25 @@ pub enum WireFault {
     BadDisconnect,
     /// A message that started has not completed at the end.
     Unfinished,
+}
+
+/// Why a session was closed.
+#[derive(Clone, Copy, Debug, PartialEq, Eq, Drop)]
+pub enum SessionFault {
+    /// The bytes break a rule; `at` counts the capture's bytes, of both sides, up to and including the
+    /// one at which that was found.
+    Wire { at: u64, fault: WireFault },
+    /// A growth of memory was refused.
+    Memory,
+}
+
+impl From<AllocError> for SessionFault {
+    ghost use Rattle.std.specs.Prelude.{◌≡◌};
+    ghost use Rattle.nbd_session.specs.declared.fault.SessionFault.TheVariants.{Memory};
+
+    ghost from_gives = { λ _ fault. fault ≡ Memory };
+
+    fn from(_: AllocError) -> SessionFault {
+        SessionFault::Memory
+    }
 }

@@ -5,15 +5,32 @@
 #![tactic(auto)]
 
 mod asked;
+mod chunks;
+mod completing;
 pub mod examples;
 pub mod fault;
+mod flags;
+mod heads;
+mod held;
 pub mod laws;
+mod leading;
+mod messages;
+mod negotiation;
+mod options;
+mod proper;
+mod reading;
+mod reading_state;
+mod recording;
+mod replies;
+mod requests;
 mod session;
+mod spans;
 mod state;
 mod transcript;
+mod whole;
 
 pub use asked::{Asked, Outcome};
-pub use fault::WireFault;
+pub use fault::{SessionFault, WireFault};
 pub use nbd_wire::Piece;
-pub use session::SessionFault;
+pub use session::Session;
 pub use transcript::Transcript;

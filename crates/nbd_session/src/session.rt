@@ -1,17 +1,103 @@
-//! A session under way.
+//! A session, given piece by piece.
 
-use crate::fault::WireFault;
+ghost use Rattle.std.specs.Prelude.{◌≡◌, ◌+◌, ◌++◌, ◌<◌, ◌^◌, Err, IfErr, IfOk, None, OnOk, Some, length};
+ghost use Rattle.nbd_wire.specs.Items.{sent};
+ghost use Rattle.nbd_session.specs.declared.fault.SessionFault.{SessionFault};
+ghost use Rattle.nbd_session.specs.Sessions.{AddsFront, IsAtEnd, IsOfRun, IsReported, fault_at_end, fault_of, none_taken, pairs_of, taken};
 
-/// Why a session was refused.
-#[derive(Clone, Copy, Debug, PartialEq, Eq, Drop)]
-pub enum SessionFault {
-    /// The bytes break a rule of the protocol.
-    Wire {
-        /// How many bytes of the capture were taken, the one at which the rule was broken included.
-        at: u64,
-        /// The rule.
-        fault: WireFault,
-    },
-    /// An allocation was refused.
-    Memory,
+use crate::fault::SessionFault;
+use crate::held::Held;
+use crate::transcript::Transcript;
+use nbd_wire::{Message, Side};
+use std::alloc::Global;
+use std::marker::Model;
+
+/// A session under way, or one that was closed by a fault.
+///
+/// In a contract it is what it holds of the bytes that it was given (`specs/Sessions.antt`): the
+/// accepted messages, each side's bytes behind them, and the side and length of each one-sided run, which
+/// together give back every byte that was taken.
+#[derive(Drop)]
+pub struct Session {
+    alloc: Global,
+    held: Held,
+    closed: Option<SessionFault>,
+}
+
+impl Model for Session {
+    ghost use Rattle.nbd_session.specs.Sessions.{Recorded};
+    ghost use Rattle.nbd_session.specs.Steps.{IsKept, recorded};
+
+    ghost Value = { Recorded };
+
+    ghost view = { λ s. recorded s.held s.closed };
+
+    ghost invariant = { λ s. IsKept s.held s.closed };
+}
+
+impl Session {
+    /// A session that has taken nothing; takes no memory.
+    pub fn new(alloc: Global) -> Session
+        ensures { result ≡ none_taken }
+    {
+        Session {
+            alloc,
+            held: Held::new(alloc),
+            closed: None,
+        }
+    }
+
+    /// How many bytes were taken, of both sides. The byte of a wire fault counts, bytes behind it do not.
+    pub fn taken(&self) -> u64
+        ensures { result ≡ taken self.now }
+    {
+        self.held.taken
+    }
+
+    /// Takes the next piece of the capture, of any length. The condition is that `taken` and its length
+    /// are below 2^63 together.
+    ///
+    /// After `Wire` or `Memory` the session is closed: each later call answers the same fault and changes
+    /// nothing, and `messages` are those that were accepted before. At `Wire` the bytes up to the refused
+    /// one were taken, at `Memory` some front of the piece.
+    pub fn push(&mut self, side: Side, piece: &[u8]) -> Result<(), SessionFault>
+        requires { taken self.old + length piece.now < 2 ^ 63 }
+        ensures added { OnOk result (pairs_of self.new ≡ pairs_of self.old ++ sent side piece.now) }
+        ensures open { OnOk result (self.new.closed ≡ None) }
+        ensures front { AddsFront self.old self.new side piece.now }
+        ensures refused { IfErr result (λ fault. self.new.closed ≡ Some fault) }
+        ensures at { IfErr result (λ fault. self.old.closed ≡ None → IsAtEnd self.new fault) }
+        ensures closed { (fault : SessionFault) → self.old.closed ≡ Some fault → (result ≡ Err fault) × (self.new ≡ self.old) }
+    {
+        if let Some(fault) = self.closed {
+            return Err(fault);
+        }
+        if let Err(fault) = self.held.push(self.alloc, side, piece) {
+            self.closed = Some(fault);
+            return Err(fault);
+        }
+        Ok(())
+    }
+
+    /// The accepted messages, in the order of their completion.
+    pub fn messages(&self) -> &[Message]
+        ensures messages { result.now ≡ self.now.messages }
+        ensures run { IsOfRun self.now }
+    {
+        self.held.messages.as_slice()
+    }
+
+    /// Ends the session; takes no memory.
+    ///
+    /// A closed session answers the fault that closed it. Where a message that started has not completed
+    /// the answer is `Unfinished` at the count of all bytes.
+    pub fn finish(self) -> Result<Transcript, SessionFault>
+        ensures told { IfOk result (λ told. IsReported self told) }
+        ensures fault { fault_of result ≡ fault_at_end self }
+    {
+        match self.closed {
+            Some(fault) => Err(fault),
+            None => self.held.finish(),
+        }
+    }
 }

@@ -1,0 +1,94 @@
+-- What a log knows is of requests that have completed.
+use Rattle.std.proofs.Common.{◌≡◌, ℕ, ◌<◌, ◌≤◌, ◌==◌, List, [], ◌∷◌, ◌++◌, length, refl, sym, ◌∙◌, ap, subst, inl, inr, Ok, Option, Some, None, Bool, true, false, is_some, if◌then◌else◌, arith, append-nil, eqb-true}
+use Rattle.nbd_wire.specs.declared.message.Message.{Message}
+use Rattle.nbd_wire.specs.declared.message.Side.{Side}
+use Rattle.nbd_wire.specs.Items.{Pair, sent}
+use Rattle.nbd_wire.specs.Rules.{answered_by, complete}
+use Rattle.nbd_wire.specs.States.{Core, start}
+use Rattle.nbd_session.specs.Concrete.{concrete}
+use Rattle.nbd_session.specs.Folded.{core_from}
+use Rattle.nbd_session.specs.Judge.{awaited}
+use Rattle.nbd_session.specs.Logged.{Logged, known_by, known_here, known_if, log_with, logged, messages_of}
+use Rattle.nbd_session.specs.Machine.{AreHeld, IsFilled, Judge, Machine, More, Whole, fresh, get, old_of, reads}
+use Rattle.nbd_session.proofs.Blockwise.{extended}
+use Rattle.nbd_session.proofs.Counted.{count_of}
+use Rattle.nbd_session.proofs.Folded.{core_is}
+use Rattle.nbd_session.proofs.LogSteps.{known-next, known_here-other, known_here-same, known_or, logged-piece, logged_messages}
+use Rattle.nbd_session.proofs.Trace.{answered_by-within, length-complete}
+
+complete_grows : (core : Core) (m : Message) → length core.entries ≤ length (complete core m).entries
+complete_grows core m = elim (length-complete core m) [ inl e ↦ omega (arith, e) | inr e ↦ omega (arith, e) ]
+
+-- no request is forgotten
+pub core_from_grows : (core : Core) (messages : List Message) → length core.entries ≤ length (core_from core messages).entries
+core_from_grows core [] = omega arith
+core_from_grows core (m ∷ messages) =
+    let first : length core.entries ≤ length (complete core m).entries = complete_grows core m in
+    let others : length (complete core m).entries ≤ length (core_from (complete core m) messages).entries = core_from_grows (complete core m) messages in
+    omega (arith, first, others)
+
+pub known_by-within : (core : Core) (k n : ℕ) (log : List Logged) → known_by core k log ≡ Some n → (0 < k) × (k ≤ length (core_from core (messages_of log)).entries)
+known_by-within core k n [] e = absurd (cc)
+known_by-within core k n (l ∷ log) e = go (answered_by core l.message) refl (known_by-within (complete core l.message) k n log) e
+  where
+    end : Core
+    end = core_from (complete core l.message) (messages_of log)
+
+    chosen : (j : ℕ) → answered_by core l.message ≡ Some j → (b : Bool) → (j == k) ≡ b → (known_by (complete core l.message) k log ≡ Some n → (0 < k) × (k ≤ length end.entries)) →
+        known_if b l.known (known_by (complete core l.message) k log) ≡ Some n → (0 < k) × (k ≤ length end.entries)
+    chosen j a true is ih e =
+        let same : j ≡ k = eqb-true j k is in
+        let w : (0 < j) × (j ≤ length core.entries) = answered_by-within core l.message j a in
+        let grows : length core.entries ≤ length end.entries = core_from_grows core (l.message ∷ messages_of log) in
+        (subst (λ i. 0 < i) same w.0, omega (arith, same, w.1, grows))
+    chosen j a false is ih e = ih e
+
+    go : (o : Option ℕ) → answered_by core l.message ≡ o → (known_by (complete core l.message) k log ≡ Some n → (0 < k) × (k ≤ length end.entries)) →
+        known_here o l.known k (known_by (complete core l.message) k log) ≡ Some n → (0 < k) × (k ≤ length end.entries)
+    go None a ih e = ih e
+    go (Some j) a ih e = chosen j a (j == k) refl ih e
+
+-- of a request that has not completed nothing is known
+pub known_fresh : (judge : Judge) (ps : List Pair) (machine : Machine) (k : ℕ) → reads judge fresh ps ≡ Ok machine → length machine.core.entries < k → known_by start.core k (logged judge fresh ps) ≡ None
+known_fresh judge ps machine k e l = go (known_by start.core k (logged judge fresh ps)) refl
+  where
+    core_same : core_from start.core (messages_of (logged judge fresh ps)) ≡ machine.core
+    core_same = ap (core_from start.core) (logged_messages judge ps fresh machine e) ∙ sym (core_is judge ps machine e)
+
+    go : (o : Option ℕ) → known_by start.core k (logged judge fresh ps) ≡ o → known_by start.core k (logged judge fresh ps) ≡ None
+    go None is = is
+    go (Some n) is =
+        let w : (0 < k) × (k ≤ length (core_from start.core (messages_of (logged judge fresh ps))).entries) = known_by-within start.core k n (logged judge fresh ps) is in
+        let at : k ≤ length machine.core.entries = subst (λ (c : Core). k ≤ length c.entries) core_same w.1 in
+        absurd (omega (arith, l, at))
+
+or_is : (o : Option ℕ) (n : ℕ) → known_or o (Some n) ≡ (if is_some o then o else Some n)
+or_is (Some m) n = refl
+or_is None n = refl
+
+or_none : (o : Option ℕ) → known_or o None ≡ o
+or_none (Some m) = refl
+or_none None = refl
+
+-- one more message that answers request k: what was known of it stays, or its count is known
+pub known-answered : (judge : Judge) (ps : List Pair) (machine : Machine) (k : ℕ) (l : Logged) → reads judge fresh ps ≡ Ok machine → answered_by machine.core l.message ≡ Some k →
+    known_by start.core k (logged judge fresh ps ++ l ∷ []) ≡ (if is_some (known_by start.core k (logged judge fresh ps)) then known_by start.core k (logged judge fresh ps) else Some l.known)
+known-answered judge ps machine k l e a =
+    known-next judge ps machine k l e ∙ ap (known_or (known_by start.core k (logged judge fresh ps))) (known_here-same (answered_by machine.core l.message) l.known k a) ∙ or_is (known_by start.core k (logged judge fresh ps)) l.known
+
+-- one that does not changes nothing of it
+pub known-unanswered : (judge : Judge) (ps : List Pair) (machine : Machine) (k : ℕ) (l : Logged) → reads judge fresh ps ≡ Ok machine → (answered_by machine.core l.message ≡ Some k → ⊥) →
+    known_by start.core k (logged judge fresh ps ++ l ∷ []) ≡ known_by start.core k (logged judge fresh ps)
+known-unanswered judge ps machine k l e ne =
+    known-next judge ps machine k l e ∙ ap (known_or (known_by start.core k (logged judge fresh ps))) (known_here-other (answered_by machine.core l.message) l.known k ne) ∙ or_none (known_by start.core k (logged judge fresh ps))
+
+module _ (ps : List Pair) (machine : Machine) (s : Side) (more : List ℕ) (e : reads concrete fresh ps ≡ Ok machine) (held : AreHeld concrete machine) (f : IsFilled more)
+    (l : length ((get machine.rests s).bytes ++ more) ≤ awaited (old_of machine.core (get machine.rests s)) machine.core s (get machine.rests s).bytes) where
+  -- a piece that completes a message
+  pub logged-whole : (m : Message) → concrete (old_of machine.core (get machine.rests s)) machine.core s ((get machine.rests s).bytes ++ more) ≡ Whole m →
+      logged concrete fresh (ps ++ sent s more) ≡ logged concrete fresh ps ++ record { message = m; known = count_of machine.core (get machine.rests s) } ∷ []
+  logged-whole m is = logged-piece ps machine s more e held f l ∙ ap (λ r. logged concrete fresh ps ++ log_with (extended machine.core (get machine.rests s) more) r) is
+
+  -- a piece that is kept
+  pub logged-kept : concrete (old_of machine.core (get machine.rests s)) machine.core s ((get machine.rests s).bytes ++ more) ≡ More → logged concrete fresh (ps ++ sent s more) ≡ logged concrete fresh ps
+  logged-kept is = logged-piece ps machine s more e held f l ∙ ap (λ r. logged concrete fresh ps ++ log_with (extended machine.core (get machine.rests s) more) r) is ∙ append-nil (logged concrete fresh ps)

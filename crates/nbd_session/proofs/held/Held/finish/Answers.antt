@@ -1,0 +1,14 @@
+use Rattle.std.proofs.Common.{sym, subst, None}
+use Rattle.nbd_session.specs.Sessions.{IsReported}
+use Rattle.nbd_session.specs.Steps.{recorded}
+use Rattle.nbd_session.proofs.Reporting.{none_in, reported, sound_told}
+use Rattle.nbd_session.proofs.held.Held.finish.Goals as goal
+
+pub transcript-requires : goal.transcript-requires
+transcript-requires c =
+    sound_told c.args.self c.requires (none_in _ c.args.self.client.items c.args.self.client.ok.0 c.if-is_empty.ensures) (none_in _ c.args.self.server.items c.args.self.server.ok.0 c.if-is_empty-2.ensures)
+
+pub returns-then-is_empty-2-clause-told : goal.returns-then-is_empty-2-clause-told
+returns-then-is_empty-2-clause-told c =
+    subst (IsReported (recorded c.args.self None)) (sym c.transcript.ensures)
+        (reported c.args.self c.requires (none_in _ c.args.self.client.items c.args.self.client.ok.0 c.if-is_empty.ensures) (none_in _ c.args.self.server.items c.args.self.server.ok.0 c.if-is_empty-2.ensures))

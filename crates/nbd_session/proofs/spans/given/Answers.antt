@@ -1,0 +1,11 @@
+use Rattle.std.proofs.Common.{◌≡◌, ◌+◌, ◌∙◌, ap, arith, fold, min, rules, zero-add}
+use Rattle.nbd_wire.specs.Requests.{piece_size}
+use Rattle.nbd_session.specs.JudgeTransmission.{total}
+use Rattle.nbd_session.proofs.ChunkFaults.{fold-total}
+use Rattle.nbd_session.proofs.spans.given.Goals as goal
+
+pub returns : goal.returns
+returns c =
+    let pieces = c.args.pieces.now in
+    let folded : c.fold.result ≡ fold (λ sum p. min (sum + piece_size p) 18446744073709551615) 0 pieces = search rules in
+    folded ∙ fold-total 18446744073709551615 0 pieces (omega arith) ∙ ap (λ n. min n 18446744073709551615) (zero-add (total pieces))

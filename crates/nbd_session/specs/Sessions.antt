@@ -1,0 +1,89 @@
+-- What a session holds, what of a run that is, and what a piece adds to it.
+use Rattle.std.specs.Prelude.{◌≡◌, ◌++◌, ℕ, List, [], Option, Some, None, Result, Ok, Err, length}
+use Rattle.nbd_wire.specs.declared.message.Message.{Message}
+use Rattle.nbd_wire.specs.declared.message.Side.{Side}
+use Rattle.nbd_wire.specs.Items.{Item, Pair, completed, pairs, sent}
+use Rattle.nbd_wire.specs.Pushed.{Span, pushed}
+use Rattle.nbd_wire.specs.Report.{Report, report}
+use Rattle.nbd_wire.specs.Rules.{IsRun, IsRunBut}
+use Rattle.nbd_session.specs.declared.fault.SessionFault.{SessionFault}
+use Rattle.nbd_session.specs.declared.fault.SessionFault.TheVariants.{Memory, Wire}
+use Rattle.nbd_session.specs.declared.fault.WireFault.TheVariants.{Unfinished}
+
+-- the accepted messages in the order of their completion, each side's bytes behind its messages, the
+-- spans of all bytes, and the fault that closed the session, if one did
+pub record Recorded : Type 0 where
+  pub messages : List Message
+  pub client : List ℕ
+  pub server : List ℕ
+  pub spans : List Span
+  pub closed : Option SessionFault
+
+-- the bytes that were taken, with their senders
+abbrev pub pairs_of : Recorded → List Pair
+pairs_of r = pushed r.messages r.client r.server r.spans
+
+-- how many bytes were taken
+abbrev pub taken : Recorded → ℕ
+taken r = length (pairs_of r)
+
+-- some run, but for these bytes behind each side's last message, has the pairs, and these messages
+-- complete in it in this order
+pub record HasRun (ps : List Pair) (messages : List Message) (client server : List ℕ) : Type 0 where
+  pub items : List Item
+  pub is_run : IsRunBut items client server
+  pub has_pairs : pairs items ≡ ps
+  pub has_messages : completed items ≡ messages
+
+-- what was taken belongs to such a run
+abbrev pub IsOfRun : Recorded → Type 0
+IsOfRun r = HasRun (pairs_of r) r.messages r.client r.server
+
+-- of a side's piece all but `left` was taken, and more messages may have been accepted
+pub record Adds (before after : List Pair) (earlier later : List Message) (s : Side) (piece left : List ℕ) : Type 0 where
+  pub front : List ℕ
+  pub more : List Message
+  pub parts : front ++ left ≡ piece
+  pub has_pairs : after ≡ before ++ sent s front
+  pub has_messages : later ≡ earlier ++ more
+
+-- a front of a side's piece was taken, and more messages may have been accepted
+abbrev pub AddsFront : (old new : Recorded) → Side → (piece : List ℕ) → Type 0
+AddsFront old new s piece = (left : List ℕ) × Adds (pairs_of old) (pairs_of new) old.messages new.messages s piece left
+
+-- a wire fault names the last byte that was taken
+abbrev pub IsAtEnd : Recorded → SessionFault → Type 0
+IsAtEnd r (Wire at fault) = at ≡ taken r
+IsAtEnd r Memory = Unit {0}
+
+-- a message that started has not completed where bytes of a side stand behind its messages
+abbrev pub unfinished : (client server : List ℕ) → (at : ℕ) → Option SessionFault
+unfinished [] [] at = None
+unfinished client server at = Some (Wire at Unfinished)
+
+-- the fault that closed it, or else this one
+abbrev pub end_by : Option SessionFault → Option SessionFault → Option SessionFault
+end_by (Some fault) last = Some fault
+end_by None last = last
+
+-- the fault of a session that is to end
+abbrev pub fault_at_end : Recorded → Option SessionFault
+fault_at_end r = end_by r.closed (unfinished r.client r.server (taken r))
+
+-- the fault of an answer, if it is one
+abbrev pub fault_of : {A : Type 0} → Result A SessionFault → Option SessionFault
+fault_of (Ok a) = None
+fault_of (Err fault) = Some fault
+
+-- before the first byte
+abbrev pub none_taken : Recorded
+none_taken = record { messages = []; client = []; server = []; spans = []; closed = None }
+
+-- some run has exactly the bytes that were taken and these messages, and the report of any such run
+-- is this one
+pub record IsReported (r : Recorded) (told : Report) : Type 0 where
+  pub items : List Item
+  pub is_run : IsRun items
+  pub has_pairs : pairs items ≡ pairs_of r
+  pub has_messages : completed items ≡ r.messages
+  pub told_so : (others : List Item) → IsRun others → pairs others ≡ pairs_of r → report others ≡ told
