@@ -10,7 +10,7 @@ use Rattle.nbd_session.specs.Moments.{OrdersAreFaultless}
 use Rattle.nbd_session.specs.Sameness.{SameReports}
 use Rattle.nbd_judge.specs.declared.verdict.Verdict.{Verdict}
 use Rattle.nbd_judge.specs.declared.verdict.Verdict.TheVariants.{Yes, Wire, Image, Order, Content}
-use Rattle.nbd_judge.specs.Conclusions.{AnswersRun, IsUnserved, VerdictsAnswerRuns}
+use Rattle.nbd_judge.specs.Conclusions.{Answers, VerdictsAnswerRuns}
 use Rattle.nbd_judge.specs.Verdicts.{IsVerdict}
 use Rattle.nbd_judge.proofs.Single.{fits_not, has_fault, has_wrong}
 

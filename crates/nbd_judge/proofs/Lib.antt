@@ -10,3 +10,4 @@ mod Counting
 mod Named
 mod Answering
 mod Starting
+mod Chunks

@@ -9,3 +9,4 @@ pub mod Verdicts
 pub mod Uniqueness
 pub mod Beginnings
 pub mod Conclusions
+pub mod Captures

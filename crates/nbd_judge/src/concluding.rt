@@ -1,13 +1,13 @@
 //! The verdict on a finished session and a start.
 
 ghost use Rattle.std.specs.Prelude.{◌≡◌, ℕ, List, IfOk, Ok, Err};
-ghost use Rattle.nbd_wire.specs.Items.{Item};
+ghost use Rattle.nbd_wire.specs.Items.{Item, pairs};
 ghost use Rattle.nbd_wire.specs.Rules.{IsRun};
 ghost use Rattle.nbd_session.specs.declared.fault.WireFault.{WireFault};
-ghost use Rattle.nbd_session.specs.declared.session.SessionFault.TheVariants as session;
+ghost use Rattle.nbd_session.specs.declared.fault.SessionFault.TheVariants as session;
 ghost use Rattle.nbd_judge.specs.declared.verdict.Verdict.TheVariants as verdict;
 ghost use Rattle.nbd_judge.specs.Beginnings.{image_length, initial_of};
-ghost use Rattle.nbd_judge.specs.Conclusions.{AnswersRun, IsConclusion, IsReportOf};
+ghost use Rattle.nbd_judge.specs.Conclusions.{Answers, IsConclusion, IsReportOf};
 ghost use Rattle.nbd_judge.specs.Verdicts.{IsVerdict};
 
 use crate::{Verdict, judge, laws};
@@ -26,7 +26,7 @@ pub fn conclude(
     ensures verdict { IfOk result (IsConclusion finished order.now (initial_of start)) }
     ensures wire { (at : ℕ) (fault : WireFault) → finished ≡ Err (session.Wire at fault) → result ≡ Ok (verdict.Wire at fault) }
     // Yes is said of exactly the runs with this report that the order explains, no of the others.
-    ensures answers { IfOk result (λ v. (items : List Item) → IsRun items → IsReportOf items finished → AnswersRun items order.now (initial_of start) v) }
+    ensures answers { IfOk result (λ v. (items : List Item) → IsRun items → IsReportOf items finished → Answers (pairs items) order.now (initial_of start) v) }
 {
     laws::verdicts_answer_runs();
     match finished {

@@ -3,6 +3,7 @@
 #![tactic(auto)]
 
 mod change;
+mod checking;
 mod compare;
 mod concluding;
 mod judging;
@@ -13,6 +14,7 @@ mod replay;
 mod tally;
 pub mod verdict;
 
+pub use checking::check;
 pub use concluding::conclude;
 pub use judging::judge;
 pub use verdict::{OrderFault, Verdict};
