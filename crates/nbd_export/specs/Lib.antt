@@ -1,0 +1,3 @@
+pub mod Ranges
+pub mod Starts
+pub mod Cells

@@ -1,0 +1,16 @@
+//! The bytes of an export, each known or unknown.
+//!
+//! What a range becomes and where it differs from other bytes is all that is known here: nothing of
+//! requests, replies or sessions.
+#![tactic(auto)]
+
+mod cells;
+pub mod contents;
+pub mod flat;
+pub mod start;
+#[cfg(test)]
+mod tests;
+
+pub use contents::Contents;
+pub use flat::Flat;
+pub use start::Start;

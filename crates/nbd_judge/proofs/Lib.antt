@@ -1,0 +1,13 @@
+mod Deciding
+mod Marked
+mod Lateness
+mod Comparing
+mod Forward
+mod Effects
+mod Sound
+mod Single
+mod Counting
+mod Named
+mod Answering
+mod Starting
+mod Chunks

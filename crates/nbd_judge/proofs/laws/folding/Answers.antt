@@ -1,0 +1,5 @@
+use Rattle.nbd_judge.proofs.Forward.{folded}
+use Rattle.nbd_judge.proofs.laws.folding.Goals as goal
+
+pub returns : goal.returns
+returns c = folded

@@ -1,0 +1,5 @@
+use Rattle.nbd_judge.proofs.Single.{one_verdict}
+use Rattle.nbd_judge.proofs.laws.one_verdict.Goals as goal
+
+pub returns : goal.returns
+returns c = one_verdict

@@ -1,0 +1,7 @@
+use Rattle.std.proofs.Common.{◌≤◌, ℕ}
+use Rattle.nbd_wire.specs.Report.{known_in}
+use Rattle.nbd_judge.specs.Seen.{IsUnmarked}
+use Rattle.nbd_judge.proofs.order.missing.Given as goal
+
+abbrev pub invariant-loop-i : goal.invariant-loop-i
+invariant-loop-i l = (k : ℕ) → k ≤ l.i → IsUnmarked (known_in l.transcript) l.table k → ⊥

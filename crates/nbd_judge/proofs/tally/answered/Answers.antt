@@ -1,0 +1,23 @@
+use Rattle.std.proofs.Common.{◌≡◌, ◌+◌, ◌<◌, ◌≤◌, ℕ, Bool, List, length, Some, None, sym, ◌∙◌, ap, arith, slice_get}
+use Rattle.nbd_wire.specs.Report.{Asked}
+use Rattle.nbd_wire.specs.Verdicts.{is_answered}
+use Rattle.nbd_session.specs.Transcripts.{asked_told}
+use Rattle.nbd_judge.proofs.Counting.{none_there, one_counted, one_passed}
+use Rattle.nbd_judge.proofs.tally.answered.Goals as goal
+use Rattle.nbd_judge.proofs.tally.answered.Goals.{in-Some+then-is_finished, in-Some+else-is_finished, in_default}
+
+pub loop-i-preserved : goal.loop-i-preserved
+loop-i-preserved c =
+    let counted : Asked → Bool = λ (a : Asked). is_answered a.outcome in
+    let asked : List Asked = c.args.transcript.now.asked in
+    let count : c.count-i-end.result ≡ length asked = c.count-i-end.ensures.count in
+    let within : c.loop-i.i < length asked = omega arith in
+    elim c.match-asked.branch [
+      | in-Some+then-is_finished w ↦
+          (let more = one_counted counted asked c.loop-i.i (asked_told w.in-Some.one.now) (sym w.in-Some.ensures) (sym w.is_finished.ensures ∙ w.if-is_finished.true) in
+          record { count = w.answered-is ∙ ap (λ n. n + 1) c.loop-i.invariant.count ∙ sym more; within = omega arith; least = omega arith })
+      | in-Some+else-is_finished w ↦
+          (let same = one_passed counted asked c.loop-i.i (asked_told w.in-Some.one.now) (sym w.in-Some.ensures) (sym w.is_finished.ensures ∙ w.if-is_finished.false) in
+          record { count = w.answered-is ∙ c.loop-i.invariant.count ∙ sym same; within = omega arith; least = omega arith })
+      | in_default w ↦ absurd (none_there asked c.loop-i.i within (sym w.in_default.ensures))
+    ]

@@ -1,0 +1,7 @@
+use Rattle.std.proofs.Common.{◌≡◌, ◌≤◌, length, not, take, count_by}
+use Rattle.nbd_wire.specs.Report.{Asked}
+use Rattle.nbd_wire.specs.Verdicts.{is_answered}
+use Rattle.nbd_judge.proofs.tally.improper.Given as goal
+
+abbrev pub invariant-loop-i : goal.invariant-loop-i
+invariant-loop-i l = record { count : l.improper ≡ count_by (λ (a : Asked). not a.proper) (take l.i l.transcript.asked); within : l.i ≤ length l.transcript.asked; least : l.improper ≤ l.i }

@@ -1,0 +1,12 @@
+pub mod Lesser
+pub mod Images
+pub mod Orders
+pub mod Seen
+pub mod Pieces
+pub mod Servable
+pub mod Folding
+pub mod Verdicts
+pub mod Uniqueness
+pub mod Beginnings
+pub mod Conclusions
+pub mod Captures

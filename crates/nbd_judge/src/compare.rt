@@ -1,0 +1,62 @@
+//! The bytes of a READ against the contents when it is served.
+
+ghost use Rattle.std.specs.Prelude.{◌≡◌, ◌+◌, ◌≤◌, length};
+ghost use Rattle.nbd_export.specs.Ranges.{IsLeast};
+ghost use Rattle.nbd_wire.specs.Exchanges.{IsWrongIn, exchange, is_success};
+ghost use Rattle.nbd_wire.specs.Requests.{piece_offset, piece_size};
+ghost use Rattle.nbd_session.specs.Transcripts.{asked_told};
+ghost use Rattle.nbd_judge.specs.Pieces.{AreInside, DiffersInOneOf, DiffersInPiece};
+ghost use Rattle.nbd_judge.specs.Servable.{IsServable};
+ghost use Rattle.nbd_session.specs.Showing.{outcome_of};
+
+use crate::least::lesser;
+use nbd_export::Contents;
+use nbd_session::{Asked, Outcome};
+use nbd_wire::{Piece, commands};
+
+/// The least offset of a wrong byte of a request that is served now; None where it has none. The cost is
+/// that of the bytes and holes of its reply.
+pub fn wrong<C: Contents>(one: &Asked, contents: &C) -> Option<u64>
+    requires { IsServable (C.size contents.now) (asked_told one.now) }
+    ensures { IsLeast (IsWrongIn (exchange (asked_told one.now)) (C.byte contents.now)) result }
+{
+    if one.command == commands::READ {
+        if succeeded(one.outcome) {
+            return first_difference(&one.pieces, contents);
+        }
+    }
+    None
+}
+
+/// Whether a request succeeded.
+pub fn succeeded(outcome: Outcome) -> bool
+    ensures { result ≡ is_success (outcome_of outcome) }
+{
+    match outcome {
+        Outcome::Success => true,
+        Outcome::Failure | Outcome::Pending => false,
+    }
+}
+
+// The least offset at which one of the pieces differs from the contents.
+fn first_difference<C: Contents>(pieces: &[Piece], contents: &C) -> Option<u64>
+    requires { AreInside (C.size contents.now) pieces.now }
+    ensures { IsLeast (DiffersInOneOf (C.byte contents.now) pieces.now (length pieces.now)) result }
+{
+    let mut found = None;
+    for piece in pieces {
+        found = lesser(found, piece_difference(piece, contents));
+    }
+    found
+}
+
+// The least offset at which a piece differs from the contents: a hole is compared as zeroes.
+fn piece_difference<C: Contents>(piece: &Piece, contents: &C) -> Option<u64>
+    requires { piece_offset piece.now + piece_size piece.now ≤ C.size contents.now }
+    ensures { IsLeast (DiffersInPiece (C.byte contents.now) piece.now) result }
+{
+    match piece {
+        Piece::Bytes { offset, bytes } => contents.differs(*offset, bytes.as_slice()),
+        Piece::Hole { offset, size } => contents.differs_zero(*offset, *size as u64),
+    }
+}

@@ -1,0 +1,71 @@
+//! The verdict on a finished session and a start.
+
+ghost use Rattle.std.specs.Prelude.{◌≡◌, ℕ, List, IfOk, Ok, Err};
+ghost use Rattle.nbd_wire.specs.Items.{Item, pairs};
+ghost use Rattle.nbd_wire.specs.Rules.{IsRun};
+ghost use Rattle.nbd_laws.specs.declared.fault.WireFault.{WireFault};
+ghost use Rattle.nbd_session.specs.declared.fault.SessionFault.TheVariants as session;
+ghost use Rattle.nbd_judge.specs.declared.verdict.Verdict.TheVariants as verdict;
+ghost use Rattle.nbd_judge.specs.Beginnings.{image_length, initial_of};
+ghost use Rattle.nbd_judge.specs.Conclusions.{Answers, IsConclusion, IsReportOf};
+ghost use Rattle.nbd_judge.specs.Verdicts.{IsVerdict};
+
+use crate::{Verdict, judge, laws};
+use nbd_export::{Flat, Start};
+use nbd_session::{SessionFault, Transcript};
+use std::alloc::{AllocError, Global};
+
+/// Concludes what a finished session, an order of service and the export's start come to. A wire fault is
+/// handed on as it is. Want of memory is answered where the session met it, or where it comes here.
+pub fn conclude(
+    alloc: Global,
+    finished: Result<Transcript, SessionFault>,
+    order: &[u64],
+    start: Start,
+) -> Result<Verdict, AllocError>
+    ensures verdict { IfOk result (IsConclusion finished order.now (initial_of start)) }
+    ensures wire { (at : ℕ) (fault : WireFault) → finished ≡ Err (session.Wire at fault) → result ≡ Ok (verdict.Wire at fault) }
+    // Yes is said of exactly the runs with this report that the order explains, no of the others.
+    ensures answers { IfOk result (λ v. (items : List Item) → IsRun items → IsReportOf items finished → Answers (pairs items) order.now (initial_of start) v) }
+{
+    laws::verdicts_answer_runs();
+    match finished {
+        Ok(transcript) => verdict_on(alloc, &transcript, order, start),
+        Err(SessionFault::Wire { at, fault }) => Ok(Verdict::Wire { at, fault }),
+        Err(SessionFault::Memory) => Err(AllocError),
+    }
+}
+
+// The verdict on a transcript: the image test, and then the judgement of contents made from the start.
+fn verdict_on(
+    alloc: Global,
+    transcript: &Transcript,
+    order: &[u64],
+    start: Start,
+) -> Result<Verdict, AllocError>
+    ensures { IfOk result (IsVerdict transcript.now order.now (initial_of start)) }
+{
+    // Told by the contract of `count`: the export is within the limit.
+    let _count = transcript.count();
+    let Some((size, _)) = transcript.export() else {
+        let mut contents = Flat::new(alloc, 0, Start::Zeroes)?;
+        return judge(alloc, transcript, order, &mut contents);
+    };
+    if let Some(image) = image_len(&start) {
+        if image != size {
+            return Ok(Verdict::Image { image, size });
+        }
+    }
+    let mut contents = Flat::new(alloc, size, start)?;
+    judge(alloc, transcript, order, &mut contents)
+}
+
+// The length of an image in bytes, where the start is one.
+fn image_len(start: &Start) -> Option<u64>
+    ensures { result ≡ image_length (initial_of start.now) }
+{
+    match start {
+        Start::Image(image) => Some(image.len() as u64),
+        Start::Unknown | Start::Zeroes => None,
+    }
+}

@@ -1,0 +1,40 @@
+//! The verdict on the report of a session.
+
+ghost use Rattle.std.specs.Prelude.{◌≡◌, IfOk};
+ghost use Rattle.nbd_judge.specs.Servable.{size_of};
+ghost use Rattle.nbd_judge.specs.Verdicts.{IsJudged};
+
+use crate::Verdict;
+use crate::order::order_fault;
+use crate::replay::replay;
+use crate::tally::{answered, improper};
+use nbd_export::Contents;
+use nbd_session::Transcript;
+use std::alloc::{AllocError, Global};
+
+/// Judges a session by an order of service and the contents that the export had at first: Yes, Order or
+/// Content. Behind a Content verdict and behind a refusal of memory the contents hold the effect of some
+/// entries, behind a Yes that of all.
+pub fn judge<C: Contents>(
+    alloc: Global,
+    transcript: &Transcript,
+    order: &[u64],
+    contents: &mut C,
+) -> Result<Verdict, AllocError>
+    // The contents have the export's size, or none where transmission was not reached.
+    requires { C.size contents.old ≡ size_of transcript.now.export }
+    ensures { IfOk result (IsJudged transcript.now order.now (C.byte contents.old)) }
+{
+    if let Some((entry, fault)) = order_fault(alloc, transcript, order)? {
+        return Ok(Verdict::Order { entry, fault });
+    }
+    let requests = transcript.count();
+    if let Some((request, offset)) = replay(transcript, order, contents)? {
+        return Ok(Verdict::Content { request, offset });
+    }
+    Ok(Verdict::Yes {
+        requests,
+        answered: answered(transcript),
+        improper: improper(transcript),
+    })
+}

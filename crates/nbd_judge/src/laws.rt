@@ -1,0 +1,34 @@
+//! Laws over the definitions of verdicts: each is the contract of a function that does nothing.
+
+ghost use Rattle.nbd_judge.specs.Conclusions.{VerdictsAnswerRuns};
+ghost use Rattle.nbd_judge.specs.Folding.{Folding};
+ghost use Rattle.nbd_judge.specs.Uniqueness.{OneJudgement, OneVerdict};
+
+use nbd_laws::laws::{explained_exactly, latest_moments, same_reports};
+
+/// The contents behind the requests before `k`, each applied to those before it, are the export's bytes
+/// when `k` is served, each looked up backwards.
+pub fn folding()
+    ensures { Folding }
+{}
+
+/// A report, an order and bytes at first have one verdict at most.
+pub fn one_judgement()
+    ensures { OneJudgement }
+{}
+
+/// A report, an order and a start have one verdict at most: the cases exclude each other.
+pub fn one_verdict()
+    ensures { OneVerdict }
+{}
+
+/// The verdict on the report of a run says what holds of its bytes: Yes exactly where the order explains
+/// them, with the counts that each run with these bytes has, and Order only where no run with these bytes
+/// is served in that order.
+pub fn verdicts_answer_runs()
+    ensures { VerdictsAnswerRuns }
+{
+    explained_exactly();
+    latest_moments();
+    same_reports();
+}

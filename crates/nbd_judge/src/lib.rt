@@ -1,0 +1,20 @@
+//! Whether a session and an order of service explain each other: the faults of the order, the wrong
+//! bytes of its reads, and the verdict.
+#![tactic(auto)]
+
+mod change;
+mod checking;
+mod compare;
+mod concluding;
+mod judging;
+pub mod laws;
+mod least;
+mod order;
+mod replay;
+mod tally;
+pub mod verdict;
+
+pub use checking::check;
+pub use concluding::conclude;
+pub use judging::judge;
+pub use verdict::{OrderFault, Verdict};

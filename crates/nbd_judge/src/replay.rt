@@ -1,0 +1,39 @@
+//! The pass over the order that compares and changes contents.
+
+ghost use Rattle.std.specs.Prelude.{◌≡◌, ℕ, IfOk, MatchOption};
+ghost use Rattle.nbd_laws.specs.Soundness.{IsSoundReport};
+ghost use Rattle.nbd_judge.specs.Orders.{IsOnce};
+ghost use Rattle.nbd_judge.specs.Servable.{size_of};
+ghost use Rattle.nbd_judge.specs.Verdicts.{FirstWrongFrom, HasWrongFrom};
+
+use crate::change::change;
+use crate::compare::wrong;
+use nbd_export::Contents;
+use nbd_session::Transcript;
+use std::alloc::AllocError;
+
+/// The first request in the order with a wrong byte, and its least wrong offset; None where no request
+/// has one. Each request is compared with what those before it left, by the outcomes that stand at the
+/// end of the session. Behind the first wrong byte and behind a refusal of memory the contents hold the
+/// effect of some entries.
+pub fn replay<C: Contents>(
+    transcript: &Transcript,
+    order: &[u64],
+    contents: &mut C,
+) -> Result<Option<(u64, u64)>, AllocError>
+    requires once { IsOnce order.now }
+    requires sound { IsSoundReport transcript.now }
+    requires sized { C.size contents.old ≡ size_of transcript.now.export }
+    ensures { IfOk result (λ found. MatchOption found ((i : ℕ) → HasWrongFrom transcript.now order.now (C.byte contents.old) i → ⊥) (λ p. FirstWrongFrom transcript.now order.now (C.byte contents.old) p.0 p.1)) }
+{
+    for i in 0..order.len() {
+        let k = order[i];
+        if let Some(one) = transcript.asked(k) {
+            if let Some(offset) = wrong(one, contents) {
+                return Ok(Some((k, offset)));
+            }
+            change(one, contents)?;
+        }
+    }
+    Ok(None)
+}

@@ -1,0 +1,59 @@
+//! Verdicts.
+
+use nbd_session::WireFault;
+
+/// What is wrong with an order of service (this project's choice).
+#[derive(Clone, Copy, Debug, PartialEq, Eq, Drop)]
+pub enum OrderFault {
+    /// The entry is 0 or above the number of requests.
+    NoSuchRequest,
+    /// The entry names a request that an earlier one names.
+    Twice,
+    /// The entry or a later one names a request whose first reply message started before the request
+    /// of this entry had completed.
+    Late,
+    /// No entry names this request, though a reply message to it started.
+    Missing,
+}
+
+/// The answer to a session, an order of service and what the export held at first. Of those that hold
+/// the first in the order Wire, Image, Order, Content, Yes is answered.
+#[derive(Clone, Copy, Debug, PartialEq, Eq, Drop)]
+pub enum Verdict {
+    /// The order explains the session.
+    Yes {
+        /// How many requests have a number: all that completed but DISC.
+        requests: u64,
+        /// How many of them a reply finished, with success or with failure.
+        answered: u64,
+        /// How many of them a client should not have sent.
+        improper: u64,
+    },
+    /// The session breaks a rule of the protocol.
+    Wire {
+        /// At which byte of the capture, counted from 1.
+        at: u64,
+        /// Which rule.
+        fault: WireFault,
+    },
+    /// The image that is to be the export's start has another size than the export.
+    Image {
+        /// The image's size in bytes.
+        image: u64,
+        /// The export's size in bytes.
+        size: u64,
+    },
+    /// The order has a fault.
+    Order {
+        /// The first entry that has it, counted from 1; for Missing the least request that is missing.
+        entry: u64,
+        fault: OrderFault,
+    },
+    /// A successful READ gave a byte that is not the export's known byte.
+    Content {
+        /// The number of the first such READ in the order.
+        request: u64,
+        /// The least offset of such a byte of it, from the export's start.
+        offset: u64,
+    },
+}
