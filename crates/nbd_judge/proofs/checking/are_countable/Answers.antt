@@ -1,4 +1,4 @@
-use Rattle.std.proofs.Common.{◌≡◌, ◌+◌, ◌<◌, ◌≤◌, length, arith}
+use Rattle.std.proofs.Common.{arith}
 use Rattle.nbd_judge.proofs.Chunks.{grown_by, piece_fits}
 use Rattle.nbd_judge.proofs.checking.are_countable.Goals as goal
 

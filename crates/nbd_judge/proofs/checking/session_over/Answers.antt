@@ -1,6 +1,6 @@
-use Rattle.std.proofs.Common.{◌≡◌, ◌+◌, ◌<◌, ◌≤◌, ◌++◌, ℕ, length, sym, ◌∙◌, ap, arith, Ok, Err, IfErr, IfOk, take}
+use Rattle.std.proofs.Common.{◌+◌, ◌≤◌, ◌++◌, ℕ, length, sym, ◌∙◌, ap, arith, take}
 use Rattle.nbd_wire.specs.Items.{flat, sent}
-use Rattle.nbd_session.specs.Sessions.{pairs_of, taken}
+use Rattle.nbd_session.specs.Sessions.{taken}
 use Rattle.nbd_judge.specs.Captures.{IsFaultWithin, chunks_told}
 use Rattle.nbd_judge.proofs.Chunks.{fault_within, finish_told, finish_within, front_more, front_whole, handed_on, piece_fits}
 use Rattle.nbd_judge.proofs.checking.session_over.Goals as goal
