@@ -1,0 +1,6 @@
+pub mod Printed
+pub mod Words
+pub mod Ends
+pub mod MessageLines
+pub mod Numbers
+pub mod Decimals

@@ -1,0 +1,5 @@
+pub mod Table
+pub mod Line
+pub mod Script
+pub mod Printing
+pub mod Reading

@@ -1,0 +1,10 @@
+//! Messages as lines of text, and scripts of such lines.
+//!
+//! Which lines there are is this project's choice.
+#![tactic(auto)]
+
+mod fields;
+pub mod forms;
+mod parts;
+pub mod printing;
+pub mod reading;
