@@ -8,3 +8,4 @@ pub mod forms;
 mod parts;
 pub mod printing;
 pub mod reading;
+pub mod script;
