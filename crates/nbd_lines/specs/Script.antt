@@ -23,10 +23,18 @@ IsScript text messages = IsText IsScriptLine text messages
 abbrev pub IsFirstBadScriptLine : List ℕ → ℕ → Type 0
 IsFirstBadScriptLine text n = IsFirstBadLine IsScriptLine text n
 
--- the chunk lines of these messages: each with its own side, and all of its bytes
-abbrev pub chunk_lines : List Message → List ℕ
-chunk_lines messages = flat_map (λ m. chunk_line (side m) (enc m)) messages
+-- the chunk line of a message: its own side, and all of its bytes
+abbrev pub made_line : Message → List ℕ
+made_line m = chunk_line (side m) (enc m)
 
--- the message lines of these messages, each with its LF
+-- the chunk lines of these messages, in order
+abbrev pub chunk_lines : List Message → List ℕ
+chunk_lines messages = flat_map made_line messages
+
+-- a message's line and its LF
+abbrev pub shown_line : Message → List ℕ
+shown_line m = message_line m ++ line_feed ∷ []
+
+-- the message lines of these messages, in order
 abbrev pub message_lines : List Message → List ℕ
-message_lines messages = flat_map (λ m. message_line m ++ line_feed ∷ []) messages
+message_lines messages = flat_map shown_line messages

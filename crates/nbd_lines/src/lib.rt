@@ -5,6 +5,7 @@
 
 mod fields;
 pub mod forms;
+pub mod output;
 mod parts;
 pub mod printing;
 pub mod reading;
