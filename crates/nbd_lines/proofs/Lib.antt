@@ -1,5 +1,6 @@
 pub mod Printed
 pub mod Words
+pub mod Making
 pub mod WrittenLines
 pub mod ScriptLines
 pub mod Ends

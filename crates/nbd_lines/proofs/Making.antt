@@ -1,0 +1,44 @@
+-- What `make` answers: that a script's messages fit, and what stands written after a fault.
+use Rattle.std.proofs.Common.{◌≡◌, ℕ, inl, inr, List, ◌++◌, sym, subst}
+use Rattle.std.specs.Prelude.{Option}
+use Rattle.std.specs.List.{AllByRecursion}
+use Rattle.std.specs.Io.KnownBytes.{Keeps}
+use Rattle.std.proofs.KnownBytes.{Keeps-refl}
+use Rattle.nbd_wire.specs.declared.message.Message.{Message}
+use Rattle.nbd_wire.specs.Fits.{FitsItsHead}
+use Rattle.nbd_capture.specs.Lines.IsText.{empty, line}
+use Rattle.nbd_lines.specs.declared.output.OutputFault.{OutputFault}
+use Rattle.nbd_lines.specs.declared.output.OutputFault.TheVariants as output_faults
+use Rattle.nbd_lines.specs.declared.script.ScriptFault.{ScriptFault}
+use Rattle.nbd_lines.specs.declared.script.ScriptFault.TheVariants as script_faults
+use Rattle.nbd_lines.specs.Faults.{IsMakeCause, IsScriptFault, LeavesMade, MakesFront, of_output, of_script}
+use Rattle.nbd_lines.specs.Script.{IsScript}
+use Rattle.nbd_lines.proofs.ScriptLines.{forms}
+
+-- each message of a script fits its head
+pub all_fit : (text : List ℕ) (messages : List Message) → IsScript text messages → AllByRecursion FitsItsHead messages
+all_fit _ _ empty = tt
+all_fit _ _ (line bytes said rest messages u f r) =
+    let more = all_fit rest messages r in
+    elim (forms bytes said f) [
+      | inl silent ↦ subst (λ l. AllByRecursion FitsItsHead (l ++ messages)) (sym silent.1) more
+      | inr tells ↦ subst (λ l. AllByRecursion FitsItsHead (l ++ messages)) (sym tells.all) (tells.fits, more)
+    ]
+
+-- a fault of the script
+pub cause_of_script : (text : List ℕ) (fault : ScriptFault) → IsScriptFault text fault → IsMakeCause text (of_script fault)
+cause_of_script text (script_faults.Line n) h = h
+cause_of_script text script_faults.Memory h = tt
+
+pub left_by_script : (text : List ℕ) (old : Option (List ℕ)) (fault : ScriptFault) → LeavesMade text old old (of_script fault)
+left_by_script text old (script_faults.Line n) = Keeps-refl old
+left_by_script text old script_faults.Memory = inl (Keeps-refl old)
+
+-- a fault of the output
+pub cause_of_output : (text : List ℕ) (messages : List Message) (fault : OutputFault) → IsScript text messages → IsMakeCause text (of_output fault)
+cause_of_output text messages output_faults.Write h = (messages, h)
+cause_of_output text messages output_faults.Memory h = tt
+
+pub left_by_output : (text : List ℕ) (old new : Option (List ℕ)) (fault : OutputFault) → MakesFront text old new → LeavesMade text old new (of_output fault)
+left_by_output text old new output_faults.Write h = h
+left_by_output text old new output_faults.Memory h = inr h
