@@ -1,5 +1,7 @@
 pub mod Printed
 pub mod Words
+pub mod Printable
+pub mod Deciding
 pub mod Making
 pub mod WrittenLines
 pub mod ScriptLines

@@ -24,21 +24,3 @@ all_fit _ _ (line bytes said rest messages u f r) =
       | inl silent ↦ subst (λ l. AllByRecursion FitsItsHead (l ++ messages)) (sym silent.1) more
       | inr tells ↦ subst (λ l. AllByRecursion FitsItsHead (l ++ messages)) (sym tells.all) (tells.fits, more)
     ]
-
--- a fault of the script
-pub cause_of_script : (text : List ℕ) (fault : ScriptFault) → IsScriptFault text fault → IsMakeCause text (of_script fault)
-cause_of_script text (script_faults.Line n) h = h
-cause_of_script text script_faults.Memory h = tt
-
-pub left_by_script : (text : List ℕ) (old : Option (List ℕ)) (fault : ScriptFault) → LeavesMade text old old (of_script fault)
-left_by_script text old (script_faults.Line n) = Keeps-refl old
-left_by_script text old script_faults.Memory = inl (Keeps-refl old)
-
--- a fault of the output
-pub cause_of_output : (text : List ℕ) (messages : List Message) (fault : OutputFault) → IsScript text messages → IsMakeCause text (of_output fault)
-cause_of_output text messages output_faults.Write h = (messages, h)
-cause_of_output text messages output_faults.Memory h = tt
-
-pub left_by_output : (text : List ℕ) (old new : Option (List ℕ)) (fault : OutputFault) → MakesFront text old new → LeavesMade text old new (of_output fault)
-left_by_output text old new output_faults.Write h = h
-left_by_output text old new output_faults.Memory h = inr h

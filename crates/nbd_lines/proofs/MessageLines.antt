@@ -1,5 +1,5 @@
 -- Message lines: a line stands for one message at most.
-use Rattle.std.proofs.Common.{◌≡◌, ℕ, ◌+◌, ◌^◌, ◌<◌, ◌≤◌, Bool, true, false, List, [], ◌∷◌, ◌++◌, length, get_or, refl, sym, ap, ◌∙◌, subst, arith, Ok, nat_eq}
+use Rattle.std.proofs.Common.{◌≡◌, ℕ, zero, suc, ◌+◌, ◌^◌, ◌<◌, ◌≤◌, Bool, true, false, List, [], ◌∷◌, ◌++◌, length, drop, get_or, refl, sym, ap, ◌∙◌, subst, arith, Ok, nat_eq}
 use Rattle.std.specs.Prelude.{◌==◌, if◌then◌else◌}
 use Rattle.std.specs.List.{AllByRecursion}
 use Rattle.std.proofs.lemmas.List.{append_cancel_left}
@@ -19,13 +19,13 @@ use Rattle.nbd_lines.specs.Table.{carried, fields, has_payload, line_form, numbe
 use Rattle.nbd_lines.proofs.Numbers.{one_list}
 
 -- the first and the third letter of a line tell its form
-form_by : List ℕ → Form
+unfoldable pub form_by : List ℕ → Form
 form_by text =
     if get_or text 0 0 == 67
     then (if get_or text 2 0 == 99 then ClientFlags else (if get_or text 2 0 == 111 then Choice else Request))
     else (if get_or text 2 0 == 103 then Greeting else (if get_or text 2 0 == 97 then Answer else (if get_or text 2 0 == 101 then Exported else (if get_or text 2 0 == 115 then Simple else Chunk))))
 
-form_by-words : (f : Form) (rest : List ℕ) → form_by (words f ++ rest) ≡ f
+pub form_by-words : (f : Form) (rest : List ℕ) → form_by (words f ++ rest) ≡ f
 unfolding form_by
 form_by-words Greeting rest = refl
 form_by-words ClientFlags rest = refl
@@ -77,16 +77,21 @@ same_end false a b end x y = x.0 ∙ sym y.0
 pub one_payload : (p : Bool) (a b end : List ℕ) → IsEnd p a end → IsEnd p b end → a ≡ b
 one_payload p a b end x y = same_end p a b end (ends_so p a end x) (ends_so p b end y)
 
+-- the numbers of a list, from its front
+abbrev pub nth : ℕ → List ℕ → ℕ
+nth zero ns = get_or ns 0 0
+nth (suc k) ns = nth k (drop 1 ns)
+
 -- the message of a form with these numbers and this payload
-built : Form → List ℕ → List ℕ → Message
-built Greeting ns bytes = messages.Greeting (get_or ns 0 0)
-built ClientFlags ns bytes = messages.ClientFlags (get_or ns 0 0)
-built Choice ns bytes = messages.Choice (get_or ns 0 0) bytes
-built Answer ns bytes = messages.Answer (get_or ns 0 0) (get_or ns 1 0) bytes
-built Exported ns bytes = messages.Exported (get_or ns 0 0) (get_or ns 1 0) (nat_eq (get_or ns 2 0) 1)
-built Request ns bytes = messages.Request (get_or ns 0 0) (get_or ns 1 0) (get_or ns 2 0) (get_or ns 3 0) (get_or ns 4 0) bytes
-built Simple ns bytes = messages.Simple (get_or ns 0 0) (get_or ns 1 0) bytes
-built Chunk ns bytes = messages.Chunk (get_or ns 0 0) (get_or ns 1 0) (get_or ns 2 0) bytes
+unfoldable pub built : Form → List ℕ → List ℕ → Message
+built Greeting ns bytes = messages.Greeting (nth 0 ns)
+built ClientFlags ns bytes = messages.ClientFlags (nth 0 ns)
+built Choice ns bytes = messages.Choice (nth 0 ns) bytes
+built Answer ns bytes = messages.Answer (nth 0 ns) (nth 1 ns) bytes
+built Exported ns bytes = messages.Exported (nth 0 ns) (nth 1 ns) (nat_eq (nth 2 ns) 1)
+built Request ns bytes = messages.Request (nth 0 ns) (nth 1 ns) (nth 2 ns) (nth 3 ns) (nth 4 ns) bytes
+built Simple ns bytes = messages.Simple (nth 0 ns) (nth 1 ns) bytes
+built Chunk ns bytes = messages.Chunk (nth 0 ns) (nth 1 ns) (nth 2 ns) bytes
 
 built-parts : (m : Message) → built (line_form m) (numbers m) (carried m) ≡ m
 unfolding built
@@ -108,7 +113,7 @@ same_message a b f n p =
     let parts : built (line_form a) (numbers a) (carried a) ≡ built (line_form b) (numbers b) (carried b) = cc in
     sym left ∙ parts ∙ right
 
-fields_small : (f : Form) → AllByRecursion (λ (g : Field). g.most < 2 ^ 64) (fields f)
+pub fields_small : (f : Form) → AllByRecursion (λ (g : Field). g.most < 2 ^ 64) (fields f)
 fields_small Greeting = (omega arith, tt)
 fields_small ClientFlags = (omega arith, tt)
 fields_small Choice = (omega arith, tt)

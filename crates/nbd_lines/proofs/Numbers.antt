@@ -54,14 +54,14 @@ numbers_end (f ∷ fs) [] behind e = e
 numbers_end (f ∷ fs) (n ∷ ns) behind e = refl
 
 -- the first number, and then the others
-record Split (f : Field) (fs : List Field) (ns text behind : List ℕ) : Type 0 where
-  first : ℕ
-  others : List ℕ
-  all : ns ≡ first ∷ others
-  begins : BeginsNumber f first text (numbers_text fs others ++ behind)
-  goes_on : AreWithin fs others
+pub record Split (f : Field) (fs : List Field) (ns text behind : List ℕ) : Type 0 where
+  pub first : ℕ
+  pub others : List ℕ
+  pub all : ns ≡ first ∷ others
+  pub begins : BeginsNumber f first text (numbers_text fs others ++ behind)
+  pub goes_on : AreWithin fs others
 
-split_first : (f : Field) (fs : List Field) (ns text behind : List ℕ) → EndsWord behind → BeginsNumbers (f ∷ fs) ns text behind → Split f fs ns text behind
+pub split_first : (f : Field) (fs : List Field) (ns text behind : List ℕ) → EndsWord behind → BeginsNumbers (f ∷ fs) ns text behind → Split f fs ns text behind
 split_first f fs [] text behind e b = absurd b.within
 split_first f fs (n ∷ ns) text behind e b = record {
   first = n;
@@ -75,7 +75,7 @@ split_first f fs (n ∷ ns) text behind e b = record {
   goes_on = b.within.1;
 }
 
-put_first : (f : Field) (fs : List Field) (n : ℕ) (ns text mid behind : List ℕ) → BeginsNumber f n text mid → BeginsNumbers fs ns mid behind → BeginsNumbers (f ∷ fs) (n ∷ ns) text behind
+pub put_first : (f : Field) (fs : List Field) (n : ℕ) (ns text mid behind : List ℕ) → BeginsNumber f n text mid → BeginsNumbers fs ns mid behind → BeginsNumbers (f ∷ fs) (n ∷ ns) text behind
 put_first f fs n ns text mid behind a b = record {
   within = (a.within, b.within);
   whole = a.whole ∙ ap (λ l. number_text f n ++ l) b.whole ∙ sym (append_assoc (number_text f n) (numbers_text fs ns) behind);
@@ -108,7 +108,7 @@ one_past fs text k values rest f n behind hf hv past read =
           (parts.others, all ∙ sym (taken parts.others), record { within = parts.goes_on; whole = sym same.1 });
     }
 
-no_more : (more rest behind : List ℕ) → BeginsNumbers [] more rest behind → (more ≡ []) × (rest ≡ behind)
+pub no_more : (more rest behind : List ℕ) → BeginsNumbers [] more rest behind → (more ≡ []) × (rest ≡ behind)
 no_more [] rest behind b = (refl, b.whole)
 no_more (m ∷ ms) rest behind b = absurd b.within
 

@@ -5,6 +5,7 @@
 
 mod fields;
 pub mod forms;
+pub mod laws;
 pub mod make;
 pub mod output;
 mod parts;
