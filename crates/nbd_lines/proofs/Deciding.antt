@@ -6,7 +6,6 @@ use Rattle.std.specs.Fmt.{decimal}
 use Rattle.std.specs.Str.Parse.{digits_value}
 use Rattle.std.proofs.lemmas.Bool.{cases_eq, cases_lt}
 use Rattle.std.proofs.lemmas.Fmt.{decimal_is_IsNumeral}
-use Rattle.std.proofs.lemmas.List.{append_cancel_left}
 use Rattle.hex.specs.Hex.{decode_of}
 use Rattle.hex.specs.declared.error.FromHexError.{FromHexError}
 use Rattle.nbd_wire.specs.declared.message.Message.{Message}
@@ -141,22 +140,30 @@ abbrev Numbers : List Field → List ℕ → Type 0
 Numbers fs text = ((ns : List ℕ) × (rest : List ℕ) × ReadsNumbers fs ns text rest) ⊎ ((ns rest : List ℕ) → EndsWord rest → BeginsNumbers fs ns text rest → ⊥)
 
 all_numbers : (fs : List Field) → AllByRecursion (λ (f : Field). f.most < 2 ^ 64) fs → (text : List ℕ) → Numbers fs text
-all_numbers [] small text = inl ([], text, record {
-  begins = record { within = tt; whole = refl };
-  only = λ others rest w b. let n = no_more others text rest b in (n.0, sym n.1);
-})
+all_numbers [] small text = inl (
+  [],
+  text,
+  record {
+    begins = record { within = tt; whole = refl };
+    only = λ others rest w b. let n = no_more others text rest b in (n.0, sym n.1);
+  },
+)
 all_numbers (f ∷ fs) small text =
     elim (first_number f text small.0) [
       | inl first ↦
           elim (all_numbers fs small.1 first.1) [
-            | inl more ↦ inl (first.0 ∷ more.0, more.1, record {
+            | inl more ↦ inl (
+              first.0 ∷ more.0,
+              more.1,
+              record {
                 begins = put_first f fs first.0 more.0 text first.1 more.1 first.2.begins more.2.begins;
                 only = λ others rest w b.
                     let parts = split_first f fs others text rest w b in
                     let same = first.2.only parts.first (numbers_text fs parts.others ++ rest) parts.begins in
                     let left = more.2.only parts.others rest w (record { within = parts.goes_on; whole = sym same.1 }) in
                     (parts.all ∙ ap (λ n. n ∷ parts.others) same.0 ∙ ap (λ l. first.0 ∷ l) left.0, left.1);
-              })
+              },
+            )
             | inr none ↦ inr (λ ns rest w b.
                 let parts = split_first f fs ns text rest w b in
                 let same = first.2.only parts.first (numbers_text fs parts.others ++ rest) parts.begins in

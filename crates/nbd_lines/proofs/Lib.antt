@@ -2,7 +2,7 @@ pub mod Printed
 pub mod Words
 pub mod Printable
 pub mod Deciding
-pub mod Making
+pub mod Made
 pub mod WrittenLines
 pub mod ScriptLines
 pub mod Ends

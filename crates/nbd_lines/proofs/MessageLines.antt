@@ -1,5 +1,5 @@
 -- Message lines: a line stands for one message at most.
-use Rattle.std.proofs.Common.{◌≡◌, ℕ, zero, suc, ◌+◌, ◌^◌, ◌<◌, ◌≤◌, Bool, true, false, List, [], ◌∷◌, ◌++◌, length, drop, get_or, refl, sym, ap, ◌∙◌, subst, arith, Ok, nat_eq}
+use Rattle.std.proofs.Common.{◌≡◌, ℕ, zero, suc, ◌^◌, ◌<◌, Bool, true, false, List, [], ◌++◌, drop, get_or, refl, sym, ap, ◌∙◌, subst, arith, Ok, nat_eq}
 use Rattle.std.specs.Prelude.{◌==◌, if◌then◌else◌}
 use Rattle.std.specs.List.{AllByRecursion}
 use Rattle.std.proofs.lemmas.List.{append_cancel_left}
@@ -7,12 +7,12 @@ use Rattle.hex.specs.Hex.{decode_of}
 use Rattle.nbd_wire.specs.declared.message.Message.{Message}
 use Rattle.nbd_wire.specs.declared.message.Message.TheVariants as messages
 use Rattle.nbd_wire.specs.Fits.{FitsItsHead}
-use Rattle.nbd_capture.specs.Capture.{AreDigits, space}
+use Rattle.nbd_capture.specs.Capture.{AreDigits}
 use Rattle.nbd_capture.specs.Digits.{decodes}
 use Rattle.nbd_lines.specs.declared.forms.Field.{Field}
 use Rattle.nbd_lines.specs.declared.forms.Form.{Form}
 use Rattle.nbd_lines.specs.declared.forms.Form.TheVariants.{Greeting, ClientFlags, Choice, Answer, Exported, Request, Simple, Chunk}
-use Rattle.nbd_lines.specs.Line.{AreWithin, IsEnd, IsMessageLine, numbers_text, payload_words}
+use Rattle.nbd_lines.specs.Line.{IsEnd, IsMessageLine, numbers_text, payload_words}
 use Rattle.nbd_lines.specs.Line.IsEnd.{nothing, payload}
 use Rattle.nbd_lines.specs.Reading.{BeginsNumbers, EndsWord, ReadsNumbers}
 use Rattle.nbd_lines.specs.Table.{carried, fields, has_payload, line_form, numbers, words}

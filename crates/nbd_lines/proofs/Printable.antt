@@ -1,5 +1,5 @@
 -- What is printed of a message that can be sent is read again.
-use Rattle.std.proofs.Common.{◌≡◌, ◌≢◌, ℕ, zero, suc, ◌+◌, ◌-◌, ◌/◌, ◌%◌, ◌^◌, ◌<◌, ◌≤◌, Bool, true, false, List, [], ◌∷◌, ◌++◌, length, refl, sym, ap, ◌∙◌, subst, arith, append_assoc, not, ◌&&◌, ◌==◌}
+use Rattle.std.proofs.Common.{◌≡◌, ℕ, zero, suc, ◌/◌, ◌%◌, ◌^◌, ◌<◌, ◌≤◌, Bool, true, false, List, [], ◌∷◌, ◌++◌, length, refl, sym, subst, arith, append_assoc, not, ◌&&◌, ◌==◌}
 use Rattle.std.specs.Prelude.{if◌then◌else◌}
 use Rattle.std.proofs.lemmas.Bool.{and_parts, eqb-false, not-true}
 use Rattle.std.specs.List.{AllByRecursion}
@@ -13,7 +13,7 @@ use Rattle.nbd_wire.specs.declared.message.Message.{Message}
 use Rattle.nbd_wire.specs.declared.message.Message.TheVariants as messages
 use Rattle.nbd_wire.specs.Encoding.{AreBytes}
 use Rattle.nbd_wire.specs.Fits.{FitsItsHead}
-use Rattle.nbd_wire.specs.Sendable.{IsPayload, IsSendable}
+use Rattle.nbd_wire.specs.Sendable.{IsSendable}
 use Rattle.nbd_capture.specs.Digits.{lower_below, spelled}
 use Rattle.nbd_capture.specs.Lines.{IsUnbroken, line_feed}
 use Rattle.nbd_capture.specs.Lines.IsText.{empty, line}
@@ -24,7 +24,7 @@ use Rattle.nbd_lines.specs.declared.forms.Form.{Form}
 use Rattle.nbd_lines.specs.declared.forms.Form.TheVariants.{Greeting, ClientFlags, Choice, Answer, Exported, Request, Simple, Chunk}
 use Rattle.nbd_lines.specs.Line.{AreWithin, IsEnd, IsMessageLine, end_text, equals, message_line, number_text, numbers_text, payload_words}
 use Rattle.nbd_lines.specs.Line.IsEnd.{nothing, payload}
-use Rattle.nbd_lines.specs.Script.{IsScript, message_lines, shown_line}
+use Rattle.nbd_lines.specs.Script.{IsScript, message_lines}
 use Rattle.nbd_lines.specs.Script.IsScriptLine.{message}
 use Rattle.nbd_lines.specs.Table.{carried, field_name, fields, has_payload, line_form, numbers, words}
 use Rattle.nbd_lines.proofs.MessageLines.{fields_small}
@@ -93,12 +93,15 @@ nothing_carried (messages.Chunk flags kind cookie bytes) e = cc e
 
 -- a printed line stands for its message
 pub printed : (m : Message) → IsSendable m → IsMessageLine (message_line m) m × FitsItsHead m
-printed m s = (record {
-  end = end_text (has_payload (line_form m)) (carried m);
-  within = sendable_within m s;
-  is_end = printed_end (has_payload (line_form m)) (carried m) (sendable_bytes m s) (nothing_carried m);
-  whole = refl;
-}, sendable_fits m s)
+printed m s = (
+  record {
+    end = end_text (has_payload (line_form m)) (carried m);
+    within = sendable_within m s;
+    is_end = printed_end (has_payload (line_form m)) (carried m) (sendable_bytes m s) (nothing_carried m);
+    whole = refl;
+  },
+  sendable_fits m s,
+)
 
 -- a test that no line feed is among these bytes
 has_no_feed : List ℕ → Bool

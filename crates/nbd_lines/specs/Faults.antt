@@ -3,8 +3,8 @@ use Rattle.std.specs.Prelude.{List, ℕ, ◌⊎◌, Option}
 use Rattle.std.specs.Io.KnownBytes.{Appends, Keeps}
 use Rattle.nbd_wire.specs.declared.message.Message.{Message}
 use Rattle.nbd_capture.specs.Writing.{AppendsFront}
-use Rattle.nbd_lines.specs.declared.make.MakeFault.{MakeFault}
-use Rattle.nbd_lines.specs.declared.make.MakeFault.TheVariants as make_faults
+use Rattle.nbd_lines.specs.declared.making.MakeFault.{MakeFault}
+use Rattle.nbd_lines.specs.declared.making.MakeFault.TheVariants as make_faults
 use Rattle.nbd_lines.specs.declared.output.OutputFault.{OutputFault}
 use Rattle.nbd_lines.specs.declared.output.OutputFault.TheVariants as output_faults
 use Rattle.nbd_lines.specs.declared.script.ScriptFault.{ScriptFault}

@@ -41,14 +41,18 @@ pub struct Field {
 }
 
 const BIT: u64 = 1;
+
 const U16: u64 = u16::MAX as u64;
+
 const U32: u64 = u32::MAX as u64;
+
 const U64: u64 = u64::MAX;
 
 const SHORT_FLAGS: Field = Field {
     name: Name::Flags,
     most: U16,
 };
+
 const COOKIE: Field = Field {
     name: Name::Cookie,
     most: U64,
@@ -67,14 +71,17 @@ pub(crate) static FORMS: [Form; 8] = [
 ];
 
 static GREETING: [Field; 1] = [SHORT_FLAGS];
+
 static CLIENT_FLAGS: [Field; 1] = [Field {
     name: Name::Flags,
     most: U32,
 }];
+
 static CHOICE: [Field; 1] = [Field {
     name: Name::Id,
     most: U32,
 }];
+
 static ANSWER: [Field; 2] = [
     Field {
         name: Name::Option,
@@ -85,6 +92,7 @@ static ANSWER: [Field; 2] = [
         most: U32,
     },
 ];
+
 static EXPORTED: [Field; 3] = [
     Field {
         name: Name::Size,
@@ -96,6 +104,7 @@ static EXPORTED: [Field; 3] = [
         most: BIT,
     },
 ];
+
 static REQUEST: [Field; 5] = [
     SHORT_FLAGS,
     Field {
@@ -112,6 +121,7 @@ static REQUEST: [Field; 5] = [
         most: U32,
     },
 ];
+
 static SIMPLE: [Field; 2] = [
     Field {
         name: Name::Error,
@@ -119,6 +129,7 @@ static SIMPLE: [Field; 2] = [
     },
     COOKIE,
 ];
+
 static CHUNK: [Field; 3] = [
     SHORT_FLAGS,
     Field {

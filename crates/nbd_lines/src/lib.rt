@@ -4,11 +4,19 @@
 #![tactic(auto)]
 
 mod fields;
-pub mod forms;
+mod forms;
 pub mod laws;
-pub mod make;
+pub mod making;
 pub mod output;
 mod parts;
 pub mod printing;
 pub mod reading;
 pub mod script;
+#[cfg(test)]
+mod tests;
+
+pub use making::{MakeFault, make};
+pub use output::{OutputFault, show, write_chunks};
+pub use printing::append_line;
+pub use reading::parse_message;
+pub use script::{ScriptFault, parse_script};

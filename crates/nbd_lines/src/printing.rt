@@ -66,11 +66,7 @@ fn append_number(out: &mut Vec<u8>, field: Field, number: u64) -> Result<(), All
 }
 
 // Adds what ends the line: the payload in lower case digits, where there is one.
-fn append_end(
-    out: &mut Vec<u8>,
-    has_payload: bool,
-    payload: &[u8],
-) -> Result<(), AllocError>
+fn append_end(out: &mut Vec<u8>, has_payload: bool, payload: &[u8]) -> Result<(), AllocError>
     ensures ok { OnOk result (out.new.items ≡ out.old.items ++ end_text has_payload payload.now) }
     ensures err { OnErr result (AddsFront out.old.items out.new.items) }
 {

@@ -4,7 +4,7 @@ use Rattle.std.proofs.lemmas.Result.{err_from_is_err_and}
 use Rattle.nbd_capture.specs.Lines.{line_feed}
 use Rattle.nbd_capture.specs.Writing.{AppendsFront}
 use Rattle.nbd_lines.specs.Script.{shown_line}
-use Rattle.nbd_lines.proofs.WrittenLines.{all_written, broken_line, each_fits, none_written, one_written, stopped_before}
+use Rattle.nbd_lines.proofs.WrittenLines.{all_written, broken_line, none_written, one_written, stopped_before}
 use Rattle.nbd_lines.proofs.output.show.Goals as goal
 
 pub loop-message-init : goal.loop-message-init

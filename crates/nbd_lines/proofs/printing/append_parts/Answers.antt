@@ -1,4 +1,4 @@
-use Rattle.std.proofs.Common.{◌≡◌, ◌++◌, sym, ap, ◌∙◌}
+use Rattle.std.proofs.Common.{◌≡◌, ◌++◌}
 use Rattle.nbd_lines.specs.Line.{end_text, numbers_text}
 use Rattle.nbd_lines.specs.Table.{carried, fields, has_payload, line_form, words}
 use Rattle.nbd_lines.proofs.Printed.{line_printed}

@@ -1,4 +1,4 @@
-use Rattle.std.proofs.Common.{◌≡◌, true, false, inl, inr, sym, ◌∙◌}
+use Rattle.std.proofs.Common.{inl, inr, sym, ◌∙◌}
 use Rattle.nbd_lines.specs.Table.{has_payload}
 use Rattle.nbd_lines.proofs.Ends.{empty, nothing_at, payload_at, undecoded}
 use Rattle.nbd_lines.proofs.reading.end_at.Goals as goal

@@ -1,8 +1,6 @@
-use Rattle.std.proofs.Common.{◌≡◌}
 use Rattle.nbd_wire.specs.Fits.{FitsItsHead}
 use Rattle.nbd_lines.specs.Line.{IsMessageLine}
 use Rattle.nbd_lines.specs.Script.IsScriptLine.{message}
-use Rattle.nbd_lines.proofs.ScriptLines.{formless_line}
 use Rattle.nbd_lines.proofs.script.message_on.Goals as goal
 
 pub returns-clause-said : goal.returns-clause-said

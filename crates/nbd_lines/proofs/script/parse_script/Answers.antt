@@ -1,7 +1,7 @@
 use Rattle.std.proofs.Common.{◌≡◌, ◌∷◌, ◌++◌, [], ◌+◌, append-nil}
 use Rattle.std.proofs.lemmas.Result.{err_from_is_err_and}
 use Rattle.nbd_capture.specs.Lines.{line_feed, IsUnbroken}
-use Rattle.nbd_capture.specs.Progress.{Progress, advance, done, cut_off}
+use Rattle.nbd_capture.specs.Progress.{advance, done, cut_off}
 use Rattle.nbd_capture.specs.Reading.{one_reading}
 use Rattle.nbd_lines.specs.declared.script.ScriptFault.TheVariants.{Line}
 use Rattle.nbd_lines.specs.Script.{IsScriptLine}

@@ -1,17 +1,9 @@
 -- What `make` answers: that a script's messages fit, and what stands written after a fault.
-use Rattle.std.proofs.Common.{◌≡◌, ℕ, inl, inr, List, ◌++◌, sym, subst}
-use Rattle.std.specs.Prelude.{Option}
+use Rattle.std.proofs.Common.{ℕ, inl, inr, List, ◌++◌, sym, subst}
 use Rattle.std.specs.List.{AllByRecursion}
-use Rattle.std.specs.Io.KnownBytes.{Keeps}
-use Rattle.std.proofs.KnownBytes.{Keeps-refl}
 use Rattle.nbd_wire.specs.declared.message.Message.{Message}
 use Rattle.nbd_wire.specs.Fits.{FitsItsHead}
 use Rattle.nbd_capture.specs.Lines.IsText.{empty, line}
-use Rattle.nbd_lines.specs.declared.output.OutputFault.{OutputFault}
-use Rattle.nbd_lines.specs.declared.output.OutputFault.TheVariants as output_faults
-use Rattle.nbd_lines.specs.declared.script.ScriptFault.{ScriptFault}
-use Rattle.nbd_lines.specs.declared.script.ScriptFault.TheVariants as script_faults
-use Rattle.nbd_lines.specs.Faults.{IsMakeCause, IsScriptFault, LeavesMade, MakesFront, of_output, of_script}
 use Rattle.nbd_lines.specs.Script.{IsScript}
 use Rattle.nbd_lines.proofs.ScriptLines.{forms}
 
