@@ -3,6 +3,7 @@ pub mod Words
 pub mod Printable
 pub mod Deciding
 pub mod Made
+pub mod MadeLines
 pub mod WrittenLines
 pub mod ScriptLines
 pub mod Ends

@@ -13,6 +13,7 @@ use Rattle.nbd_wire.specs.declared.message.Message.{Message}
 use Rattle.nbd_wire.specs.declared.message.Message.TheVariants as messages
 use Rattle.nbd_wire.specs.Encoding.{AreBytes}
 use Rattle.nbd_wire.specs.Fits.{FitsItsHead}
+use Rattle.nbd_wire.specs.Parse.{slice_index-byte}
 use Rattle.nbd_wire.specs.Sendable.{IsSendable}
 use Rattle.nbd_capture.specs.Digits.{lower_below, spelled}
 use Rattle.nbd_capture.specs.Lines.{IsUnbroken, line_feed}
@@ -28,11 +29,6 @@ use Rattle.nbd_lines.specs.Script.{IsScript, message_lines}
 use Rattle.nbd_lines.specs.Script.IsScriptLine.{message}
 use Rattle.nbd_lines.specs.Table.{carried, field_name, fields, has_payload, line_form, numbers, words}
 use Rattle.nbd_lines.proofs.MessageLines.{fields_small}
-
-as_bytes : (bytes : List ℕ) → AreBytes bytes → IsBytes bytes
-as_bytes [] b i = omega arith
-as_bytes (x ∷ xs) b zero = b.0
-as_bytes (x ∷ xs) b (suc i) = as_bytes xs b.1 i
 
 padded_within : (padded : Bool) → (if padded then 1 else 0) ≤ 1
 padded_within true = omega arith
@@ -51,7 +47,7 @@ sendable_within (messages.Request flags command cookie offset len bytes) s =
 sendable_within (messages.Simple error cookie bytes) s = (omega (arith, s.0), (omega (arith, s.1), tt))
 sendable_within (messages.Chunk flags kind cookie bytes) s = (omega (arith, s.0), (omega (arith, s.1), (omega (arith, s.2), tt)))
 
-sendable_bytes : (m : Message) → IsSendable m → AreBytes (carried m)
+pub sendable_bytes : (m : Message) → IsSendable m → AreBytes (carried m)
 unfolding IsSendable
 sendable_bytes (messages.Greeting flags) s = tt
 sendable_bytes (messages.ClientFlags flags) s = tt
@@ -78,7 +74,7 @@ sendable_fits (messages.Simple error cookie bytes) s = s.2.0
 sendable_fits (messages.Chunk flags kind cookie bytes) s = s.3.0
 
 printed_end : (p : Bool) (bytes : List ℕ) → AreBytes bytes → (p ≡ false → bytes ≡ []) → IsEnd p bytes (end_text p bytes)
-printed_end true bytes b none = payload (encode_lower bytes) bytes (spelled (encode_lower bytes) bytes (decode_of-encode_lower bytes (as_bytes bytes b)))
+printed_end true bytes b none = payload (encode_lower bytes) bytes (spelled (encode_lower bytes) bytes (decode_of-encode_lower bytes (slice_index-byte bytes b)))
 printed_end false bytes b none = subst (λ l. IsEnd false l []) (sym (none refl)) nothing
 
 nothing_carried : (m : Message) → has_payload (line_form m) ≡ false → carried m ≡ []

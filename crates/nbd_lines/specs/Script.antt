@@ -4,7 +4,7 @@ use Rattle.nbd_wire.specs.declared.message.Message.{Message}
 use Rattle.nbd_wire.specs.Encoding.{enc}
 use Rattle.nbd_wire.specs.Fits.{FitsItsHead}
 use Rattle.nbd_wire.specs.Side.{side}
-use Rattle.nbd_capture.specs.Capture.{chunk_line, hash}
+use Rattle.nbd_capture.specs.Capture.{Chunk, chunk_line, hash}
 use Rattle.nbd_capture.specs.Lines.{line_feed, IsText, IsFirstBadLine}
 use Rattle.nbd_lines.specs.Line.{IsMessageLine, message_line}
 
@@ -30,6 +30,10 @@ made_line m = chunk_line (side m) (enc m)
 -- the chunk lines of these messages, in order
 abbrev pub chunk_lines : List Message → List ℕ
 chunk_lines messages = flat_map made_line messages
+
+-- the chunk of a message
+abbrev pub made_chunk : Message → Chunk
+made_chunk m = record { side = side m; bytes = enc m }
 
 -- a message's line and its LF
 abbrev pub shown_line : Message → List ℕ

@@ -1,12 +1,15 @@
 //! What holds of message lines and of scripts, as contracts of functions that do nothing.
 
-ghost use Rattle.std.specs.Prelude.{◌≡◌, ◌⊎◌, ℕ, List};
+ghost use Rattle.std.specs.Prelude.{◌≡◌, ◌⊎◌, ℕ, List, map};
 ghost use Rattle.std.specs.List.{AllByRecursion};
 ghost use Rattle.nbd_wire.specs.declared.message.Message.{Message};
 ghost use Rattle.nbd_wire.specs.Fits.{FitsItsHead};
 ghost use Rattle.nbd_wire.specs.Sendable.{IsSendable};
+ghost use Rattle.nbd_capture.specs.Capture.{IsCaptureText};
 ghost use Rattle.nbd_lines.specs.Line.{IsMessageLine, message_line};
-ghost use Rattle.nbd_lines.specs.Script.{IsFirstBadScriptLine, IsScript, message_lines};
+ghost use Rattle.nbd_lines.specs.Script.{IsFirstBadScriptLine, IsScript, chunk_lines, made_chunk, message_lines};
+
+use nbd_capture::laws::written_chunks_are_read;
 
 /// A line stands for one message at most.
 pub fn one_message_of_a_line()
@@ -42,3 +45,11 @@ pub fn printed_lines_are_read()
 pub fn shown_messages_are_a_script()
     ensures { (messages : List Message) → AllByRecursion IsSendable messages → IsScript (message_lines messages) messages }
 {}
+
+/// The lines that `make` writes of messages that can be sent are a capture: a chunk for each message, its
+/// sender's, with all of its bytes.
+pub fn made_lines_are_a_capture()
+    ensures { (messages : List Message) → AllByRecursion IsSendable messages → IsCaptureText (chunk_lines messages) (map made_chunk messages) }
+{
+    written_chunks_are_read();
+}
