@@ -18,7 +18,7 @@ use Rattle.nbd_session.specs.Folded.{core_from}
 use Rattle.nbd_session.specs.Holdings.{holding_of, spans_of}
 use Rattle.nbd_session.specs.Judge.{decided_counted}
 use Rattle.nbd_session.specs.Logged.{Logged, known_by, logged, messages_of}
-use Rattle.nbd_session.specs.Machine.{IsReached, Machine, Whole, fresh, get, old_of, put, reached_of, reads}
+use Rattle.nbd_laws.specs.Machine.{IsReached, Machine, Whole, fresh, get, old_of, put, reached_of, reads}
 use Rattle.nbd_session.specs.Readings.{reading_if, reading_of}
 use Rattle.nbd_session.specs.Shows.{AreKnown, Shows}
 use Rattle.nbd_session.specs.Standing.{Holding, IsReadTo, counted_at, pairs_held, rest_of, with_message, with_taken}
@@ -108,8 +108,8 @@ module _ (held : Held) (s : Side) (t : IsTaken held s) (whole : IsReadWhole held
   pub accepted_stands : (new : Held) (n : Message) → IsDecided held.state s (rest_of (holding_of held) s) n → holding_of new ≡ with_message (holding_of held) s n →
       (IsReached t.machine.core → Shows held.state t.machine.core → IsSendable n → MayComplete t.machine.core t.machine.core.phase n → Shows new.state (complete t.machine.core n)) →
       (IsReached t.machine.core → Shows held.state t.machine.core → MayComplete t.machine.core t.machine.core.phase n →
-          t.machine.core ≡ core_from start.core (messages_of (logged concrete fresh (pairs_held t.before))) → AreKnown (logged concrete fresh (pairs_held t.before)) held.state.exchanges.items →
-          AreKnown (logged concrete fresh (pairs_held t.before) ++ record { message = n; known = held.counted } ∷ []) new.state.exchanges.items) →
+      t.machine.core ≡ core_from start.core (messages_of (logged concrete fresh (pairs_held t.before))) → AreKnown (logged concrete fresh (pairs_held t.before)) held.state.exchanges.items →
+      AreKnown (logged concrete fresh (pairs_held t.before) ++ record { message = n; known = held.counted } ∷ []) new.state.exchanges.items) →
       new.taken ≡ held.taken → Stands new
   accepted_stands new n d holding shows knows same =
       let is : n ≡ m = message_is n d in
@@ -124,9 +124,9 @@ module _ (held : Held) (s : Side) (t : IsTaken held s) (whole : IsReadWhole held
         shows = subst (λ n. Shows new.state (complete t.machine.core n)) is (shows reached t.shows sendable completes);
         known = subst (λ h. AreKnown (logged concrete fresh (pairs_held h)) new.state.exchanges.items) (sym holding_is)
             (subst (λ log. AreKnown log new.state.exchanges.items) (sym log_with_it)
-                (known_as_held new.state.exchanges.items
-                    (subst (λ m. AreKnown (logged concrete fresh (pairs_held t.before) ++ record { message = m; known = held.counted } ∷ []) new.state.exchanges.items) is
-                        (knows reached t.shows completes folded t.known))));
+            (known_as_held new.state.exchanges.items
+            (subst (λ m. AreKnown (logged concrete fresh (pairs_held t.before) ++ record { message = m; known = held.counted } ∷ []) new.state.exchanges.items) is
+            (knows reached t.shows completes folded t.known))));
         taken_is = same ∙ t.taken_is ∙ ap (λ h. length (pairs_held h)) t.holding_is ∙ sym (ap length pairs_are) ∙ sym (ap (λ h. length (pairs_held h)) holding_is);
       }
 

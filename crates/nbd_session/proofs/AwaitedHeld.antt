@@ -3,14 +3,14 @@ use Rattle.std.proofs.Common.{◌≡◌, ℕ, ◌+◌, ◌<◌, ◌≤◌, ◌�
 use Rattle.nbd_wire.specs.declared.message.Side.{Side}
 use Rattle.nbd_wire.specs.declared.message.Side.TheVariants.{Client, Server}
 use Rattle.nbd_wire.specs.States.{Core, Phase, Greet, Flags, Choosing, Naming, Aborting, Answering, Ended, Transmission}
-use Rattle.nbd_session.specs.declared.fault.WireFault.{WireFault}
+use Rattle.nbd_laws.specs.declared.fault.WireFault.{WireFault}
 use Rattle.nbd_session.specs.declared.reading.Reading.TheVariants as program
 use Rattle.nbd_session.specs.declared.reading.Reading as program_reading
 use Rattle.nbd_session.specs.Concrete.{concrete, judged}
 use Rattle.nbd_session.specs.Decisions.{Decision, awaited_by}
 use Rattle.nbd_session.specs.Judge.{awaited, decided, decided_counted, decided_with}
 use Rattle.nbd_session.specs.JudgeTransmission.{entry_counted}
-use Rattle.nbd_session.specs.Machine.{Bad, Held, IsFilled, Machine, More, Reading, Rest, Whole, at_once, get, none_held, old-empty, old_of, some_held}
+use Rattle.nbd_laws.specs.Machine.{Bad, Held, IsFilled, Machine, More, Reading, Rest, Whole, at_once, get, none_held, old-empty, old_of, some_held}
 use Rattle.nbd_session.specs.Readings.{reading_if, until}
 use Rattle.nbd_session.specs.Standing.{Holding, IsReadTo, counted_at, rest_of}
 use Rattle.nbd_session.proofs.Awaiting.{held_short, in_head}
@@ -72,12 +72,12 @@ open_held {core} {s} {rest} (some_held r now f k m l) =
     let held : Held concrete core s rest = some_held r now f k m l in
     let short = (held_short held).short in
     inl (subst (λ bytes. concrete (old_of core rest) core s bytes ≡ More) (append-nil rest.bytes)
-        ((held_short held).goes [] (subst IsFilled (sym (append-nil rest.bytes)) f) (subst (λ bytes. length bytes < awaited (old_of core rest) core s rest.bytes) (sym (append-nil rest.bytes)) short)))
+    ((held_short held).goes [] (subst IsFilled (sym (append-nil rest.bytes)) f) (subst (λ bytes. length bytes < awaited (old_of core rest) core s rest.bytes) (sym (append-nil rest.bytes)) short)))
 
 open_rest : (h : Holding) (machine : Machine) (s : Side) → IsReadTo h machine → IsOpen (decided_counted h.counted machine.core s (rest_of h s)) (rest_of h s)
 open_rest h machine s r =
     subst (λ o. IsOpen o (rest_of h s)) (decided_rest h machine s r)
-        (subst (λ bytes. IsOpen (decided machine.core.phase (old_of machine.core (get machine.rests s)) machine.core s bytes) bytes) (r.rests_are s) (open_held (held_of h machine r s)))
+    (subst (λ bytes. IsOpen (decided machine.core.phase (old_of machine.core (get machine.rests s)) machine.core s bytes) bytes) (r.rests_are s) (open_held (held_of h machine r s)))
 
 never_whole : (o : Option Decision) (bytes : List ℕ) → IsOpen o bytes → reading_if o bytes ≡ Ok program.Whole → ⊥
 never_whole o bytes (inl m) e = let w = judged_whole o bytes e in let q : More ≡ Whole w.0.message = sym m ∙ w.2 in (cc)

@@ -6,12 +6,12 @@ use Rattle.nbd_wire.specs.declared.message.Side.{Side}
 use Rattle.nbd_wire.specs.declared.message.Message.{Message}
 use Rattle.nbd_wire.specs.Items.{sent}
 use Rattle.nbd_wire.specs.States.{Core}
-use Rattle.nbd_session.specs.declared.fault.WireFault.{WireFault}
+use Rattle.nbd_laws.specs.declared.fault.WireFault.{WireFault}
 use Rattle.nbd_session.specs.Decisions.{Decision, awaited_by}
 use Rattle.nbd_session.specs.Judge.{awaited, decided}
 use Rattle.nbd_session.proofs.Blockwise.{Awaits, GoesOn, extended, judged_at_once, reads_at_once, reads_short, with_rest}
 use Rattle.nbd_session.specs.Concrete.{concrete, ended, judged, read_by, staged_by}
-use Rattle.nbd_session.specs.Machine.{AreHeld, Held, IsFilled, Kept, Later, Later-trans, Machine, More, Rest, at_once, begun, get, kept, none_held, old-filled, old_of, reads, some_held}
+use Rattle.nbd_laws.specs.Machine.{AreHeld, Held, IsFilled, Kept, Later, Later-trans, Machine, More, Rest, at_once, begun, get, kept, none_held, old-filled, old_of, reads, some_held}
 use Rattle.nbd_session.proofs.Sound.{kept_later}
 use Rattle.nbd_session.proofs.Steady.{IsDeciding, IsSameHead, IsSteady, deciding}
 

@@ -9,7 +9,7 @@ use Rattle.nbd_session.specs.declared.held.Held.{Held}
 use Rattle.nbd_session.specs.Concrete.{concrete}
 use Rattle.nbd_session.specs.Holdings.{holding_of}
 use Rattle.nbd_session.specs.Logged.{logged}
-use Rattle.nbd_session.specs.Machine.{Machine, fresh, get, reads}
+use Rattle.nbd_laws.specs.Machine.{Machine, fresh, get, reads}
 use Rattle.nbd_session.specs.Sessions.{AddsFront, IsOfRun, Recorded, pairs_of}
 use Rattle.nbd_session.specs.Shows.{AreKnown, Shows}
 use Rattle.nbd_session.specs.Standing.{Holding, IsReadTo, pairs_held, rest_of}
@@ -18,7 +18,6 @@ use Rattle.nbd_session.proofs.Pieces.{standing_run}
 
 abbrev empty : Holding
 empty = record { messages = []; client = []; server = []; counted = 0; spans = [] }
-
 
 rest_empty : (s : Side) → (get fresh.rests s).bytes ≡ rest_of empty s
 rest_empty Client = refl

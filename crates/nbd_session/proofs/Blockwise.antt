@@ -5,8 +5,8 @@ use Rattle.nbd_wire.specs.declared.message.Side.TheVariants.{Client, Server}
 use Rattle.nbd_wire.specs.Items.{Pair, sent}
 use Rattle.nbd_wire.specs.Rules.{complete}
 use Rattle.nbd_wire.specs.States.{Core}
-use Rattle.nbd_session.specs.declared.fault.WireFault.{WireFault}
-use Rattle.nbd_session.specs.Machine.{Both, get, put, get-put_same, Rest, Machine, Reading, More, Whole, Bad, old_of, old-filled, IsFilled, IsFilled-snoc, Later, settle, Judge, grown, step, reads, on_ok}
+use Rattle.nbd_laws.specs.declared.fault.WireFault.{WireFault}
+use Rattle.nbd_laws.specs.Machine.{Both, get, put, get-put_same, Rest, Machine, Reading, More, Whole, Bad, old_of, old-filled, IsFilled, IsFilled-snoc, Later, settle, Judge, grown, step, reads, on_ok}
 
 -- no longer list of these bytes and more is judged before it has n of them
 abbrev pub GoesOn : Judge → (old now : Core) → Side → List ℕ → ℕ → Type 0

@@ -1,11 +1,11 @@
 -- Tests, and what their answers say.
 use Rattle.std.proofs.Common.{◌≡◌, ℕ, zero, suc, ◌⊎◌, ◌+◌, ◌==◌, List, [], ◌∷◌, length, replicate, refl, ◌∙◌, ap, inl, inr, Option, Some, None, Bool, true, false, not, ◌&&◌, ◌||◌, nat_lt, eqb-true, arith}
 use Rattle.nbd_wire.specs.declared.message.Message.{Message}
-use Rattle.nbd_session.specs.declared.fault.WireFault.{WireFault}
+use Rattle.nbd_laws.specs.declared.fault.WireFault.{WireFault}
 use Rattle.nbd_session.specs.Decisions.{fault_if}
 use Rattle.nbd_session.specs.JudgeNegotiation.{are_zeroes, unless_error}
 use Rattle.nbd_session.specs.Concrete.{staged_by, staged, ended}
-use Rattle.nbd_session.specs.Machine.{Reading, Whole}
+use Rattle.nbd_laws.specs.Machine.{Reading, Whole}
 
 pub not_false : (c : Bool) → not c ≡ false → c ≡ true
 not_false true e = refl

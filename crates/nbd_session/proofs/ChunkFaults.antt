@@ -9,14 +9,14 @@ use Rattle.nbd_wire.specs.declared.payloads.Piece.{Piece}
 use Rattle.nbd_wire.specs.Payloads.{content_of, failure_of, number_at}
 use Rattle.nbd_wire.specs.Requests.{Entry, Exporting, any, has, has_failed, is_error_chunk, is_failing, is_proper, piece_of, piece_offset, piece_size, pieces, pieces_of, chunk_piece}
 use Rattle.nbd_wire.specs.States.{with_reply}
-use Rattle.nbd_session.specs.declared.fault.WireFault.{WireFault}
-use Rattle.nbd_session.specs.declared.fault.WireFault.TheVariants.{BadChunk, BadContent}
+use Rattle.nbd_laws.specs.declared.fault.WireFault.{WireFault}
+use Rattle.nbd_laws.specs.declared.fault.WireFault.TheVariants.{BadChunk, BadContent}
 use Rattle.nbd_session.specs.declared.spans.Span.{Span}
 use Rattle.nbd_session.specs.Asking.{done_by, finish_by, span_of}
 use Rattle.nbd_session.specs.Decisions.{fault_if}
 use Rattle.nbd_session.specs.JudgeTransmission.{chunk_fault, content_fault, done_fault, finish_fault, fits_failure, fits_read, is_apart, is_apart_from, total}
 use Rattle.nbd_session.proofs.Bools.{and_true}
-use Rattle.nbd_session.proofs.Laid.{pieces-snoc}
+use Rattle.nbd_laws.specs.lemmas.Laid.{pieces-snoc}
 use Rattle.nbd_session.proofs.Tidy.{failure_kind, no_content, none_content}
 
 -- a sum that stops at a limit

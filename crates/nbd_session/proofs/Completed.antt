@@ -16,11 +16,11 @@ use Rattle.nbd_session.specs.declared.state.Phase.TheVariants as shown
 use Rattle.nbd_session.specs.declared.state.State.{State}
 use Rattle.nbd_session.specs.Completing.{AddsUnanswered}
 use Rattle.nbd_session.specs.JudgeTransmission.{is_none_yet}
-use Rattle.nbd_session.specs.Machine.{IsReached}
+use Rattle.nbd_laws.specs.Machine.{IsReached}
 use Rattle.nbd_session.specs.Showing.{IsShown, exporting}
 use Rattle.nbd_session.specs.Shows.{AreShown, Shows, export_shown, phase_shown, place_of}
 use Rattle.nbd_session.proofs.ShownEntries.{IsPlaced, are_shown_in, placed}
-use Rattle.nbd_session.proofs.Soundness.{open_target}
+use Rattle.nbd_laws.specs.lemmas.Soundness.{open_target}
 use Rattle.nbd_session.proofs.Targets.{distinct_reached, target_replied, target_requested}
 
 shown_snoc : (export : Exporting) (es : List Entry) (xs : List Exchange) (e : Entry) (x : Exchange) → AreShown (Some export) es xs → IsShown export e x → AreShown (Some export) (es ++ e ∷ []) (xs ++ x ∷ [])

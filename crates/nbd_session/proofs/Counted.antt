@@ -9,7 +9,7 @@ use Rattle.nbd_session.specs.Decisions.{awaited_by}
 use Rattle.nbd_session.specs.Judge.{awaited, awaited_counted, decided, decided_counted, decided_with}
 use Rattle.nbd_session.specs.JudgeTransmission.{entry_counted, entry_if, entry_of, within}
 use Rattle.nbd_session.specs.Concrete.{concrete}
-use Rattle.nbd_session.specs.Machine.{Held, Kept, Later, Later-trans, More, Rest, none_held, old-empty, old-filled, old_of, some_held}
+use Rattle.nbd_laws.specs.Machine.{Held, Kept, Later, Later-trans, More, Rest, none_held, old-empty, old-filled, old_of, some_held}
 use Rattle.nbd_session.proofs.Phases.{IsAppended, Later-appended, Later-turn}
 use Rattle.nbd_session.proofs.Sound.{kept_later, opened}
 

@@ -4,7 +4,7 @@ use Rattle.std.proofs.lemmas.Bool.{lt-ltb, eqb-true, eqb-false, le-ltb, ltb-fals
 use Rattle.nbd_wire.specs.declared.payloads.Piece.{Piece}
 use Rattle.nbd_wire.specs.Requests.{piece_offset, piece_size, piece_byte, byte_at, holds, is_in, SharesNone}
 use Rattle.nbd_session.specs.JudgeTransmission.{total, is_apart, is_apart_from}
-use Rattle.nbd_session.proofs.Laid.{AreApart, AreInside}
+use Rattle.nbd_laws.specs.lemmas.Laid.{AreApart, AreInside}
 use Rattle.nbd_session.proofs.Bools.{or_true, or_false, and_true}
 
 abbrev pub one_if : Bool → ℕ

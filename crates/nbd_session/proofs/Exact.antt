@@ -15,7 +15,7 @@ use Rattle.nbd_wire.specs.Rules.{IsRun, MayComplete, MayStart, MayStartIn, answe
 use Rattle.nbd_wire.specs.Sendable.{IsSendable}
 use Rattle.nbd_wire.specs.Side.{side}
 use Rattle.nbd_wire.specs.States.{Core, Phase, Greet, Flags, Choosing, Naming, Aborting, Answering, Transmission, entry, target}
-use Rattle.nbd_session.specs.declared.fault.WireFault.{WireFault}
+use Rattle.nbd_laws.specs.declared.fault.WireFault.{WireFault}
 use Rattle.nbd_session.specs.Decisions.{Decision}
 use Rattle.nbd_session.specs.Judge.{decided, request_unless}
 use Rattle.nbd_session.specs.JudgeNegotiation.{abort_answer, answer, choice, client_flags, exported, greeting}
@@ -24,10 +24,10 @@ use Rattle.nbd_session.proofs.Awaiting.{in_head, in_payload}
 use Rattle.nbd_session.specs.Concrete.{concrete, ended, judged, read_by, staged_by}
 use Rattle.nbd_session.proofs.ExactNegotiation.{Accepts, HasHead, HasLast, abort_accepts, answer_accepts, choice_accepts, exported_accepts, flags_accepts, greeting_accepts}
 use Rattle.nbd_session.proofs.ExactTransmission.{AcceptsChunk, chunk_accepts, chunk_begins, cookie_of_chunk, cookie_of_simple, request_accepts, simple_accepts, simple_begins}
-use Rattle.nbd_session.specs.Machine.{IsExact, IsFilled, Later, Later-trans, More, Whole, reads}
+use Rattle.nbd_laws.specs.Machine.{IsExact, IsFilled, Later, Later-trans, More, Whole, reads}
 use Rattle.nbd_session.proofs.Phases.{IsAppended, Later-appended, Later-disconnected, Later-transmission, Later-turn, target-append}
-use Rattle.nbd_session.proofs.Runs.{no_run}
-use Rattle.nbd_session.specs.Machine.{fresh}
+use Rattle.nbd_laws.specs.lemmas.Runs.{no_run}
+use Rattle.nbd_laws.specs.Machine.{fresh}
 use Rattle.nbd_session.proofs.Sound.{kept_reached}
 use Rattle.nbd_session.proofs.Steady.{IsDeciding, IsSameHead, IsSteady, deciding, is_chunk_reply, is_simple_reply, no_chunk}
 use Rattle.nbd_session.proofs.Tidy.{AreTidy, tidy, tidy_entry}

@@ -17,8 +17,8 @@ use Rattle.nbd_wire.specs.Options.{IsInfo, MayAcknowledge, MayAnswer, is_error, 
 use Rattle.nbd_wire.specs.Payloads.{number_at, info_of, is_listed}
 use Rattle.nbd_wire.specs.Requests.{Exporting, has, has_only}
 use Rattle.nbd_wire.specs.Rules.{AreClientFlags, MayEnd}
-use Rattle.nbd_session.specs.declared.fault.WireFault.{WireFault}
-use Rattle.nbd_session.specs.declared.fault.WireFault.TheVariants.{NotFixedNewstyle, BadClientFlags, WrongOption, BadReplyKind, OutOfProfile, BadReplyPayload, BadExport, ExportTooLarge, SuccessOfImproper}
+use Rattle.nbd_laws.specs.declared.fault.WireFault.{WireFault}
+use Rattle.nbd_laws.specs.declared.fault.WireFault.TheVariants.{NotFixedNewstyle, BadClientFlags, WrongOption, BadReplyKind, OutOfProfile, BadReplyPayload, BadExport, ExportTooLarge, SuccessOfImproper}
 use Rattle.nbd_session.specs.Decisions.{Decision, fault_if}
 use Rattle.nbd_session.specs.JudgeNegotiation.{abort_answer, abort_fault, ack_fault, answer, answer_fault, answers_option, are_zeroes, at_ack, choice, choice_fault, client_flags, client_flags_fault, export_fault, exported, greeting, greeting_fault, info_fault, is_bad_payload, is_followed, is_good_info, padding_fault, payload_fault, sets_more, success_fault, unless_error}
 

@@ -19,8 +19,8 @@ use Rattle.nbd_wire.specs.Requests.{Entry, Exporting, chunk_piece, has, has_fail
 use Rattle.nbd_wire.specs.Rules.{MayAsk}
 use Rattle.nbd_wire.specs.Sendable.{IsSendable}
 use Rattle.nbd_wire.specs.States.{Core, target, with_reply}
-use Rattle.nbd_session.specs.declared.fault.WireFault.{WireFault}
-use Rattle.nbd_session.specs.declared.fault.WireFault.TheVariants.{BadChunk, BadContent, BadDisconnect, ChunkForbidden, CookieInUse, IncompleteRead, SimpleForbidden, SuccessOfImproper}
+use Rattle.nbd_laws.specs.declared.fault.WireFault.{WireFault}
+use Rattle.nbd_laws.specs.declared.fault.WireFault.TheVariants.{BadChunk, BadContent, BadDisconnect, ChunkForbidden, CookieInUse, IncompleteRead, SimpleForbidden, SuccessOfImproper}
 use Rattle.nbd_session.specs.Decisions.{Decision, fault_if}
 use Rattle.nbd_session.specs.JudgeTransmission.{begins, chunk_fault, chunk_of, chunk_to, content_fault, cookie_fault, done_fault, finish_fault, fits_failure, fits_read, is_no_piece, is_none_yet, request, request_fault, request_payload_length, simple_fault, simple_last_fault, simple_to, total}
 use Rattle.nbd_session.proofs.Covers.{ArePositive, covered_total, shares-apart_from}

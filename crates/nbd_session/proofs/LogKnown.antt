@@ -9,12 +9,12 @@ use Rattle.nbd_session.specs.Concrete.{concrete}
 use Rattle.nbd_session.specs.Folded.{core_from}
 use Rattle.nbd_session.specs.Judge.{awaited}
 use Rattle.nbd_session.specs.Logged.{Logged, known_by, known_here, known_if, log_with, logged, messages_of}
-use Rattle.nbd_session.specs.Machine.{AreHeld, IsFilled, Judge, Machine, More, Whole, fresh, get, old_of, reads}
+use Rattle.nbd_laws.specs.Machine.{AreHeld, IsFilled, Judge, Machine, More, Whole, fresh, get, old_of, reads}
 use Rattle.nbd_session.proofs.Blockwise.{extended}
 use Rattle.nbd_session.proofs.Counted.{count_of}
 use Rattle.nbd_session.proofs.Folded.{core_is}
 use Rattle.nbd_session.proofs.LogSteps.{known-next, known_here-other, known_here-same, known_or, logged-piece, logged_messages}
-use Rattle.nbd_session.proofs.Trace.{answered_by-within, length-complete}
+use Rattle.nbd_laws.specs.lemmas.Trace.{answered_by-within, length-complete}
 
 complete_grows : (core : Core) (m : Message) → length core.entries ≤ length (complete core m).entries
 complete_grows core m = elim (length-complete core m) [ inl e ↦ omega (arith, e) | inr e ↦ omega (arith, e) ]

@@ -5,12 +5,12 @@ use Rattle.nbd_wire.specs.Items.{Item, Pair, ArePairs, pairs, sent}
 use Rattle.nbd_wire.specs.Report.{known, report}
 use Rattle.nbd_wire.specs.Rules.{IsRun, answered_by, complete}
 use Rattle.nbd_wire.specs.States.{Core, start}
-use Rattle.nbd_session.specs.declared.fault.WireFault.{WireFault}
+use Rattle.nbd_laws.specs.declared.fault.WireFault.{WireFault}
 use Rattle.nbd_session.specs.Concrete.{concrete}
 use Rattle.nbd_session.specs.Folded.{core_from}
 use Rattle.nbd_session.specs.Judge.{awaited}
 use Rattle.nbd_session.specs.Logged.{Logged, known_by, known_here, known_if, log_with, logged, logged_on, messages_of, report_by}
-use Rattle.nbd_session.specs.Machine.{AreHeld, Bad, IsFilled, IsFilled-snoc, Judge, Machine, More, Reading, Rest, Whole, fresh, get, get-put_same, grown, old-filled, old_of, on_ok, put, reads, settle, step, with_byte}
+use Rattle.nbd_laws.specs.Machine.{AreHeld, Bad, IsFilled, IsFilled-snoc, Judge, Machine, More, Reading, Rest, Whole, fresh, get, get-put_same, grown, old-filled, old_of, on_ok, put, reads, settle, step, with_byte}
 use Rattle.nbd_session.proofs.Awaiting.{held_short}
 use Rattle.nbd_session.proofs.Blockwise.{GoesOn, extended}
 use Rattle.nbd_session.proofs.Folded.{core_is}

@@ -10,15 +10,15 @@ use Rattle.nbd_wire.specs.Rules.{IsRun, MayComplete, complete, ends_at}
 use Rattle.nbd_wire.specs.States.{Core, Names, start}
 use Rattle.nbd_session.specs.Folded.{core_of}
 use Rattle.nbd_session.specs.Logged.{Logged, known_by, log_from, log_of, log_with, logged, logged_on, report_by}
-use Rattle.nbd_session.specs.Machine.{AreHeld, Bad, Both, Busy, Idle, IsFilled, IsFilled-snoc, IsSound, IsSoundAt, Judge, Loose, Machine, More, Open, Reading, Rest, Walk, Whole, at_once, ended, final, fresh, get, get-put_same, grown, held_more, held_whole, kept_next, loose, middle, old-empty, old-filled, old_of, on_ok, opening, put, reads, serving, settle, with_byte}
+use Rattle.nbd_laws.specs.Machine.{AreHeld, Bad, Both, Busy, Idle, IsFilled, IsFilled-snoc, IsSound, IsSoundAt, Judge, Loose, Machine, More, Open, Reading, Rest, Walk, Whole, at_once, ended, final, fresh, get, get-put_same, grown, held_more, held_whole, kept_next, loose, middle, old-empty, old-filled, old_of, on_ok, opening, put, reads, serving, settle, with_byte}
 use Rattle.nbd_session.proofs.Folded.{core_is, ends_folded}
-use Rattle.nbd_session.proofs.Follow.{Follows, HasEnd, IsBegun, IsSidedOpen, completes_later, each_with, follows}
-use Rattle.nbd_session.proofs.Fronts.{IsSame, same_message}
+use Rattle.nbd_laws.specs.lemmas.Follow.{Follows, HasEnd, IsBegun, IsSidedOpen, completes_later, each_with, follows}
+use Rattle.nbd_laws.specs.lemmas.Fronts.{IsSame, same_message}
 use Rattle.nbd_session.proofs.Knowing.{known-log}
-use Rattle.nbd_session.proofs.Marks.{AreInStep, InStep, in_step_completed, in_step_sided, in_step_with, within_middle, within_opening}
-use Rattle.nbd_session.proofs.Runs.{fresh_held, run_law, walk_of}
-use Rattle.nbd_session.proofs.Trace.{Guess, IsCanonical, IsTrace, Names-left, Names-push, Names-push_cases, enc-long, not_empty, trace}
-use Rattle.nbd_session.proofs.Unserved.{same_reports}
+use Rattle.nbd_laws.specs.lemmas.Marks.{AreInStep, InStep, in_step_completed, in_step_sided, in_step_with, within_middle, within_opening}
+use Rattle.nbd_laws.specs.lemmas.Runs.{fresh_held, run_law, walk_of}
+use Rattle.nbd_laws.specs.lemmas.Trace.{Guess, IsCanonical, IsTrace, Names-left, Names-push, Names-push_cases, enc-long, not_empty, trace}
+use Rattle.nbd_laws.specs.lemmas.Unserved.{same_reports}
 
 -- how many requests were complete when each side's rest began
 abbrev counts_of : Both Rest → Both ℕ

@@ -11,11 +11,11 @@ use Rattle.nbd_wire.specs.Rules.{IsRunBut, Obeys, after, complete}
 use Rattle.nbd_wire.specs.Side.{side, same_side}
 use Rattle.nbd_wire.specs.States.{Core, State, start}
 use Rattle.nbd_session.specs.Concrete.{concrete}
-use Rattle.nbd_session.specs.Machine.{AreHeld, Bad, Both, Busy, Idle, IsSound, IsSoundAt, Judge, Loose, Machine, More, Open, Reading, Rest, Walk, Whole, ended, final, fresh, get, grown, held_more, held_whole, kept_next, loose, middle, on_ok, opening, put, reads, serving, settle, with_byte}
-use Rattle.nbd_session.proofs.Blocks.{IsCalm, byte_other, byte_same, walked}
-use Rattle.nbd_session.proofs.Follow.{Follows, IsSidedOpen, each_with, follows}
+use Rattle.nbd_laws.specs.Machine.{AreHeld, Bad, Both, Busy, Idle, IsSound, IsSoundAt, Judge, Loose, Machine, More, Open, Reading, Rest, Walk, Whole, ended, final, fresh, get, grown, held_more, held_whole, kept_next, loose, middle, on_ok, opening, put, reads, serving, settle, with_byte}
+use Rattle.nbd_laws.specs.lemmas.Blocks.{IsCalm, byte_other, byte_same, walked}
+use Rattle.nbd_laws.specs.lemmas.Follow.{Follows, IsSidedOpen, each_with, follows}
 use Rattle.nbd_session.specs.Standing.{with_more}
-use Rattle.nbd_session.proofs.Runs.{fresh_held, run_but_law}
+use Rattle.nbd_laws.specs.lemmas.Runs.{fresh_held, run_but_law}
 use Rattle.nbd_session.proofs.Sound.{sound}
 
 -- the bytes of a side, in order

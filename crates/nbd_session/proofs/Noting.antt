@@ -39,7 +39,7 @@ module _ (items : List Stretch) (i : ℕ) (last : Stretch) (s : Side) (n : ℕ) 
   noted_grown t =
       map-set span_of items i (record { from = last.from; length = last.length + n })
       ∙ sym (noted-set (spans_of items) i (span_of last) s n spans_long (ap (λ x. same_side s x.from) as_span ∙ t)
-          ∙ ap (λ x. slice_set (spans_of items) i (longer x n)) as_span)
+      ∙ ap (λ x. slice_set (spans_of items) i (longer x n)) as_span)
 
   -- or another one is pushed
   pub noted_pushed : same_side s last.from ≡ false → spans_of (items ++ record { from = s; length = n } ∷ []) ≡ noted (spans_of items) s n
@@ -54,7 +54,7 @@ noted_behind (x ∷ xs) s n f =
     let there : slice_get (x ∷ xs) (length xs) ≡ Some (get_or (x ∷ xs) (length xs) x) = slice_get-get_or (x ∷ xs) (length xs) x (omega arith) in
     let at : length xs ≡ length (x ∷ xs) - 1 = omega arith in
     noted_pushed (x ∷ xs) (length xs) (get_or (x ∷ xs) (length xs) x) s n (omega arith) (get_or_there (x ∷ xs) (length xs) x (omega arith))
-        (sym (ap (is_of s) there) ∙ ap (λ i. is_of s (slice_get (x ∷ xs) i)) at ∙ f)
+    (sym (ap (is_of s) there) ∙ ap (λ i. is_of s (slice_get (x ∷ xs) i)) at ∙ f)
 
 -- the last one is of this side
 pub is_last_of : (items : List Stretch) (last : Stretch) (s : Side) (i : ℕ) → length items ≡ i + 1 → last ≡ get_or items i last → is_of s (slice_get items (length items - 1)) ≡ true → same_side s last.from ≡ true

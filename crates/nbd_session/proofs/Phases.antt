@@ -10,7 +10,7 @@ use Rattle.nbd_wire.specs.Requests.{Entry, Exporting, is_finished}
 use Rattle.nbd_wire.specs.Rules.{MayComplete, complete, requested, reply_to, answered_by}
 use Rattle.nbd_wire.specs.Side.{side}
 use Rattle.nbd_wire.specs.States.{Phase, Greet, Flags, Choosing, Naming, Aborting, Answering, Transmission, Core, entry, is_awaiting, target, target_from}
-use Rattle.nbd_session.specs.Machine.{Later, at_once, behind}
+use Rattle.nbd_laws.specs.Machine.{Later, at_once, behind}
 
 abbrev pub IsTransmitting : Phase → Type 0
 IsTransmitting phase = (export : Exporting) × (phase ≡ Transmission export)

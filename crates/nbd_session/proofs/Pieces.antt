@@ -12,7 +12,7 @@ use Rattle.nbd_session.specs.declared.fault.SessionFault.TheVariants.{Memory}
 use Rattle.nbd_session.specs.declared.held.Held.{Held}
 use Rattle.nbd_session.specs.Holdings.{holding_of, spans_of}
 use Rattle.nbd_session.specs.Judge.{awaited}
-use Rattle.nbd_session.specs.Machine.{IsFilled, Machine, fresh, get, old_of}
+use Rattle.nbd_laws.specs.Machine.{IsFilled, Machine, fresh, get, old_of}
 use Rattle.nbd_session.specs.Sessions.{Adds}
 use Rattle.nbd_session.specs.Concrete.{concrete}
 use Rattle.nbd_session.specs.Logged.{logged}
@@ -51,7 +51,7 @@ pub total_fits : (held : Held) (s : Side) → Stands held → span_total s (span
 total_fits held s st =
     let one : span_total s (spans_of held.stretches.items) ≤ span_total Client (spans_of held.stretches.items) + span_total Server (spans_of held.stretches.items) = side_total s (spans_of held.stretches.items) in
     let all : length (pairs_held (holding_of held)) ≡ span_total Client (spans_of held.stretches.items) + span_total Server (spans_of held.stretches.items) =
-        length-mixed (spans_of held.stretches.items) (bytes_of Client held.messages.items ++ held.client.items) (bytes_of Server held.messages.items ++ held.server.items) st.read_to.are_spans in
+    length-mixed (spans_of held.stretches.items) (bytes_of Client held.messages.items ++ held.client.items) (bytes_of Server held.messages.items ++ held.server.items) st.read_to.are_spans in
     omega (arith, one, all, st.taken_is)
 
 pub awaits_some : (held : Held) (s : Side) (n : ℕ) → Stands held → ((machine : Machine) → IsReadTo (holding_of held) machine → Shows held.state machine.core → n ≡ awaited (old_of machine.core (get machine.rests s)) machine.core s (rest_of (holding_of held) s)) →
@@ -60,7 +60,7 @@ awaits_some held s n st is =
     let short = (held_short (held_of (holding_of held) st.machine st.read_to s)).short in
     let same : length (get st.machine.rests s).bytes ≡ length (rest_of (holding_of held) s) = ap length (st.read_to.rests_are s) in
     let n_is : n ≡ awaited (old_of st.machine.core (get st.machine.rests s)) st.machine.core s (get st.machine.rests s).bytes =
-        is st.machine st.read_to st.shows ∙ sym (ap (awaited (old_of st.machine.core (get st.machine.rests s)) st.machine.core s) (st.read_to.rests_are s)) in
+    is st.machine st.read_to st.shows ∙ sym (ap (awaited (old_of st.machine.core (get st.machine.rests s)) st.machine.core s) (st.read_to.rests_are s)) in
     omega (arith, short, same, n_is)
 
 are_bytes : (bytes : List ℕ) → ((i : ℕ) → Fits w8 (slice_index_or bytes i 0)) → AreBytes bytes
@@ -92,7 +92,7 @@ module _ (held taken : Held) (s : Side) (left : List ℕ) (count : ℕ) (st : St
   pub taken_counts : taken.taken ≡ held.taken + length (take count left) → taken.taken ≡ length (pairs_held (holding_of taken))
   taken_counts e =
       let n : length (pairs_held (holding_of taken)) ≡ length (pairs_held (holding_of held)) + length (take count left) =
-          ap length pairs_added ∙ length-append (pairs_held (holding_of held)) (sent s (take count left)) ∙ ap (λ k. length (pairs_held (holding_of held)) + k) (length-sent s (take count left)) in
+      ap length pairs_added ∙ length-append (pairs_held (holding_of held)) (sent s (take count left)) ∙ ap (λ k. length (pairs_held (holding_of held)) + k) (length-sent s (take count left)) in
       omega (arith, e, n, st.taken_is)
 
   pub is_taken : taken.state ≡ held.state → taken.taken ≡ held.taken + length (take count left) → ((i : ℕ) → Fits w8 (slice_index_or left i 0)) →
@@ -101,7 +101,7 @@ module _ (held taken : Held) (s : Side) (left : List ℕ) (count : ℕ) (st : St
   is_taken state_is e fits n is up =
       let same : length (get st.machine.rests s).bytes ≡ length (rest_of (holding_of held) s) = ap length (st.read_to.rests_are s) in
       let n_is : n ≡ awaited (old_of st.machine.core (get st.machine.rests s)) st.machine.core s (get st.machine.rests s).bytes =
-          is st.machine st.read_to st.shows ∙ sym (ap (awaited (old_of st.machine.core (get st.machine.rests s)) st.machine.core s) (st.read_to.rests_are s)) in
+      is st.machine st.read_to st.shows ∙ sym (ap (awaited (old_of st.machine.core (get st.machine.rests s)) st.machine.core s) (st.read_to.rests_are s)) in
       let len : length (take count left) ≡ count = length-take-le count left within in
       record {
         before = holding_of held;
@@ -156,13 +156,13 @@ same_left a b m n s left x = record {
 pub settled_added : (held taken new : Held) (s : Side) (piece left : List ℕ) → AddsHeld held taken s piece left → IsSame taken new → AddsHeld held new s piece left
 settled_added held taken new s piece left x same =
     added_then (pairs_held (holding_of held)) (pairs_held (holding_of taken)) (pairs_held (holding_of new)) held.messages.items taken.messages.items new.messages.items s piece left left x
-        (same_left (pairs_held (holding_of taken)) (pairs_held (holding_of new)) taken.messages.items new.messages.items s left (same.adds s))
+    (same_left (pairs_held (holding_of taken)) (pairs_held (holding_of new)) taken.messages.items new.messages.items s left (same.adds s))
 
 -- what stands is of a run
 pub standing_run : (held : Held) → Stands held → HoldsRun (holding_of held)
 standing_run held st =
     let r = read_is_run_but (pairs_held (holding_of held)) st.machine held.messages.items held.client.items held.server.items st.read_to.are_pairs st.read_to.reads_it
-        st.read_to.messages_are (st.read_to.rests_are Client) (st.read_to.rests_are Server) in
+    st.read_to.messages_are (st.read_to.rests_are Client) (st.read_to.rests_are Server) in
     record { items = r.0; is_run = r.1; has_pairs = r.2; has_messages = r.3 }
 
 -- memory ran out before a byte was taken

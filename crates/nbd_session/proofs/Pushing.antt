@@ -83,12 +83,12 @@ module _ (s t : Side) (n : ℕ) (more client server : List ℕ) (spans next : Li
   here = record { from = t; length = n }
 
   mixed_behind : mixed next (with_more s Client more (left_of Client here client)) (with_more s Server more (left_of Server here server))
-          ≡ mixed spans (left_of Client here client) (left_of Server here server) ++ sent s more →
+      ≡ mixed spans (left_of Client here client) (left_of Server here server) ++ sent s more →
       mixed (here ∷ next) (with_more s Client more client) (with_more s Server more server) ≡ mixed (here ∷ spans) client server ++ sent s more
   mixed_behind ih =
       let first = sent t (take n (of_two t client server)) in
       ap (λ l. sent t l ++ mixed next (left_of Client here (with_more s Client more client)) (left_of Server here (with_more s Server more server)))
-          (taken_alike s t n more client server (first_fits t t n spans client server h refl))
+      (taken_alike s t n more client server (first_fits t t n spans client server h refl))
       ∙ ap (λ l. first ++ mixed next l (left_of Server here (with_more s Server more server))) (left_alike s Client t n more client (first_fits t Client n spans client server h))
       ∙ ap (λ l. first ++ mixed next (with_more s Client more (left_of Client here client)) l) (left_alike s Server t n more server (first_fits t Server n spans client server h))
       ∙ ap (λ l. first ++ l) ih
@@ -101,8 +101,8 @@ mixed_other : (s t : Side) (n : ℕ) (more client server : List ℕ) → AreSpan
 mixed_other s t n more client server h =
     let rest = left_spans t n [] client server h in
     mixed_behind s t n more client server [] (record { from = s; length = length more } ∷ []) h
-        (mixed_first s more (left_of Client (record { from = t; length = n }) client) (left_of Server (record { from = t; length = n }) server)
-            (no_length (left_of Client (record { from = t; length = n }) client) rest.of_client) (no_length (left_of Server (record { from = t; length = n }) server) rest.of_server))
+    (mixed_first s more (left_of Client (record { from = t; length = n }) client) (left_of Server (record { from = t; length = n }) server)
+    (no_length (left_of Client (record { from = t; length = n }) client) rest.of_client) (no_length (left_of Server (record { from = t; length = n }) server) rest.of_server))
 
 mixed_one : (s t : Side) (n : ℕ) (more client server : List ℕ) → AreSpansOf (record { from = t; length = n } ∷ []) client server →
     mixed (noted (record { from = t; length = n } ∷ []) s (length more)) (with_more s Client more client) (with_more s Server more server)
@@ -119,7 +119,7 @@ mixed-noted [] client server s more h = mixed_first s more client server (no_len
 mixed-noted (span ∷ []) client server s more h = mixed_one s span.from span.length more client server h
 mixed-noted (span ∷ next ∷ spans) client server s more h =
     mixed_behind s span.from span.length more client server (next ∷ spans) (noted (next ∷ spans) s (length more)) h
-        (mixed-noted (next ∷ spans) (left_of Client span client) (left_of Server span server) s more (left_spans span.from span.length (next ∷ spans) client server h))
+    (mixed-noted (next ∷ spans) (left_of Client span client) (left_of Server span server) s more (left_spans span.from span.length (next ∷ spans) client server h))
 
 total-one : (u s t : Side) (n m : ℕ) → span_total u (noted (record { from = t; length = n } ∷ []) s m) ≡ span_total u (record { from = t; length = n } ∷ []) + (if same_side u s then m else 0)
 total-one Client Client Client n m = omega arith
@@ -148,8 +148,9 @@ length-with_more Server Server more bytes = omega (arith, length-append bytes mo
 pub spans-noted : (spans : List Span) (client server : List ℕ) (s : Side) (more : List ℕ) → AreSpansOf spans client server →
     AreSpansOf (noted spans s (length more)) (with_more s Client more client) (with_more s Server more server)
 spans-noted spans client server s more h = record {
-    of_client = total-noted Client spans s (length more) ∙ ap (λ n. n + (if same_side Client s then length more else 0)) h.of_client ∙ sym (length-with_more Client s more client);
-    of_server = total-noted Server spans s (length more) ∙ ap (λ n. n + (if same_side Server s then length more else 0)) h.of_server ∙ sym (length-with_more Server s more server) }
+  of_client = total-noted Client spans s (length more) ∙ ap (λ n. n + (if same_side Client s then length more else 0)) h.of_client ∙ sym (length-with_more Client s more client);
+  of_server = total-noted Server spans s (length more) ∙ ap (λ n. n + (if same_side Server s then length more else 0)) h.of_server ∙ sym (length-with_more Server s more server);
+}
 
 pub bytes_of-snoc : (s : Side) (messages : List Message) (m : Message) → bytes_of s (messages ++ m ∷ []) ≡ bytes_of s messages ++ (if same_side s (side m) then enc m else [])
 bytes_of-snoc s [] m = one (same_side s (side m))

@@ -10,7 +10,7 @@ use Rattle.nbd_session.specs.declared.asked.Outcome.TheVariants.{Success, Failur
 use Rattle.nbd_session.specs.JudgeTransmission.{is_none_yet}
 use Rattle.nbd_session.specs.Showing.{IsShown, outcome_of}
 use Rattle.nbd_session.proofs.ChunkFaults.{any-snoc, proper-same}
-use Rattle.nbd_session.proofs.Laid.{pieces-snoc}
+use Rattle.nbd_laws.specs.lemmas.Laid.{pieces-snoc}
 
 -- what stays as it was
 pub record IsKept (x y : Exchange) : Type 0 where

@@ -14,17 +14,17 @@ use Rattle.nbd_session.specs.declared.state.State.{State}
 use Rattle.nbd_session.specs.Concrete.{concrete}
 use Rattle.nbd_session.specs.Holdings.{holding_of}
 use Rattle.nbd_session.specs.Logged.{Logged, known_by, logged, report_by}
-use Rattle.nbd_session.specs.Machine.{Machine, fresh, get}
+use Rattle.nbd_laws.specs.Machine.{Machine, fresh, get}
 use Rattle.nbd_session.specs.Sessions.{HasRun, IsReported, Recorded}
 use Rattle.nbd_session.specs.Showing.{IsShown, exporting_if}
 use Rattle.nbd_session.specs.Shows.{AreKnown, AreShown, Shows, phase_shown}
-use Rattle.nbd_session.specs.Soundness.{IsSoundReport}
+use Rattle.nbd_laws.specs.Soundness.{IsSoundReport}
 use Rattle.nbd_session.specs.Standing.{pairs_held}
 use Rattle.nbd_session.specs.Steps.{HoldsRun, Stands, recorded}
 use Rattle.nbd_session.specs.Transcripts.{asked_told, export_of, report_told}
 use Rattle.nbd_session.proofs.LogSteps.{read_report}
 use Rattle.nbd_session.proofs.Pieces.{standing_run}
-use Rattle.nbd_session.proofs.Soundness.{reports_are_sound}
+use Rattle.nbd_laws.specs.lemmas.Soundness.{reports_are_sound}
 
 export_same : (phase : Phase) → exporting_if (export_of (phase_shown phase)) ≡ export_in phase
 export_same Greet = refl
@@ -55,7 +55,7 @@ all_told : (n : ℕ) (export : Option Exporting) (known : ℕ → Option ℕ) (e
 all_told n export known [] [] s k = refl
 all_told n (Some export) known (e ∷ es) (x ∷ xs) s k =
     (λ i. one_told export e x (known (suc n)) s.0 (k 0 x refl ∙ ap (λ m. known (suc m)) (no_more n)) i
-        ∷ all_told (suc n) (Some export) known es xs s.1 (λ place y at. k (suc place) y at ∙ ap (λ m. known (suc m)) (one_more n place)) i)
+    ∷ all_told (suc n) (Some export) known es xs s.1 (λ place y at. k (suc place) y at ∙ ap (λ m. known (suc m)) (one_more n place)) i)
   where
     no_more : (n : ℕ) → n + 0 ≡ n
     no_more n = omega arith

@@ -4,7 +4,7 @@ use Rattle.nbd_wire.specs.declared.message.Side.{Side}
 use Rattle.nbd_wire.specs.declared.message.Side.TheVariants.{Client, Server}
 use Rattle.nbd_session.specs.declared.fault.SessionFault.{SessionFault}
 use Rattle.nbd_session.specs.declared.fault.SessionFault.TheVariants.{Memory, Wire}
-use Rattle.nbd_session.specs.declared.fault.WireFault.{WireFault}
+use Rattle.nbd_laws.specs.declared.fault.WireFault.{WireFault}
 use Rattle.nbd_session.specs.declared.held.Held.{Held}
 use Rattle.nbd_session.specs.declared.reading.Reading as program
 use Rattle.nbd_session.specs.declared.reading.Reading.TheVariants.{Await}
@@ -13,7 +13,7 @@ use Rattle.nbd_session.specs.Concrete.{concrete}
 use Rattle.nbd_session.specs.Holdings.{holding_of}
 use Rattle.nbd_session.specs.Judge.{decided_counted}
 use Rattle.nbd_session.specs.Logged.{logged}
-use Rattle.nbd_session.specs.Machine.{Machine, More, fresh, get, old_of, put, reads}
+use Rattle.nbd_laws.specs.Machine.{Machine, More, fresh, get, old_of, put, reads}
 use Rattle.nbd_session.specs.Readings.{reading_if}
 use Rattle.nbd_session.specs.Shows.{AreKnown, Shows}
 use Rattle.nbd_session.specs.Standing.{Holding, IsReadTo, counted_at, pairs_held, rest_of, with_taken}
@@ -47,11 +47,11 @@ module _ (held : Held) (s : Side) (t : IsTaken held s) where
       let machine : Machine = record t.machine { rests = put t.machine.rests s (extended t.machine.core (get t.machine.rests s) t.more) } in
       let answer = answers (Ok (Await n)) e in
       let judged_so : concrete (old_of t.machine.core (get t.machine.rests s)) t.machine.core s ((get t.machine.rests s).bytes ++ t.more) ≡ More =
-          says t.before t.machine t.read_to s t.more t.filled t.are_bytes t.up_to More
-              (judged_more (decided_counted (counted_at s t.before.server t.before.counted (length t.machine.core.entries)) t.machine.core s (rest_of after s)) (rest_of after s) n answer) in
+      says t.before t.machine t.read_to s t.more t.filled t.are_bytes t.up_to More
+      (judged_more (decided_counted (counted_at s t.before.server t.before.counted (length t.machine.core.entries)) t.machine.core s (rest_of after s)) (rest_of after s) n answer) in
       let log : logged concrete fresh (pairs_held after) ≡ logged concrete fresh (pairs_held t.before) =
-          ap (logged concrete fresh) (pairs-taken t.before s t.more (length t.machine.core.entries) t.read_to.are_spans)
-          ∙ logged-kept (pairs_held t.before) t.machine s t.more t.read_to.reads_it (held_of t.before t.machine t.read_to) t.filled t.up_to judged_so in
+      ap (logged concrete fresh) (pairs-taken t.before s t.more (length t.machine.core.entries) t.read_to.are_spans)
+      ∙ logged-kept (pairs_held t.before) t.machine s t.more t.read_to.reads_it (held_of t.before t.machine t.read_to) t.filled t.up_to judged_so in
       record {
         machine = machine;
         read_to = subst (λ h. IsReadTo h machine) (sym t.holding_is) (more_taken t.before t.machine t.read_to s t.more t.filled t.are_bytes t.up_to n answer);
@@ -64,7 +64,7 @@ module _ (held : Held) (s : Side) (t : IsTaken held s) where
   pub taken_run : HoldsRun (holding_of held)
   taken_run =
       let r = more_is_run_but (pairs_held t.before) t.machine t.before.messages t.before.client t.before.server s t.more t.read_to.are_pairs t.read_to.reads_it
-          t.read_to.messages_are (t.read_to.rests_are Client) (t.read_to.rests_are Server) in
+      t.read_to.messages_are (t.read_to.rests_are Client) (t.read_to.rests_are Server) in
       subst HoldsRun (sym t.holding_is) (record {
         items = r.0;
         is_run = r.1;
@@ -76,8 +76,11 @@ module _ (held : Held) (s : Side) (t : IsTaken held s) where
   shut_wire fault e = record {
     run = taken_run;
     taken_is = t.taken_is;
-    cause = (refl, subst (λ h. reads concrete fresh (pairs_held h) ≡ Err fault) (sym t.holding_is)
-        (refused_taken t.before t.machine t.read_to s t.more t.filled t.are_bytes t.up_to fault (answers (Err fault) e)));
+    cause = (
+      refl,
+      subst (λ h. reads concrete fresh (pairs_held h) ≡ Err fault) (sym t.holding_is)
+          (refused_taken t.before t.machine t.read_to s t.more t.filled t.are_bytes t.up_to fault (answers (Err fault) e)),
+    );
   }
 
   pub shut_memory : (new : Held) → holding_of new ≡ holding_of held → new.taken ≡ held.taken → IsShut new Memory

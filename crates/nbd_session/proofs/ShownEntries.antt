@@ -16,7 +16,7 @@ use Rattle.nbd_session.specs.Asking.{ShownIf}
 use Rattle.nbd_session.specs.JudgeTransmission.{entry_counted, entry_if, within}
 use Rattle.nbd_session.specs.Showing.{IsShown}
 use Rattle.nbd_session.specs.Shows.{AreShown, Shows, place_of}
-use Rattle.nbd_session.proofs.Outstanding.{IsFound, find}
+use Rattle.nbd_laws.specs.lemmas.Outstanding.{IsFound, find}
 
 -- the exchange at the place of a request shows it
 pub shown_at : (export : Exporting) (es : List Entry) (xs : List Exchange) (k : ℕ) (e : Entry) → AreShown (Some export) es xs → entry (suc k) es ≡ Some e →

@@ -10,13 +10,13 @@ use Rattle.nbd_wire.specs.Parse.{AreBytes-snoc}
 use Rattle.nbd_wire.specs.Requests.{Exporting}
 use Rattle.nbd_wire.specs.Rules.{IsRun, MayStartIn, MayComplete, answered_by}
 use Rattle.nbd_wire.specs.States.{Phase, Greet, Flags, Choosing, Naming, Aborting, Answering, Transmission, Core}
-use Rattle.nbd_session.specs.declared.fault.WireFault.TheVariants.{OutOfTurn}
+use Rattle.nbd_laws.specs.declared.fault.WireFault.TheVariants.{OutOfTurn}
 use Rattle.nbd_session.specs.JudgeTransmission.{request_of}
 use Rattle.nbd_session.specs.Concrete.{judge_in, concrete}
-use Rattle.nbd_session.specs.Machine.{Kept, begun, kept, Later, at_once, Later-trans, IsReached, Reading, More, Whole, Bad, Judge, IsSoundAt, IsSound, Machine, get, reads}
+use Rattle.nbd_laws.specs.Machine.{Kept, begun, kept, Later, at_once, Later-trans, IsReached, Reading, More, Whole, Bad, Judge, IsSoundAt, IsSound, Machine, get, reads}
 use Rattle.nbd_session.proofs.Phases.{IsTransmitting, Later-disconnected, Later-transmission, Later-turn}
-use Rattle.nbd_session.proofs.Runs.{run_law}
-use Rattle.nbd_session.specs.Machine.{fresh}
+use Rattle.nbd_laws.specs.lemmas.Runs.{run_law}
+use Rattle.nbd_laws.specs.Machine.{fresh}
 use Rattle.nbd_session.proofs.SoundClient.{IsAsked, request_sound}
 use Rattle.nbd_session.proofs.SoundNegotiation.{IsFit, negotiation_sound}
 use Rattle.nbd_session.proofs.SoundServer.{IsReplying, reply_sound}

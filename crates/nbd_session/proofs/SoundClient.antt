@@ -11,13 +11,13 @@ use Rattle.nbd_wire.specs.Requests.{Exporting}
 use Rattle.nbd_wire.specs.Rules.{MayComplete, MayAsk}
 use Rattle.nbd_wire.specs.Sendable.{IsSendable}
 use Rattle.nbd_wire.specs.States.{Transmission, Core, target}
-use Rattle.nbd_session.specs.declared.fault.WireFault.TheVariants.{CookieInUse, BadDisconnect}
+use Rattle.nbd_laws.specs.declared.fault.WireFault.TheVariants.{CookieInUse, BadDisconnect}
 use Rattle.nbd_session.specs.Decisions.{fault_if}
 use Rattle.nbd_session.specs.Judge.{request_unless}
 use Rattle.nbd_session.specs.JudgeTransmission.{request, request_payload_length, request_of}
 use Rattle.nbd_session.proofs.Bools.{not_false, and_true, fault_none}
 use Rattle.nbd_session.specs.Concrete.{judged}
-use Rattle.nbd_session.specs.Machine.{Whole}
+use Rattle.nbd_laws.specs.Machine.{Whole}
 use Rattle.nbd_session.proofs.SoundNegotiation.{IsFit, IsWhole, whole, magic_there}
 
 request_is : (bytes : List ℕ) → AreBytes bytes → 28 ≤ length bytes → number_at 0 4 bytes ≡ REQUEST_MAGIC → bytes ≡ enc (request_of bytes)

@@ -22,13 +22,13 @@ use Rattle.nbd_wire.specs.Rules.{MayComplete}
 use Rattle.nbd_wire.specs.Sendable.{IsSendable}
 use Rattle.nbd_wire.specs.Side.{side}
 use Rattle.nbd_wire.specs.States.{Phase, Greet, Flags, Choosing, Naming, Aborting, Answering, Transmission, Core}
-use Rattle.nbd_session.specs.declared.fault.WireFault.{WireFault}
-use Rattle.nbd_session.specs.declared.fault.WireFault.TheVariants.{BadMagic, NotFixedNewstyle, BadClientFlags, WrongOption, OutOfProfile, BadReplyPayload, BadExport, ExportTooLarge, SuccessOfImproper}
+use Rattle.nbd_laws.specs.declared.fault.WireFault.{WireFault}
+use Rattle.nbd_laws.specs.declared.fault.WireFault.TheVariants.{BadMagic, NotFixedNewstyle, BadClientFlags, WrongOption, OutOfProfile, BadReplyPayload, BadExport, ExportTooLarge, SuccessOfImproper}
 use Rattle.nbd_session.specs.Decisions.{Decision, fault_if}
 use Rattle.nbd_session.specs.JudgeNegotiation.{greeting, sets_more, client_flags, choice, are_zeroes, export_fault, exported, answer_of, ack_fault, abort_fault, abort_answer, answers_option, is_followed, info_fault, at_ack, unless_error, success_fault, is_good_info, is_bad_payload, payload_fault, answer}
 use Rattle.nbd_session.proofs.Bools.{not_false, or_false, or_true, and_true, and_false, whole_at, fault_none, ended_whole, are_zeroes-replicate}
 use Rattle.nbd_session.specs.Concrete.{read_by, ended, judge_in}
-use Rattle.nbd_session.specs.Machine.{Whole}
+use Rattle.nbd_laws.specs.Machine.{Whole}
 
 pub record IsFit (now : Core) (phase : Phase) (s : Side) (bytes : List ℕ) (m : Message) : Type 0 where
   pub encodes : bytes ≡ enc m

@@ -11,12 +11,12 @@ use Rattle.nbd_wire.specs.Options.{is_error, is_proper_option, turn}
 use Rattle.nbd_wire.specs.Payloads.{number_at}
 use Rattle.nbd_wire.specs.Requests.{Entry, Exporting, has}
 use Rattle.nbd_wire.specs.States.{Phase, Greet, Flags, Choosing, Naming, Aborting, Answering, Transmission, Core, entry, target}
-use Rattle.nbd_session.specs.declared.fault.WireFault.TheVariants.{BadMagic, UnknownCookie}
+use Rattle.nbd_laws.specs.declared.fault.WireFault.TheVariants.{BadMagic, UnknownCookie}
 use Rattle.nbd_session.specs.Decisions.{Decision}
 use Rattle.nbd_session.specs.Judge.{decided, request_unless}
 use Rattle.nbd_session.specs.JudgeNegotiation.{abort_answer, abort_fault, answer, answer_fault, choice, choice_fault, client_flags, client_flags_fault, export_fault, exported, greeting, greeting_fault, success_fault, unless_error}
 use Rattle.nbd_session.specs.JudgeTransmission.{begins, chunk_to, entry_if, entry_of, no_reply, reply, reply_by, request, request_fault, request_payload_length, simple_payload_length, simple_to, simple_fault, chunk_head_fault}
-use Rattle.nbd_session.specs.Machine.{Later}
+use Rattle.nbd_laws.specs.Machine.{Later}
 use Rattle.nbd_session.proofs.SoundServer.{magic_of}
 use Rattle.nbd_session.proofs.Phases.{IsAppended, Later-appended, Later-disconnected, Later-transmission, Later-turn, target_entry}
 

@@ -10,20 +10,20 @@ use Rattle.nbd_wire.specs.Rules.{MayComplete, complete}
 use Rattle.nbd_wire.specs.Sendable.{IsSendable}
 use Rattle.nbd_wire.specs.Side.{side, same_side}
 use Rattle.nbd_wire.specs.States.{Core, Phase, Greet, Flags, Choosing, Naming, Aborting, Answering, Ended, Transmission}
-use Rattle.nbd_session.specs.declared.fault.WireFault.{WireFault}
+use Rattle.nbd_laws.specs.declared.fault.WireFault.{WireFault}
 use Rattle.nbd_session.specs.declared.reading.Reading.TheVariants as program
 use Rattle.nbd_session.specs.Concrete.{concrete, judged}
 use Rattle.nbd_session.specs.Decisions.{Decision}
 use Rattle.nbd_session.specs.Judge.{decided, decided_counted, decided_with, awaited, awaited_counted}
 use Rattle.nbd_session.specs.JudgeTransmission.{entry_counted}
-use Rattle.nbd_session.specs.Machine.{Machine, Rest, Both, Reading, More, Whole, Bad, IsSoundAt, get, put, reads, fresh, old_of, settle, on_ok, IsFilled, Kept, Held, AreHeld, get-put_same, get-put_other, same_or_not, reads_held, old-empty, old-filled}
+use Rattle.nbd_laws.specs.Machine.{Machine, Rest, Both, Reading, More, Whole, Bad, IsSoundAt, get, put, reads, fresh, old_of, settle, on_ok, IsFilled, Kept, Held, AreHeld, get-put_same, get-put_other, same_or_not, reads_held, old-empty, old-filled}
 use Rattle.nbd_session.specs.Standing.{Holding, IsReadTo, AreSpansOf, noted, pairs_held, rest_of, with_message, with_more, with_taken, counted_at}
 use Rattle.nbd_session.specs.Readings.{reading_if}
 use Rattle.nbd_session.proofs.Awaiting.{reads_up_to}
 use Rattle.nbd_session.proofs.Blockwise.{judged_at_once, extended, reads-append}
 use Rattle.nbd_session.proofs.Counted.{held_counted, awaited_held, count_of}
 use Rattle.nbd_session.proofs.Pushing.{bytes_of-snoc, mixed-noted, spans-noted}
-use Rattle.nbd_session.proofs.Runs.{fresh_held}
+use Rattle.nbd_laws.specs.lemmas.Runs.{fresh_held}
 use Rattle.nbd_session.proofs.Sound.{sound}
 use Rattle.nbd_session.proofs.Taking.{judged_bad, judged_more, judged_whole, kept_more}
 
@@ -44,8 +44,8 @@ pub spans-taken : (h : Holding) (s : Side) (more : List ℕ) (entries : ℕ) →
     AreSpansOf (noted h.spans s (length more)) (bytes_of Client h.messages ++ with_more s Client more h.client) (bytes_of Server h.messages ++ with_more s Server more h.server)
 spans-taken h s more entries are =
     subst (λ l. AreSpansOf (noted h.spans s (length more)) l (bytes_of Server h.messages ++ with_more s Server more h.server)) (sym (behind s Client more (bytes_of Client h.messages) h.client))
-        (subst (λ l. AreSpansOf (noted h.spans s (length more)) (with_more s Client more (bytes_of Client h.messages ++ h.client)) l) (sym (behind s Server more (bytes_of Server h.messages) h.server))
-            (spans-noted h.spans (bytes_of Client h.messages ++ h.client) (bytes_of Server h.messages ++ h.server) s more are))
+    (subst (λ l. AreSpansOf (noted h.spans s (length more)) (with_more s Client more (bytes_of Client h.messages ++ h.client)) l) (sym (behind s Server more (bytes_of Server h.messages) h.server))
+    (spans-noted h.spans (bytes_of Client h.messages ++ h.client) (bytes_of Server h.messages ++ h.server) s more are))
 
 -- a side's bytes are the same when its rest becomes a message
 of_side-completed : (s : Side) (messages : List Message) (m : Message) (bytes : List ℕ) → bytes ≡ enc m → side m ≡ s → bytes_of s (messages ++ m ∷ []) ++ [] ≡ bytes_of s messages ++ bytes
@@ -235,7 +235,7 @@ module _ (h : Holding) (machine : Machine) (r : IsReadTo h machine) (s : Side) (
       let b = bytes_taken h machine s more (length machine.core.entries) r in
       let judged_so : concrete (old_of machine.core (get machine.rests s)) machine.core s ((get machine.rests s).bytes ++ more) ≡ Whole m = says h machine r s more filled bytes up_to (Whole m) w.2 in
       let good : IsSoundAt (old_of machine.core (get machine.rests s)) machine.core s ((get machine.rests s).bytes ++ more) m =
-          sound _ _ _ _ m (kept_more machine.core s (get machine.rests s) more (held_of h machine r s) filled bytes up_to) judged_so in
+      sound _ _ _ _ m (kept_more machine.core s (get machine.rests s) more (held_of h machine r s) filled bytes up_to) judged_so in
       let at : IsSoundAt (old_of machine.core (get machine.rests s)) machine.core s (rest_of held s) m = subst (λ l. IsSoundAt (old_of machine.core (get machine.rests s)) machine.core s l m) b good in
       let same : pairs_held (with_message held s m) ≡ pairs_held held = pairs-message held s m at.encodes at.sided in
       let both = both-completed held s m at.encodes at.sided in
@@ -253,6 +253,6 @@ module _ (h : Holding) (machine : Machine) (r : IsReadTo h machine) (s : Side) (
           count_is = count_message h machine s m more (length machine.core.entries) r;
           are_spans = subst (λ spans. AreSpansOf spans (bytes_of Client (with_message held s m).messages ++ (with_message held s m).client) (bytes_of Server (with_message held s m).messages ++ (with_message held s m).server)) (sym (spans_message held s m))
               (subst (λ l. AreSpansOf held.spans l (bytes_of Server (with_message held s m).messages ++ (with_message held s m).server)) (sym both.0)
-                  (subst (λ l. AreSpansOf held.spans (bytes_of Client held.messages ++ held.client) l) (sym both.1) (spans-taken h s more (length machine.core.entries) r.are_spans)));
+              (subst (λ l. AreSpansOf held.spans (bytes_of Client held.messages ++ held.client) l) (sym both.1) (spans-taken h s more (length machine.core.entries) r.are_spans)));
         };
       }

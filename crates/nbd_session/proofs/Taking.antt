@@ -6,13 +6,13 @@ use Rattle.nbd_wire.specs.declared.message.Message.{Message}
 use Rattle.nbd_wire.specs.Encoding.{AreBytes}
 use Rattle.nbd_wire.specs.Items.{Pair, ArePairs, sent}
 use Rattle.nbd_wire.specs.States.{Core}
-use Rattle.nbd_session.specs.declared.fault.WireFault.{WireFault}
-use Rattle.nbd_session.specs.declared.fault.WireFault.TheVariants.{OutOfTurn}
+use Rattle.nbd_laws.specs.declared.fault.WireFault.{WireFault}
+use Rattle.nbd_laws.specs.declared.fault.WireFault.TheVariants.{OutOfTurn}
 use Rattle.nbd_session.specs.declared.reading.Reading.TheVariants as program
 use Rattle.nbd_session.specs.Concrete.{concrete, judged, read_by, staged_by, ended}
 use Rattle.nbd_session.specs.Decisions.{Decision, awaited_by}
 use Rattle.nbd_session.specs.Judge.{decided, decided_counted, awaited, awaited_counted}
-use Rattle.nbd_session.specs.Machine.{Machine, Rest, Both, Reading, More, Whole, Bad, get, put, reads, fresh, old_of, settle, on_ok, IsFilled, IsReached, Kept, kept, Held, AreHeld, kept_next, reached_of, at_once, old-filled, old-empty, grown, IsFilled-snoc}
+use Rattle.nbd_laws.specs.Machine.{Machine, Rest, Both, Reading, More, Whole, Bad, get, put, reads, fresh, old_of, settle, on_ok, IsFilled, IsReached, Kept, kept, Held, AreHeld, kept_next, reached_of, at_once, old-filled, old-empty, grown, IsFilled-snoc}
 use Rattle.nbd_session.specs.Readings.{reading_of, reading_if, unless_before, behind_head, at_end, or_fault}
 use Rattle.nbd_session.proofs.Awaiting.{reads_up_to, held_short}
 use Rattle.nbd_session.proofs.Blockwise.{GoesOn, judged_at_once, extended, reads-append}
@@ -82,9 +82,9 @@ kept_block s old core n bytes b (c ∷ more) r k lt l g =
     let here : concrete old core s (bytes ++ b ∷ []) ≡ More = g (b ∷ []) (IsFilled-snoc bytes b) short in
     let next : Kept concrete s old core ((bytes ++ b ∷ []) ++ c ∷ []) = kept c lt.0 k here at_once r in
     let goes : GoesOn concrete old core s (bytes ++ b ∷ []) n =
-        λ tail filled low. subst (λ bs. concrete old core s bs ≡ More) (sym (assoc tail)) (g (b ∷ tail) (subst IsFilled (assoc tail) filled) (subst (λ bs. length bs < n) (assoc tail) low)) in
+    λ tail filled low. subst (λ bs. concrete old core s bs ≡ More) (sym (assoc tail)) (g (b ∷ tail) (subst IsFilled (assoc tail) filled) (subst (λ bs. length bs < n) (assoc tail) low)) in
     subst (λ bs. Kept concrete s old core bs) (assoc (c ∷ more))
-        (kept_block s old core n (bytes ++ b ∷ []) c more r next lt.1 (subst (λ bs. length bs ≤ n) (sym (assoc (c ∷ more))) l) goes)
+    (kept_block s old core n (bytes ++ b ∷ []) c more r next lt.1 (subst (λ bs. length bs ≤ n) (sym (assoc (c ∷ more))) l) goes)
 
 pub kept_more : (core : Core) (s : Side) (rest : Rest) (more : List ℕ) → Held concrete core s rest → IsFilled more → AreBytes more →
     length (rest.bytes ++ more) ≤ awaited (old_of core rest) core s rest.bytes → Kept concrete s (old_of core rest) core (rest.bytes ++ more)

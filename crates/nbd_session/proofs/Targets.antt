@@ -3,9 +3,9 @@ use Rattle.std.proofs.Common.{◌≡◌, ℕ, zero, suc, ◌+◌, ◌==◌, ◌&
 use Rattle.nbd_wire.specs.declared.message.Message.{Message}
 use Rattle.nbd_wire.specs.Requests.{Entry, ends_reply, is_finished}
 use Rattle.nbd_wire.specs.States.{Core, answered, entry, is_awaiting, target, target_from, with_reply}
-use Rattle.nbd_session.specs.Machine.{IsReached, at_start, after_message}
+use Rattle.nbd_laws.specs.Machine.{IsReached, at_start, after_message}
 use Rattle.nbd_session.proofs.ChunkFaults.{any-snoc}
-use Rattle.nbd_session.proofs.Outstanding.{AreDistinct, Free, IsFound, both_true, distinct_complete, find, free_at, unfinished}
+use Rattle.nbd_laws.specs.lemmas.Outstanding.{AreDistinct, Free, IsFound, both_true, distinct_complete, find, free_at, unfinished}
 
 pub distinct_reached : {core : Core} → IsReached core → AreDistinct core.entries
 distinct_reached at_start = tt

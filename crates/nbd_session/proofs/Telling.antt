@@ -14,11 +14,11 @@ use Rattle.nbd_session.specs.Folded.{core_from}
 use Rattle.nbd_session.specs.Logged.{Logged, known_by, known_here, messages_of}
 use Rattle.nbd_session.specs.Shows.{AreKnown, Shows, place_of}
 use Rattle.nbd_session.proofs.Completed.{shown_length}
-use Rattle.nbd_session.proofs.Latest.{same_number}
+use Rattle.nbd_laws.specs.lemmas.Latest.{same_number}
 use Rattle.nbd_session.proofs.LogKnown.{known_by-within}
 use Rattle.nbd_session.proofs.LogSteps.{known_by-snoc, known_here-other, known_here-same, known_or}
 use Rattle.nbd_session.proofs.ShownEntries.{no_entry}
-use Rattle.nbd_session.proofs.Outstanding.{find}
+use Rattle.nbd_laws.specs.lemmas.Outstanding.{find}
 
 -- the exchanges are as they were, and none has the place that was told
 pub tells_none : (told : Option ℕ) (n : ℕ) (old new : List Exchange) → ((place : ℕ) → told ≡ Some place → length old ≤ place) → new ≡ old → TellsOne told n old new

@@ -13,8 +13,8 @@ use Rattle.nbd_wire.specs.Requests.{Entry, Exporting, chunk_piece, pieces, piece
 use Rattle.nbd_wire.specs.Rules.{MayComplete, complete, requested, reply_to}
 use Rattle.nbd_wire.specs.Sendable.{IsSendable}
 use Rattle.nbd_wire.specs.States.{Phase, Transmission, Core, target, entry, answered, with_reply}
-use Rattle.nbd_session.specs.Machine.{IsReached, at_start, after_message}
-use Rattle.nbd_session.proofs.Laid.{AreApart, AreInside, apart_snoc, inside_snoc, pieces-snoc}
+use Rattle.nbd_laws.specs.Machine.{IsReached, at_start, after_message}
+use Rattle.nbd_laws.specs.lemmas.Laid.{AreApart, AreInside, apart_snoc, inside_snoc, pieces-snoc}
 use Rattle.nbd_session.proofs.Bools.{and_true}
 
 pub record IsTidy (e : Entry) : Type 0 where

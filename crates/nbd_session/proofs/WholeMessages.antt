@@ -5,7 +5,7 @@ use Rattle.nbd_wire.specs.declared.magics.TheConstants.{GREETING_MAGIC, OPTION_M
 use Rattle.nbd_wire.specs.Payloads.{number_at}
 use Rattle.nbd_wire.specs.Requests.{Entry, Exporting}
 use Rattle.nbd_wire.specs.States.{Core}
-use Rattle.nbd_session.specs.declared.fault.WireFault.{WireFault}
+use Rattle.nbd_laws.specs.declared.fault.WireFault.{WireFault}
 use Rattle.nbd_session.specs.declared.reading.Reading.TheVariants.{Whole}
 use Rattle.nbd_session.specs.Decisions.{Decision, fault_if}
 use Rattle.nbd_session.specs.JudgeNegotiation.{abort_answer, answer, choice, client_flags, exported, greeting}

@@ -10,8 +10,8 @@ use Rattle.nbd_wire.specs.Payloads.{number_at}
 use Rattle.nbd_wire.specs.declared.commands.TheConstants as commands
 use Rattle.nbd_wire.specs.declared.payloads.Piece.{Piece}
 use Rattle.nbd_wire.specs.Requests.{Entry, Exporting, piece_offset, piece_size}
-use Rattle.nbd_session.specs.declared.fault.WireFault.{WireFault}
-use Rattle.nbd_session.specs.declared.fault.WireFault.TheVariants.{IncompleteRead, SuccessOfImproper}
+use Rattle.nbd_laws.specs.declared.fault.WireFault.{WireFault}
+use Rattle.nbd_laws.specs.declared.fault.WireFault.TheVariants.{IncompleteRead, SuccessOfImproper}
 use Rattle.nbd_session.specs.declared.spans.Span.{Span}
 use Rattle.nbd_session.specs.Decisions.{fault_if}
 use Rattle.nbd_session.specs.declared.asked.Exchange.{Exchange}

@@ -3,11 +3,11 @@ use Rattle.std.proofs.Common.{ℕ, List, ◌+◌, Option, Some, None, Bool, true
 use Rattle.nbd_wire.specs.declared.message.Side.{Side}
 use Rattle.nbd_wire.specs.declared.message.Message.{Message}
 use Rattle.nbd_wire.specs.States.{Phase, Core}
-use Rattle.nbd_session.specs.declared.fault.WireFault.{WireFault}
-use Rattle.nbd_session.specs.declared.fault.WireFault.TheVariants.{OutOfTurn}
+use Rattle.nbd_laws.specs.declared.fault.WireFault.{WireFault}
+use Rattle.nbd_laws.specs.declared.fault.WireFault.TheVariants.{OutOfTurn}
 use Rattle.nbd_session.specs.Decisions.{Decision}
 use Rattle.nbd_session.specs.Judge.{decided}
-use Rattle.nbd_session.specs.Machine.{Reading, More, Whole, Bad, Judge}
+use Rattle.nbd_laws.specs.Machine.{Reading, More, Whole, Bad, Judge}
 
 abbrev pub staged_by : Bool → Option WireFault → Bool → Reading → Reading
 staged_by true fault whole end = More

@@ -2,7 +2,7 @@
 -- What is decided of a side's bytes, and at which of them.
 use Rattle.std.specs.Prelude.{ℕ, List, ◌+◌, Bool, true, false, nat_lt, if◌then◌else◌, Option, Some, None, length}
 use Rattle.nbd_wire.specs.declared.message.Message.{Message}
-use Rattle.nbd_session.specs.declared.fault.WireFault.{WireFault}
+use Rattle.nbd_laws.specs.declared.fault.WireFault.{WireFault}
 
 -- of bytes that begin a message: the length of its head, the fault at the head's last byte, how many
 -- bytes follow the head, the fault at the last byte of all, and the message

@@ -15,8 +15,8 @@ use Rattle.nbd_wire.specs.declared.transmission.TheConstants as transmission
 use Rattle.nbd_wire.specs.Options.{is_error}
 use Rattle.nbd_wire.specs.Payloads.{number_at, info_of, is_listed}
 use Rattle.nbd_wire.specs.Requests.{Exporting, has, has_only}
-use Rattle.nbd_session.specs.declared.fault.WireFault.{WireFault}
-use Rattle.nbd_session.specs.declared.fault.WireFault.TheVariants.{BadMagic, NotFixedNewstyle, BadClientFlags, WrongOption, BadReplyKind, OutOfProfile, BadReplyPayload, MissingExportInfo, BadExport, ExportTooLarge, SuccessOfImproper}
+use Rattle.nbd_laws.specs.declared.fault.WireFault.{WireFault}
+use Rattle.nbd_laws.specs.declared.fault.WireFault.TheVariants.{BadMagic, NotFixedNewstyle, BadClientFlags, WrongOption, BadReplyKind, OutOfProfile, BadReplyPayload, MissingExportInfo, BadExport, ExportTooLarge, SuccessOfImproper}
 use Rattle.nbd_session.specs.Decisions.{Decision, fault_if}
 
 -- at the head of a greeting with these numbers

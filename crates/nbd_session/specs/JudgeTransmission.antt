@@ -14,8 +14,8 @@ use Rattle.nbd_wire.specs.Payloads.{number_at, content_of, failure_of}
 use Rattle.nbd_wire.specs.Replies.{simple_length}
 use Rattle.nbd_wire.specs.Requests.{Exporting, Entry, has, has_failed, is_in, is_proper, piece_offset, piece_size, pieces}
 use Rattle.nbd_wire.specs.States.{Core, target, entry, with_reply}
-use Rattle.nbd_session.specs.declared.fault.WireFault.{WireFault}
-use Rattle.nbd_session.specs.declared.fault.WireFault.TheVariants.{BadMagic, CookieInUse, UnknownCookie, SimpleForbidden, ChunkForbidden, BadChunk, BadContent, IncompleteRead, SuccessOfImproper, BadDisconnect}
+use Rattle.nbd_laws.specs.declared.fault.WireFault.{WireFault}
+use Rattle.nbd_laws.specs.declared.fault.WireFault.TheVariants.{BadMagic, CookieInUse, UnknownCookie, SimpleForbidden, ChunkForbidden, BadChunk, BadContent, IncompleteRead, SuccessOfImproper, BadDisconnect}
 use Rattle.nbd_session.specs.Decisions.{Decision, fault_if}
 
 -- at the head of a request

@@ -6,8 +6,8 @@ use Rattle.nbd_wire.specs.Items.{Item, Byte, Starts, Completes, Serves, Pair}
 use Rattle.nbd_wire.specs.Report.{Report, export_in, told_from}
 use Rattle.nbd_wire.specs.Rules.{answered_by, complete}
 use Rattle.nbd_wire.specs.States.{Core, start}
-use Rattle.nbd_session.specs.declared.fault.WireFault.{WireFault}
-use Rattle.nbd_session.specs.Machine.{Bad, Both, Judge, Machine, More, Reading, Rest, Whole, get, grown, put, step}
+use Rattle.nbd_laws.specs.declared.fault.WireFault.{WireFault}
+use Rattle.nbd_laws.specs.Machine.{Bad, Both, Judge, Machine, More, Reading, Rest, Whole, get, grown, put, step}
 
 -- a message that has completed, and how many numbered requests had completed before its first byte
 pub record Logged : Type 0 where

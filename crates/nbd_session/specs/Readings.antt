@@ -1,8 +1,8 @@
 -- Internal: no public contract names what stands here.
 -- What the program answers of a side's bytes, by what is decided of them.
 use Rattle.std.specs.Prelude.{ℕ, List, ◌+◌, ◌==◌, Bool, true, false, nat_lt, Option, Some, None, Result, Ok, Err, length}
-use Rattle.nbd_session.specs.declared.fault.WireFault.{WireFault}
-use Rattle.nbd_session.specs.declared.fault.WireFault.TheVariants.{OutOfTurn}
+use Rattle.nbd_laws.specs.declared.fault.WireFault.{WireFault}
+use Rattle.nbd_laws.specs.declared.fault.WireFault.TheVariants.{OutOfTurn}
 use Rattle.nbd_session.specs.declared.reading.Reading.{Reading}
 use Rattle.nbd_session.specs.declared.reading.Reading.TheVariants.{Await, Whole}
 use Rattle.nbd_session.specs.Decisions.{Decision}

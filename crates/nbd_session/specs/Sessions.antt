@@ -8,7 +8,7 @@ use Rattle.nbd_wire.specs.Report.{Report, report}
 use Rattle.nbd_wire.specs.Rules.{IsRun, IsRunBut}
 use Rattle.nbd_session.specs.declared.fault.SessionFault.{SessionFault}
 use Rattle.nbd_session.specs.declared.fault.SessionFault.TheVariants.{Memory, Wire}
-use Rattle.nbd_session.specs.declared.fault.WireFault.TheVariants.{Unfinished}
+use Rattle.nbd_laws.specs.declared.fault.WireFault.TheVariants.{Unfinished}
 
 -- the accepted messages in the order of their completion, each side's bytes behind its messages, the
 -- spans of all bytes, and the fault that closed the session, if one did

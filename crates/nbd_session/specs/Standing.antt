@@ -9,7 +9,7 @@ use Rattle.nbd_wire.specs.Pushed.{Span, bytes_of, pushed}
 use Rattle.nbd_wire.specs.Side.{same_side}
 use Rattle.nbd_wire.specs.States.{Core}
 use Rattle.nbd_session.specs.Concrete.{concrete}
-use Rattle.nbd_session.specs.Machine.{Machine, Rest, get, reads, fresh, old_of, IsFilled}
+use Rattle.nbd_laws.specs.Machine.{Machine, Rest, get, reads, fresh, old_of, IsFilled}
 
 -- the spans' bytes of a side
 abbrev pub span_total : Side → List Span → ℕ
@@ -70,7 +70,8 @@ with_taken h s more entries = record {
   client = with_more s Client more h.client;
   server = with_more s Server more h.server;
   counted = counted_at s h.server h.counted entries;
-  spans = noted h.spans s (length more) }
+  spans = noted h.spans s (length more);
+}
 
 -- with a message of a side whose bytes were its rest
 abbrev pub with_message : Holding → Side → Message → Holding

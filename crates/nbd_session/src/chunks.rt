@@ -12,7 +12,7 @@ ghost use Rattle.nbd_wire.specs.Requests.{Entry, Exporting, has_failed, is_prope
 ghost use Rattle.nbd_wire.specs.States.{Core, with_reply};
 ghost use Rattle.nbd_wire.specs.declared.message.Message.TheVariants.{Chunk};
 ghost use Rattle.nbd_wire.specs.Payloads.{number_at};
-ghost use Rattle.nbd_session.specs.declared.fault.WireFault.TheVariants.{BadChunk, BadContent};
+ghost use Rattle.nbd_laws.specs.declared.fault.WireFault.TheVariants.{BadChunk, BadContent};
 ghost use Rattle.nbd_session.specs.Asking.{ShownIf, done_by, finish_by, span_of};
 ghost use Rattle.nbd_session.specs.Decisions.{fault_if};
 ghost use Rattle.nbd_session.specs.JudgeTransmission.{begins, chunk_to, chunk_fault, fits_read, fits_failure, total};
@@ -20,11 +20,11 @@ ghost use Rattle.nbd_session.specs.Readings.{reading_of};
 ghost use Rattle.nbd_session.specs.Showing.{IsShown};
 
 use crate::asked::{Asked, Exchange};
-use crate::fault::WireFault;
 use crate::heads::chunk_in;
 use crate::proper::has;
 use crate::reading::Reading;
 use crate::spans::{Span, content_span, given, is_apart_from, is_inside};
+use nbd_laws::WireFault;
 use nbd_wire::{ChunkHead, chunks, command_flags, commands, content_of, failure_of, head_lengths};
 
 /// What a server's bytes are that begin as a chunk; the exchange, if any, is the one that the chunk's

@@ -16,7 +16,7 @@ ghost use Rattle.nbd_session.specs.Asking.{entry_of_head};
 ghost use Rattle.nbd_session.specs.Completing.{AddsUnanswered, TellsOne};
 ghost use Rattle.nbd_session.specs.Folded.{core_from};
 ghost use Rattle.nbd_session.specs.Logged.{Logged, messages_of};
-ghost use Rattle.nbd_session.specs.Machine.{IsReached};
+ghost use Rattle.nbd_laws.specs.Machine.{IsReached};
 ghost use Rattle.nbd_session.specs.Shows.{AreKnown, Shows, export_shown_if, phase_shown};
 
 use crate::asked::Exchange;

@@ -7,17 +7,18 @@ ghost use Rattle.nbd_wire.specs.States.{Core, start};
 ghost use Rattle.nbd_session.specs.declared.reading.Reading.TheVariants.{Whole};
 ghost use Rattle.nbd_session.specs.Holdings.{holding_of, is_of, spans_of};
 ghost use Rattle.nbd_session.specs.Judge.{awaited, decided_counted};
-ghost use Rattle.nbd_session.specs.Machine.{Machine, get, old_of};
+ghost use Rattle.nbd_laws.specs.Machine.{Machine, get, old_of};
 ghost use Rattle.nbd_session.specs.Readings.{reading_if, until};
 ghost use Rattle.nbd_session.specs.Sessions.{IsReported, fault_at_end, fault_of};
 ghost use Rattle.nbd_session.specs.Shows.{Shows};
 ghost use Rattle.nbd_session.specs.Standing.{IsReadTo, noted, rest_of, span_total, with_taken};
 ghost use Rattle.nbd_session.specs.Steps.{AddsHeld, IsRefused, IsSame, IsShut, IsTaken, Stands, recorded};
 
-use crate::fault::{SessionFault, WireFault};
+use crate::fault::SessionFault;
 use crate::reading::Reading;
 use crate::state::State;
 use crate::transcript::Transcript;
+use nbd_laws::WireFault;
 use nbd_wire::{Message, Side};
 use std::alloc::{AllocError, Global};
 

@@ -1,18 +1,13 @@
-//! A recorded session, read message by message.
-//!
-//! So far the laws over the definitions of nbd_wire: what a run is does not change with how its
-//! bytes are read.
+//! A recorded session, read message by message as its pieces come.
 #![tactic(auto)]
 
 mod asked;
 mod chunks;
 mod completing;
-pub mod examples;
 pub mod fault;
 mod flags;
 mod heads;
 mod held;
-pub mod laws;
 mod leading;
 mod messages;
 mod negotiation;
@@ -30,7 +25,8 @@ mod transcript;
 mod whole;
 
 pub use asked::{Asked, Outcome};
-pub use fault::{SessionFault, WireFault};
+pub use fault::SessionFault;
+pub use nbd_laws::WireFault;
 pub use nbd_wire::Piece;
 pub use session::Session;
 pub use transcript::Transcript;

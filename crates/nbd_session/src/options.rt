@@ -9,11 +9,11 @@ ghost use Rattle.nbd_session.specs.Leading.{answer_fields_of, unless_fault};
 ghost use Rattle.nbd_session.specs.Readings.{at_end, reading_of};
 ghost use Rattle.nbd_session.specs.Showing.{exporting_if};
 
-use crate::fault::WireFault;
 use crate::flags::has;
 use crate::leading::{leading_answer, leading_choice, of_length};
 use crate::reading::Reading;
 use crate::state::{Chosen, Export};
+use nbd_laws::WireFault;
 use nbd_wire::{
     AnswerHead, Info, answers, go_of, head_lengths, info_of, limits, listed_of, options,
     transmission,

@@ -14,7 +14,6 @@ ghost use Rattle.nbd_session.specs.Readings.{reading_if};
 ghost use Rattle.nbd_session.specs.Shows.{Shows};
 
 use crate::asked::Exchange;
-use crate::fault::WireFault;
 use crate::flags::has;
 use crate::heads::cookie_in;
 use crate::negotiation::{read_client_flags, read_exported, read_greeting};
@@ -23,6 +22,7 @@ use crate::reading::Reading;
 use crate::replies::read_reply;
 use crate::requests::read_request;
 use crate::state::{Phase, State};
+use nbd_laws::WireFault;
 use nbd_wire::{Side, handshake};
 
 impl State {

@@ -14,9 +14,9 @@ ghost use Rattle.nbd_session.specs.Showing.{IsShown};
 
 use crate::asked::{Asked, Exchange};
 use crate::chunks::read_chunk;
-use crate::fault::WireFault;
 use crate::heads::{MAGIC_LENGTH, magic_in, simple_in};
 use crate::reading::Reading;
+use nbd_laws::WireFault;
 use nbd_wire::{commands, head_lengths, magics};
 
 /// What a server's bytes are; the exchange, if any, is the one that the reply's cookie names.

@@ -7,9 +7,9 @@ ghost use Rattle.nbd_wire.specs.States.{Core, target};
 ghost use Rattle.nbd_session.specs.JudgeTransmission.{request, request_payload_length};
 ghost use Rattle.nbd_session.specs.Readings.{reading_of};
 
-use crate::fault::WireFault;
 use crate::heads::request_in;
 use crate::reading::Reading;
+use nbd_laws::WireFault;
 use nbd_wire::{RequestHead, commands, head_lengths};
 use std::collections::BTreeMap;
 

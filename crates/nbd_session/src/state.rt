@@ -63,7 +63,7 @@ impl State {
     ghost use Rattle.nbd_wire.specs.States.{start};
     ghost use Rattle.std.specs.Prelude.{◌≡◌};
     ghost use Rattle.nbd_session.specs.Shows.{Shows};
-    ghost use Rattle.nbd_session.specs.Soundness.{IsSoundReport};
+    ghost use Rattle.nbd_laws.specs.Soundness.{IsSoundReport};
     ghost use Rattle.nbd_session.specs.Transcripts.{export_of, report_told};
 
     /// Before the first message; takes no memory.

@@ -3,7 +3,7 @@
 ghost use Rattle.std.specs.Prelude.{◌≡◌, length};
 ghost use Rattle.std.specs.Option.{option_copied};
 ghost use Rattle.nbd_wire.specs.Report.{asked_at};
-ghost use Rattle.nbd_session.specs.Soundness.{IsSoundReport};
+ghost use Rattle.nbd_laws.specs.Soundness.{IsSoundReport};
 ghost use Rattle.nbd_session.specs.Transcripts.{size_and_flags, told_if};
 
 use crate::asked::{Asked, Exchange};
@@ -21,7 +21,7 @@ pub struct Transcript {
 
 impl Model for Transcript {
     ghost use Rattle.nbd_wire.specs.Report.{Report};
-    ghost use Rattle.nbd_session.specs.Soundness.{IsSoundReport};
+    ghost use Rattle.nbd_laws.specs.Soundness.{IsSoundReport};
     ghost use Rattle.nbd_session.specs.Transcripts.{report_told};
 
     ghost Value = { Report };

@@ -3,8 +3,8 @@ use Rattle.nbd_wire.specs.declared.payloads.Piece.{Piece}
 use Rattle.nbd_wire.specs.declared.chunks.TheConstants as chunks
 use Rattle.nbd_wire.specs.Contents.{piece_of}
 use Rattle.nbd_wire.specs.Requests.{has, has_failed, is_proper, pieces, piece_size}
-use Rattle.nbd_session.specs.declared.fault.WireFault.{WireFault}
-use Rattle.nbd_session.specs.declared.fault.WireFault.TheVariants.{BadChunk, BadContent}
+use Rattle.nbd_laws.specs.declared.fault.WireFault.{WireFault}
+use Rattle.nbd_laws.specs.declared.fault.WireFault.TheVariants.{BadChunk, BadContent}
 use Rattle.nbd_session.specs.Asking.{done_by, finish_by}
 use Rattle.nbd_session.specs.Decisions.{fault_if}
 use Rattle.nbd_session.specs.JudgeTransmission.{fits_read, fits_failure, total}

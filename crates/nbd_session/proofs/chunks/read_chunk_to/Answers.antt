@@ -6,8 +6,8 @@ use Rattle.nbd_wire.specs.declared.message.Message.TheVariants.{Chunk}
 use Rattle.nbd_wire.specs.Payloads.{number_at}
 use Rattle.nbd_wire.specs.Requests.{Entry, Exporting}
 use Rattle.nbd_wire.specs.States.{with_reply}
-use Rattle.nbd_session.specs.declared.fault.WireFault.{WireFault}
-use Rattle.nbd_session.specs.declared.fault.WireFault.TheVariants.{ChunkForbidden}
+use Rattle.nbd_laws.specs.declared.fault.WireFault.{WireFault}
+use Rattle.nbd_laws.specs.declared.fault.WireFault.TheVariants.{ChunkForbidden}
 use Rattle.nbd_session.specs.Decisions.{fault_if}
 use Rattle.nbd_session.specs.JudgeTransmission.{chunk_fault, chunk_last_fault, chunk_to}
 use Rattle.nbd_session.proofs.Answering.{fails, ends}

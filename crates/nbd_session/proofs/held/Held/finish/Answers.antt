@@ -11,4 +11,4 @@ transcript-requires c =
 pub returns-then-is_empty-2-clause-told : goal.returns-then-is_empty-2-clause-told
 returns-then-is_empty-2-clause-told c =
     subst (IsReported (recorded c.args.self None)) (sym c.transcript.ensures)
-        (reported c.args.self c.requires (none_in _ c.args.self.client.items c.args.self.client.ok.0 c.if-is_empty.ensures) (none_in _ c.args.self.server.items c.args.self.server.ok.0 c.if-is_empty-2.ensures))
+    (reported c.args.self c.requires (none_in _ c.args.self.client.items c.args.self.client.ok.0 c.if-is_empty.ensures) (none_in _ c.args.self.server.items c.args.self.server.ok.0 c.if-is_empty-2.ensures))

@@ -24,7 +24,7 @@ take-requires-clause-spans c =
 pub returns-in_err-take-clause-refused : goal.returns-in_err-take-clause-refused
 returns-in_err-take-clause-refused c =
     memory_alone _ c.from_residual.result (IsRefused c.args.self.now c.take.new.self c.args.side c.args.left.now) c.from_residual.ensures.1
-        (refused_memory c.args.self.now c.take.new.self c.args.side c.args.left.now c.requires.stands c.in_err-take.ensures.unchanged.0 c.in_err-take.ensures.unchanged.1)
+    (refused_memory c.args.self.now c.take.new.self c.args.side c.args.left.now c.requires.stands c.in_err-take.ensures.unchanged.0 c.in_err-take.ensures.unchanged.1)
 
 pub settle-requires : goal.settle-requires
 settle-requires c =
@@ -32,8 +32,10 @@ settle-requires c =
     let same = ap length c.rest.ensures in
     let filled = c.requires.filled in
     let n = c.min-count.ensures in
-    record { taken = is_taken c.args.self.now c.take.new.self c.args.side c.args.left.now c.min-count.result c.requires.stands (omega (arith, short, same, filled, n)) (omega (arith, n)) c.in_ok-take.ensures.taken
-        c.in_ok-take.ensures.state c.in_ok-take.ensures.count c.type_inv.left c.awaited.result c.awaited.ensures (omega (arith, short, same, n)) }
+    record {
+      taken = is_taken c.args.self.now c.take.new.self c.args.side c.args.left.now c.min-count.result c.requires.stands (omega (arith, short, same, filled, n)) (omega (arith, n)) c.in_ok-take.ensures.taken
+          c.in_ok-take.ensures.state c.in_ok-take.ensures.count c.type_inv.left c.awaited.result c.awaited.ensures (omega (arith, short, same, n));
+    }
 
 pub returns-in_err-settle-clause-refused : goal.returns-in_err-settle-clause-refused
 returns-in_err-settle-clause-refused c =
@@ -42,9 +44,9 @@ returns-in_err-settle-clause-refused c =
     let filled = c.requires.filled in
     let n = c.min-count.ensures in
     handed_on _ c.from_residual-in_err-settle.result c.in_err-settle.field-0.0 (IsRefused c.args.self.now c.settle.new.self c.args.side c.args.left.now) c.from_residual-in_err-settle.ensures.1
-        (refused_settling c.args.self.now c.take.new.self c.settle.new.self c.args.side c.args.left.now (drop c.min-count.result c.args.left.now) c.in_err-settle.field-0.0
-            (front_added c.args.self.now c.take.new.self c.args.side c.args.left.now c.min-count.result c.requires.stands (omega (arith, short, same, filled, n)) (omega (arith, n)) c.in_ok-take.ensures.taken)
-            c.in_err-settle.ensures.same c.in_err-settle.ensures.shut)
+    (refused_settling c.args.self.now c.take.new.self c.settle.new.self c.args.side c.args.left.now (drop c.min-count.result c.args.left.now) c.in_err-settle.field-0.0
+    (front_added c.args.self.now c.take.new.self c.args.side c.args.left.now c.min-count.result c.requires.stands (omega (arith, short, same, filled, n)) (omega (arith, n)) c.in_ok-take.ensures.taken)
+    c.in_err-settle.ensures.same c.in_err-settle.ensures.shut)
 
 pub returns-clause-some : goal.returns-clause-some
 returns-clause-some c =
@@ -61,5 +63,5 @@ returns-clause-adds c =
     let filled = c.requires.filled in
     let n = c.min-count.ensures in
     settled_added c.args.self.now c.take.new.self c.settle.new.self c.args.side c.args.left.now (drop c.min-count.result c.args.left.now)
-        (front_added c.args.self.now c.take.new.self c.args.side c.args.left.now c.min-count.result c.requires.stands (omega (arith, short, same, filled, n)) (omega (arith, n)) c.in_ok-take.ensures.taken)
-        c.in_ok-settle.ensures.same
+    (front_added c.args.self.now c.take.new.self c.args.side c.args.left.now c.min-count.result c.requires.stands (omega (arith, short, same, filled, n)) (omega (arith, n)) c.in_ok-take.ensures.taken)
+    c.in_ok-settle.ensures.same

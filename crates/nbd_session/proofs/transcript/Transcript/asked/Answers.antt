@@ -12,6 +12,6 @@ returns c =
     let same = c.deref.ensures.value in
     ap (λ (x : Exchange). Some (asked_told x.asked)) (l.1 ∙ ap (λ xs. slice_index_or xs c.in_ok-place.place c.in_ok-get.field-0.now) same)
     ∙ told_at c.self.inside.exchanges.items c.args.k c.in_ok-place.place c.in_ok-get.field-0.now
-        (counted_from_one c.checked_sub.result c.args.k c.in_ok-place.place c.checked_sub.ensures c.in_ok-place.was)
-        (subst (λ xs. true ≡ nat_lt c.in_ok-place.place (length xs)) same l.0)
+    (counted_from_one c.checked_sub.result c.args.k c.in_ok-place.place c.checked_sub.ensures c.in_ok-place.was)
+    (subst (λ xs. true ≡ nat_lt c.in_ok-place.place (length xs)) same l.0)
     ∙ ap (λ r. asked_at c.args.k r.asked) c.self.view_is

@@ -1,0 +1,5 @@
+use Rattle.nbd_laws.proofs.WorkedChunks as worked
+use Rattle.nbd_laws.proofs.examples.failed_read.Goals as goal
+
+pub returns : goal.returns
+returns c = worked.failed_read

@@ -1,0 +1,5 @@
+use Rattle.nbd_laws.proofs.WorkedOptions as worked
+use Rattle.nbd_laws.proofs.examples.padded_export.Goals as goal
+
+pub returns : goal.returns
+returns c = worked.padded_export

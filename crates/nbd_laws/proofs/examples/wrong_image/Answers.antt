@@ -1,0 +1,5 @@
+use Rattle.nbd_laws.proofs.WorkedRefusals as worked
+use Rattle.nbd_laws.proofs.examples.wrong_image.Goals as goal
+
+pub returns : goal.returns
+returns c = worked.wrong_image

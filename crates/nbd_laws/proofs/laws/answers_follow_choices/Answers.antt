@@ -1,0 +1,5 @@
+use Rattle.nbd_laws.proofs.Negotiating.{answers_follow_choices}
+use Rattle.nbd_laws.proofs.laws.answers_follow_choices.Goals as goal
+
+pub returns : goal.returns
+returns c = answers_follow_choices

@@ -1,0 +1,5 @@
+use Rattle.nbd_laws.specs.lemmas.Outstanding.{cookies_are_distinct}
+use Rattle.nbd_laws.proofs.laws.cookies_are_distinct.Goals as goal
+
+pub returns : goal.returns
+returns c = cookies_are_distinct

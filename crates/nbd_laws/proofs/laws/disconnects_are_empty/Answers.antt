@@ -1,0 +1,5 @@
+use Rattle.nbd_laws.proofs.Disconnected.{disconnects_are_empty}
+use Rattle.nbd_laws.proofs.laws.disconnects_are_empty.Goals as goal
+
+pub returns : goal.returns
+returns c = disconnects_are_empty

@@ -1,0 +1,5 @@
+use Rattle.nbd_laws.specs.lemmas.Unserved.{same_reports}
+use Rattle.nbd_laws.proofs.laws.same_reports.Goals as goal
+
+pub returns : goal.returns
+returns c = same_reports

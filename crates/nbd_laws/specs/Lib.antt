@@ -1,0 +1,16 @@
+pub mod lemmas
+pub mod Captures
+pub mod CapturesChunks
+pub mod CapturesOptions
+pub mod CapturesReads
+pub mod CapturesRequests
+pub mod Explaining
+pub mod Fronts
+pub mod Holding
+pub mod Machine
+pub mod Moments
+pub mod Negotiating
+pub mod Replying
+pub mod Sameness
+pub mod Service
+pub mod Soundness

@@ -1,0 +1,132 @@
+//! Laws over the definitions of nbd_wire: each is the contract of a function that does nothing.
+ghost use Rattle.nbd_laws.specs.Soundness.{ReportsAreSound};
+ghost use Rattle.nbd_laws.specs.Fronts.{CompletionsStandBehindBytes, FrontsAreRuns, NoProperFront, StartsStandBeforeBytes};
+ghost use Rattle.nbd_laws.specs.Holding.{CutsDoNotCount, PushedHoldsEachSide};
+ghost use Rattle.nbd_laws.specs.Moments.{LatestMoments, OrdersAreFaultless};
+ghost use Rattle.nbd_laws.specs.Negotiating.{AnswersFollowChoices, HandshakesAreFair};
+ghost use Rattle.nbd_laws.specs.Replying.{RepliesAreWhole};
+ghost use Rattle.nbd_laws.specs.Sameness.{SameMarks, SameReports, ReportsIgnoreService};
+ghost use Rattle.nbd_laws.specs.Service.{CookiesAreDistinct, DisconnectsAreEmpty, EachReplyAnswersOne, EmptyIsExplained, NothingBehindDisconnect, RepliesEndAsTheyStart, ServedOnceBehindCompletion};
+ghost use Rattle.nbd_laws.specs.Explaining.{PassingIsExplained, ExplainedPasses};
+
+/// A run with given bytes and a given order of service exists exactly where a run with these bytes
+/// exists and the order has no fault.
+pub fn latest_moments()
+    ensures served { LatestMoments }
+    ensures only { OrdersAreFaultless }
+{}
+
+/// The bytes of a run determine its messages and where each starts and completes.
+pub fn same_marks()
+    ensures { SameMarks }
+{}
+
+/// The bytes of a run determine its report.
+pub fn same_reports()
+    ensures { SameReports }
+{}
+
+/// The report of a run does not depend on where requests are served.
+pub fn reports_ignore_service()
+    ensures { ReportsIgnoreService }
+{}
+
+/// The empty capture is explained by the empty order, whatever the export held at first.
+pub fn empty_is_explained()
+    ensures { EmptyIsExplained }
+{}
+
+/// Of two messages of one side that may complete in one state, neither's bytes are a proper front of
+/// the other's, and equal bytes are of one message.
+pub fn no_proper_front()
+    ensures { NoProperFront }
+{}
+
+/// A front of a run at which no message is open is a run.
+pub fn fronts_are_runs()
+    ensures { FrontsAreRuns }
+{}
+
+/// At no moment of a run two outstanding requests have one cookie.
+pub fn cookies_are_distinct()
+    ensures { CookiesAreDistinct }
+{}
+
+/// Each server message of transmission answers exactly one request, which had completed and was
+/// served before its first byte.
+pub fn each_reply_answers_one()
+    ensures { EachReplyAnswersOne }
+{}
+
+/// The served numbers are distinct, each that of a request that had completed.
+pub fn served_once_behind_completion()
+    ensures { ServedOnceBehindCompletion }
+{}
+
+/// A capture is explained exactly where a run with its bytes, whichever, has an order without a
+/// fault, an image of the export's size if any, and no wrong byte.
+pub fn explained_exactly()
+    ensures passing { PassingIsExplained }
+    ensures only { ExplainedPasses }
+{}
+
+/// The report of a run has an export within the limit, if any, and each of its requests was first
+/// answered behind its completion, carries as many bytes as it says, is proper where it succeeded,
+/// and where it is a READ has pieces in its range that share no offset and, at success, cover it.
+pub fn reports_are_sound()
+    ensures { ReportsAreSound }
+{}
+
+/// A message starts directly before its first byte.
+pub fn starts_stand_before_bytes()
+    ensures { StartsStandBeforeBytes }
+{}
+
+/// A message completes directly behind a byte of its side.
+pub fn completions_stand_behind_bytes()
+    ensures { CompletionsStandBehindBytes }
+{}
+
+/// A DISC has offset 0 and length 0.
+pub fn disconnects_are_empty()
+    ensures { DisconnectsAreEmpty }
+{}
+
+/// The client starts nothing behind a DISC.
+pub fn nothing_behind_disconnect()
+    ensures { NothingBehindDisconnect }
+{}
+
+/// The replies to a request have its cookie and are one simple reply, or chunks of which only the last
+/// ends the reply; each is of a form that the request and the structured replies in force allow.
+pub fn replies_are_whole()
+    ensures { RepliesAreWhole }
+{}
+
+/// A session begins with a fixed newstyle greeting and client flags that were offered.
+pub fn handshakes_are_fair()
+    ensures { HandshakesAreFair }
+{}
+
+/// An answer is one to the option that was chosen last: an error, or where the option's data has its
+/// form an ACK without payload, a name for LIST, an info for INFO and GO. The ACK to INFO or GO comes
+/// behind an info on an export.
+pub fn answers_follow_choices()
+    ensures { AnswersFollowChoices }
+{}
+
+/// A chunk cut in two leaves the flat capture as it is.
+pub fn cuts_do_not_count()
+    ensures { CutsDoNotCount }
+{}
+
+/// What a session holds gives back each side's bytes: its messages' encodings and what came behind them.
+pub fn pushed_holds_each_side()
+    ensures { PushedHoldsEachSide }
+{}
+
+/// The server's message that completes next is the one that started, and it still answers the same
+/// request.
+pub fn replies_end_as_they_start()
+    ensures { RepliesEndAsTheyStart }
+{}

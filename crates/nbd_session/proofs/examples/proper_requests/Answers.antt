@@ -1,5 +1,0 @@
-use Rattle.nbd_session.proofs.WorkedRequests as worked
-use Rattle.nbd_session.proofs.examples.proper_requests.Goals as goal
-
-pub returns : goal.returns
-returns c = worked.proper_requests

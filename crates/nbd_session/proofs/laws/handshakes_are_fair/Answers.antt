@@ -1,5 +1,0 @@
-use Rattle.nbd_session.proofs.Negotiating.{handshakes_are_fair}
-use Rattle.nbd_session.proofs.laws.handshakes_are_fair.Goals as goal
-
-pub returns : goal.returns
-returns c = handshakes_are_fair

@@ -1,5 +1,0 @@
-use Rattle.nbd_session.proofs.Replying.{replies_are_whole}
-use Rattle.nbd_session.proofs.laws.replies_are_whole.Goals as goal
-
-pub returns : goal.returns
-returns c = replies_are_whole
