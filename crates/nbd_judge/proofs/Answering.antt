@@ -5,9 +5,9 @@ use Rattle.nbd_wire.specs.Items.{Item, pairs}
 use Rattle.nbd_wire.specs.Report.{Report, report}
 use Rattle.nbd_wire.specs.Rules.{IsRun}
 use Rattle.nbd_wire.specs.Verdicts.{IsFaultless, Passes, answered, improper, requests}
-use Rattle.nbd_session.specs.Explaining.{ExplainedPasses, IsNo, PassingIsExplained}
-use Rattle.nbd_session.specs.Moments.{OrdersAreFaultless}
-use Rattle.nbd_session.specs.Sameness.{SameReports}
+use Rattle.nbd_laws.specs.Explaining.{ExplainedPasses, IsNo, PassingIsExplained}
+use Rattle.nbd_laws.specs.Moments.{OrdersAreFaultless}
+use Rattle.nbd_laws.specs.Sameness.{SameReports}
 use Rattle.nbd_judge.specs.declared.verdict.Verdict.TheVariants.{Yes, Wire, Image, Order, Content}
 use Rattle.nbd_judge.specs.Conclusions.{VerdictsAnswerRuns}
 use Rattle.nbd_judge.proofs.Single.{fits_not, has_fault, has_wrong}

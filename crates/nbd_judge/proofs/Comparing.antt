@@ -9,7 +9,7 @@ use Rattle.nbd_wire.specs.Exchanges.{IsWrongIn, exchange, is_success}
 use Rattle.nbd_wire.specs.Report.{Asked}
 use Rattle.nbd_wire.specs.Requests.{byte_at, holds, is_in, piece_byte, piece_offset, piece_size}
 use Rattle.nbd_export.specs.Ranges.{DiffersIn, IsLeast, bytes_from, zeroes}
-use Rattle.nbd_session.specs.Soundness.{AreLaid}
+use Rattle.nbd_laws.specs.Soundness.{AreLaid}
 use Rattle.nbd_judge.specs.Lesser.{lesser_of}
 use Rattle.nbd_judge.specs.Pieces.{AreInside, DiffersInOneOf, DiffersInPiece}
 use Rattle.nbd_judge.specs.Servable.{IsServable}

@@ -3,7 +3,7 @@ use Rattle.std.proofs.Common.{◌≡◌, ℕ, zero, suc, ◌+◌, ◌≤◌, [],
 use Rattle.nbd_wire.specs.Exchanges.{is_success}
 use Rattle.nbd_wire.specs.Report.{Asked, Report, asked_at}
 use Rattle.nbd_wire.specs.Requests.{Exporting, Outcome, Success, Failure, Pending, has_range}
-use Rattle.nbd_session.specs.Soundness.{IsSoundAsked, IsSoundReport}
+use Rattle.nbd_laws.specs.Soundness.{IsSoundAsked, IsSoundReport}
 use Rattle.nbd_judge.specs.Servable.{IsServable, size_of}
 
 success_of : (o : Outcome) → is_success o ≡ true → o ≡ Success

@@ -8,7 +8,7 @@ use Rattle.nbd_export.specs.Ranges.{AreSameBelow}
 use Rattle.nbd_export.specs.Starts as contents
 use Rattle.nbd_export.specs.declared.start.Start as contents_start
 use Rattle.nbd_export.specs.declared.start.Start.TheVariants as contents_starts
-use Rattle.nbd_session.specs.Soundness.{IsSoundReport}
+use Rattle.nbd_laws.specs.Soundness.{IsSoundReport}
 use Rattle.nbd_session.specs.Transcripts.{size_and_flags}
 use Rattle.nbd_judge.specs.declared.verdict.Verdict.{Verdict}
 use Rattle.nbd_judge.specs.declared.verdict.Verdict.TheVariants as verdict

@@ -4,7 +4,7 @@ use Rattle.nbd_wire.specs.Explains.{Start}
 use Rattle.nbd_wire.specs.Items.{Item, Pair, pairs, served}
 use Rattle.nbd_wire.specs.Report.{Report, report}
 use Rattle.nbd_wire.specs.Rules.{IsRun}
-use Rattle.nbd_session.specs.Explaining.{IsNo, IsYes}
+use Rattle.nbd_laws.specs.Explaining.{IsNo, IsYes}
 use Rattle.nbd_session.specs.declared.fault.SessionFault.{SessionFault}
 use Rattle.nbd_session.specs.declared.fault.SessionFault.TheVariants as session
 use Rattle.nbd_judge.specs.declared.verdict.Verdict.{Verdict}

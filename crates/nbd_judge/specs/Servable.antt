@@ -4,7 +4,7 @@ use Rattle.nbd_wire.specs.declared.commands.TheConstants as commands
 use Rattle.nbd_wire.specs.Exchanges.{is_success}
 use Rattle.nbd_wire.specs.Report.{Asked}
 use Rattle.nbd_wire.specs.Requests.{Exporting, byte_at, is_in}
-use Rattle.nbd_session.specs.Soundness.{AreLaid}
+use Rattle.nbd_laws.specs.Soundness.{AreLaid}
 
 -- the size of an export in bytes; 0 where there is none
 abbrev pub size_of : Option Exporting → ℕ

@@ -3,7 +3,7 @@
 ghost use Rattle.std.specs.Prelude.{◌≡◌, ℕ, List, IfOk, Ok, Err};
 ghost use Rattle.nbd_wire.specs.Items.{Item, pairs};
 ghost use Rattle.nbd_wire.specs.Rules.{IsRun};
-ghost use Rattle.nbd_session.specs.declared.fault.WireFault.{WireFault};
+ghost use Rattle.nbd_laws.specs.declared.fault.WireFault.{WireFault};
 ghost use Rattle.nbd_session.specs.declared.fault.SessionFault.TheVariants as session;
 ghost use Rattle.nbd_judge.specs.declared.verdict.Verdict.TheVariants as verdict;
 ghost use Rattle.nbd_judge.specs.Beginnings.{image_length, initial_of};

@@ -4,7 +4,7 @@ ghost use Rattle.nbd_judge.specs.Conclusions.{VerdictsAnswerRuns};
 ghost use Rattle.nbd_judge.specs.Folding.{Folding};
 ghost use Rattle.nbd_judge.specs.Uniqueness.{OneJudgement, OneVerdict};
 
-use nbd_session::laws::{explained_exactly, latest_moments, same_reports};
+use nbd_laws::laws::{explained_exactly, latest_moments, same_reports};
 
 /// The contents behind the requests before `k`, each applied to those before it, are the export's bytes
 /// when `k` is served, each looked up backwards.

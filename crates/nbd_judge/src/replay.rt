@@ -1,7 +1,7 @@
 //! The pass over the order that compares and changes contents.
 
 ghost use Rattle.std.specs.Prelude.{◌≡◌, ℕ, IfOk, MatchOption};
-ghost use Rattle.nbd_session.specs.Soundness.{IsSoundReport};
+ghost use Rattle.nbd_laws.specs.Soundness.{IsSoundReport};
 ghost use Rattle.nbd_judge.specs.Orders.{IsOnce};
 ghost use Rattle.nbd_judge.specs.Servable.{size_of};
 ghost use Rattle.nbd_judge.specs.Verdicts.{FirstWrongFrom, HasWrongFrom};
