@@ -12,7 +12,9 @@ use nbd_wire::Side;
 use std::alloc::{AllocError, Global};
 
 /// Checks a capture, given in chunks of any size, against an order of service and what the export held
-/// at first. The condition is that the chunks are countable (`are_countable`). Only the sequence of bytes with their senders counts, not where chunks are cut.
+/// at first. The chunks must have fewer than 2^63 bytes together, which `are_countable` tells. Only the
+/// sequence of bytes with their senders counts, not where chunks are cut. Want of memory is answered
+/// where an allocation was refused.
 pub fn check(
     alloc: Global,
     chunks: &[(Side, Vec<u8>)],
