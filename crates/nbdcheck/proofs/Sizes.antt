@@ -1,11 +1,13 @@
 -- The chunks of a capture text have fewer bytes than the text.
 use Rattle.std.proofs.Common.{◌≡◌, ℕ, ◌+◌, ◌*◌, ◌≤◌, List, [], ◌∷◌, ◌++◌, length, map, refl, sym, ap, ◌∙◌, subst, arith, length-append, Vec, sum_by}
+use Rattle.std.proofs.lemmas.List.{length-map}
 use Rattle.std.proofs.lemmas.List.Sums.{sum_by-append, sum_by-cons}
 use Rattle.std.specs.declared.alloc.Global.{Global}
 use Rattle.nbd_wire.specs.declared.message.Side.{Side}
 use Rattle.nbd_capture.specs.Lines.{IsText, empty, line, line_feed}
 use Rattle.nbd_capture.specs.Capture.{Chunk, IsCaptureLine, IsCaptureText, AreDigits, chunk_of, chunks_of, chunk, blank, comment, none, byte}
-use Rattle.nbdcheck.specs.Runs.{total_size}
+use Rattle.nbd_wire.specs.Items.{flat, sent}
+use Rattle.nbd_judge.specs.Captures.{chunks_told}
 
 digits_are_two : (digits bytes : List ℕ) → AreDigits digits bytes → length bytes ≤ length digits
 digits_are_two _ _ none = omega arith
@@ -23,12 +25,16 @@ text_size _ _ (line bytes said rest values unbroken form more) =
     let k = text_size rest values more in
     omega (arith, h, k, sum_by-append (λ (c : Chunk). length c.bytes) said values, length-append bytes (line_feed ∷ rest))
 
-sum-chunks_of : (chunks : List (Side × Vec ℕ Global)) → sum_by (λ (c : Chunk). length c.bytes) (chunks_of chunks) ≡ total_size chunks
+length-sent : (side : Side) (bytes : List ℕ) → length (sent side bytes) ≡ length bytes
+length-sent side bytes = length-map bytes (λ b. record { from = side; byte = b })
+
+sum-chunks_of : (chunks : List (Side × Vec ℕ Global)) → sum_by (λ (c : Chunk). length c.bytes) (chunks_of chunks) ≡ length (flat (chunks_told chunks))
 sum-chunks_of [] = refl
 sum-chunks_of (c ∷ chunks) =
     sum_by-cons (λ (c : Chunk). length c.bytes) (chunk_of c) (chunks_of chunks)
     ∙ ap (λ n. length c.1.items + n) (sum-chunks_of chunks)
-    ∙ sym (sum_by-cons (λ (c : Side × Vec ℕ Global). length c.1.items) c chunks)
+    ∙ sym (length-append (sent c.0 c.1.items) (flat (chunks_told chunks)) ∙ ap (λ n. n + length (flat (chunks_told chunks))) (length-sent c.0 c.1.items))
 
-pub total_size-le : (text : List ℕ) (chunks : List (Side × Vec ℕ Global)) → IsCaptureText text (chunks_of chunks) → total_size chunks ≤ length text
-total_size-le text chunks h = let k = text_size text (chunks_of chunks) h in omega (arith, k, sum-chunks_of chunks)
+-- the chunks of a capture text have at most as many bytes as the text
+pub flat-le : (text : List ℕ) (chunks : List (Side × Vec ℕ Global)) → IsCaptureText text (chunks_of chunks) → length (flat (chunks_told chunks)) ≤ length text
+flat-le text chunks h = let k = text_size text (chunks_of chunks) h in omega (arith, k, sum-chunks_of chunks)

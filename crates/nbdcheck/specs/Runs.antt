@@ -1,15 +1,17 @@
 -- What a run of `check` tells of its inputs and leaves written, where the readers and the writer tell their bytes.
-use Rattle.std.specs.Prelude.{◌≡◌, ℕ, List, Option, IfSome, Vec, length, sum_by}
-use Rattle.std.specs.declared.alloc.Global.{Global}
+use Rattle.std.specs.Prelude.{◌≡◌, ◌↔◌, ℕ, List, Option, Some, None, IfSome, IsTrue, Bool, map}
 use Rattle.nbd_wire.specs.declared.message.Side.{Side}
+use Rattle.nbd_wire.specs.Explains.{Start}
+use Rattle.nbd_wire.specs.Items.{Pair, flat}
 use Rattle.std.specs.Io.KnownBytes.{Appends, Keeps}
 use Rattle.nbd_capture.specs.Capture.{Chunk, IsCaptureText, IsFirstBadCaptureLine}
 use Rattle.nbd_capture.specs.Order.{IsOrderText, IsFirstBadOrderLine}
 use Rattle.nbdcheck.specs.declared.fault.RunFault.{RunFault}
-use Rattle.nbdcheck.specs.declared.fault.RunFault.TheVariants.{CaptureLine, CaptureRead, OrderLine, OrderRead, Write, Memory, Unsupported}
-use Rattle.nbdcheck.specs.declared.verdict.Verdict.{Verdict}
+use Rattle.nbdcheck.specs.declared.fault.RunFault.TheVariants.{CaptureLine, CaptureRead, OrderLine, OrderRead, ImageRead, Write, Memory}
+use Rattle.nbd_judge.specs.declared.verdict.Verdict.{Verdict}
+use Rattle.nbd_judge.specs.Captures.{IsChecked}
 use Rattle.nbd_capture.specs.Writing.{AppendsFront}
-use Rattle.nbdcheck.specs.Verdicts.{line}
+use Rattle.nbdcheck.specs.Verdicts.{IsYes, line}
 
 -- known bytes are a capture text
 abbrev pub IsCapture : Option (List ℕ) → Type 0
@@ -33,9 +35,22 @@ IsOrderCause order OrderRead = Unit {0}
 IsOrderCause order Memory = Unit {0}
 IsOrderCause order _ = ⊥
 
--- how many bytes the chunks have together
-abbrev pub total_size : List (Side × Vec ℕ Global) → ℕ
-total_size chunks = sum_by (λ chunk. length chunk.1.items) chunks
+-- the chunks' bytes with their senders
+abbrev pub pairs_of : List Chunk → List Pair
+pairs_of chunks = flat (map (λ (c : Chunk). (c.side, c.bytes)) chunks)
+
+-- the verdict on known texts and a known start: that on the capture's chunks and the order's numbers
+abbrev pub IsVerdictOn : (capture order : Option (List ℕ)) → Option Start → Verdict → Type 0
+IsVerdictOn (Some text) (Some numbers_text) (Some initial) verdict =
+    (chunks : List Chunk) × (numbers : List ℕ) × IsCaptureText text chunks × IsOrderText numbers_text numbers × IsChecked (pairs_of chunks) numbers initial verdict
+IsVerdictOn capture order initial verdict = Unit {0}
+
+-- a verdict's line was written, that of true at a yes alone
+pub record Tells (capture order : Option (List ℕ)) (initial : Option Start) (yes : Bool) (old new : Option (List ℕ)) : Type 0 where
+  pub verdict : Verdict
+  pub is_verdict : IsVerdictOn capture order initial verdict
+  pub answer : IsTrue yes ↔ IsYes verdict
+  pub appended : Appends old new (line verdict)
 
 -- what a fault says of the known bytes of the capture and of the order: the capture is judged first
 abbrev pub IsCause : Option (List ℕ) → Option (List ℕ) → RunFault → Type 0
@@ -45,9 +60,15 @@ IsCause capture order (OrderLine n) = IsCapture capture × IfSome order (λ text
 IsCause capture order OrderRead = IsCapture capture
 IsCause capture order Write = IsCapture capture × IsOrder order
 IsCause capture order Memory = Unit {0}
-IsCause capture order Unsupported = IsCapture capture × IsOrder order
+IsCause capture order ImageRead = IsCapture capture × IsOrder order
+
+-- a front of a verdict's line was written
+pub record TellsFront (capture order : Option (List ℕ)) (initial : Option Start) (old new : Option (List ℕ)) : Type 0 where
+  pub verdict : Verdict
+  pub is_verdict : IsVerdictOn capture order initial verdict
+  pub appended : AppendsFront old new (line verdict)
 
 -- what stands written after a fault: a front of a verdict's line where the writer failed, else nothing
-abbrev pub LeavesWritten : Option (List ℕ) → Option (List ℕ) → RunFault → Type 0
-LeavesWritten old new Write = (verdict : Verdict) × AppendsFront old new (line verdict)
-LeavesWritten old new _ = Keeps old new
+abbrev pub LeavesWritten : (capture order : Option (List ℕ)) → Option Start → (old new : Option (List ℕ)) → RunFault → Type 0
+LeavesWritten capture order initial old new Write = TellsFront capture order initial old new
+LeavesWritten capture order initial old new _ = Keeps old new

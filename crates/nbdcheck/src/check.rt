@@ -1,47 +1,47 @@
 //! The command `check`, over any readers and writer.
-ghost use Rattle.std.specs.Prelude.{◌≡◌, ◌↔◌, ◌<◌, ◌^◌, ◌⊎◌, IsTrue, IfOk, OnOk, IfErr, IfSome};
-ghost use Rattle.std.specs.Io.KnownBytes.{Appends};
+ghost use Rattle.std.specs.Prelude.{◌≡◌, ◌<◌, ◌^◌, OnOk, IfErr, IfOk, IfSome, length};
 ghost use Rattle.nbd_capture.specs.Capture.{IsCaptureText, chunks_of};
 ghost use Rattle.nbd_capture.specs.Order.{IsOrderText};
-ghost use Rattle.nbdcheck.specs.declared.verdict.Verdict.{Verdict};
-ghost use Rattle.nbdcheck.specs.declared.fault.RunFault.TheVariants.{Memory, Unsupported};
-ghost use Rattle.nbdcheck.specs.Runs.{IsCapture, IsOrder, IsCaptureCause, IsOrderCause, IsCause, LeavesWritten, total_size};
-ghost use Rattle.nbdcheck.specs.Verdicts.{IsYes, line};
+ghost use Rattle.nbd_wire.specs.Items.{flat};
+ghost use Rattle.nbd_judge.specs.Captures.{chunks_told};
+ghost use Rattle.nbdcheck.specs.Runs.{IsCapture, IsOrder, IsCaptureCause, IsOrderCause, IsCause, LeavesWritten, Tells};
+ghost use Rattle.nbdcheck.specs.Starts.{initial_from};
 
 use crate::fault::RunFault;
 use crate::input::{ReadFault, read_whole};
-use crate::judge::{StartFrom, judge};
-use crate::session::{Session, SessionFault, Transcript};
-use crate::verdict::Verdict;
+use crate::start::{StartFrom, read_start};
+use crate::verdict::{Line, is_yes};
 use nbd_capture::{parse_capture, parse_order, write_whole};
+use nbd_judge::check;
 use nbd_wire::Side;
 use std::alloc::Global;
 use std::io::{BufRead, Read, Write};
 
-/// Reads a capture text and an order text whole, checks the session from this start, and writes the
-/// verdict's line. Answers true where the verdict is yes.
+/// Reads a capture text, an order text and an image, if there is one, whole, checks the session from this
+/// start, and writes the verdict's line. Answers true where the verdict is yes.
 ///
-/// The capture is read first, then the order; a fault of a text or of its reader is answered before
-/// any verdict. Nothing is written unless both were read whole and are well formed.
-pub fn run_check<C: BufRead + Drop, O: Read + Drop, W: Write>(
+/// The capture is read first, then the order, then the image; a fault of a text or of its reader is
+/// answered before any verdict. Nothing is written unless all were read whole and are well formed. After
+/// `Write` a front of the line stands written.
+pub fn run_check<C: BufRead + Drop, O: Read + Drop, I: Read + Drop, W: Write>(
     alloc: Global,
     mut capture: C,
     mut order: O,
-    start: StartFrom,
+    start: StartFrom<I>,
     out: &mut W,
 ) -> Result<bool, RunFault>
-    ensures written { IfOk result (λ yes. (verdict : Verdict) × (IsTrue yes ↔ IsYes verdict)
-        × Appends (W.contents out.old) (W.contents out.new) (line verdict)) }
+    ensures written { IfOk result (λ yes. Tells (C.remaining capture) (O.remaining order) (initial_from I.remaining start) yes (W.contents out.old) (W.contents out.new)) }
     ensures well_formed { OnOk result (IsCapture (C.remaining capture) × IsOrder (O.remaining order)) }
     ensures cause { IfErr result (IsCause (C.remaining capture) (O.remaining order)) }
-    ensures left { IfErr result (LeavesWritten (W.contents out.old) (W.contents out.new)) }
+    ensures left { IfErr result (LeavesWritten (C.remaining capture) (O.remaining order) (initial_from I.remaining start) (W.contents out.old) (W.contents out.new)) }
 {
     let chunks = read_capture(alloc, &mut capture)?;
     let order = read_order(alloc, &mut order)?;
-    let verdict = verdict_of(alloc, chunks.as_slice(), order.as_slice(), start)?;
-    let line = format!(in alloc; "{verdict}\n")?;
+    let start = read_start(alloc, start)?;
+    let verdict = check(alloc, chunks.as_slice(), order.as_slice(), start)?;
+    let line = format!(in alloc; "{}\n", Line { verdict })?;
     write_whole(out, line.as_bytes())?;
-    Ok(verdict.is_yes())
+    Ok(is_yes(&verdict))
 }
 
 /// The chunks of a capture text.
@@ -51,7 +51,7 @@ fn read_capture<C: BufRead>(
 ) -> Result<Vec<(Side, Vec<u8>)>, RunFault>
     ensures text { IfOk result (λ chunks. IfSome (C.remaining capture.old)
         (λ text. IsCaptureText text (chunks_of chunks.items))) }
-    ensures small { IfOk result (λ chunks. total_size chunks.items < 2 ^ 63) }
+    ensures small { IfOk result (λ chunks. length (flat (chunks_told chunks.items)) < 2 ^ 63) }
     ensures cause { IfErr result (IsCaptureCause (C.remaining capture.old)) }
 {
     let text = read_whole(alloc, capture).map_err(|fault| match fault {
@@ -72,31 +72,4 @@ fn read_order<O: Read>(alloc: Global, order: &mut O) -> Result<Vec<u64>, RunFaul
         ReadFault::Memory => RunFault::Memory,
     })?;
     Ok(parse_order(alloc, text.as_slice())?)
-}
-
-/// The verdict on a capture, an order and a start; `Unsupported` where it needs what is not there yet.
-fn verdict_of(
-    alloc: Global,
-    chunks: &[(Side, Vec<u8>)],
-    order: &[u64],
-    start: StartFrom,
-) -> Result<Verdict, RunFault>
-    requires { total_size chunks.now < 2 ^ 63 }
-    ensures { IfErr result (λ fault. (fault ≡ Memory) ⊎ (fault ≡ Unsupported)) }
-{
-    match transcript_of(alloc, chunks) {
-        Ok(transcript) => judge(&transcript, order, start).ok_or(RunFault::Unsupported),
-        Err(SessionFault::Wire { at, fault }) => Ok(Verdict::Wire { at, fault }),
-        Err(SessionFault::Memory) => Err(RunFault::Memory),
-    }
-}
-
-fn transcript_of(alloc: Global, chunks: &[(Side, Vec<u8>)]) -> Result<Transcript, SessionFault>
-    requires { total_size chunks.now < 2 ^ 63 }
-{
-    let mut session = Session::new(alloc);
-    for chunk in chunks {
-        session.push(chunk.0, chunk.1.as_slice())?;
-    }
-    session.finish()
 }

@@ -2,7 +2,7 @@
 
 use crate::check::run_check;
 use crate::fault::RunFault;
-use crate::judge::StartFrom;
+use crate::start::StartFrom;
 use clap::error::ErrorKind;
 use clap::{Arg, ArgMatches, Command, Error};
 use std::alloc::{AllocError, Global};
@@ -31,6 +31,7 @@ Example:
 
 CAPTURE has a line for each recorded piece, 'C' or 'S' for its sender, a space and hexadecimal
 digits. ORDER has the numbers of the requests, one a line, in the order in which they were served.
+START is what the export held at first: unknown bytes, zeroes, or the bytes of a file.
 
 Exit status:
   0  yes
@@ -51,7 +52,7 @@ fn command<'a>(alloc: Global) -> Result<Command<'a>, AllocError> {
         .long("start")
         .value_name("START")
         .default_value("unknown")
-        .help("What the export held at first: unknown or zero");
+        .help("What the export held at first: unknown, zero or image:PATH");
     let check = Command::new(alloc, "check")
         .about(CHECK_ABOUT)
         .after_help(CHECK_HELP)
@@ -105,25 +106,47 @@ fn check(rt: &HostRuntime, words: &ArgMatches<'_>) -> u8 {
     }
 }
 
-fn start_of(text: &str) -> Option<StartFrom> {
+/// A start as the words name it.
+#[derive(Clone, Copy)]
+enum StartWord<'a> {
+    Unknown,
+    Zero,
+    /// The path of an image.
+    Image(&'a str),
+}
+
+fn start_of(text: &str) -> Option<StartWord<'_>> {
     match text {
-        "unknown" => Some(StartFrom::Unknown),
-        "zero" => Some(StartFrom::Zeroes),
-        _ => None,
+        "unknown" => Some(StartWord::Unknown),
+        "zero" => Some(StartWord::Zero),
+        _ => text.strip_prefix("image:").map(StartWord::Image),
     }
 }
 
+/// Opens the files in the order capture, order, image, and then checks.
 fn check_files(
     rt: &HostRuntime,
     capture: &str,
     order: &str,
-    start: StartFrom,
+    start: StartWord<'_>,
 ) -> Result<bool, RunFault> {
     let alloc = rt.alloc();
     let capture = File::open(rt, capture).map_err(|_| RunFault::CaptureRead)?;
     let order = File::open(rt, order).map_err(|_| RunFault::OrderRead)?;
+    let start = open_start(rt, start)?;
     let capture = BufReader::new(alloc, capture).map_err(|_| RunFault::Memory)?;
     run_check(alloc, capture, order, start, &mut io::writer(rt))
+}
+
+fn open_start(rt: &HostRuntime, start: StartWord<'_>) -> Result<StartFrom<File>, RunFault> {
+    match start {
+        StartWord::Unknown => Ok(StartFrom::Unknown),
+        StartWord::Zero => Ok(StartFrom::Zeroes),
+        StartWord::Image(path) => {
+            let image = File::open(rt, path).map_err(|_| RunFault::ImageRead)?;
+            Ok(StartFrom::Image(image))
+        }
+    }
 }
 
 /// Prints what clap has to say: help and the version on standard output, a mistake in the words on

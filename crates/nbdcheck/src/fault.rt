@@ -22,15 +22,15 @@ pub enum RunFault {
     /// The order could not be opened or read, or has more bytes than `READ_LIMIT`.
     #[error("fault order read")]
     OrderRead,
+    /// The image could not be opened or read, or has more bytes than `READ_LIMIT`.
+    #[error("fault image read")]
+    ImageRead,
     /// The output could not be written whole.
     #[error("fault write")]
     Write,
     /// A growth of memory was refused.
     #[error("fault memory")]
     Memory,
-    /// The capture or the order needs what this version does not have yet.
-    #[error("fault unsupported")]
-    Unsupported,
 }
 
 impl RunFault {

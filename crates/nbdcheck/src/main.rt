@@ -5,8 +5,7 @@ mod check;
 mod command;
 mod fault;
 mod input;
-mod judge;
-mod session;
+mod start;
 #[cfg(test)]
 mod tests;
 mod verdict;

@@ -1,50 +1,32 @@
-//! What a check answers, and its line.
+//! The line that tells a verdict.
 ghost use Rattle.std.specs.Prelude.{◌≡◌, ◌↔◌, IsTrue};
-ghost use Rattle.nbdcheck.specs.Verdicts.{IsYes};
+ghost use Rattle.nbdcheck.specs.Verdicts.{IsYes, fault_name, order_fault_name};
 
-use crate::session::WireFault;
+use nbd_judge::{OrderFault, Verdict};
+use nbd_session::WireFault;
 use std::fmt;
 
-/// The answer of a check.
-#[derive(Clone, Copy, Debug, PartialEq, Eq, Drop)]
-pub enum Verdict {
-    /// The session kept the protocol and each read that was answered got the export's bytes: the
-    /// numbers of requests, of answered ones and of improper ones.
-    Yes {
-        requests: u64,
-        answered: u64,
-        improper: u64,
-    },
-    /// The session was refused at a byte of the capture, counted from 1.
-    Wire {
-        at: u64,
-        fault: WireFault,
-    },
-    /// The byte that a READ, by its number, got for an offset of the export was not the export's.
-    Content {
-        request: u64,
-        offset: u64,
-    },
+/// Whether a verdict is yes.
+pub fn is_yes(verdict: &Verdict) -> bool
+    ensures { IsTrue result ↔ IsYes verdict.now }
+{
+    matches!(verdict, Verdict::Yes { .. })
 }
 
-impl Verdict {
-    /// Whether the answer is yes.
-    pub fn is_yes(&self) -> bool
-        ensures { IsTrue result ↔ IsYes self.now }
-    {
-        matches!(self, Verdict::Yes { .. })
-    }
+/// A verdict as its line has it, without the line feed.
+#[derive(Clone, Copy, Drop)]
+pub struct Line {
+    pub verdict: Verdict,
 }
 
-/// The line that tells the verdict, without its line feed.
-impl fmt::Display for Verdict {
+impl fmt::Display for Line {
     ghost use Rattle.std.specs.Prelude.{Some};
     ghost use Rattle.nbdcheck.specs.Verdicts.{words};
 
-    ghost output = { λ verdict. Some (words verdict) };
+    ghost output = { λ line. Some (words line.verdict) };
 
     fn fmt<W: fmt::Write>(&self, f: &mut fmt::Formatter<W>) -> fmt::Result {
-        match *self {
+        match self.verdict {
             Verdict::Yes {
                 requests,
                 answered,
@@ -53,10 +35,59 @@ impl fmt::Display for Verdict {
                 f,
                 "yes requests {requests} answered {answered} improper {improper}"
             ),
-            Verdict::Wire { at, fault } => write!(f, "no at byte {at}: {fault}"),
+            Verdict::Wire { at, fault } => {
+                let name = fault_name(fault);
+                write!(f, "no at byte {at}: {name}")
+            }
+            Verdict::Image { image, size } => write!(f, "no image {image} size {size}"),
+            Verdict::Order { entry, fault } => {
+                let name = order_fault_name(fault);
+                write!(f, "no order entry {entry}: {name}")
+            }
             Verdict::Content { request, offset } => {
                 write!(f, "no content request {request} offset {offset}")
             }
         }
+    }
+}
+
+/// The name of a wire fault.
+fn fault_name(fault: WireFault) -> &'static str
+    ensures { result.now ≡ fault_name fault }
+{
+    match fault {
+        WireFault::BadMagic => "BadMagic",
+        WireFault::NotFixedNewstyle => "NotFixedNewstyle",
+        WireFault::BadClientFlags => "BadClientFlags",
+        WireFault::OutOfTurn => "OutOfTurn",
+        WireFault::WrongOption => "WrongOption",
+        WireFault::BadReplyKind => "BadReplyKind",
+        WireFault::OutOfProfile => "OutOfProfile",
+        WireFault::BadReplyPayload => "BadReplyPayload",
+        WireFault::MissingExportInfo => "MissingExportInfo",
+        WireFault::BadExport => "BadExport",
+        WireFault::ExportTooLarge => "ExportTooLarge",
+        WireFault::CookieInUse => "CookieInUse",
+        WireFault::UnknownCookie => "UnknownCookie",
+        WireFault::SimpleForbidden => "SimpleForbidden",
+        WireFault::ChunkForbidden => "ChunkForbidden",
+        WireFault::BadChunk => "BadChunk",
+        WireFault::BadContent => "BadContent",
+        WireFault::IncompleteRead => "IncompleteRead",
+        WireFault::SuccessOfImproper => "SuccessOfImproper",
+        WireFault::BadDisconnect => "BadDisconnect",
+        WireFault::Unfinished => "Unfinished",
+    }
+}
+
+/// The name of an order's fault.
+fn order_fault_name(fault: OrderFault) -> &'static str
+    ensures { result.now ≡ order_fault_name fault }
+{
+    match fault {
+        OrderFault::NoSuchRequest => "NoSuchRequest",
+        OrderFault::Twice => "Twice",
+        OrderFault::Late => "Late",
+        OrderFault::Missing => "Missing",
     }
 }
