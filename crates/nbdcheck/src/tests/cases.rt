@@ -22,22 +22,6 @@ pub struct Case {
     pub want: &'static str,
 }
 
-/// A case over zeroes.
-pub const fn over_zeroes(
-    name: &'static str,
-    order: &'static str,
-    capture: &'static [&'static str],
-    want: &'static str,
-) -> Case {
-    Case {
-        name,
-        capture,
-        order,
-        start: Start::Zeroes,
-        want,
-    }
-}
-
 fn text(alloc: Global, parts: &[&str]) -> Result<String, Fail> {
     let mut text = String::new(alloc);
     for part in parts {
