@@ -10,8 +10,8 @@ use Rattle.nbd_capture.specs.Capture.{Chunk, IsCaptureLine, IsCaptureText, IsFir
 use Rattle.nbd_capture.specs.Order.{IsOrderLine, IsOrderText}
 use Rattle.nbd_capture.specs.Faults.{IsCaptureFault, IsOrderTextFault}
 use Rattle.nbd_capture.specs.Steps.{IsChunkFault}
-use Rattle.nbd_capture.proofs.Progress.{Progress, stopped}
-use Rattle.nbd_capture.proofs.Reading.{no_reading}
+use Rattle.nbd_capture.specs.Progress.{Progress, stopped}
+use Rattle.nbd_capture.specs.Reading.{no_reading}
 
 pub stopped_capture : (text rest bytes behind : List ℕ) (chunks : List Chunk) (number : ℕ) (fault : CaptureFault)
     → Progress IsCaptureLine text rest chunks number → IsUnbroken bytes → rest ≡ bytes ++ line_feed ∷ behind

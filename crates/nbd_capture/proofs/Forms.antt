@@ -7,8 +7,8 @@ use Rattle.nbd_capture.specs.Capture.{AreDigits, Chunk, IsCaptureLine, hash, let
 use Rattle.nbd_capture.specs.Capture.IsCaptureLine.{chunk, blank, comment}
 use Rattle.hex.specs.Hex.{decode_of}
 use Rattle.hex.specs.declared.error.FromHexError.{FromHexError}
-use Rattle.nbd_capture.proofs.Digits.{decodes}
-use Rattle.nbd_capture.proofs.Reading.{IsFunctional}
+use Rattle.nbd_capture.specs.Digits.{decodes}
+use Rattle.nbd_capture.specs.Reading.{IsFunctional}
 
 -- an empty line, or a comment
 abbrev pub IsSilent : List ℕ → Type 0

@@ -1,9 +1,5 @@
-pub mod Reading
-pub mod Progress
 pub mod Total
 pub mod Written
-pub mod Wrote
 pub mod Numerals
 pub mod FaultLemmas
-pub mod Digits
 pub mod Forms

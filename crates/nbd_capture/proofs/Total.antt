@@ -1,82 +1,22 @@
--- Each text has a reading or a first bad line.
-use Rattle.std.proofs.Common.{◌≡◌, ◌≢◌, ℕ, zero, suc, ◌^◌, ◌<◌, ◌≤◌, List, [], ◌∷◌, ◌++◌, length, slice_index, ◌⊎◌, inl, inr, refl, sym, ap, subst, arith, Result, Ok, Err}
+-- Each line has a form of its grammar, or none.
+use Rattle.std.proofs.Common.{◌≡◌, ◌≢◌, ℕ, ◌^◌, ◌<◌, ◌≤◌, List, [], ◌∷◌, length, slice_index, ◌⊎◌, inl, inr, refl, sym, ap, subst, arith, Result, Ok, Err}
 use Rattle.std.specs.Char.{digit_value}
 use Rattle.std.specs.Str.Parse.{AllDigits, IsNumeral, digits_value}
 use Rattle.std.proofs.lemmas.Bool.{cases_eq, cases_lt}
-use Rattle.std.proofs.lemmas.List.{length-append}
 use Rattle.hex.specs.Hex.{decode_of}
 use Rattle.nbd_wire.specs.declared.message.Side.{Side}
 use Rattle.nbd_wire.specs.declared.message.Side.TheVariants.{Client, Server}
-use Rattle.nbd_capture.specs.Lines.{line_feed, IsUnbroken, IsText, IsFirstBadLine}
-use Rattle.nbd_capture.specs.Lines.IsText.{empty, line}
-use Rattle.nbd_capture.specs.Lines.IsFirstBadLine.{formless, unended, later}
+use Rattle.nbd_capture.specs.Told.{Decided}
 use Rattle.nbd_capture.specs.Capture.{Chunk, IsCaptureLine, hash, letter, space}
 use Rattle.nbd_capture.specs.Capture.IsCaptureLine.{chunk, blank, comment}
 use Rattle.nbd_capture.specs.Order.{BeginsPlainly, IsOrderLine}
 use Rattle.nbd_capture.specs.Order.IsOrderLine.{number}
-use Rattle.nbd_capture.proofs.Digits.{spelled}
+use Rattle.nbd_capture.specs.Digits.{spelled}
 use Rattle.nbd_capture.proofs.Forms.{forms, undecodable}
 use Rattle.nbd_capture.proofs.Numerals.{counts}
 
 abbrev Either : Type 0 → Type 0
 Either P = P ⊎ (P → ⊥)
-
--- a line has a form, or none
-abbrev Decided : {V : Type 0} → (List ℕ → List V → Type 0) → List ℕ → Type 0
-Decided {V} Form bytes = ((said : List V) × Form bytes said) ⊎ ((said : List V) → Form bytes said → ⊥)
-
-record First (text : List ℕ) : Type 0 where
-  bytes : List ℕ
-  rest : List ℕ
-  unbroken : IsUnbroken bytes
-  whole : text ≡ bytes ++ line_feed ∷ rest
-
-first_of : (text : List ℕ) → IsUnbroken text ⊎ First text
-first_of [] = inl tt
-first_of (b ∷ bs) =
-    elim (cases_eq b line_feed) [
-      | inl same ↦ inr (record { bytes = []; rest = bs; unbroken = tt; whole = ap (λ x. x ∷ bs) same })
-      | inr other ↦
-          elim (first_of bs) [
-            | inl none ↦ inl (other, none)
-            | inr more ↦ inr (record { bytes = b ∷ more.bytes; rest = more.rest; unbroken = (other, more.unbroken); whole = ap (λ l. b ∷ l) more.whole })
-          ]
-    ]
-
-none_short : (text : List ℕ) → length text ≤ 0 → IsUnbroken text
-none_short [] short = tt
-none_short (b ∷ bs) short = absurd (omega arith)
-
-module _ {V : Type 0} (Form : List ℕ → List V → Type 0) where
-  abbrev Told : List ℕ → Type 0
-  Told text = ((values : List V) × IsText Form text values) ⊎ ((n : ℕ) × IsFirstBadLine Form text n)
-
-  told_unended : (text : List ℕ) → IsUnbroken text → Told text
-  told_unended [] u = inl ([], empty)
-  told_unended (b ∷ bs) u = inr (1, unended b bs u)
-
-  told_next : (bytes rest : List ℕ) (said : List V) → IsUnbroken bytes → Form bytes said → Told rest → Told (bytes ++ line_feed ∷ rest)
-  told_next bytes rest said u f (inl read) = inl (said ++ read.0, line bytes said rest read.0 u f read.1)
-  told_next bytes rest said u f (inr bad) = inr (suc bad.0, later bytes said rest bad.0 u f bad.1)
-
-  told_within : ((bytes : List ℕ) → Decided Form bytes) → (n : ℕ) (text : List ℕ) → length text ≤ n → Told text
-  told_within decide zero text short = told_unended text (none_short text short)
-  told_within decide (suc n) text short =
-      elim (first_of text) [
-        | inl none ↦ told_unended text none
-        | inr first ↦
-            subst Told (sym first.whole)
-            (elim (decide first.bytes) [
-              | inl form ↦
-                  let len = length-append first.bytes (line_feed ∷ first.rest) in
-                  let same = ap length first.whole in
-                  told_next first.bytes first.rest form.0 first.unbroken form.1 (told_within decide n first.rest (omega (arith, len, same, short)))
-              | inr none ↦ inr (1, formless first.bytes first.rest first.unbroken none)
-            ])
-      ]
-
-  pub told : ((bytes : List ℕ) → Decided Form bytes) → (text : List ℕ) → Told text
-  told decide text = told_within decide (length text) text (omega arith)
 
 -- ---- capture lines
 

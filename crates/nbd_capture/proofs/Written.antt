@@ -18,7 +18,7 @@ use Rattle.nbd_capture.specs.Capture.{Chunk, IsCaptureText, chunk_line, letter, 
 use Rattle.nbd_capture.specs.Capture.IsCaptureLine.{chunk}
 use Rattle.nbd_capture.specs.Order.{BeginsPlainly, IsOrderText}
 use Rattle.nbd_capture.specs.Order.IsOrderLine.{number}
-use Rattle.nbd_capture.proofs.Digits.{lower_below, spelled}
+use Rattle.nbd_capture.specs.Digits.{lower_below, spelled}
 
 -- no digit is a line feed
 unbroken_digits : (bytes : List ℕ) → IsBytes bytes → IsUnbroken (encode_lower bytes)

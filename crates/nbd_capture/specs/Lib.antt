@@ -4,3 +4,8 @@ pub mod Order
 pub mod Faults
 pub mod Steps
 pub mod Writing
+pub mod Reading
+pub mod Progress
+pub mod Told
+pub mod Digits
+pub mod Wrote

@@ -12,5 +12,6 @@ mod tests;
 pub mod writing;
 
 pub use capture::{CaptureFault, parse_capture};
+pub use lines::first_line;
 pub use order::{OrderTextFault, parse_order};
 pub use writing::{WriteFault, write_chunk, write_whole};

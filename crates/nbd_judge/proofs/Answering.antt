@@ -1,17 +1,15 @@
 -- What a verdict on the report of a run says of the run's bytes.
-use Rattle.std.proofs.Common.{◌≡◌, ℕ, List, refl, sym, ◌∙◌, ap, subst}
-use Rattle.nbd_wire.specs.Explains.{Explained, FitsImage, HasNoWrongByte, Start, start_byte}
-use Rattle.nbd_wire.specs.Items.{Item, pairs, served}
+use Rattle.std.proofs.Common.{◌≡◌, ℕ, List, sym, ◌∙◌, ap, subst}
+use Rattle.nbd_wire.specs.Explains.{Start, start_byte}
+use Rattle.nbd_wire.specs.Items.{Item, pairs}
 use Rattle.nbd_wire.specs.Report.{Report, report}
 use Rattle.nbd_wire.specs.Rules.{IsRun}
 use Rattle.nbd_wire.specs.Verdicts.{IsFaultless, Passes, answered, improper, requests}
-use Rattle.nbd_laws.specs.Explaining.{ExplainedPasses, IsNo, IsYes, PassingIsExplained}
+use Rattle.nbd_laws.specs.Explaining.{ExplainedPasses, IsNo, PassingIsExplained}
 use Rattle.nbd_laws.specs.Moments.{OrdersAreFaultless}
 use Rattle.nbd_laws.specs.Sameness.{SameReports}
-use Rattle.nbd_judge.specs.declared.verdict.Verdict.{Verdict}
 use Rattle.nbd_judge.specs.declared.verdict.Verdict.TheVariants.{Yes, Wire, Image, Order, Content}
-use Rattle.nbd_judge.specs.Conclusions.{Answers, VerdictsAnswerRuns}
-use Rattle.nbd_judge.specs.Verdicts.{IsVerdict}
+use Rattle.nbd_judge.specs.Conclusions.{VerdictsAnswerRuns}
 use Rattle.nbd_judge.proofs.Single.{fits_not, has_fault, has_wrong}
 
 module _ (passing : PassingIsExplained) (only : ExplainedPasses) (faultless : OrdersAreFaultless) (same : SameReports) where

@@ -1,11 +1,11 @@
 -- Chunks that a session has taken.
-use Rattle.std.proofs.Common.{◌≡◌, ℕ, zero, suc, ◌+◌, ◌-◌, ◌<◌, ◌≤◌, List, [], ◌∷◌, ◌++◌, length, map, refl, sym, ◌∙◌, ap, subst, arith, take, get_or, add-one, length-append, append_assoc, Option, Some, None, Result, Ok, Err, IfOk, IfErr, IsErrAnd}
+use Rattle.std.proofs.Common.{◌≡◌, ℕ, zero, suc, ◌+◌, ◌<◌, ◌≤◌, List, [], ◌∷◌, ◌++◌, length, refl, sym, ◌∙◌, ap, subst, arith, take, get_or, add-one, length-append, append_assoc, Option, Some, None, Result, Ok, Err, IfOk, IfErr, IsErrAnd}
 use Rattle.std.specs.declared.alloc.Global.{Global}
 use Rattle.std.specs.declared.vec.Vec.{Vec}
 use Rattle.nbd_wire.specs.declared.message.Side.{Side}
 use Rattle.nbd_wire.specs.Explains.{Start}
 use Rattle.nbd_wire.specs.Items.{Item, Pair, flat, pairs, sent}
-use Rattle.nbd_wire.specs.Report.{Report, report}
+use Rattle.nbd_wire.specs.Report.{Report}
 use Rattle.nbd_wire.specs.Rules.{IsRun}
 use Rattle.nbd_session.specs.declared.fault.SessionFault.{SessionFault}
 use Rattle.nbd_session.specs.declared.fault.SessionFault.TheVariants as session
@@ -29,6 +29,7 @@ front_suc (d ∷ cs) zero c w e = go d (sym e)
     nil : (l : List Pair) → l ++ [] ≡ l
     nil [] = refl
     nil (x ∷ l) = ap (λ r. x ∷ r) (nil l)
+
     go : (d : Side × Vec ℕ Global) → d ≡ c → sent d.0 d.1.items ++ [] ≡ sent c.0 c.1.items
     go d e = nil (sent d.0 d.1.items) ∙ ap (λ (q : Side × Vec ℕ Global). sent q.0 q.1.items) e
 front_suc (d ∷ cs) (suc i) c w e = ap (λ r. sent d.0 d.1.items ++ r) (front_suc cs i c (omega arith) e) ∙ sym (append_assoc (sent d.0 d.1.items) (flat (chunks_told (take i cs))) (sent c.0 c.1.items))
@@ -86,7 +87,8 @@ told_of r capture told same reported = record {
   items = reported.items;
   is_run = reported.is_run;
   has_pairs = reported.has_pairs ∙ same;
-  told_so = λ others run has. reported.told_so others run (has ∙ sym same) }
+  told_so = λ others run has. reported.told_so others run (has ∙ sym same);
+}
 
 -- the conclusion from what a session over a capture finished with is the verdict on that capture
 pub checked : (capture : List Pair) (order : List ℕ) (initial : Start) (finished : Result Report SessionFault) (v : Verdict)
@@ -102,7 +104,9 @@ checked capture order initial (Ok r) v told within is answers = go v is (answers
       is_run = told.is_run;
       has_pairs = told.has_pairs;
       is_verdict = λ others run has. subst (λ (q : Report). IsVerdict q order initial v) (sym (told.told_so others run has)) is;
-      answers = subst (λ (ps : List Pair). Answers ps order initial v) told.has_pairs says }
+      answers = subst (λ (ps : List Pair). Answers ps order initial v) told.has_pairs says;
+    }
+
     go : (v : Verdict) → IsVerdict r order initial v → Answers (pairs told.items) order initial v → IsChecked capture order initial v
     go (Wire at fault) is says = absurd is
     go (Yes a b c) is says = verdict (Yes a b c) is says
@@ -110,13 +114,20 @@ checked capture order initial (Ok r) v told within is answers = go v is (answers
     go (Order e f) is says = verdict (Order e f) is says
     go (Content k x) is says = verdict (Content k x) is says
 
+-- the bytes of one more chunk
+pub grown_by : (cs : List (Side × Vec ℕ Global)) (i : ℕ) (c : Side × Vec ℕ Global) → i < length cs → c ≡ get_or cs i c →
+    length (flat (chunks_told (take (i + 1) cs))) ≡ length (flat (chunks_told (take i cs))) + length c.1.items
+grown_by cs i c w e =
+    let more = ap length (front_more cs i c w e) in
+    let grown = length-append (flat (chunks_told (take i cs))) (sent c.0 c.1.items) in
+    let len = length_sent c.0 c.1.items in
+    omega arith
+
 -- the next piece fits, where the whole does
 pub piece_fits : (cs : List (Side × Vec ℕ Global)) (i : ℕ) (c : Side × Vec ℕ Global) → i < length cs → c ≡ get_or cs i c →
     length (flat (chunks_told (take i cs))) + length c.1.items ≤ length (flat (chunks_told cs))
 piece_fits cs i c w e =
-    let more = ap length (front_more cs i c w e) in
-    let grown = length-append (flat (chunks_told (take i cs))) (sent c.0 c.1.items) in
-    let len = length_sent c.0 c.1.items in
+    let grown = grown_by cs i c w e in
     let within = front_within cs (i + 1) in
     omega arith
 

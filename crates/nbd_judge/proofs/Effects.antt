@@ -1,5 +1,5 @@
 -- What a request that is served compares and changes.
-use Rattle.std.proofs.Common.{◌≡◌, ℕ, zero, suc, ◌+◌, ◌-◌, ◌<◌, ◌≤◌, ◌⊎◌, inl, inr, List, [], ◌∷◌, ◌++◌, length, refl, sym, ◌∙◌, ap, subst, Option, Some, None, arith, true, if◌then◌else◌, slice_index, take, eq-eqb, ne_eqb, add-one}
+use Rattle.std.proofs.Common.{◌≡◌, ℕ, zero, suc, ◌+◌, ◌<◌, ◌≤◌, inl, inr, List, [], ◌∷◌, ◌++◌, length, refl, sym, ◌∙◌, ap, subst, Option, Some, arith, true, if◌then◌else◌, slice_index, take, eq-eqb, ne_eqb, add-one}
 use Rattle.std.proofs.Math.Seq.{take-suc}
 use Rattle.nbd_wire.specs.declared.commands.TheConstants as commands
 use Rattle.nbd_wire.specs.Exchanges.{Exchange, IsWrong, IsWrongIn, before, byte_before, exchange, exchanges, is_success}

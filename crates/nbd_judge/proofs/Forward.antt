@@ -1,5 +1,5 @@
 -- The contents taken forward are the bytes looked up backwards.
-use Rattle.std.proofs.Common.{◌≡◌, ℕ, List, [], ◌∷◌, ◌++◌, refl, ◌∙◌, ap, Option, Some, None, Bool, true, false, if◌then◌else◌, ◌<◌}
+use Rattle.std.proofs.Common.{◌≡◌, ℕ, List, [], ◌∷◌, ◌++◌, refl, ◌∙◌, ap, Option, Some, None, Bool, true, false, if◌then◌else◌}
 use Rattle.nbd_wire.specs.Exchanges.{Exchange, before, last_touch, later, left_at, left_or, touches, touching}
 use Rattle.nbd_export.specs.Ranges.{AreSameBelow}
 use Rattle.nbd_judge.specs.Folding.{Folding, applied, contents_after}

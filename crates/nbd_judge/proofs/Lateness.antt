@@ -1,5 +1,5 @@
 -- The pass from the end that keeps the least count known so far.
-use Rattle.std.proofs.Common.{◌≡◌, ℕ, ◌+◌, ◌-◌, ◌<◌, ◌≤◌, ◌⊎◌, inl, inr, List, length, refl, sym, ◌∙◌, ap, subst, Option, Some, None, arith, slice_index, Bool, true, false, nat_le, nat_lt, if◌then◌else◌, le_refl}
+use Rattle.std.proofs.Common.{◌≡◌, ℕ, ◌+◌, ◌<◌, ◌≤◌, ◌⊎◌, inl, inr, List, length, refl, sym, ◌∙◌, ap, subst, Option, Some, None, arith, slice_index, Bool, true, false, nat_le, if◌then◌else◌, le_refl}
 use Rattle.std.proofs.lemmas.Bool.{leb-true, leb-false, ltb-true, ltb-false}
 use Rattle.nbd_wire.specs.Orders.{IsLate}
 use Rattle.nbd_judge.specs.Lesser.{lesser_of, is_above}

@@ -1,5 +1,5 @@
 -- What the table of marked requests says of the order.
-use Rattle.std.proofs.Common.{◌≡◌, ℕ, ◌+◌, ◌-◌, ◌<◌, ◌≤◌, ◌⊎◌, inl, inr, List, length, refl, sym, ◌∙◌, Option, Some, None, arith, get_or, slice_index, slice_index_or, Bool, true, false}
+use Rattle.std.proofs.Common.{◌≡◌, ℕ, ◌+◌, ◌-◌, ◌<◌, ◌≤◌, inl, inr, List, length, refl, ◌∙◌, Option, arith, get_or, slice_index, slice_index_or, Bool, true, false}
 use Rattle.std.proofs.lemmas.Option.{slice_get_read, get_or_from_slice_get}
 use Rattle.nbd_wire.specs.Orders.{IsFirst, IsBad, IsMissing, HasNoOrderFault}
 use Rattle.nbd_wire.specs.Report.{Report}

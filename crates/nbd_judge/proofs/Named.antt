@@ -1,5 +1,5 @@
 -- Entries of an order by their places.
-use Rattle.std.proofs.Common.{◌≡◌, ℕ, zero, suc, ◌<◌, ◌⊎◌, inl, inr, List, [], ◌∷◌, length, refl, sym, subst, Option, arith, slice_index}
+use Rattle.std.proofs.Common.{◌≡◌, ℕ, zero, suc, ◌<◌, inl, inr, List, [], ◌∷◌, length, refl, sym, subst, Option, arith, slice_index}
 use Rattle.nbd_wire.specs.Exchanges.{IsWrong, exchanges}
 use Rattle.nbd_wire.specs.Report.{Report}
 use Rattle.nbd_wire.specs.States.{Names}

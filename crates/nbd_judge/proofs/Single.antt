@@ -1,5 +1,5 @@
 -- The cases of the definitions of a verdict exclude each other.
-use Rattle.std.proofs.Common.{◌≡◌, ℕ, ◌+◌, ◌<◌, ◌⊎◌, inl, inr, List, length, refl, sym, ◌∙◌, ap, subst, Option, Some, None, arith, slice_index}
+use Rattle.std.proofs.Common.{◌≡◌, ℕ, ◌+◌, ◌<◌, ◌⊎◌, inl, inr, List, length, sym, ◌∙◌, ap, subst, Option, Some, None, arith, slice_index}
 use Rattle.nbd_wire.specs.Exchanges.{IsWrong, exchanges}
 use Rattle.nbd_wire.specs.Explains.{FitsImage, Start, start_byte}
 use Rattle.nbd_wire.specs.Explains as starts
@@ -9,12 +9,11 @@ use Rattle.nbd_wire.specs.Requests.{Exporting}
 use Rattle.nbd_wire.specs.Verdicts.{IsFaultless}
 use Rattle.nbd_judge.specs.declared.verdict.OrderFault.{OrderFault}
 use Rattle.nbd_judge.specs.declared.verdict.OrderFault.TheVariants.{NoSuchRequest, Twice, Late, Missing}
-use Rattle.nbd_judge.specs.declared.verdict.Verdict.{Verdict}
 use Rattle.nbd_judge.specs.declared.verdict.Verdict.TheVariants.{Yes, Wire, Image, Order, Content}
 use Rattle.nbd_judge.specs.Images.{IsOtherSize}
 use Rattle.nbd_judge.specs.Orders.{IsOrderFault}
 use Rattle.nbd_judge.specs.Uniqueness.{OneJudgement, OneVerdict}
-use Rattle.nbd_judge.specs.Verdicts.{FirstWrongFrom, HasNoneWrongFrom, HasWrongFrom, IsJudged, IsVerdict}
+use Rattle.nbd_judge.specs.Verdicts.{FirstWrongFrom, HasNoneWrongFrom, HasWrongFrom}
 use Rattle.nbd_judge.proofs.Deciding.{before_or_behind}
 use Rattle.nbd_judge.proofs.Named.{named_at}
 

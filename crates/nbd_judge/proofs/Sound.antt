@@ -1,6 +1,5 @@
 -- What every report has, of a request that an order can name.
-use Rattle.std.proofs.Common.{◌≡◌, ℕ, zero, suc, ◌+◌, ◌≤◌, [], length, sym, ◌∙◌, ap, refl, Option, Some, None, true, false, IsTrue, slice_get}
-use Rattle.nbd_wire.specs.declared.commands.TheConstants as commands
+use Rattle.std.proofs.Common.{◌≡◌, ℕ, zero, suc, ◌+◌, ◌≤◌, [], length, sym, ◌∙◌, ap, refl, Option, Some, None, true, false}
 use Rattle.nbd_wire.specs.Exchanges.{is_success}
 use Rattle.nbd_wire.specs.Report.{Asked, Report, asked_at}
 use Rattle.nbd_wire.specs.Requests.{Exporting, Outcome, Success, Failure, Pending, has_range}

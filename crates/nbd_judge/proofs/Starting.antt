@@ -1,8 +1,7 @@
 -- A verdict depends on the bytes at first only below the export's size.
-use Rattle.std.proofs.Common.{◌≡◌, ℕ, ◌+◌, ◌<◌, ◌≤◌, List, refl, sym, ◌∙◌, ap, subst, arith, Option, Some, None, Result, Ok, Err, IfOk, slice_index, true}
-use Rattle.nbd_wire.specs.Exchanges.{Exchange, IsWrong, before, byte_before, exchange, exchange_if, exchanges, last_touch, left_or}
+use Rattle.std.proofs.Common.{◌≡◌, ℕ, ◌+◌, ◌<◌, ◌≤◌, List, refl, sym, ◌∙◌, ap, arith, Option, Some, None, Result, Ok, Err, IfOk, slice_index}
+use Rattle.nbd_wire.specs.Exchanges.{Exchange, IsWrong, before, exchange, exchange_if, exchanges, last_touch, left_or}
 use Rattle.nbd_wire.specs.Explains.{FitsImage, Start, Unknown, Zeroes, Image, start_byte}
-use Rattle.nbd_wire.specs.Orders.{IsFirst}
 use Rattle.nbd_wire.specs.Report.{Asked, Report, asked_at}
 use Rattle.nbd_wire.specs.Requests.{Exporting}
 use Rattle.nbd_export.specs.Ranges.{AreSameBelow}

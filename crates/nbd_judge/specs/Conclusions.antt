@@ -1,5 +1,5 @@
 -- What a verdict concludes from a session, and what it says of the runs with that session's report.
-use Rattle.std.specs.Prelude.{ℕ, List, ◌≡◌, ◌<◌, Result, Ok, Err}
+use Rattle.std.specs.Prelude.{ℕ, List, ◌≡◌, Result, Ok, Err}
 use Rattle.nbd_wire.specs.Explains.{Start}
 use Rattle.nbd_wire.specs.Items.{Item, Pair, pairs, served}
 use Rattle.nbd_wire.specs.Report.{Report, report}

@@ -12,9 +12,11 @@ mod least;
 mod order;
 mod replay;
 mod tally;
+#[cfg(test)]
+mod tests;
 pub mod verdict;
 
-pub use checking::check;
+pub use checking::{are_countable, check};
 pub use concluding::conclude;
 pub use judging::judge;
 pub use verdict::{OrderFault, Verdict};

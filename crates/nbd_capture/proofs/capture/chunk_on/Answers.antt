@@ -1,5 +1,5 @@
 use Rattle.std.proofs.Common.{◌≡◌, ◌∷◌, [], inl, inr, sym, subst, refl}
-use Rattle.nbd_capture.proofs.Digits.{spelled}
+use Rattle.nbd_capture.specs.Digits.{spelled}
 use Rattle.nbd_capture.proofs.Forms.{undecodable}
 use Rattle.nbd_capture.specs.Capture.{IsCaptureLine, chunk_of, letter, space}
 use Rattle.nbd_capture.specs.Capture.IsCaptureLine.{chunk}

@@ -6,8 +6,8 @@ use Rattle.nbd_capture.specs.Lines.{line_feed, IsUnbroken}
 use Rattle.nbd_capture.specs.Capture.{IsCaptureLine, chunk_of, chunks_of}
 use Rattle.nbd_capture.proofs.FaultLemmas.{only_memory_of_capture, stopped_capture}
 use Rattle.nbd_capture.proofs.Forms.{one_saying}
-use Rattle.nbd_capture.proofs.Reading.{one_reading}
-use Rattle.nbd_capture.proofs.Progress.{Progress, advance, done, cut_off}
+use Rattle.nbd_capture.specs.Reading.{one_reading}
+use Rattle.nbd_capture.specs.Progress.{Progress, advance, done, cut_off}
 use Rattle.nbd_capture.proofs.capture.parse_capture.Goals as goal
 
 pub returns-in_err-line-clause-fault : goal.returns-in_err-line-clause-fault

@@ -5,8 +5,8 @@ use Rattle.nbd_capture.specs.Lines.{line_feed, IsUnbroken}
 use Rattle.nbd_capture.specs.Order.{IsOrderLine}
 use Rattle.nbd_capture.proofs.FaultLemmas.{only_memory_of_order}
 use Rattle.nbd_capture.proofs.Numerals.{one_number}
-use Rattle.nbd_capture.proofs.Reading.{one_reading}
-use Rattle.nbd_capture.proofs.Progress.{advance, done, stopped, cut_off}
+use Rattle.nbd_capture.specs.Reading.{one_reading}
+use Rattle.nbd_capture.specs.Progress.{advance, done, stopped, cut_off}
 use Rattle.nbd_capture.proofs.order.parse_order.Goals as goal
 
 pub returns-in_err-line-clause-fault : goal.returns-in_err-line-clause-fault

@@ -5,7 +5,7 @@ use Rattle.hex.specs.Hex.{encode_lower}
 use Rattle.nbd_capture.specs.Lines.{line_feed}
 use Rattle.nbd_capture.specs.Capture.{letter, space}
 use Rattle.nbd_capture.specs.Writing.{AppendsFront}
-use Rattle.nbd_capture.proofs.Wrote.{front_then, then_front}
+use Rattle.nbd_capture.specs.Wrote.{front_then, then_front}
 use Rattle.nbd_capture.proofs.writing.write_chunk.Goals as goal
 
 pub returns-in_err-write_whole-clause-err : goal.returns-in_err-write_whole-clause-err

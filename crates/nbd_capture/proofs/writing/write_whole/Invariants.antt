@@ -1,5 +1,5 @@
 use Rattle.std.proofs.Common.{ℕ, List, length}
-use Rattle.nbd_capture.proofs.Wrote.{Wrote}
+use Rattle.nbd_capture.specs.Wrote.{Wrote}
 use Rattle.nbd_capture.proofs.writing.write_whole.Given as goal
 
 abbrev pub invariant-loop-rest : goal.invariant-loop-rest

@@ -7,4 +7,5 @@ use Rattle.nbd_judge.proofs.checking.session_over.Given as goal
 abbrev pub invariant-loop-side : goal.invariant-loop-side
 invariant-loop-side l = record {
   unclosed : l.session.closed ≡ None;
-  took : pairs_of l.session ≡ flat (chunks_told (take l.side-index l.chunks)) }
+  took : pairs_of l.session ≡ flat (chunks_told (take l.side-index l.chunks));
+}

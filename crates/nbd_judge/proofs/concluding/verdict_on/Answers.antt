@@ -2,7 +2,7 @@ use Rattle.std.proofs.Common.{◌≡◌, ℕ, ◌<◌, ◌≤◌, None, Some, sy
 use Rattle.nbd_wire.specs.Explains.{FitsImage, start_byte}
 use Rattle.nbd_export.specs.Cells.{cell}
 use Rattle.nbd_export.specs.Ranges.{AreSameBelow}
-use Rattle.nbd_judge.specs.Beginnings.{image_length, initial_of}
+use Rattle.nbd_judge.specs.Beginnings.{initial_of}
 use Rattle.nbd_judge.specs.Servable.{size_of}
 use Rattle.nbd_judge.proofs.Starting.{concluded, exporting_of, image_fits, same_start}
 use Rattle.nbd_judge.proofs.concluding.verdict_on.Goals as goal

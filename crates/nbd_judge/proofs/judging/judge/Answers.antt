@@ -1,6 +1,3 @@
-use Rattle.std.proofs.Common.{◌≡◌, ◌<◌, ℕ, Option}
-use Rattle.nbd_wire.specs.Verdicts.{IsFaultless}
-use Rattle.nbd_judge.specs.Verdicts.{HasWrongFrom}
 use Rattle.nbd_judge.proofs.Named.{none_wrong}
 use Rattle.nbd_judge.proofs.judging.judge.Goals as goal
 

@@ -1,4 +1,4 @@
-use Rattle.std.proofs.Common.{◌≡◌, ◌+◌, ◌-◌, ◌<◌, ◌≤◌, ℕ, List, Option, length, Some, None, slice_index, MatchOption, sym, ◌∙◌, subst, arith}
+use Rattle.std.proofs.Common.{◌≡◌, ◌+◌, ◌-◌, ◌<◌, ℕ, List, Option, length, Some, None, MatchOption, sym, ◌∙◌, subst, arith}
 use Rattle.nbd_wire.specs.Orders.{IsFirst, IsLate}
 use Rattle.nbd_wire.specs.Report.{known_in}
 use Rattle.nbd_judge.proofs.Lateness.{IsLeastFrom, IsFound, least_step, is_late, not_late, found_now, found_later}

@@ -1,7 +1,7 @@
-use Rattle.std.proofs.Common.{◌≡◌, ◌∙◌, ℕ, List, length, Ok, Err, sym, subst, ap}
-use Rattle.nbd_wire.specs.Orders.{IsFirst, IsMissing}
+use Rattle.std.proofs.Common.{ℕ, length, sym, subst}
+use Rattle.nbd_wire.specs.Orders.{IsMissing}
 use Rattle.nbd_wire.specs.Report.{known_in}
-use Rattle.nbd_judge.specs.Seen.{IsFirstBad, IsSeen, IsTable, IsUnmarked}
+use Rattle.nbd_judge.specs.Seen.{IsFirstBad, IsSeen, IsUnmarked}
 use Rattle.nbd_judge.proofs.Marked.{answered_with, first_of, none_bad, to_missing, to_unmarked}
 use Rattle.nbd_judge.proofs.order.order_fault.Goals as goal
 

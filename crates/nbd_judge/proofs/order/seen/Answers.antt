@@ -1,4 +1,4 @@
-use Rattle.std.proofs.Common.{◌≡◌, ◌+◌, ◌-◌, ◌<◌, ◌≤◌, ℕ, refl, ◌∙◌, slice_index, slice_index_or, true, false, arith}
+use Rattle.std.proofs.Common.{◌≡◌, ◌+◌, ◌-◌, ◌<◌, ℕ, refl, ◌∙◌, slice_index, slice_index_or, true, false, arith}
 use Rattle.nbd_judge.proofs.Marked.{at_default}
 use Rattle.nbd_judge.proofs.order.seen.Goals as goal
 

@@ -1,12 +1,10 @@
-use Rattle.std.proofs.Common.{◌≡◌, ◌+◌, ◌<◌, ◌⊎◌, inl, inr, ℕ, List, Option, length, Some, None, slice_index, refl, sym, ◌∙◌, ap, subst, arith}
+use Rattle.std.proofs.Common.{◌≡◌, ◌<◌, ℕ, Option, length, Some, None, slice_index, refl, sym, ◌∙◌, ap, subst, arith}
 use Rattle.nbd_wire.specs.Exchanges.{Exchange, IsWrong, exchange, exchange_if, exchanges}
-use Rattle.nbd_wire.specs.Report.{Asked, asked_at}
+use Rattle.nbd_wire.specs.Report.{Asked}
 use Rattle.nbd_export.specs.Ranges.{AreSameBelow}
 use Rattle.nbd_session.specs.Transcripts.{asked_told}
 use Rattle.nbd_judge.specs.Folding.{applied}
-use Rattle.nbd_judge.specs.Servable.{IsServable, size_of}
-use Rattle.nbd_judge.specs.Verdicts.{HasWrongFrom}
-use Rattle.nbd_judge.proofs.Deciding.{same_or_not}
+use Rattle.nbd_judge.specs.Servable.{IsServable}
 use Rattle.nbd_judge.proofs.Effects.{next, none_through, served}
 use Rattle.nbd_judge.proofs.Sound.{servable}
 use Rattle.nbd_judge.proofs.replay.replay.Goals as goal

@@ -1,4 +1,4 @@
-use Rattle.std.proofs.Common.{◌≡◌, ◌+◌, ◌<◌, ◌≤◌, ℕ, Bool, List, length, Some, None, sym, ◌∙◌, ap, arith, slice_get}
+use Rattle.std.proofs.Common.{◌≡◌, ◌+◌, ◌<◌, Bool, List, length, sym, ◌∙◌, ap, arith}
 use Rattle.nbd_wire.specs.Report.{Asked}
 use Rattle.nbd_wire.specs.Verdicts.{is_answered}
 use Rattle.nbd_session.specs.Transcripts.{asked_told}

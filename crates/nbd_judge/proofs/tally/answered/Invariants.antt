@@ -1,4 +1,4 @@
-use Rattle.std.proofs.Common.{◌≡◌, ◌≤◌, length, not, take, count_by}
+use Rattle.std.proofs.Common.{◌≡◌, ◌≤◌, length, take, count_by}
 use Rattle.nbd_wire.specs.Report.{Asked}
 use Rattle.nbd_wire.specs.Verdicts.{is_answered}
 use Rattle.nbd_judge.proofs.tally.answered.Given as goal

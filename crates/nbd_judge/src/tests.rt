@@ -1,0 +1,4 @@
+//! Whole sessions, message by message, and their verdicts.
+
+mod recordings;
+mod verdicts;

@@ -1,0 +1,12 @@
+pub mod Printed
+pub mod Words
+pub mod Printable
+pub mod Deciding
+pub mod Made
+pub mod MadeLines
+pub mod WrittenLines
+pub mod ScriptLines
+pub mod Ends
+pub mod MessageLines
+pub mod Numbers
+pub mod Decimals

@@ -1,0 +1,17 @@
+use Rattle.std.proofs.Common.{arith}
+use Rattle.nbd_lines.proofs.Numbers.{all_past, none_ahead, none_past, one_past}
+use Rattle.nbd_lines.proofs.fields.numbers_at.Goals as goal
+
+pub loop-k-init : goal.loop-k-init
+loop-k-init c = none_past c.args.fields.now c.args.text.now c.args.numbers.now
+
+pub returns-in_err-number : goal.returns-in_err-number
+returns-in_err-number c =
+    rw c.from_residual.ensures (none_ahead c.args.fields.now c.args.text.now c.loop-k.k c.loop-k.numbers c.loop-k.rest.now _ c.loop-k-test.true c.loop-k.invariant c.in_err-number.ensures)
+
+pub loop-k-preserved : goal.loop-k-preserved
+loop-k-preserved c =
+    one_past c.args.fields.now c.args.text.now c.loop-k.k c.loop-k.numbers c.loop-k.rest.now _ c.in_ok-number.number c.in_ok-number.behind.now c.loop-k-test.true (omega arith) c.loop-k.invariant c.in_ok-number.ensures
+
+pub returns : goal.returns
+returns c = all_past c.args.fields.now c.args.text.now c.loop-k.k c.loop-k.numbers c.loop-k.rest.now (omega arith) c.loop-k.invariant

@@ -1,0 +1,6 @@
+use Rattle.nbd_capture.specs.Reading.{one_first_bad}
+use Rattle.nbd_lines.specs.Script.{IsScriptLine}
+use Rattle.nbd_lines.proofs.laws.one_first_bad_script_line.Goals as goal
+
+pub returns : goal.returns
+returns c = one_first_bad IsScriptLine

@@ -1,0 +1,5 @@
+use Rattle.nbd_lines.proofs.Made.{all_fit}
+use Rattle.nbd_lines.proofs.making.make.Goals as goal
+
+pub write_chunks-requires : goal.write_chunks-requires
+write_chunks-requires g c = rw c.as_slice.ensures.value (all_fit c.args.script.now c.in_ok-messages.messages.items c.in_ok-messages.ensures.messages)

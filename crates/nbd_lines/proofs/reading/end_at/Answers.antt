@@ -1,0 +1,21 @@
+use Rattle.std.proofs.Common.{inl, inr, sym, ◌∙◌}
+use Rattle.nbd_lines.specs.Table.{has_payload}
+use Rattle.nbd_lines.proofs.Ends.{empty, nothing_at, payload_at, undecoded}
+use Rattle.nbd_lines.proofs.reading.end_at.Goals as goal
+
+pub returns-then-not-has_payload : goal.returns-then-not-has_payload
+returns-then-not-has_payload c =
+    nothing_at (has_payload c.args.form) c.new-then-not-has_payload.result c.args.end.now (sym c.has_payload.ensures ∙ c.if-not-has_payload.true)
+    (c.new-then-not-has_payload.ensures ∙ c.new.ensures.items) (empty c.args.end.now c.if-not-is_empty.ensures)
+
+pub returns-in-Ok : goal.returns-in-Ok
+returns-in-Ok c =
+    rw c.new-in-Ok.ensures (payload_at (has_payload c.args.form) c.in-Some.digits.now c.in-Ok.bytes.items c.args.end.now (sym c.has_payload.ensures ∙ c.if-not-has_payload.false)
+    c.in-Some.ensures c.in-Ok.ensures.ok)
+
+pub returns-in_default-e : goal.returns-in_default-e
+returns-in_default-e c =
+    elim c.in-Err.ensures.err [
+      | inl memory ↦ absurd (c.in_default-e.not-OutOfMemory memory)
+      | inr bad ↦ undecoded (has_payload c.args.form) c.in-Some.digits.now c.args.end.now c.in-Err.e (sym c.has_payload.ensures ∙ c.if-not-has_payload.false) c.in-Some.ensures bad
+    ]

@@ -1,0 +1,23 @@
+use Rattle.std.proofs.Common.{◌≡◌, ℕ, ◌<◌, ◌≤◌, List, [], ◌∷◌, ◌++◌, slice_index_or, arith}
+use Rattle.nbd_lines.specs.declared.forms.Form.{Form}
+use Rattle.nbd_lines.specs.declared.forms.Form.TheVariants.{Greeting, ClientFlags, Choice, Answer, Exported, Request, Simple, Chunk}
+use Rattle.nbd_lines.specs.Table.{words}
+use Rattle.nbd_lines.proofs.reading.form_at.Goals as goal
+
+abbrev all : List Form
+all = Greeting ∷ ClientFlags ∷ Choice ∷ Answer ∷ Exported ∷ Request ∷ Simple ∷ Chunk ∷ []
+
+-- each form stands in the list
+each : (line : List ℕ) (n : ℕ) → 8 ≤ n → ((k : ℕ) → k < n → (rest : List ℕ) → line ≡ words (slice_index_or all k Greeting) ++ rest → ⊥)
+    → (form : Form) (rest : List ℕ) → line ≡ words form ++ rest → ⊥
+each line n h none Greeting rest e = none 0 (omega arith) rest e
+each line n h none ClientFlags rest e = none 1 (omega arith) rest e
+each line n h none Choice rest e = none 2 (omega arith) rest e
+each line n h none Answer rest e = none 3 (omega arith) rest e
+each line n h none Exported rest e = none 4 (omega arith) rest e
+each line n h none Request rest e = none 5 (omega arith) rest e
+each line n h none Simple rest e = none 6 (omega arith) rest e
+each line n h none Chunk rest e = none 7 (omega arith) rest e
+
+pub returns : goal.returns
+returns c = each c.args.line.now c.loop-form.form-index c.loop-form-test.false c.loop-form.invariant

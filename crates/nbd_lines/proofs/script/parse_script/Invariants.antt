@@ -1,0 +1,10 @@
+use Rattle.std.proofs.Common.{length}
+use Rattle.nbd_lines.specs.Script.{IsScriptLine}
+use Rattle.nbd_capture.specs.Progress.{Progress}
+use Rattle.nbd_lines.proofs.script.parse_script.Given as goal
+
+abbrev pub invariant-loop-rest : goal.invariant-loop-rest
+invariant-loop-rest l = Progress IsScriptLine l.text l.rest l.messages.items l.number
+
+abbrev pub decreases-loop-rest : goal.decreases-loop-rest
+decreases-loop-rest l = length l.rest

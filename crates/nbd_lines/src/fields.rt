@@ -1,0 +1,91 @@
+//! Reading the fields of a line.
+
+ghost use Rattle.std.specs.Prelude.{◌≡◌, ◌++◌, ◌<◌, ◌≤◌, ◌^◌, ◌↔◌, ℕ, List, IsTrue, MatchOption, length, take};
+ghost use Rattle.std.specs.Fmt.{decimal};
+ghost use Rattle.nbd_capture.specs.Order.{BeginsPlainly};
+ghost use Rattle.nbd_lines.specs.Reading.{BeginsNumber, BeginsNumbers, EndsWord, IsSpaceless, ReadsNumber, ReadsNumbers};
+
+use crate::forms::Field;
+use crate::parts::MOST_NUMBERS;
+use memchr::memchr;
+use std::str;
+
+/// What stands behind this front of the text; `None` where the text begins otherwise.
+pub(crate) fn behind<'a>(front: &[u8], text: &'a [u8]) -> Option<&'a [u8]>
+    ensures { MatchOption result
+        ((rest : List ℕ) → text.now ≡ front.now ++ rest → ⊥)
+        (λ rest. text.now ≡ front.now ++ rest.now) }
+{
+    text.strip_prefix(front)
+}
+
+/// What stands behind these fields at the front of the text, with their numbers put into `numbers`; `None`
+/// where the text does not begin so.
+pub(crate) fn numbers_at<'a>(
+    fields: &[Field],
+    text: &'a [u8],
+    numbers: &mut [u64; MOST_NUMBERS],
+) -> Option<&'a [u8]>
+    requires { length fields.now ≤ MOST_NUMBERS }
+    ensures { MatchOption result
+        ((ns rest : List ℕ) → EndsWord rest → BeginsNumbers fields.now ns text.now rest → ⊥)
+        (λ rest. ReadsNumbers fields.now (take (length fields.now) numbers.new) text.now rest.now) }
+{
+    let mut rest = text;
+    for (k, field) in fields.iter().enumerate() {
+        let (number, behind) = number_at(*field, rest)?;
+        numbers[k] = number;
+        rest = behind;
+    }
+    Some(rest)
+}
+
+// The number of this field at the front of the text, and what stands behind it.
+fn number_at(field: Field, text: &[u8]) -> Option<(u64, &[u8])>
+    ensures { MatchOption result
+        ((n : ℕ) (rest : List ℕ) → BeginsNumber field n text.now rest → ⊥)
+        (λ parts. ReadsNumber field parts.0 text.now parts.1.now) }
+{
+    let named = behind(b" ", text)?;
+    let valued = behind(field.name.text(), named)?;
+    let (digits, rest) = first_word(behind(b"=", valued)?);
+    let number = number_of(digits)?;
+    if number > field.most {
+        return None;
+    }
+    Some((number, rest))
+}
+
+// What stands in front of the first space of a text, and the rest of the text.
+fn first_word(text: &[u8]) -> (&[u8], &[u8])
+    ensures spaceless { IsSpaceless result.0.now }
+    ensures ends { EndsWord result.1.now }
+    ensures whole { text.now ≡ result.0.now ++ result.1.now }
+{
+    let end = memchr(b' ', text).unwrap_or(text.len());
+    text.split_at(end)
+}
+
+// The number that these digits are, without a zero in front of other digits.
+fn number_of(digits: &[u8]) -> Option<u64>
+    ensures { MatchOption result
+        ((n : ℕ) → n < 2 ^ 64 → digits.now ≡ decimal n → ⊥)
+        (λ n. digits.now ≡ decimal n) }
+{
+    if !begins_plainly(digits) {
+        return None;
+    }
+    let text = str::from_utf8(digits).ok()?;
+    text.parse().ok()
+}
+
+// Whether these bytes begin with a digit, and with `0` only where that is all of them.
+fn begins_plainly(digits: &[u8]) -> bool
+    ensures { IsTrue result ↔ BeginsPlainly digits.now }
+{
+    match digits {
+        [] => false,
+        [first] => first.is_ascii_digit(),
+        [first, ..] => first.is_ascii_digit() && *first != b'0',
+    }
+}

@@ -1,0 +1,92 @@
+//! Writing messages to a writer: as their lines, and as chunk lines of a capture.
+
+ghost use Rattle.std.specs.Prelude.{◌≡◌, OnOk, OnErr};
+ghost use Rattle.std.specs.Io.KnownBytes.{Appends};
+ghost use Rattle.std.specs.List.{AllByRecursion};
+ghost use Rattle.nbd_wire.specs.Fits.{FitsItsHead};
+ghost use Rattle.nbd_capture.specs.Writing.{AppendsFront};
+ghost use Rattle.nbd_lines.specs.Script.{chunk_lines, message_lines};
+ghost use Rattle.nbd_lines.specs.declared.output.OutputFault.TheVariants.{Memory, Write};
+
+use crate::printing::append_line;
+use nbd_capture::{WriteFault, write_chunk, write_whole};
+use nbd_wire::{Message, append, side_of};
+use std::alloc::{AllocError, Global};
+use std::io;
+use thiserror::Error;
+
+/// Why not all of an output was written.
+#[derive(Clone, Copy, Debug, PartialEq, Eq, Drop, Error)]
+pub enum OutputFault {
+    /// The writer failed, or took no byte.
+    #[error("write")]
+    Write,
+    /// An allocation was refused.
+    #[error("memory")]
+    Memory,
+}
+
+impl From<AllocError> for OutputFault {
+    ghost from_gives = { λ _ e. e ≡ Memory };
+
+    fn from(_e: AllocError) -> OutputFault {
+        OutputFault::Memory
+    }
+}
+
+impl From<WriteFault> for OutputFault {
+    ghost from_gives = { λ _ e. e ≡ Write };
+
+    fn from(_e: WriteFault) -> OutputFault {
+        OutputFault::Write
+    }
+}
+
+/// Writes the lines of these messages in their order, each with its LF.
+///
+/// Each line is made in memory and written whole. After a fault a front of the lines, possibly nothing,
+/// stands written, and nothing is tried again. What stands is said where the writer tells its bytes.
+pub fn show<W: io::Write>(
+    alloc: Global,
+    messages: &[Message],
+    out: &mut W,
+) -> Result<(), OutputFault>
+    ensures ok { OnOk result
+        (Appends (W.contents out.old) (W.contents out.new) (message_lines messages.now)) }
+    ensures err { OnErr result
+        (AppendsFront (W.contents out.old) (W.contents out.new) (message_lines messages.now)) }
+{
+    let mut line = Vec::new(alloc);
+    for message in messages {
+        line.clear();
+        append_line(&mut line, message)?;
+        line.extend_from_slice(b"\n")?;
+        write_whole(out, line.as_slice())?;
+    }
+    Ok(())
+}
+
+/// Writes one chunk line for each of these messages, in their order: with its sender, and with all of its
+/// bytes in lower case digits.
+///
+/// A message's bytes are made in memory first. After a fault a front of the lines, possibly nothing, stands
+/// written, and nothing is tried again. What stands is said where the writer tells its bytes.
+pub fn write_chunks<W: io::Write>(
+    alloc: Global,
+    messages: &[Message],
+    out: &mut W,
+) -> Result<(), OutputFault>
+    requires { AllByRecursion FitsItsHead messages.now }
+    ensures ok { OnOk result
+        (Appends (W.contents out.old) (W.contents out.new) (chunk_lines messages.now)) }
+    ensures err { OnErr result
+        (AppendsFront (W.contents out.old) (W.contents out.new) (chunk_lines messages.now)) }
+{
+    let mut bytes = Vec::new(alloc);
+    for message in messages {
+        bytes.clear();
+        append(&mut bytes, message)?;
+        write_chunk(out, side_of(message), bytes.as_slice())?;
+    }
+    Ok(())
+}

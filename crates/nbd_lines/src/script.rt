@@ -1,0 +1,91 @@
+//! Scripts: message lines, empty lines, comments and lines that are exactly `ok`.
+
+ghost use Rattle.std.specs.Prelude.{◌≡◌, ◌↔◌, [], List, IfOk, IfErr, IsTrue, MatchResult};
+ghost use Rattle.nbd_wire.specs.declared.message.Message.{Message};
+ghost use Rattle.nbd_lines.specs.Faults.{IsScriptFault};
+ghost use Rattle.nbd_lines.specs.Script.{IsScript, IsScriptLine};
+ghost use Rattle.nbd_lines.specs.Steps.{IsLineFault, said_by};
+ghost use Rattle.nbd_lines.specs.declared.script.ScriptFault.TheVariants.{Memory};
+
+use crate::reading::parse_message;
+use nbd_capture::first_line;
+use nbd_wire::Message;
+use std::alloc::{AllocError, AllocFailed, Global};
+use thiserror::Error;
+
+/// Why a script gave no messages. Nothing is kept of a text after a fault.
+#[derive(Clone, Copy, Debug, PartialEq, Eq, Drop, Error)]
+pub enum ScriptFault {
+    /// The line with this number, from 1, is the first bad one: it has no form, its message has no encoding,
+    /// or no LF stands behind it.
+    #[error("script line {0}")]
+    Line(u64),
+    /// An allocation was refused.
+    #[error("memory")]
+    Memory,
+}
+
+impl<T: Drop> From<AllocFailed<T>> for ScriptFault {
+    ghost from_gives = { λ _ e. e ≡ Memory };
+
+    fn from(_e: AllocFailed<T>) -> ScriptFault {
+        ScriptFault::Memory
+    }
+}
+
+impl From<AllocError> for ScriptFault {
+    ghost from_gives = { λ _ e. e ≡ Memory };
+
+    fn from(_e: AllocError) -> ScriptFault {
+        ScriptFault::Memory
+    }
+}
+
+/// The messages of a script, in order.
+///
+/// A text is a sequence of lines, each ended by LF. A message line stands for its message, which has to have
+/// an encoding. An empty line, one that begins with `#` and one that is exactly `ok` stand for none. This
+/// format is this project's choice. The text is read once, from its front. Memory may run out before a bad
+/// line is reached.
+pub fn parse_script(alloc: Global, text: &[u8]) -> Result<Vec<Message>, ScriptFault>
+    ensures messages { IfOk result (λ messages. IsScript text.now messages.items) }
+    ensures fault { IfErr result (IsScriptFault text.now) }
+    // What reads as messages gives these messages, unless memory runs out.
+    ensures only { (messages : List Message) → IsScript text.now messages
+        → MatchResult result (λ found. found.items ≡ messages) (λ e. e ≡ Memory) }
+{
+    let mut messages = Vec::new(alloc);
+    let mut rest = text;
+    let mut number = 0;
+    while !rest.is_empty() {
+        number += 1;
+        let (line, behind) = first_line(rest).ok_or(ScriptFault::Line(number))?;
+        if let Some(message) = message_on(alloc, line, number)? {
+            messages.push(message)?;
+        }
+        rest = behind;
+    }
+    Ok(messages)
+}
+
+// The message for which a line stands, if it stands for one.
+fn message_on(alloc: Global, line: &[u8], number: u64) -> Result<Option<Message>, ScriptFault>
+    ensures said { IfOk result (λ said. IsScriptLine line.now (said_by said)) }
+    ensures fault { IfErr result (IsLineFault line.now number) }
+{
+    if is_silent(line) {
+        return Ok(None);
+    }
+    let message = parse_message(alloc, line)?.ok_or(ScriptFault::Line(number))?;
+    Ok(Some(message))
+}
+
+// Whether a line stands for no message: an empty line, a comment, or `ok`.
+fn is_silent(line: &[u8]) -> bool
+    ensures { IsTrue result ↔ IsScriptLine line.now [] }
+{
+    match line {
+        [] => true,
+        [first, ..] => *first == b'#' || line == b"ok".as_slice(),
+    }
+}
