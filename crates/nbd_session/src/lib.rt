@@ -21,6 +21,8 @@ mod requests;
 mod session;
 mod spans;
 mod state;
+#[cfg(test)]
+mod tests;
 mod transcript;
 mod whole;
 

@@ -2,18 +2,40 @@
 //! rules want.
 
 mod cases;
+mod chunks;
+mod contents;
 mod faults;
 mod inputs;
+mod large_numbers;
+mod messages;
+mod negotiation;
+mod orders;
+mod refused_negotiation;
+mod transmission;
+mod truncated;
 
 use crate::check::run_check;
-use crate::judge::StartFrom;
+use crate::start::StartFrom;
 use nbd_capture::{parse_capture, write_chunk};
 use nbd_wire::Side;
 use std::alloc::Global;
 use std::test::Fail;
 
+/// What the export held at first.
+#[derive(Clone, Copy)]
+enum Start<'a> {
+    Unknown,
+    Zeroes,
+    Image(&'a [u8]),
+}
+
 /// What a run wrote, with its exit status before it, or its fault.
-fn answer(alloc: Global, capture: &[u8], order: &[u8], start: StartFrom) -> Result<String, Fail> {
+fn answer(alloc: Global, capture: &[u8], order: &[u8], start: Start<'_>) -> Result<String, Fail> {
+    let start = match start {
+        Start::Unknown => StartFrom::Unknown,
+        Start::Zeroes => StartFrom::Zeroes,
+        Start::Image(bytes) => StartFrom::Image(bytes),
+    };
     let mut out = Vec::new(alloc);
     match run_check(alloc, capture, order, start, &mut out) {
         Ok(is_yes) => {

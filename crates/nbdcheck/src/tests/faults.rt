@@ -2,9 +2,12 @@
 
 use crate::check::run_check;
 use crate::fault::RunFault;
-use crate::judge::StartFrom;
+use crate::start::StartFrom;
 use std::io::{BufReader, Error, ErrorKind, Read, Result, Write};
 use std::test::Fail;
+
+/// A start of zeroes.
+const ZEROES: StartFrom<&'static [u8]> = StartFrom::Zeroes;
 
 /// A reader that gives some bytes and then fails.
 #[derive(Drop)]
@@ -55,14 +58,20 @@ fn a_reader_that_fails(rt: HostRuntime) -> std::result::Result<(), Fail> {
         let mut out = Vec::new(alloc);
         let bytes = b"S 00\n";
         let failing = BufReader::new(alloc, Failing { bytes, kind })?;
-        let found = run_check(alloc, failing, &b""[..], StartFrom::Zeroes, &mut out);
+        let found = run_check(alloc, failing, &b""[..], ZEROES, &mut out);
         assert!(rt; matches!(&found, Err(RunFault::CaptureRead)));
         let failing = Failing { bytes, kind };
-        let found = run_check(alloc, &b"C 00\n"[..], failing, StartFrom::Zeroes, &mut out);
+        let found = run_check(alloc, &b"C 00\n"[..], failing, ZEROES, &mut out);
         assert!(rt; matches!(&found, Err(RunFault::OrderRead)));
         let failing = Failing { bytes, kind };
-        let found = run_check(alloc, &b"C 0\n"[..], failing, StartFrom::Zeroes, &mut out);
+        let found = run_check(alloc, &b"C 0\n"[..], failing, ZEROES, &mut out);
         assert!(rt; matches!(&found, Err(RunFault::CaptureLine(1))));
+        let image = StartFrom::Image(Failing { bytes, kind });
+        let found = run_check(alloc, &b"C 00\n"[..], &b""[..], image, &mut out);
+        assert!(rt; matches!(&found, Err(RunFault::ImageRead)));
+        let image = StartFrom::Image(Failing { bytes, kind });
+        let found = run_check(alloc, &b"C 00\n"[..], &b"x\n"[..], image, &mut out);
+        assert!(rt; matches!(&found, Err(RunFault::OrderLine(1))));
         assert!(rt; out.is_empty());
     }
     Ok(())
@@ -79,7 +88,7 @@ fn a_writer_that_fails(rt: HostRuntime) {
                 most,
                 stop,
             };
-            let found = run_check(alloc, &b""[..], &b""[..], StartFrom::Zeroes, &mut out);
+            let found = run_check(alloc, &b""[..], &b""[..], ZEROES, &mut out);
             assert!(rt; matches!(&found, Err(RunFault::Write)));
             assert_eq!(rt; out.taken.as_slice(), &line[..most]);
         }
@@ -88,7 +97,7 @@ fn a_writer_that_fails(rt: HostRuntime) {
             most: line.len(),
             stop,
         };
-        let found = run_check(alloc, &b""[..], &b""[..], StartFrom::Zeroes, &mut out);
+        let found = run_check(alloc, &b""[..], &b""[..], ZEROES, &mut out);
         assert!(rt; matches!(&found, Ok(true)));
         assert_eq!(rt; out.taken.as_slice(), line.as_slice());
     }

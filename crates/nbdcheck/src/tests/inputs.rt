@@ -1,7 +1,6 @@
 //! Texts that have no form.
 
-use super::answer;
-use crate::judge::StartFrom;
+use super::{Start, answer};
 use std::test::Fail;
 
 #[test]
@@ -14,12 +13,7 @@ fn bad_lines(rt: HostRuntime) -> Result<(), Fail> {
         ("", "01\n", "3 fault order line 1\n"),
         ("C 00\n", "1\n\n", "3 fault order line 2\n"),
     ] {
-        let found = answer(
-            alloc,
-            capture.as_bytes(),
-            order.as_bytes(),
-            StartFrom::Zeroes,
-        )?;
+        let found = answer(alloc, capture.as_bytes(), order.as_bytes(), Start::Zeroes)?;
         assert_eq!(rt; found.as_str(), want, "{capture:?} {order:?}");
     }
     Ok(())
