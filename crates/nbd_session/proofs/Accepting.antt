@@ -1,9 +1,9 @@
 -- A whole message is accepted.
-use Rattle.std.proofs.Common.{◌≡◌, ℕ, ◌+◌, List, [], ◌∷◌, ◌++◌, length, refl, sym, ◌∙◌, ap, subst, Ok, Option, Some, None, if◌then◌else◌, slice_get, append-nil}
+use Rattle.std.proofs.Common.{◌≡◌, ℕ, ◌+◌, List, [], ◌∷◌, ◌++◌, length, refl, sym, ◌∙◌, ap, subst, Ok, Option, Some, None, if◌then◌else◌, append-nil}
 use Rattle.nbd_wire.specs.declared.message.Message.{Message}
 use Rattle.nbd_wire.specs.declared.message.Side.{Side}
 use Rattle.nbd_wire.specs.declared.message.Side.TheVariants.{Client, Server}
-use Rattle.nbd_wire.specs.Items.{Pair, sent}
+use Rattle.nbd_wire.specs.Items.{Pair}
 use Rattle.nbd_wire.specs.Rules.{MayComplete, answered_by, complete}
 use Rattle.nbd_wire.specs.Sendable.{IsSendable}
 use Rattle.nbd_wire.specs.Side.{same_side, side}
@@ -11,13 +11,12 @@ use Rattle.nbd_wire.specs.States.{Core, start}
 use Rattle.nbd_session.specs.declared.held.Held.{Held}
 use Rattle.nbd_session.specs.declared.asked.Exchange.{Exchange}
 use Rattle.nbd_session.specs.declared.reading.Reading.TheVariants as program
-use Rattle.nbd_session.specs.declared.state.State.{State}
 use Rattle.nbd_session.specs.Concrete.{concrete}
 use Rattle.nbd_session.specs.Decisions.{Decision}
 use Rattle.nbd_session.specs.Folded.{core_from}
 use Rattle.nbd_session.specs.Holdings.{holding_of, spans_of}
 use Rattle.nbd_session.specs.Judge.{decided_counted}
-use Rattle.nbd_session.specs.Logged.{Logged, known_by, logged, messages_of}
+use Rattle.nbd_session.specs.Logged.{logged, messages_of}
 use Rattle.nbd_laws.specs.Machine.{IsReached, Machine, Whole, fresh, get, old_of, put, reached_of, reads}
 use Rattle.nbd_session.specs.Readings.{reading_if, reading_of}
 use Rattle.nbd_session.specs.Shows.{AreKnown, Shows}

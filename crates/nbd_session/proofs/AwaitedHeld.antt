@@ -10,7 +10,7 @@ use Rattle.nbd_session.specs.Concrete.{concrete, judged}
 use Rattle.nbd_session.specs.Decisions.{Decision, awaited_by}
 use Rattle.nbd_session.specs.Judge.{awaited, decided, decided_counted, decided_with}
 use Rattle.nbd_session.specs.JudgeTransmission.{entry_counted}
-use Rattle.nbd_laws.specs.Machine.{Bad, Held, IsFilled, Machine, More, Reading, Rest, Whole, at_once, get, none_held, old-empty, old_of, some_held}
+use Rattle.nbd_laws.specs.Machine.{Bad, Held, IsFilled, Machine, More, Rest, Whole, at_once, get, none_held, old-empty, old_of, some_held}
 use Rattle.nbd_session.specs.Readings.{reading_if, until}
 use Rattle.nbd_session.specs.Standing.{Holding, IsReadTo, counted_at, rest_of}
 use Rattle.nbd_session.proofs.Awaiting.{held_short, in_head}

@@ -1,5 +1,5 @@
 -- A session before its first byte, and one that is told of.
-use Rattle.std.proofs.Common.{◌≡◌, ℕ, List, [], ◌∷◌, length, refl, sym, ◌∙◌, ap, subst, append-nil, Option, Some, None, Ok, slice_get}
+use Rattle.std.proofs.Common.{◌≡◌, ℕ, List, [], ◌∷◌, length, refl, sym, ◌∙◌, ap, subst, append-nil, Option, Some, None}
 use Rattle.nbd_wire.specs.declared.message.Side.{Side}
 use Rattle.nbd_wire.specs.declared.message.Side.TheVariants.{Client, Server}
 use Rattle.nbd_wire.specs.States.{start}
@@ -9,7 +9,7 @@ use Rattle.nbd_session.specs.declared.held.Held.{Held}
 use Rattle.nbd_session.specs.Concrete.{concrete}
 use Rattle.nbd_session.specs.Holdings.{holding_of}
 use Rattle.nbd_session.specs.Logged.{logged}
-use Rattle.nbd_laws.specs.Machine.{Machine, fresh, get, reads}
+use Rattle.nbd_laws.specs.Machine.{fresh, get}
 use Rattle.nbd_session.specs.Sessions.{AddsFront, IsOfRun, Recorded, pairs_of}
 use Rattle.nbd_session.specs.Shows.{AreKnown, Shows}
 use Rattle.nbd_session.specs.Standing.{Holding, IsReadTo, pairs_held, rest_of}

@@ -1,5 +1,5 @@
 -- A head at the front of bytes.
-use Rattle.std.proofs.Common.{◌≡◌, ℕ, zero, suc, [], ◌∷◌, ◌+◌, ◌<◌, ◌≤◌, ◌==◌, List, ◌++◌, length, take, drop, refl, sym, ◌∙◌, ap, subst, arith, Bool, true, false, Option, Some, None, if◌then◌else◌, eqb-true}
+use Rattle.std.proofs.Common.{◌≡◌, ℕ, zero, suc, [], ◌∷◌, ◌+◌, ◌≤◌, ◌==◌, List, length, take, drop, refl, sym, ◌∙◌, ap, arith, Option, Some, None, eqb-true}
 use Rattle.std.proofs.lemmas.Bool.{cond_both, eq-eqb, cond-true}
 use Rattle.std.proofs.lemmas.List.{take-append-drop, length-take-le}
 use Rattle.std.proofs.lemmas.Option.{none-some}

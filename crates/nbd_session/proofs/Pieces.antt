@@ -1,12 +1,12 @@
 -- A piece of a side's bytes: how far it is taken at once, and what it adds.
-use Rattle.std.proofs.Common.{◌≡◌, ℕ, zero, suc, ◌+◌, ◌-◌, ◌<◌, ◌≤◌, min, List, [], ◌∷◌, ◌++◌, length, refl, sym, ◌∙◌, ap, subst, arith, append_assoc, append-nil, length-append, take, drop, slice_index_or, Fits, w8, IfErr, IsErrAnd, Result}
+use Rattle.std.proofs.Common.{◌≡◌, ℕ, zero, suc, ◌+◌, ◌<◌, ◌≤◌, List, [], ◌∷◌, ◌++◌, length, refl, sym, ◌∙◌, ap, subst, arith, append_assoc, append-nil, length-append, take, drop, slice_index_or, Fits, w8}
 use Rattle.std.proofs.lemmas.List.{length-map, length-take-le, take-append-drop}
 use Rattle.nbd_wire.specs.declared.message.Message.{Message}
 use Rattle.nbd_wire.specs.declared.message.Side.{Side}
 use Rattle.nbd_wire.specs.declared.message.Side.TheVariants.{Client, Server}
 use Rattle.nbd_wire.specs.Encoding.{AreBytes}
 use Rattle.nbd_wire.specs.Items.{Pair, sent}
-use Rattle.nbd_wire.specs.Pushed.{Span, bytes_of, left_of, mixed}
+use Rattle.nbd_wire.specs.Pushed.{Span, bytes_of, mixed}
 use Rattle.nbd_session.specs.declared.fault.SessionFault.{SessionFault}
 use Rattle.nbd_session.specs.declared.fault.SessionFault.TheVariants.{Memory}
 use Rattle.nbd_session.specs.declared.held.Held.{Held}
@@ -17,7 +17,7 @@ use Rattle.nbd_session.specs.Sessions.{Adds}
 use Rattle.nbd_session.specs.Concrete.{concrete}
 use Rattle.nbd_session.specs.Logged.{logged}
 use Rattle.nbd_session.specs.Shows.{AreKnown, Shows}
-use Rattle.nbd_session.specs.Standing.{AreSpansOf, Holding, IsReadTo, pairs_held, rest_of, span_total, with_taken}
+use Rattle.nbd_session.specs.Standing.{AreSpansOf, IsReadTo, pairs_held, rest_of, span_total, with_taken}
 use Rattle.nbd_session.specs.Steps.{AddsHeld, HoldsRun, IsRefused, IsSame, IsShut, IsTaken, Stands}
 use Rattle.nbd_session.proofs.Awaiting.{held_short}
 use Rattle.nbd_session.proofs.Completed.{shown_length}

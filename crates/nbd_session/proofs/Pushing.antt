@@ -1,13 +1,13 @@
 -- The pushed pairs: one more piece of a side, and a message that completes.
-use Rattle.std.proofs.Common.{◌≡◌, ℕ, ◌+◌, ◌-◌, ◌≤◌, List, [], ◌∷◌, ◌++◌, length, take, drop, refl, sym, ◌∙◌, ap, subst, append_assoc, append-nil, arith, length-append, length-drop, if◌then◌else◌, map, Bool, true, false}
+use Rattle.std.proofs.Common.{◌≡◌, ℕ, ◌+◌, ◌≤◌, List, [], ◌∷◌, ◌++◌, length, take, refl, sym, ◌∙◌, ap, subst, append_assoc, append-nil, arith, length-append, length-drop, if◌then◌else◌, Bool, true, false}
 use Rattle.std.proofs.lemmas.List.{take-append-le, drop-append-le}
 use Rattle.std.proofs.Math.Seq.{take-length}
 use Rattle.nbd_wire.specs.declared.message.Side.{Side}
 use Rattle.nbd_wire.specs.declared.message.Side.TheVariants.{Client, Server}
 use Rattle.nbd_wire.specs.declared.message.Message.{Message}
 use Rattle.nbd_wire.specs.Encoding.{enc}
-use Rattle.nbd_wire.specs.Items.{Pair, sent}
-use Rattle.nbd_wire.specs.Pushed.{Span, bytes_of, of_two, left_of, mixed, pushed}
+use Rattle.nbd_wire.specs.Items.{sent}
+use Rattle.nbd_wire.specs.Pushed.{Span, bytes_of, of_two, left_of, mixed}
 use Rattle.nbd_wire.specs.Side.{side, same_side}
 use Rattle.nbd_session.specs.Standing.{span_total, AreSpansOf, noted, with_more}
 

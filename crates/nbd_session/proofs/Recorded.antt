@@ -6,7 +6,7 @@ use Rattle.nbd_wire.specs.Requests as definitions
 use Rattle.nbd_wire.specs.States.{with_reply}
 use Rattle.nbd_session.specs.declared.asked.Exchange.{Exchange}
 use Rattle.nbd_session.specs.declared.asked.Outcome.{Outcome}
-use Rattle.nbd_session.specs.declared.asked.Outcome.TheVariants.{Success, Failure, Pending}
+use Rattle.nbd_session.specs.declared.asked.Outcome.TheVariants.{Success, Failure}
 use Rattle.nbd_session.specs.JudgeTransmission.{is_none_yet}
 use Rattle.nbd_session.specs.Showing.{IsShown, outcome_of}
 use Rattle.nbd_session.proofs.ChunkFaults.{any-snoc, proper-same}

@@ -1,10 +1,9 @@
 -- What a session that ends tells is the report of the runs with its bytes.
-use Rattle.std.proofs.Common.{◌≡◌, ℕ, zero, suc, ◌+◌, List, [], ◌∷◌, ◌++◌, map, length, refl, sym, ◌∙◌, ap, subst, arith, append-nil, Option, Some, None, slice_get, ◌==◌, true, eqb-true}
+use Rattle.std.proofs.Common.{◌≡◌, ℕ, suc, ◌+◌, List, [], ◌∷◌, map, length, refl, sym, ◌∙◌, ap, subst, arith, Option, Some, None, slice_get, ◌==◌, true, eqb-true}
 use Rattle.nbd_wire.specs.declared.message.Side.{Side}
 use Rattle.nbd_wire.specs.declared.message.Side.TheVariants.{Client, Server}
-use Rattle.nbd_wire.specs.Items.{Item, completed, pairs}
-use Rattle.nbd_wire.specs.Report as definitions
-use Rattle.nbd_wire.specs.Report.{Report, export_in, report, told, told_from}
+use Rattle.nbd_wire.specs.Items.{Item, pairs}
+use Rattle.nbd_wire.specs.Report.{export_in, report, told, told_from}
 use Rattle.nbd_wire.specs.Requests.{Entry, Exporting}
 use Rattle.nbd_wire.specs.Rules.{IsRun, IsRunBut}
 use Rattle.nbd_wire.specs.States.{Core, Phase, Greet, Flags, Choosing, Naming, Aborting, Answering, Ended, Transmission, start}
@@ -14,8 +13,8 @@ use Rattle.nbd_session.specs.declared.state.State.{State}
 use Rattle.nbd_session.specs.Concrete.{concrete}
 use Rattle.nbd_session.specs.Holdings.{holding_of}
 use Rattle.nbd_session.specs.Logged.{Logged, known_by, logged, report_by}
-use Rattle.nbd_laws.specs.Machine.{Machine, fresh, get}
-use Rattle.nbd_session.specs.Sessions.{HasRun, IsReported, Recorded}
+use Rattle.nbd_laws.specs.Machine.{fresh, get}
+use Rattle.nbd_session.specs.Sessions.{IsReported}
 use Rattle.nbd_session.specs.Showing.{IsShown, exporting_if}
 use Rattle.nbd_session.specs.Shows.{AreKnown, AreShown, Shows, phase_shown}
 use Rattle.nbd_laws.specs.Soundness.{IsSoundReport}

@@ -1,5 +1,5 @@
 -- What was taken of a side is judged.
-use Rattle.std.proofs.Common.{◌≡◌, ℕ, ◌+◌, List, [], ◌∷◌, ◌++◌, length, refl, sym, ◌∙◌, ap, subst, Result, Ok, Err, IfErr, IsErrAnd, append-nil}
+use Rattle.std.proofs.Common.{◌≡◌, ℕ, [], ◌++◌, length, refl, sym, ◌∙◌, ap, subst, Result, Ok, Err, IfErr, IsErrAnd, append-nil}
 use Rattle.nbd_wire.specs.declared.message.Side.{Side}
 use Rattle.nbd_wire.specs.declared.message.Side.TheVariants.{Client, Server}
 use Rattle.nbd_session.specs.declared.fault.SessionFault.{SessionFault}

@@ -1,27 +1,26 @@
 -- What a session holds after one more piece, and after one more message.
-use Rattle.std.proofs.Common.{◌≡◌, ℕ, ◌+◌, ◌<◌, ◌≤◌, List, [], ◌∷◌, ◌++◌, length, refl, sym, ◌∙◌, ap, subst, append_assoc, append-nil, arith, length-append, Bool, true, false, Option, Some, None, Result, Ok, Err, if◌then◌else◌}
+use Rattle.std.proofs.Common.{◌≡◌, ℕ, ◌≤◌, List, [], ◌∷◌, ◌++◌, length, refl, sym, ◌∙◌, ap, subst, append_assoc, append-nil, Some, Ok, Err, if◌then◌else◌}
 use Rattle.nbd_wire.specs.declared.message.Side.{Side}
 use Rattle.nbd_wire.specs.declared.message.Side.TheVariants.{Client, Server}
 use Rattle.nbd_wire.specs.declared.message.Message.{Message}
 use Rattle.nbd_wire.specs.Encoding.{AreBytes, enc}
 use Rattle.nbd_wire.specs.Items.{Pair, ArePairs, sent}
-use Rattle.nbd_wire.specs.Pushed.{Span, bytes_of, mixed, pushed}
-use Rattle.nbd_wire.specs.Rules.{MayComplete, complete}
-use Rattle.nbd_wire.specs.Sendable.{IsSendable}
+use Rattle.nbd_wire.specs.Pushed.{bytes_of, mixed}
+use Rattle.nbd_wire.specs.Rules.{complete}
 use Rattle.nbd_wire.specs.Side.{side, same_side}
 use Rattle.nbd_wire.specs.States.{Core, Phase, Greet, Flags, Choosing, Naming, Aborting, Answering, Ended, Transmission}
 use Rattle.nbd_laws.specs.declared.fault.WireFault.{WireFault}
 use Rattle.nbd_session.specs.declared.reading.Reading.TheVariants as program
 use Rattle.nbd_session.specs.Concrete.{concrete, judged}
 use Rattle.nbd_session.specs.Decisions.{Decision}
-use Rattle.nbd_session.specs.Judge.{decided, decided_counted, decided_with, awaited, awaited_counted}
+use Rattle.nbd_session.specs.Judge.{decided, decided_counted, decided_with, awaited}
 use Rattle.nbd_session.specs.JudgeTransmission.{entry_counted}
-use Rattle.nbd_laws.specs.Machine.{Machine, Rest, Both, Reading, More, Whole, Bad, IsSoundAt, get, put, reads, fresh, old_of, settle, on_ok, IsFilled, Kept, Held, AreHeld, get-put_same, get-put_other, same_or_not, reads_held, old-empty, old-filled}
+use Rattle.nbd_laws.specs.Machine.{Machine, Rest, Reading, More, Whole, Bad, IsSoundAt, get, put, reads, fresh, old_of, settle, on_ok, IsFilled, AreHeld, reads_held, old-empty, old-filled}
 use Rattle.nbd_session.specs.Standing.{Holding, IsReadTo, AreSpansOf, noted, pairs_held, rest_of, with_message, with_more, with_taken, counted_at}
 use Rattle.nbd_session.specs.Readings.{reading_if}
 use Rattle.nbd_session.proofs.Awaiting.{reads_up_to}
 use Rattle.nbd_session.proofs.Blockwise.{judged_at_once, extended, reads-append}
-use Rattle.nbd_session.proofs.Counted.{held_counted, awaited_held, count_of}
+use Rattle.nbd_session.proofs.Counted.{held_counted, count_of}
 use Rattle.nbd_session.proofs.Pushing.{bytes_of-snoc, mixed-noted, spans-noted}
 use Rattle.nbd_laws.specs.lemmas.Runs.{fresh_held}
 use Rattle.nbd_session.proofs.Sound.{sound}

@@ -1,22 +1,19 @@
 -- One more piece of a side, up to the next length at which something is decided, as the machine reads it.
-use Rattle.std.proofs.Common.{◌≡◌, ℕ, ◌+◌, ◌<◌, ◌≤◌, List, [], ◌∷◌, ◌++◌, length, refl, sym, ◌∙◌, ap, subst, append_assoc, append-nil, arith, length-append, Bool, true, false, Option, Some, None, Result, Ok, Err, ◌==◌, nat_lt, if◌then◌else◌}
+use Rattle.std.proofs.Common.{◌≡◌, ℕ, ◌+◌, ◌<◌, ◌≤◌, List, [], ◌∷◌, ◌++◌, length, refl, sym, ap, subst, append_assoc, arith, length-append, Bool, true, false, Option, Some, None, Ok, Err, ◌==◌, nat_lt, if◌then◌else◌}
 use Rattle.nbd_wire.specs.declared.message.Side.{Side}
-use Rattle.nbd_wire.specs.declared.message.Side.TheVariants.{Client, Server}
 use Rattle.nbd_wire.specs.declared.message.Message.{Message}
 use Rattle.nbd_wire.specs.Encoding.{AreBytes}
-use Rattle.nbd_wire.specs.Items.{Pair, ArePairs, sent}
 use Rattle.nbd_wire.specs.States.{Core}
 use Rattle.nbd_laws.specs.declared.fault.WireFault.{WireFault}
 use Rattle.nbd_laws.specs.declared.fault.WireFault.TheVariants.{OutOfTurn}
 use Rattle.nbd_session.specs.declared.reading.Reading.TheVariants as program
-use Rattle.nbd_session.specs.Concrete.{concrete, judged, read_by, staged_by, ended}
+use Rattle.nbd_session.specs.Concrete.{concrete, judged, staged_by, ended}
 use Rattle.nbd_session.specs.Decisions.{Decision, awaited_by}
-use Rattle.nbd_session.specs.Judge.{decided, decided_counted, awaited, awaited_counted}
-use Rattle.nbd_laws.specs.Machine.{Machine, Rest, Both, Reading, More, Whole, Bad, get, put, reads, fresh, old_of, settle, on_ok, IsFilled, IsReached, Kept, kept, Held, AreHeld, kept_next, reached_of, at_once, old-filled, old-empty, grown, IsFilled-snoc}
-use Rattle.nbd_session.specs.Readings.{reading_of, reading_if, unless_before, behind_head, at_end, or_fault}
-use Rattle.nbd_session.proofs.Awaiting.{reads_up_to, held_short}
-use Rattle.nbd_session.proofs.Blockwise.{GoesOn, judged_at_once, extended, reads-append}
-use Rattle.nbd_session.proofs.Counted.{held_counted, awaited_held, count_of}
+use Rattle.nbd_session.specs.Judge.{awaited}
+use Rattle.nbd_laws.specs.Machine.{Rest, More, Whole, Bad, old_of, IsFilled, IsReached, Kept, kept, Held, kept_next, reached_of, at_once, IsFilled-snoc}
+use Rattle.nbd_session.specs.Readings.{reading_if, unless_before, behind_head, at_end}
+use Rattle.nbd_session.proofs.Awaiting.{held_short}
+use Rattle.nbd_session.proofs.Blockwise.{GoesOn}
 
 -- what the program answers and what the judge says, by the tests that both make
 staged_more : (before : Bool) (head : ℕ) (head_fault : Option WireFault) (whole : Bool) (len : ℕ) (last : Option WireFault) (m : Message) (n : ℕ) →

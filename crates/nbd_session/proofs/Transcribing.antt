@@ -1,8 +1,7 @@
 -- What a transcript tells of one request.
-use Rattle.std.proofs.Common.{◌≡◌, ℕ, zero, suc, ◌+◌, ◌-◌, ◌<◌, ◌≤◌, List, [], ◌∷◌, map, length, slice_get, slice_index_or, refl, sym, ◌∙◌, ap, arith, Option, Some, None, SomeIff, nat_lt, true}
+use Rattle.std.proofs.Common.{◌≡◌, ℕ, zero, suc, ◌-◌, ◌<◌, ◌≤◌, List, [], ◌∷◌, map, length, slice_get, slice_index_or, refl, sym, ◌∙◌, ap, arith, Option, Some, None, SomeIff, nat_lt, true}
 use Rattle.std.proofs.lemmas.Bool.{ltb-true}
 use Rattle.nbd_wire.specs.Report.{asked_at}
-use Rattle.nbd_session.specs.declared.asked.Asked.{Asked}
 use Rattle.nbd_session.specs.declared.asked.Exchange.{Exchange}
 use Rattle.nbd_session.specs.Transcripts.{asked_told}
 

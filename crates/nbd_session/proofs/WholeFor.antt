@@ -1,5 +1,5 @@
 -- Where the session stands, what is known of a server's bytes that are a whole message.
-use Rattle.std.proofs.Common.{◌≡◌, ℕ, List, refl, sym, ◌∙◌, ap, subst, inl, inr, Bool, true, false, if◌then◌else◌, Option, Some, None, Ok}
+use Rattle.std.proofs.Common.{◌≡◌, ℕ, List, refl, ◌∙◌, ap, Bool, true, false, if◌then◌else◌, Option, Some, None, Ok}
 use Rattle.nbd_wire.specs.declared.magics.TheConstants.{ANSWER_MAGIC, CHUNK_MAGIC, SIMPLE_MAGIC}
 use Rattle.nbd_wire.specs.declared.message.Side.TheVariants.{Server}
 use Rattle.nbd_wire.specs.declared.message.Message.{Message}

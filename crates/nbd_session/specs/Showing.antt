@@ -1,6 +1,6 @@
 -- Internal: no public contract names what stands here.
 -- How the program's values show what the definitions speak of.
-use Rattle.std.specs.Prelude.{◌≡◌, ℕ, Bool, not, Option, Some, None, is_some}
+use Rattle.std.specs.Prelude.{◌≡◌, not, Option, Some, None, is_some}
 use Rattle.nbd_wire.specs.Requests.{Entry, Exporting, is_proper, has_failed, outcome, pieces}
 use Rattle.nbd_wire.specs.Requests as definitions
 use Rattle.nbd_session.specs.declared.asked.Exchange.{Exchange}

@@ -9,7 +9,6 @@ use Rattle.nbd_wire.specs.Requests.{Entry, Exporting}
 use Rattle.nbd_wire.specs.States as definitions
 use Rattle.nbd_wire.specs.States.{Core, start, target}
 use Rattle.nbd_session.specs.declared.asked.Exchange.{Exchange}
-use Rattle.nbd_session.specs.declared.state.Chosen.{Chosen}
 use Rattle.nbd_session.specs.declared.state.Export.{Export}
 use Rattle.nbd_session.specs.declared.state.Phase.{Phase}
 use Rattle.nbd_session.specs.declared.state.Phase.TheVariants.{Greet, Flags, Choosing, Naming, Aborting, Answering, Ended, Transmission}

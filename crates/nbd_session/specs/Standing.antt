@@ -1,15 +1,14 @@
 -- Internal: no public contract names what stands here.
 -- What a session under way holds, and what the reading machine has read of it.
-use Rattle.std.specs.Prelude.{◌≡◌, ℕ, ◌+◌, ◌<◌, ◌≤◌, List, [], ◌∷◌, ◌++◌, if◌then◌else◌, length, Result, Ok, Err}
+use Rattle.std.specs.Prelude.{◌≡◌, ℕ, ◌+◌, List, [], ◌∷◌, ◌++◌, if◌then◌else◌, length, Ok}
 use Rattle.nbd_wire.specs.declared.message.Side.{Side}
 use Rattle.nbd_wire.specs.declared.message.Side.TheVariants.{Client, Server}
 use Rattle.nbd_wire.specs.declared.message.Message.{Message}
-use Rattle.nbd_wire.specs.Items.{Pair, ArePairs, sent}
+use Rattle.nbd_wire.specs.Items.{Pair, ArePairs}
 use Rattle.nbd_wire.specs.Pushed.{Span, bytes_of, pushed}
 use Rattle.nbd_wire.specs.Side.{same_side}
-use Rattle.nbd_wire.specs.States.{Core}
 use Rattle.nbd_session.specs.Concrete.{concrete}
-use Rattle.nbd_laws.specs.Machine.{Machine, Rest, get, reads, fresh, old_of, IsFilled}
+use Rattle.nbd_laws.specs.Machine.{Machine, get, reads, fresh, IsFilled}
 
 -- the spans' bytes of a side
 abbrev pub span_total : Side → List Span → ℕ

@@ -1,6 +1,6 @@
 -- Internal: no public contract names what stands here.
 -- What holds of a session under way between two steps, and of one that is closed.
-use Rattle.std.specs.Prelude.{◌≡◌, ◌≤◌, ◌++◌, ℕ, List, [], length, Option, Some, None, Ok, Err}
+use Rattle.std.specs.Prelude.{◌≡◌, ◌≤◌, ◌++◌, ℕ, List, [], length, Option, Some, None, Err}
 use Rattle.nbd_wire.specs.declared.message.Side.{Side}
 use Rattle.nbd_wire.specs.Encoding.{AreBytes}
 use Rattle.nbd_session.specs.declared.fault.SessionFault.{SessionFault}
@@ -13,7 +13,7 @@ use Rattle.nbd_session.specs.Logged.{logged}
 use Rattle.nbd_laws.specs.Machine.{IsFilled, Machine, fresh, get, old_of, reads}
 use Rattle.nbd_session.specs.Sessions.{Adds, HasRun, Recorded}
 use Rattle.nbd_session.specs.Shows.{AreKnown, Shows}
-use Rattle.nbd_session.specs.Standing.{Holding, IsReadTo, pairs_held, rest_of, with_taken}
+use Rattle.nbd_session.specs.Standing.{Holding, IsReadTo, pairs_held, with_taken}
 
 -- a session under way
 pub record Stands (held : Held) : Type 0 where

@@ -1,9 +1,8 @@
-use Rattle.std.proofs.Common.{◌≡◌, ◌∙◌, ◌+◌, ◌==◌, ◌||◌, not, length, sym, ap, Option, Some, None, Bool, true}
+use Rattle.std.proofs.Common.{◌≡◌, ◌∙◌, ◌+◌, ◌==◌, ◌||◌, not, length, sym, ap, None, true}
 use Rattle.nbd_wire.specs.declared.payloads.Piece.{Piece}
 use Rattle.nbd_wire.specs.declared.chunks.TheConstants as chunks
 use Rattle.nbd_wire.specs.Contents.{piece_of}
-use Rattle.nbd_wire.specs.Requests.{has, has_failed, is_proper, pieces, piece_size}
-use Rattle.nbd_laws.specs.declared.fault.WireFault.{WireFault}
+use Rattle.nbd_wire.specs.Requests.{has, has_failed, is_proper, pieces}
 use Rattle.nbd_laws.specs.declared.fault.WireFault.TheVariants.{BadChunk, BadContent}
 use Rattle.nbd_session.specs.Asking.{done_by, finish_by}
 use Rattle.nbd_session.specs.Decisions.{fault_if}

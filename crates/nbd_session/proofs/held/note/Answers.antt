@@ -1,4 +1,4 @@
-use Rattle.std.proofs.Common.{◌≡◌, ℕ, ◌+◌, ◌-◌, ◌<◌, ◌≤◌, ◌++◌, ◌∷◌, List, [], length, refl, sym, ◌∙◌, ap, arith, slice_get}
+use Rattle.std.proofs.Common.{◌≡◌, ◌+◌, ◌-◌, ◌<◌, length, refl, sym, ◌∙◌, ap, arith, slice_get}
 use Rattle.std.specs.Vec.{vec_len}
 use Rattle.nbd_session.specs.Holdings.{is_of, spans_of}
 use Rattle.nbd_session.proofs.Noting.{is_last_of, last_within, noted_behind, noted_grown}

@@ -1,4 +1,4 @@
-use Rattle.std.proofs.Common.{◌≡◌, ◌∙◌, ◌++◌, ◌∷◌, [], ap, sym, subst}
+use Rattle.std.proofs.Common.{◌∙◌, ◌++◌, ◌∷◌, [], ap, sym, subst}
 use Rattle.nbd_wire.specs.Rules.{complete}
 use Rattle.nbd_session.specs.declared.state.State.{State}
 use Rattle.nbd_session.specs.Concrete.{concrete}

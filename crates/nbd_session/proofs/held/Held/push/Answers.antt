@@ -1,4 +1,4 @@
-use Rattle.std.proofs.Common.{◌≡◌, ◌+◌, ◌-◌, ◌<◌, ◌≤◌, arith, length, refl, subst, sym}
+use Rattle.std.proofs.Common.{arith, refl, subst, sym}
 use Rattle.nbd_session.specs.Holdings.{holding_of}
 use Rattle.nbd_session.specs.Standing.{pairs_held}
 use Rattle.nbd_session.specs.Steps.{AddsHeld, IsRefused}

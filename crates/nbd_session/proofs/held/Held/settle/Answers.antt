@@ -1,5 +1,4 @@
-use Rattle.std.proofs.Common.{◌≡◌, ◌∙◌, ap, sym, Ok}
-use Rattle.nbd_session.specs.Holdings.{holding_of}
+use Rattle.std.proofs.Common.{◌∙◌, ap, sym, Ok}
 use Rattle.nbd_session.specs.Judge.{decided_counted}
 use Rattle.nbd_session.specs.Readings.{reading_if}
 use Rattle.nbd_session.specs.Steps.{IsShut}

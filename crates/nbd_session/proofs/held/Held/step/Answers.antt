@@ -1,7 +1,5 @@
-use Rattle.std.proofs.Common.{◌≡◌, ◌∙◌, ◌+◌, ◌-◌, ◌<◌, ◌≤◌, ℕ, min, ap, sym, subst, arith, length, take, drop}
+use Rattle.std.proofs.Common.{◌≤◌, ap, arith, length, drop}
 use Rattle.std.proofs.lemmas.List.{length-take-le}
-use Rattle.nbd_session.specs.Holdings.{holding_of, spans_of}
-use Rattle.nbd_session.specs.Standing.{rest_of, span_total}
 use Rattle.nbd_session.specs.Steps.{IsRefused}
 use Rattle.nbd_session.proofs.Pieces.{awaits_some, front_added, is_taken, refused_memory, refused_settling, settled_added, total_fits}
 use Rattle.nbd_session.proofs.Settling.{handed_on, memory_alone}

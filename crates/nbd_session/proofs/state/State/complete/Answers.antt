@@ -1,12 +1,11 @@
-use Rattle.std.proofs.Common.{◌∙◌, ◌==◌, [], ap, refl, subst}
-use Rattle.nbd_wire.specs.declared.commands.TheConstants as commands
-use Rattle.nbd_wire.specs.declared.message.Message.TheVariants.{Answer, Request, Simple, Chunk}
+use Rattle.std.proofs.Common.{◌∙◌, ap, refl, subst}
+use Rattle.nbd_wire.specs.declared.message.Message.TheVariants.{Answer}
 use Rattle.nbd_wire.specs.Options.{chosen, next_phase}
-use Rattle.nbd_wire.specs.Rules.{MayAsk, MayComplete, complete, cookie_of, replied, requested}
-use Rattle.nbd_session.specs.Shows.{Shows, phase_shown}
+use Rattle.nbd_wire.specs.Rules.{MayComplete, cookie_of}
+use Rattle.nbd_session.specs.Shows.{phase_shown}
 use Rattle.nbd_session.proofs.Completed.{on}
 use Rattle.nbd_session.proofs.NextPhases.{shows_answered, shows_chosen, shows_exported, shows_flags, shows_greeted, shows_same, transmits}
-use Rattle.nbd_session.proofs.Telling.{known_added, known_kept, known_told}
+use Rattle.nbd_session.proofs.Telling.{known_kept}
 use Rattle.nbd_session.proofs.state.State.complete.Goals as goal
 
 pub returns-in-Greeting-clause-shown : goal.returns-in-Greeting-clause-shown

@@ -1,9 +1,8 @@
-use Rattle.std.proofs.Common.{◌∙◌, ◌==◌, [], ap, refl, subst}
+use Rattle.std.proofs.Common.{◌==◌, [], ap, subst}
 use Rattle.nbd_wire.specs.declared.commands.TheConstants as commands
-use Rattle.nbd_wire.specs.declared.message.Message.TheVariants.{Answer, Request, Simple, Chunk}
-use Rattle.nbd_wire.specs.Options.{chosen, next_phase}
+use Rattle.nbd_wire.specs.declared.message.Message.TheVariants.{Request, Simple, Chunk}
 use Rattle.nbd_wire.specs.Rules.{MayAsk, MayComplete, complete, cookie_of, replied, requested}
-use Rattle.nbd_session.specs.Shows.{Shows, phase_shown}
+use Rattle.nbd_session.specs.Shows.{Shows}
 use Rattle.nbd_session.proofs.Completed.{on}
 use Rattle.nbd_session.proofs.NextPhases.{asked_in, no_other, shows_same}
 use Rattle.nbd_session.proofs.Telling.{known_added, known_told}
