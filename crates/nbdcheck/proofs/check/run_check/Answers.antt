@@ -11,23 +11,23 @@ use Rattle.nbdcheck.proofs.check.run_check.Goals as goal
 pub returns-in_err-write_whole-clause-left : goal.returns-in_err-write_whole-clause-left
 returns-in_err-write_whole-clause-left g c =
     let checked : IsChecked (flat (chunks_told c.in_ok-chunks.chunks.items)) c.in_ok-order.order.items (initial_of c.in_ok-start.start) c.in_ok-verdict.verdict =
-        subst (λ chunks. IsChecked (flat (chunks_told chunks)) c.in_ok-order.order.items (initial_of c.in_ok-start.start) c.in_ok-verdict.verdict) c.as_slice.ensures.value
-            (subst (λ order. IsChecked (flat (chunks_told c.as_slice.result.now)) order (initial_of c.in_ok-start.start) c.in_ok-verdict.verdict) c.as_slice-2.ensures.value c.in_ok-verdict.ensures) in
+    subst (λ chunks. IsChecked (flat (chunks_told chunks)) c.in_ok-order.order.items (initial_of c.in_ok-start.start) c.in_ok-verdict.verdict) c.as_slice.ensures.value
+    (subst (λ order. IsChecked (flat (chunks_told c.as_slice.result.now)) order (initial_of c.in_ok-start.start) c.in_ok-verdict.verdict) c.as_slice-2.ensures.value c.in_ok-verdict.ensures) in
     write_alone _ c.from_residual-in_err-write_whole.result
-        (LeavesWritten (g.C.Read.remaining c.args.capture) (g.O.Read.remaining c.args.order) (initial_from g.I.Read.remaining c.args.start) (g.W.Write.contents c.args.out.now) (g.W.Write.contents c.write_whole.new.out))
-        c.from_residual-in_err-write_whole.ensures.1
-        (record {
-            verdict = c.in_ok-verdict.verdict;
-            is_verdict = verdict_on (g.C.Read.remaining c.args.capture) (g.O.Read.remaining c.args.order) (initial_from g.I.Read.remaining c.args.start) c.in_ok-chunks.chunks.items c.in_ok-order.order.items (initial_of c.in_ok-start.start)
-                c.in_ok-verdict.verdict c.in_ok-chunks.ensures.text c.in_ok-order.ensures.text c.in_ok-start.ensures.read checked;
-            appended = subst (AppendsFront (g.W.Write.contents c.args.out.now) (g.W.Write.contents c.write_whole.new.out)) (c.as_bytes.ensures.value ∙ c.in_ok-line.ensures.ok) c.in_err-write_whole.ensures.err;
-        })
+    (LeavesWritten (g.C.Read.remaining c.args.capture) (g.O.Read.remaining c.args.order) (initial_from g.I.Read.remaining c.args.start) (g.W.Write.contents c.args.out.now) (g.W.Write.contents c.write_whole.new.out))
+    c.from_residual-in_err-write_whole.ensures.1
+    (record {
+      verdict = c.in_ok-verdict.verdict;
+      is_verdict = verdict_on (g.C.Read.remaining c.args.capture) (g.O.Read.remaining c.args.order) (initial_from g.I.Read.remaining c.args.start) c.in_ok-chunks.chunks.items c.in_ok-order.order.items (initial_of c.in_ok-start.start)
+          c.in_ok-verdict.verdict c.in_ok-chunks.ensures.text c.in_ok-order.ensures.text c.in_ok-start.ensures.read checked;
+      appended = subst (AppendsFront (g.W.Write.contents c.args.out.now) (g.W.Write.contents c.write_whole.new.out)) (c.as_bytes.ensures.value ∙ c.in_ok-line.ensures.ok) c.in_err-write_whole.ensures.err;
+    })
 
 pub returns-clause-written : goal.returns-clause-written
 returns-clause-written g c =
     let checked : IsChecked (flat (chunks_told c.in_ok-chunks.chunks.items)) c.in_ok-order.order.items (initial_of c.in_ok-start.start) c.in_ok-verdict.verdict =
-        subst (λ chunks. IsChecked (flat (chunks_told chunks)) c.in_ok-order.order.items (initial_of c.in_ok-start.start) c.in_ok-verdict.verdict) c.as_slice.ensures.value
-            (subst (λ order. IsChecked (flat (chunks_told c.as_slice.result.now)) order (initial_of c.in_ok-start.start) c.in_ok-verdict.verdict) c.as_slice-2.ensures.value c.in_ok-verdict.ensures) in
+    subst (λ chunks. IsChecked (flat (chunks_told chunks)) c.in_ok-order.order.items (initial_of c.in_ok-start.start) c.in_ok-verdict.verdict) c.as_slice.ensures.value
+    (subst (λ order. IsChecked (flat (chunks_told c.as_slice.result.now)) order (initial_of c.in_ok-start.start) c.in_ok-verdict.verdict) c.as_slice-2.ensures.value c.in_ok-verdict.ensures) in
     record {
       verdict = c.in_ok-verdict.verdict;
       is_verdict = verdict_on (g.C.Read.remaining c.args.capture) (g.O.Read.remaining c.args.order) (initial_from g.I.Read.remaining c.args.start) c.in_ok-chunks.chunks.items c.in_ok-order.order.items (initial_of c.in_ok-start.start)
