@@ -1,13 +1,13 @@
 -- What is printed of a message that can be sent is read again.
-use Rattle.std.proofs.Common.{◌≡◌, ℕ, zero, suc, ◌/◌, ◌%◌, ◌^◌, ◌<◌, ◌≤◌, Bool, true, false, List, [], ◌∷◌, ◌++◌, length, refl, sym, subst, arith, append_assoc, not, ◌&&◌, ◌==◌}
-use Rattle.std.specs.Prelude.{if◌then◌else◌}
+use Rattle.std.proofs.Common.{◌≡◌, ℕ, ◌/◌, ◌%◌, ◌^◌, ◌<◌, ◌≤◌, Bool, true, false, List, [], ◌∷◌, ◌++◌, length, refl, sym, subst, arith, append_assoc, append-nil, ◌∙◌, not, ◌&&◌, ◌==◌}
+use Rattle.std.specs.Prelude.{codes, if◌then◌else◌}
 use Rattle.std.proofs.lemmas.Bool.{and_parts, eqb-false, not-true}
 use Rattle.std.specs.List.{AllByRecursion}
 use Rattle.std.specs.Fmt.{decimal}
 use Rattle.std.specs.Str.Parse.{AllDigits}
 use Rattle.std.proofs.lemmas.Fmt.{decimal_is_IsNumeral}
 use Rattle.std.proofs.lemmas.Str.Parse.{digit_from_value}
-use Rattle.hex.specs.Hex.{IsBytes, encode_lower, encode_with}
+use Rattle.hex.specs.Hex.{encode_lower, encode_with}
 use Rattle.hex.proofs.HexLemmas.{decode_of-encode_lower}
 use Rattle.nbd_wire.specs.declared.message.Message.{Message}
 use Rattle.nbd_wire.specs.declared.message.Message.TheVariants as messages
@@ -25,8 +25,8 @@ use Rattle.nbd_lines.specs.declared.forms.Form.{Form}
 use Rattle.nbd_lines.specs.declared.forms.Form.TheVariants.{Greeting, ClientFlags, Choice, Answer, Exported, Request, Simple, Chunk}
 use Rattle.nbd_lines.specs.Line.{AreWithin, IsEnd, IsMessageLine, end_text, equals, message_line, number_text, numbers_text, payload_words}
 use Rattle.nbd_lines.specs.Line.IsEnd.{nothing, payload}
-use Rattle.nbd_lines.specs.Script.{IsScript, message_lines}
-use Rattle.nbd_lines.specs.Script.IsScriptLine.{message}
+use Rattle.nbd_lines.specs.Script.{IsScript, message_lines, shown_line}
+use Rattle.nbd_lines.specs.Script.IsScriptLine.{message, ok}
 use Rattle.nbd_lines.specs.Table.{carried, field_name, fields, has_payload, line_form, numbers, words}
 use Rattle.nbd_lines.proofs.MessageLines.{fields_small}
 
@@ -178,10 +178,19 @@ unbroken_line m s =
     unbroken_both (words f) (numbers_text (fields f) (numbers m) ++ end_text (has_payload f) (carried m)) (unbroken_words f)
     (unbroken_both (numbers_text (fields f) (numbers m)) (end_text (has_payload f) (carried m)) (unbroken_numbers (fields f) (fields_small f) (numbers m) (sendable_within m s)) (unbroken_end (has_payload f) (carried m) (sendable_bytes m s)))
 
--- printed lines are a script
-pub shown : (all : List Message) → AllByRecursion IsSendable all → IsScript (message_lines all) all
-shown [] s = empty
-shown (m ∷ ms) s =
+-- printed lines are a script, also in front of lines that stand for no message
+pub shown_then : (all : List Message) (tail : List ℕ) → AllByRecursion IsSendable all → IsScript tail [] → IsScript (message_lines all ++ tail) all
+shown_then [] tail s silent = silent
+shown_then (m ∷ ms) tail s silent =
     let form = printed m s.0 in
-    let whole = line (message_line m) (m ∷ []) (message_lines ms) ms (unbroken_line m s.0) (message (message_line m) m form.0 form.1) (shown ms s.1) in
-    subst (λ t. IsScript t (m ∷ ms)) (sym (append_assoc (message_line m) (line_feed ∷ []) (message_lines ms))) whole
+    let more : List ℕ = message_lines ms ++ tail in
+    let whole = line (message_line m) (m ∷ []) more ms (unbroken_line m s.0) (message (message_line m) m form.0 form.1) (shown_then ms tail s.1 silent) in
+    let joined : (shown_line m ++ message_lines ms) ++ tail ≡ message_line m ++ line_feed ∷ more =
+    append_assoc (shown_line m) (message_lines ms) tail ∙ append_assoc (message_line m) (line_feed ∷ []) more in
+    subst (λ t. IsScript t (m ∷ ms)) (sym joined) whole
+
+pub shown : (all : List Message) → AllByRecursion IsSendable all → IsScript (message_lines all) all
+shown all s = subst (λ t. IsScript t all) (append-nil (message_lines all)) (shown_then all [] s empty)
+
+pub ok_alone : IsScript (codes "ok\n") []
+ok_alone = line (codes "ok") [] [] [] (omega arith, (omega arith, tt)) ok empty

@@ -1,6 +1,6 @@
 //! What holds of message lines and of scripts, as contracts of functions that do nothing.
 
-ghost use Rattle.std.specs.Prelude.{◌≡◌, ◌⊎◌, ℕ, List, map};
+ghost use Rattle.std.specs.Prelude.{◌≡◌, ◌⊎◌, ◌++◌, ℕ, List, codes, map};
 ghost use Rattle.std.specs.List.{AllByRecursion};
 ghost use Rattle.nbd_wire.specs.declared.message.Message.{Message};
 ghost use Rattle.nbd_wire.specs.Fits.{FitsItsHead};
@@ -44,6 +44,11 @@ pub fn printed_lines_are_read()
 /// The lines that `show` writes of messages that can be sent are a script of these messages.
 pub fn shown_messages_are_a_script()
     ensures { (messages : List Message) → AllByRecursion IsSendable messages → IsScript (message_lines messages) messages }
+{}
+
+/// So are they with a line `ok` behind them.
+pub fn shown_messages_and_ok_are_a_script()
+    ensures { (messages : List Message) → AllByRecursion IsSendable messages → IsScript (message_lines messages ++ codes "ok\n") messages }
 {}
 
 /// The lines that `make` writes of messages that can be sent are a capture: a chunk for each message, its
