@@ -1,3 +1,4 @@
 mod Endings
 mod Sizes
 mod Judged
+mod Saying

@@ -1,7 +1,7 @@
 -- What a run of `check` tells of its inputs and leaves written, where the readers and the writer tell their bytes.
-use Rattle.std.specs.Prelude.{◌≡◌, ◌↔◌, ℕ, List, Option, Some, None, IfSome, IsTrue, Bool, map}
+use Rattle.std.specs.Prelude.{◌≡◌, ◌↔◌, ℕ, List, ◌++◌, Option, Some, None, IfSome, IsTrue, Bool, codes, map}
 use Rattle.nbd_wire.specs.declared.message.Side.{Side}
-use Rattle.nbd_wire.specs.Explains.{Start}
+use Rattle.nbd_wire.specs.Explains.{Explained, Start}
 use Rattle.nbd_wire.specs.Items.{Pair, flat}
 use Rattle.std.specs.Io.KnownBytes.{Appends, Keeps}
 use Rattle.nbd_capture.specs.Capture.{Chunk, IsCaptureText, IsFirstBadCaptureLine}
@@ -72,3 +72,15 @@ pub record TellsFront (capture order : Option (List ℕ)) (initial : Option Star
 abbrev pub LeavesWritten : (capture order : Option (List ℕ)) → Option Start → (old new : Option (List ℕ)) → RunFault → Type 0
 LeavesWritten capture order initial old new Write = TellsFront capture order initial old new
 LeavesWritten capture order initial old new _ = Keeps old new
+
+-- a text begins with `yes`
+abbrev pub BeginsYes : List ℕ → Type 0
+BeginsYes text = (rest : List ℕ) × (text ≡ codes "yes" ++ rest)
+
+-- where what was written begins with `yes`, whether all of its line was written or not, the capture text has chunks and the
+-- order text has numbers, and these are explained from the start that was read
+abbrev pub SaysYes : (capture order : Option (List ℕ)) → Option Start → (old new : Option (List ℕ)) → Type 0
+SaysYes (Some text) (Some numbers_text) (Some initial) (Some old) (Some new) =
+    (written : List ℕ) → new ≡ old ++ written → BeginsYes written →
+    (chunks : List Chunk) × (numbers : List ℕ) × IsCaptureText text chunks × IsOrderText numbers_text numbers × Explained (pairs_of chunks) numbers initial
+SaysYes capture order initial old new = Unit {0}

@@ -4,7 +4,7 @@ ghost use Rattle.nbd_capture.specs.Capture.{IsCaptureText, chunks_of};
 ghost use Rattle.nbd_capture.specs.Order.{IsOrderText};
 ghost use Rattle.nbd_wire.specs.Items.{flat};
 ghost use Rattle.nbd_judge.specs.Captures.{chunks_told};
-ghost use Rattle.nbdcheck.specs.Runs.{IsCapture, IsOrder, IsCaptureCause, IsOrderCause, IsCause, LeavesWritten, Tells};
+ghost use Rattle.nbdcheck.specs.Runs.{IsCapture, IsOrder, IsCaptureCause, IsOrderCause, IsCause, LeavesWritten, SaysYes, Tells};
 ghost use Rattle.nbdcheck.specs.Starts.{initial_from};
 
 use crate::fault::RunFault;
@@ -31,6 +31,7 @@ pub fn run_check<C: BufRead + Drop, O: Read + Drop, I: Read + Drop, W: Write>(
     out: &mut W,
 ) -> Result<bool, RunFault>
     ensures written { IfOk result (λ yes. Tells (C.remaining capture) (O.remaining order) (initial_from I.remaining start) yes (W.contents out.old) (W.contents out.new)) }
+    ensures yes { SaysYes (C.remaining capture) (O.remaining order) (initial_from I.remaining start) (W.contents out.old) (W.contents out.new) }
     ensures well_formed { OnOk result (IsCapture (C.remaining capture) × IsOrder (O.remaining order)) }
     ensures cause { IfErr result (IsCause (C.remaining capture) (O.remaining order)) }
     ensures left { IfErr result (LeavesWritten (C.remaining capture) (O.remaining order) (initial_from I.remaining start) (W.contents out.old) (W.contents out.new)) }
