@@ -12,7 +12,7 @@ use Rattle.nbdcheck.specs.declared.fault.RunFault.{RunFault}
 use Rattle.nbdcheck.specs.declared.fault.RunFault.TheVariants.{Write}
 use Rattle.nbdcheck.specs.Runs.{IsVerdictOn, pairs_of}
 
-pairs_told : (chunks : List (Side × Vec ℕ Global)) → pairs_of (chunks_of chunks) ≡ flat (chunks_told chunks)
+pub pairs_told : (chunks : List (Side × Vec ℕ Global)) → pairs_of (chunks_of chunks) ≡ flat (chunks_told chunks)
 pairs_told [] = refl
 pairs_told (c ∷ chunks) = ap (λ ps. sent c.0 c.1.items ++ ps) (pairs_told chunks)
 

@@ -2,3 +2,5 @@ mod Endings
 mod Sizes
 mod Judged
 mod Saying
+mod Overs
+mod Lasts

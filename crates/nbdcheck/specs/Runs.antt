@@ -61,6 +61,7 @@ IsCause capture order OrderRead = IsCapture capture
 IsCause capture order Write = IsCapture capture × IsOrder order
 IsCause capture order Memory = Unit {0}
 IsCause capture order ImageRead = IsCapture capture × IsOrder order
+IsCause capture order _ = ⊥
 
 -- a front of a verdict's line was written
 pub record TellsFront (capture order : Option (List ℕ)) (initial : Option Start) (old new : Option (List ℕ)) : Type 0 where

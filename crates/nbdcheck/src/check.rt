@@ -46,7 +46,7 @@ pub fn run_check<C: BufRead + Drop, O: Read + Drop, I: Read + Drop, W: Write>(
 }
 
 /// The chunks of a capture text.
-fn read_capture<C: BufRead>(
+pub fn read_capture<C: BufRead>(
     alloc: Global,
     capture: &mut C,
 ) -> Result<Vec<(Side, Vec<u8>)>, RunFault>

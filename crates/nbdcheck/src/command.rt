@@ -2,16 +2,18 @@
 
 use crate::check::run_check;
 use crate::fault::RunFault;
+use crate::make::run_make;
+use crate::show::run_show;
 use crate::start::StartFrom;
 use clap::error::ErrorKind;
 use clap::{Arg, ArgMatches, Command, Error};
 use std::alloc::{AllocError, Global};
 use std::fmt::Display;
 use std::fs::File;
-use std::io::BufReader;
+use std::io::{BufReader, BufWriter, Write};
 use std::{env, io};
 
-/// The exit status of a yes.
+/// The exit status of a yes, and of a capture that was made.
 const YES: u8 = 0;
 /// The exit status of a no.
 const NO: u8 = 1;
@@ -40,11 +42,53 @@ Exit status:
   3  an input could not be read or is not well formed, or the output could not be written
   4  out of memory";
 
+const SHOW_ABOUT: &str = "Which messages does a capture hold?";
+
+const SHOW_HELP: &str = "\
+Example:
+  nbdcheck show session.cap
+
+Prints a line for each message, in the order in which they were complete:
+  C request flags=0 command=0 cookie=1 offset=0 length=4 payload=
+Then comes 'ok', or 'no at byte' with the place and the name of the rule that was broken there.
+All lines but that one are a script for 'nbdcheck make'.
+
+Exit status:
+  0  ok
+  1  no: the last line says where and why
+  2  the command line has no form
+  3  the capture could not be read or is not well formed, or the output could not be written
+  4  out of memory";
+
+const MAKE_ABOUT: &str = "Makes a capture of the messages of a script";
+
+const MAKE_HELP: &str = "\
+Example:
+  nbdcheck make session.script > session.cap
+
+SCRIPT has a line for each message, as 'nbdcheck show' prints it:
+  C request flags=0 command=0 cookie=1 offset=0 length=4 payload=
+Empty lines, lines that begin with '#' and lines that are exactly 'ok' are skipped.
+The capture has one line for each message.
+
+Exit status:
+  0  the whole capture was written
+  2  the command line has no form
+  3  the script could not be read or is not well formed, or the output could not be written
+  4  out of memory";
+
 /// The command that the words name, with its arguments.
 fn command<'a>(alloc: Global) -> Result<Command<'a>, AllocError> {
-    let capture = Arg::new(alloc, "CAPTURE")
-        .required(true)
-        .help("The file of the capture text");
+    Command::new(alloc, "nbdcheck")
+        .about(ABOUT)
+        .version("0.1.0")
+        .subcommand_required(true)
+        .subcommand(check_command(alloc)?)?
+        .subcommand(show_command(alloc)?)?
+        .subcommand(make_command(alloc)?)
+}
+
+fn check_command<'a>(alloc: Global) -> Result<Command<'a>, AllocError> {
     let order = Arg::new(alloc, "ORDER")
         .required(true)
         .help("The file of the order text");
@@ -53,17 +97,35 @@ fn command<'a>(alloc: Global) -> Result<Command<'a>, AllocError> {
         .value_name("START")
         .default_value("unknown")
         .help("What the export held at first: unknown, zero or image:PATH");
-    let check = Command::new(alloc, "check")
+    Command::new(alloc, "check")
         .about(CHECK_ABOUT)
         .after_help(CHECK_HELP)
-        .arg(capture)?
+        .arg(capture_word(alloc))?
         .arg(order)?
-        .arg(start)?;
-    Command::new(alloc, "nbdcheck")
-        .about(ABOUT)
-        .version("0.1.0")
-        .subcommand_required(true)
-        .subcommand(check)
+        .arg(start)
+}
+
+fn show_command<'a>(alloc: Global) -> Result<Command<'a>, AllocError> {
+    Command::new(alloc, "show")
+        .about(SHOW_ABOUT)
+        .after_help(SHOW_HELP)
+        .arg(capture_word(alloc))
+}
+
+fn make_command<'a>(alloc: Global) -> Result<Command<'a>, AllocError> {
+    let script = Arg::new(alloc, "SCRIPT")
+        .required(true)
+        .help("The file of the script");
+    Command::new(alloc, "make")
+        .about(MAKE_ABOUT)
+        .after_help(MAKE_HELP)
+        .arg(script)
+}
+
+fn capture_word<'a>(alloc: Global) -> Arg<'a> {
+    Arg::new(alloc, "CAPTURE")
+        .required(true)
+        .help("The file of the capture text")
 }
 
 /// Runs the program on the words that it was called with, and answers its exit status.
@@ -77,7 +139,7 @@ pub fn run(rt: &HostRuntime) -> u8 {
     };
     match command.try_get_matches_from(words.as_slice()) {
         Ok(matches) => run_matched(rt, &matches),
-        Err(error) => show(rt, error),
+        Err(error) => print_message(rt, error),
     }
 }
 
@@ -88,6 +150,8 @@ fn words(rt: &HostRuntime) -> io::Result<Vec<String>> {
 fn run_matched(rt: &HostRuntime, matches: &ArgMatches<'_>) -> u8 {
     match matches.subcommand() {
         Some(("check", words)) => check(rt, words),
+        Some(("show", words)) => show(rt, words),
+        Some(("make", words)) => make(rt, words),
         _ => USAGE,
     }
 }
@@ -99,7 +163,24 @@ fn check(rt: &HostRuntime, words: &ArgMatches<'_>) -> u8 {
     };
     let capture = words.get_str("CAPTURE").unwrap_or("");
     let order = words.get_str("ORDER").unwrap_or("");
-    match check_files(rt, capture, order, start) {
+    report(rt, check_files(rt, capture, order, start))
+}
+
+/// `nbdcheck show CAPTURE`.
+fn show(rt: &HostRuntime, words: &ArgMatches<'_>) -> u8 {
+    let capture = words.get_str("CAPTURE").unwrap_or("");
+    report(rt, show_file(rt, capture))
+}
+
+/// `nbdcheck make SCRIPT`.
+fn make(rt: &HostRuntime, words: &ArgMatches<'_>) -> u8 {
+    let script = words.get_str("SCRIPT").unwrap_or("");
+    report(rt, make_file(rt, script).map(|()| true))
+}
+
+/// The exit status of an answer. A fault is printed.
+fn report(rt: &HostRuntime, answer: Result<bool, RunFault>) -> u8 {
+    match answer {
         Ok(true) => YES,
         Ok(false) => NO,
         Err(fault) => complain(rt, &fault, fault.status()),
@@ -138,6 +219,25 @@ fn check_files(
     run_check(alloc, capture, order, start, &mut io::writer(rt))
 }
 
+fn show_file(rt: &HostRuntime, capture: &str) -> Result<bool, RunFault> {
+    let alloc = rt.alloc();
+    let capture = File::open(rt, capture).map_err(|_| RunFault::CaptureRead)?;
+    let capture = BufReader::new(alloc, capture).map_err(|_| RunFault::Memory)?;
+    let mut out = BufWriter::new(alloc, io::writer(rt)).map_err(|_| RunFault::Memory)?;
+    let is_accepted = run_show(alloc, capture, &mut out)?;
+    out.flush().map_err(|_| RunFault::Write)?;
+    Ok(is_accepted)
+}
+
+fn make_file(rt: &HostRuntime, script: &str) -> Result<(), RunFault> {
+    let alloc = rt.alloc();
+    let script = File::open(rt, script).map_err(|_| RunFault::ScriptRead)?;
+    let script = BufReader::new(alloc, script).map_err(|_| RunFault::Memory)?;
+    let mut out = BufWriter::new(alloc, io::writer(rt)).map_err(|_| RunFault::Memory)?;
+    run_make(alloc, script, &mut out)?;
+    out.flush().map_err(|_| RunFault::Write)
+}
+
 fn open_start(rt: &HostRuntime, start: StartWord<'_>) -> Result<StartFrom<File>, RunFault> {
     match start {
         StartWord::Unknown => Ok(StartFrom::Unknown),
@@ -151,7 +251,7 @@ fn open_start(rt: &HostRuntime, start: StartWord<'_>) -> Result<StartFrom<File>,
 
 /// Prints what clap has to say: help and the version on standard output, a mistake in the words on
 /// standard error.
-fn show(rt: &HostRuntime, error: Error) -> u8 {
+fn print_message(rt: &HostRuntime, error: Error) -> u8 {
     if error.kind() == ErrorKind::OutOfMemory {
         return complain(rt, RunFault::Memory, MEMORY);
     }

@@ -1,13 +1,14 @@
 //! Why a run of the program has no answer.
 ghost use Rattle.std.specs.Prelude.{◌≡◌};
-ghost use Rattle.nbdcheck.specs.Faults.{of_capture, of_order, status};
+ghost use Rattle.nbdcheck.specs.Faults.{of_capture, of_make, of_order, of_output, status};
 
 use nbd_capture::{CaptureFault, OrderTextFault, WriteFault};
+use nbd_lines::{MakeFault, OutputFault};
 use std::alloc::AllocError;
 use thiserror::Error;
 
-/// Why a run gave no answer. The text goes to standard error; nothing of a verdict was written,
-/// but for `Write`, after which a front of the output stands written.
+/// Why a run gave no answer. The text goes to standard error. Nothing was written, but for `Write` and
+/// `Memory`.
 #[derive(Debug, Drop, Error)]
 pub enum RunFault {
     /// The capture's line with this number, counted from 1, has no form of a capture line.
@@ -25,10 +26,17 @@ pub enum RunFault {
     /// The image could not be opened or read, or has more bytes than `READ_LIMIT`.
     #[error("fault image read")]
     ImageRead,
-    /// The output could not be written whole.
+    /// The script's line with this number, counted from 1, has no form, or its message has no encoding.
+    #[error("fault script line {0}")]
+    ScriptLine(u64),
+    /// The script could not be opened or read, or has more bytes than `READ_LIMIT`.
+    #[error("fault script read")]
+    ScriptRead,
+    /// The output could not be written whole. A front of it stands written.
     #[error("fault write")]
     Write,
-    /// A growth of memory was refused.
+    /// A growth of memory was refused. A front of the message lines or chunk lines, possibly nothing,
+    /// stands written.
     #[error("fault memory")]
     Memory,
 }
@@ -84,5 +92,28 @@ impl From<WriteFault> for RunFault {
 
     fn from(_: WriteFault) -> RunFault {
         RunFault::Write
+    }
+}
+
+impl From<OutputFault> for RunFault {
+    ghost from_gives = { λ fault run. run ≡ of_output fault };
+
+    fn from(fault: OutputFault) -> RunFault {
+        match fault {
+            OutputFault::Write => RunFault::Write,
+            OutputFault::Memory => RunFault::Memory,
+        }
+    }
+}
+
+impl From<MakeFault> for RunFault {
+    ghost from_gives = { λ fault run. run ≡ of_make fault };
+
+    fn from(fault: MakeFault) -> RunFault {
+        match fault {
+            MakeFault::Line(number) => RunFault::ScriptLine(number),
+            MakeFault::Write => RunFault::Write,
+            MakeFault::Memory => RunFault::Memory,
+        }
     }
 }

@@ -5,6 +5,8 @@ mod check;
 mod command;
 mod fault;
 mod input;
+mod make;
+mod show;
 mod start;
 #[cfg(test)]
 mod tests;

@@ -1,5 +1,5 @@
-//! Cases of `check` as data: a capture, an order, a start, and the line or the fault that the protocol's
-//! rules want.
+//! Cases as data. Of `check`: a capture, an order, a start, and the line or the fault that the protocol's
+//! rules want. Of `show` and `make`: a capture or a script, and the lines or the fault.
 
 mod cases;
 mod chunks;
@@ -7,14 +7,20 @@ mod contents;
 mod faults;
 mod inputs;
 mod large_numbers;
+mod makes;
 mod messages;
 mod negotiation;
 mod orders;
 mod refused_negotiation;
+mod shows;
 mod transmission;
 mod truncated;
+mod writers;
 
 use crate::check::run_check;
+use crate::fault::RunFault;
+use crate::make::run_make;
+use crate::show::run_show;
 use crate::start::StartFrom;
 use nbd_capture::{parse_capture, write_chunk};
 use nbd_wire::Side;
@@ -45,6 +51,31 @@ fn answer(alloc: Global, capture: &[u8], order: &[u8], start: Start<'_>) -> Resu
         Err(fault) => {
             let status = fault.status();
             Ok(format!(in alloc; "{status} {fault}\n")?)
+        }
+    }
+}
+
+/// What `show` wrote, and behind it its exit status, or its fault.
+fn shown(alloc: Global, capture: &[u8]) -> Result<String, Fail> {
+    let mut out = Vec::new(alloc);
+    let answer = run_show(alloc, capture, &mut out);
+    ended(alloc, out, answer)
+}
+
+/// The same of `make`.
+fn made(alloc: Global, script: &[u8]) -> Result<String, Fail> {
+    let mut out = Vec::new(alloc);
+    let answer = run_make(alloc, script, &mut out).map(|()| true);
+    ended(alloc, out, answer)
+}
+
+fn ended(alloc: Global, out: Vec<u8>, answer: Result<bool, RunFault>) -> Result<String, Fail> {
+    let lines = String::from_utf8(out).map_err(|_| "not text")?;
+    match answer {
+        Ok(is_yes) => Ok(format!(in alloc; "{}{}", lines, if is_yes { "0\n" } else { "1\n" })?),
+        Err(fault) => {
+            let status = fault.status();
+            Ok(format!(in alloc; "{lines}{status} {fault}\n")?)
         }
     }
 }

@@ -22,7 +22,8 @@ pub struct Case {
     pub want: &'static str,
 }
 
-fn text(alloc: Global, parts: &[&str]) -> Result<String, Fail> {
+/// These texts, one behind the other.
+pub fn text(alloc: Global, parts: &[&str]) -> Result<String, Fail> {
     let mut text = String::new(alloc);
     for part in parts {
         text.push_str(part)?;

@@ -11,9 +11,9 @@ const ZEROES: StartFrom<&'static [u8]> = StartFrom::Zeroes;
 
 /// A reader that gives some bytes and then fails.
 #[derive(Drop)]
-struct Failing<'a> {
-    bytes: &'a [u8],
-    kind: ErrorKind,
+pub struct Failing<'a> {
+    pub bytes: &'a [u8],
+    pub kind: ErrorKind,
 }
 
 impl Read for Failing<'_> {
@@ -27,10 +27,10 @@ impl Read for Failing<'_> {
 
 /// A writer that takes one byte at a time, and fails or takes nothing once it has this many.
 #[derive(Drop)]
-struct Short {
-    taken: Vec<u8>,
-    most: usize,
-    stop: Option<ErrorKind>,
+pub struct Short {
+    pub taken: Vec<u8>,
+    pub most: usize,
+    pub stop: Option<ErrorKind>,
 }
 
 impl Write for Short {
