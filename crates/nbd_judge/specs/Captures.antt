@@ -29,7 +29,7 @@ pub record IsTold (capture : List Pair) (told : Report) : Type 0 where
   pub has_pairs : pairs items ≡ capture
   pub told_so : (others : List Item) → IsRun others → pairs others ≡ capture → report others ≡ told
 
--- a wire fault is found at one of the first n bytes
+-- a wire fault at no later byte than the nth; nothing else is claimed of it yet
 abbrev pub IsFaultWithin : ℕ → SessionFault → Type 0
 IsFaultWithin n (session.Wire at fault) = at ≤ n
 IsFaultWithin n session.Memory = Unit {0}
@@ -42,7 +42,8 @@ pub record HasVerdict (capture : List Pair) (order : List ℕ) (initial : Start)
   pub is_verdict : (others : List Item) → IsRun others → pairs others ≡ capture → IsVerdict (report others) order initial v
   pub answers : Answers capture order initial v
 
--- the verdict on a capture: that on its run, or a wire fault at one of its bytes
+-- the verdict on a capture: that on its run, or a wire fault, of which nothing is claimed yet but that its place is not behind the
+-- capture
 abbrev pub IsChecked : List Pair → List ℕ → Start → Verdict → Type 0
 IsChecked capture order initial (Wire at fault) = at ≤ length capture
 IsChecked capture order initial (Yes of_requests of_answered of_improper) = HasVerdict capture order initial (Yes of_requests of_answered of_improper)

@@ -13,8 +13,8 @@ use nbd_session::Transcript;
 use std::alloc::{AllocError, Global};
 
 /// Judges a session by an order of service and the contents that the export had at first: Yes, Order or
-/// Content. Behind a Content verdict and behind a refusal of memory the contents hold the effect of some
-/// entries, behind a Yes that of all.
+/// Content. It changes the contents as it goes; what they hold afterwards is not told. An `Err` is a
+/// refusal of memory.
 pub fn judge<C: Contents>(
     alloc: Global,
     transcript: &Transcript,

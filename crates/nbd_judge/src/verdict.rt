@@ -16,8 +16,8 @@ pub enum OrderFault {
     Missing,
 }
 
-/// The answer to a session, an order of service and what the export held at first. Of those that hold
-/// the first in the order Wire, Image, Order, Content, Yes is answered.
+/// The answer to a session, an order of service and what the export held at first. Of those that
+/// hold, the first in the order Wire, Image, Order, Content, Yes is answered.
 #[derive(Clone, Copy, Debug, PartialEq, Eq, Drop)]
 pub enum Verdict {
     /// The order explains the session.

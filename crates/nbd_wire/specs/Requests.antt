@@ -167,7 +167,7 @@ allowed_flags export command =
     + mask_if ((command == commands.WRITE_ZEROES) && has export transmission.SEND_FAST_ZERO) command_flags.FAST_ZERO
 
 -- a request that a client should send: of a known type, its range inside the export, offered, no
--- change of a read-only export, with allowed flags, and a FLUSH of the whole (proto.md,
+-- change of a read-only export, with allowed flags, and a FLUSH with offset 0 and length 0 (proto.md,
 -- "Transmission flags", "Command flags", "Request types")
 unfoldable pub is_proper : Exporting → Entry → Bool
 is_proper export e =

@@ -1,12 +1,8 @@
 //! The command line.
 
-use crate::check::run_check;
-use crate::fault::RunFault;
-use crate::make::run_make;
-use crate::show::run_show;
-use crate::start::StartFrom;
 use clap::error::ErrorKind;
 use clap::{Arg, ArgMatches, Command, Error};
+use nbd_tool::{RunFault, StartFrom, run_check, run_make, run_show};
 use std::alloc::{AllocError, Global};
 use std::fmt::Display;
 use std::fs::File;
@@ -51,7 +47,7 @@ Example:
 Prints a line for each message, in the order in which they were complete:
   C request flags=0 command=0 cookie=1 offset=0 length=4 payload=
 Then comes 'ok', or 'no at byte' with the place and the name of the rule that was broken there.
-All lines but that one are a script for 'nbdcheck make'.
+The message lines are a script for 'nbdcheck make', with or without the 'ok'.
 
 Exit status:
   0  ok

@@ -1,0 +1,87 @@
+-- What a run of `check` tells of its inputs and leaves written, where the readers and the writer tell their bytes.
+use Rattle.std.specs.Prelude.{◌≡◌, ◌↔◌, ℕ, List, ◌++◌, Option, Some, None, IfSome, IsTrue, Bool, codes, map}
+use Rattle.nbd_wire.specs.declared.message.Side.{Side}
+use Rattle.nbd_wire.specs.Explains.{Explained, Start}
+use Rattle.nbd_wire.specs.Items.{Pair, flat}
+use Rattle.std.specs.Io.KnownBytes.{Appends, Keeps}
+use Rattle.nbd_capture.specs.Capture.{Chunk, IsCaptureText, IsFirstBadCaptureLine}
+use Rattle.nbd_capture.specs.Order.{IsOrderText, IsFirstBadOrderLine}
+use Rattle.nbd_tool.specs.declared.fault.RunFault.{RunFault}
+use Rattle.nbd_tool.specs.declared.fault.RunFault.TheVariants.{CaptureLine, CaptureRead, OrderLine, OrderRead, ImageRead, Write, Memory}
+use Rattle.nbd_judge.specs.declared.verdict.Verdict.{Verdict}
+use Rattle.nbd_judge.specs.Captures.{IsChecked}
+use Rattle.nbd_capture.specs.Writing.{AppendsFront}
+use Rattle.nbd_tool.specs.Verdicts.{IsYes, line}
+
+-- known bytes are a capture text
+abbrev pub IsCapture : Option (List ℕ) → Type 0
+IsCapture known = IfSome known (λ text. (chunks : List Chunk) × IsCaptureText text chunks)
+
+-- known bytes are an order text
+abbrev pub IsOrder : Option (List ℕ) → Type 0
+IsOrder known = IfSome known (λ text. (numbers : List ℕ) × IsOrderText text numbers)
+
+-- what a fault that came of reading the capture says of its known bytes
+abbrev pub IsCaptureCause : Option (List ℕ) → RunFault → Type 0
+IsCaptureCause capture (CaptureLine n) = IfSome capture (λ text. IsFirstBadCaptureLine text n)
+IsCaptureCause capture CaptureRead = Unit {0}
+IsCaptureCause capture Memory = Unit {0}
+IsCaptureCause capture _ = ⊥
+
+-- the same of the order
+abbrev pub IsOrderCause : Option (List ℕ) → RunFault → Type 0
+IsOrderCause order (OrderLine n) = IfSome order (λ text. IsFirstBadOrderLine text n)
+IsOrderCause order OrderRead = Unit {0}
+IsOrderCause order Memory = Unit {0}
+IsOrderCause order _ = ⊥
+
+-- the chunks' bytes with their senders
+abbrev pub pairs_of : List Chunk → List Pair
+pairs_of chunks = flat (map (λ (c : Chunk). (c.side, c.bytes)) chunks)
+
+-- the verdict on known texts and a known start: that on the capture's chunks and the order's numbers
+abbrev pub IsVerdictOn : (capture order : Option (List ℕ)) → Option Start → Verdict → Type 0
+IsVerdictOn (Some text) (Some numbers_text) (Some initial) verdict =
+    (chunks : List Chunk) × (numbers : List ℕ) × IsCaptureText text chunks × IsOrderText numbers_text numbers × IsChecked (pairs_of chunks) numbers initial verdict
+IsVerdictOn capture order initial verdict = Unit {0}
+
+-- the whole line of one verdict was written, and true was answered exactly where it is a yes
+pub record Tells (capture order : Option (List ℕ)) (initial : Option Start) (yes : Bool) (old new : Option (List ℕ)) : Type 0 where
+  pub verdict : Verdict
+  pub is_verdict : IsVerdictOn capture order initial verdict
+  pub answer : IsTrue yes ↔ IsYes verdict
+  pub appended : Appends old new (line verdict)
+
+-- what a fault says of the known bytes of the capture and of the order: the capture is judged first
+abbrev pub IsCause : Option (List ℕ) → Option (List ℕ) → RunFault → Type 0
+IsCause capture order (CaptureLine n) = IfSome capture (λ text. IsFirstBadCaptureLine text n)
+IsCause capture order CaptureRead = Unit {0}
+IsCause capture order (OrderLine n) = IsCapture capture × IfSome order (λ text. IsFirstBadOrderLine text n)
+IsCause capture order OrderRead = IsCapture capture
+IsCause capture order Write = IsCapture capture × IsOrder order
+IsCause capture order Memory = Unit {0}
+IsCause capture order ImageRead = IsCapture capture × IsOrder order
+IsCause capture order _ = ⊥
+
+-- a front of a verdict's line was written
+pub record TellsFront (capture order : Option (List ℕ)) (initial : Option Start) (old new : Option (List ℕ)) : Type 0 where
+  pub verdict : Verdict
+  pub is_verdict : IsVerdictOn capture order initial verdict
+  pub appended : AppendsFront old new (line verdict)
+
+-- what stands written after a fault: a front of a verdict's line where the writer failed, else nothing
+abbrev pub LeavesWritten : (capture order : Option (List ℕ)) → Option Start → (old new : Option (List ℕ)) → RunFault → Type 0
+LeavesWritten capture order initial old new Write = TellsFront capture order initial old new
+LeavesWritten capture order initial old new _ = Keeps old new
+
+-- a text begins with `yes`
+abbrev pub BeginsYes : List ℕ → Type 0
+BeginsYes text = (rest : List ℕ) × (text ≡ codes "yes" ++ rest)
+
+-- where what was written begins with `yes`, whether all of its line was written or not, the capture text has chunks and the
+-- order text has numbers, and these are explained from the start that was read
+abbrev pub SaysYes : (capture order : Option (List ℕ)) → Option Start → (old new : Option (List ℕ)) → Type 0
+SaysYes (Some text) (Some numbers_text) (Some initial) (Some old) (Some new) =
+    (written : List ℕ) → new ≡ old ++ written → BeginsYes written →
+    (chunks : List Chunk) × (numbers : List ℕ) × IsCaptureText text chunks × IsOrderText numbers_text numbers × Explained (pairs_of chunks) numbers initial
+SaysYes capture order initial old new = Unit {0}

@@ -1,0 +1,70 @@
+-- What a run of `show` tells of its capture and leaves written, where the reader and the writer tell their bytes.
+use Rattle.std.specs.Prelude.{◌≡◌, ◌⊎◌, ℕ, List, [], ◌++◌, Bool, true, false, Option, IfSome, codes, length}
+use Rattle.std.specs.Io.KnownBytes.{Appends, Keeps}
+use Rattle.nbd_wire.specs.declared.message.Message.{Message}
+use Rattle.nbd_wire.specs.Items.{Pair}
+use Rattle.nbd_capture.specs.Capture.{Chunk, IsCaptureText}
+use Rattle.nbd_capture.specs.Writing.{AppendsFront}
+use Rattle.nbd_laws.specs.declared.fault.WireFault.{WireFault}
+use Rattle.nbd_session.specs.Sessions.{HasRun}
+use Rattle.nbd_judge.specs.declared.verdict.Verdict.TheVariants.{Wire}
+use Rattle.nbd_lines.specs.Script.{message_lines}
+use Rattle.nbd_tool.specs.declared.fault.RunFault.{RunFault}
+use Rattle.nbd_tool.specs.declared.fault.RunFault.TheVariants.{Write, Memory}
+use Rattle.nbd_tool.specs.Runs.{IsCapture, IsCaptureCause, pairs_of}
+use Rattle.nbd_tool.specs.Verdicts.{line}
+
+-- the front of a capture's bytes is that of a run, but for bytes behind each side's last message, and these messages complete in
+-- that run, in this order
+pub record Leads (capture front : List Pair) (messages : List Message) : Type 0 where
+  pub rest : List Pair
+  pub client : List ℕ
+  pub server : List ℕ
+  pub parts : front ++ rest ≡ capture
+  pub run : HasRun front messages client server
+
+-- what is to be written of a capture's bytes, and the answer. A run has exactly these bytes: the lines of all its messages and
+-- `ok`. Or lines of messages that a front of the capture begins with, and the line of a wire fault: that the capture is no run's,
+-- and that these are all the messages before the fault, is not claimed yet.
+pub data IsShown (capture : List Pair) : Bool → List ℕ → Type 0 where
+  accepted : (messages : List Message) → HasRun capture messages [] [] → IsShown capture true (message_lines messages ++ codes "ok\n")
+  refused : (front : List Pair) (messages : List Message) (fault : WireFault)
+      → Leads capture front messages → IsShown capture false (message_lines messages ++ line (Wire (length front) fault))
+
+-- a capture's session was shown
+pub record Shows (known : Option (List ℕ)) (yes : Bool) (old new : Option (List ℕ)) : Type 0 where
+  pub chunks : List Chunk
+  pub is_text : IfSome known (λ text. IsCaptureText text chunks)
+  pub lines : List ℕ
+  pub is_shown : IsShown (pairs_of chunks) yes lines
+  pub appended : Appends old new lines
+
+-- a front of what is to be shown was written
+pub record ShowsFront (known old new : Option (List ℕ)) : Type 0 where
+  pub chunks : List Chunk
+  pub is_text : IfSome known (λ text. IsCaptureText text chunks)
+  pub yes : Bool
+  pub lines : List ℕ
+  pub is_shown : IsShown (pairs_of chunks) yes lines
+  pub appended : AppendsFront old new lines
+
+-- a front of the message lines was written
+pub record ShowsMessages (known old new : Option (List ℕ)) : Type 0 where
+  pub chunks : List Chunk
+  pub is_text : IfSome known (λ text. IsCaptureText text chunks)
+  pub front : List Pair
+  pub messages : List Message
+  pub leads : Leads (pairs_of chunks) front messages
+  pub appended : AppendsFront old new (message_lines messages)
+
+-- what a fault says of the known bytes of the capture
+abbrev pub IsShowCause : Option (List ℕ) → RunFault → Type 0
+IsShowCause known Write = IsCapture known
+IsShowCause known fault = IsCaptureCause known fault
+
+-- what stands written after a fault: a front of what is to be shown where the writer failed, a front of the message lines or
+-- nothing after want of memory, else nothing
+abbrev pub LeavesShown : (known old new : Option (List ℕ)) → RunFault → Type 0
+LeavesShown known old new Write = ShowsFront known old new
+LeavesShown known old new Memory = Keeps old new ⊎ ShowsMessages known old new
+LeavesShown known old new _ = Keeps old new

@@ -1,0 +1,121 @@
+//! Why a run of the program has no answer.
+ghost use Rattle.std.specs.Prelude.{◌≡◌};
+ghost use Rattle.nbd_tool.specs.Faults.{of_capture, of_make, of_order, of_output, status};
+
+use nbd_capture::{CaptureFault, OrderTextFault, WriteFault};
+use nbd_lines::{MakeFault, OutputFault};
+use std::alloc::AllocError;
+use thiserror::Error;
+
+/// Why a run gave no answer. The text goes to standard error. Nothing was written, but for `Write` and
+/// `Memory`.
+#[derive(Debug, Drop, Error)]
+pub enum RunFault {
+    /// The capture's line with this number, counted from 1, has no form of a capture line, or no line feed
+    /// ends it.
+    #[error("fault capture line {0}")]
+    CaptureLine(u64),
+    /// The capture could not be opened or read, or has more bytes than `READ_LIMIT`.
+    #[error("fault capture read")]
+    CaptureRead,
+    /// The order's line with this number, counted from 1, is no number, or no line feed ends it.
+    #[error("fault order line {0}")]
+    OrderLine(u64),
+    /// The order could not be opened or read, or has more bytes than `READ_LIMIT`.
+    #[error("fault order read")]
+    OrderRead,
+    /// The image could not be opened or read, or has more bytes than `READ_LIMIT`.
+    #[error("fault image read")]
+    ImageRead,
+    /// The script's line with this number, counted from 1, has no form, or no line feed ends it, or its
+    /// message has no encoding.
+    #[error("fault script line {0}")]
+    ScriptLine(u64),
+    /// The script could not be opened or read, or has more bytes than `READ_LIMIT`.
+    #[error("fault script read")]
+    ScriptRead,
+    /// The output could not be written whole. A front of it stands written.
+    #[error("fault write")]
+    Write,
+    /// A growth of memory was refused. Of `run_check` nothing stands written, of `run_show` and `run_make`
+    /// a front of the message lines or chunk lines, possibly nothing.
+    #[error("fault memory")]
+    Memory,
+}
+
+impl RunFault {
+    /// The exit status of a run with this fault: 4 for want of memory, else 3.
+    pub fn status(&self) -> u8
+        ensures { result ≡ status self.now }
+    {
+        match self {
+            RunFault::Memory => 4,
+            _ => 3,
+        }
+    }
+}
+
+impl From<AllocError> for RunFault {
+    ghost use Rattle.nbd_tool.specs.declared.fault.RunFault.TheVariants.{Memory};
+
+    ghost from_gives = { λ _ fault. fault ≡ Memory };
+
+    fn from(_: AllocError) -> RunFault {
+        RunFault::Memory
+    }
+}
+
+impl From<CaptureFault> for RunFault {
+    ghost from_gives = { λ fault run. run ≡ of_capture fault };
+
+    fn from(fault: CaptureFault) -> RunFault {
+        match fault {
+            CaptureFault::Line(number) => RunFault::CaptureLine(number),
+            CaptureFault::Memory => RunFault::Memory,
+        }
+    }
+}
+
+impl From<OrderTextFault> for RunFault {
+    ghost from_gives = { λ fault run. run ≡ of_order fault };
+
+    fn from(fault: OrderTextFault) -> RunFault {
+        match fault {
+            OrderTextFault::Line(number) => RunFault::OrderLine(number),
+            OrderTextFault::Memory => RunFault::Memory,
+        }
+    }
+}
+
+impl From<WriteFault> for RunFault {
+    ghost use Rattle.nbd_tool.specs.declared.fault.RunFault.TheVariants.{Write};
+
+    ghost from_gives = { λ _ fault. fault ≡ Write };
+
+    fn from(_: WriteFault) -> RunFault {
+        RunFault::Write
+    }
+}
+
+impl From<OutputFault> for RunFault {
+    ghost from_gives = { λ fault run. run ≡ of_output fault };
+
+    fn from(fault: OutputFault) -> RunFault {
+        match fault {
+            OutputFault::Write => RunFault::Write,
+            OutputFault::Memory => RunFault::Memory,
+        }
+    }
+}
+
+impl From<MakeFault> for RunFault {
+    ghost from_gives = { λ fault run. run ≡ of_make fault };
+
+    fn from(fault: MakeFault) -> RunFault {
+        match fault {
+            MakeFault::Line(number) => RunFault::ScriptLine(number),
+            MakeFault::Write => RunFault::Write,
+            MakeFault::Memory => RunFault::Memory,
+        }
+    }
+}

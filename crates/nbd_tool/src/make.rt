@@ -1,0 +1,40 @@
+//! The command `make`, over any reader and writer.
+ghost use Rattle.std.specs.Prelude.{◌≡◌, ◌⊎◌, IfErr, IfOk, IfSome, OnOk};
+ghost use Rattle.nbd_tool.specs.declared.fault.RunFault.TheVariants.{Memory, ScriptRead};
+ghost use Rattle.nbd_tool.specs.Scripts.{IsScriptCause, LeavesLines, MakesAll};
+
+use crate::fault::RunFault;
+use crate::input::{ReadFault, read_whole};
+use nbd_lines::make;
+use std::alloc::Global;
+use std::io::{BufRead, Write};
+
+/// Reads a script whole, and writes one chunk line for each of its messages, in their order: with the
+/// message's sender, and with all of its bytes in lower case digits.
+///
+/// Nothing is written unless the script was read whole and is well formed. After `Write` a front of the
+/// chunk lines stands written, after `Memory` a front of them, possibly nothing.
+pub fn run_make<S: BufRead + Drop, W: Write>(
+    alloc: Global,
+    mut script: S,
+    out: &mut W,
+) -> Result<(), RunFault>
+    ensures written { OnOk result (MakesAll (S.remaining script) (W.contents out.old) (W.contents out.new)) }
+    ensures cause { IfErr result (IsScriptCause (S.remaining script)) }
+    ensures left { IfErr result (LeavesLines (S.remaining script) (W.contents out.old) (W.contents out.new)) }
+{
+    let text = read_script(alloc, &mut script)?;
+    make(alloc, text.as_slice(), out)?;
+    Ok(())
+}
+
+/// The bytes of a script.
+fn read_script<S: BufRead>(alloc: Global, script: &mut S) -> Result<Vec<u8>, RunFault>
+    ensures read { IfOk result (λ text. IfSome (S.remaining script.old) (λ bytes. text.items ≡ bytes)) }
+    ensures cause { IfErr result (λ fault. (fault ≡ ScriptRead) ⊎ (fault ≡ Memory)) }
+{
+    read_whole(alloc, script).map_err(|fault| match fault {
+        ReadFault::Read => RunFault::ScriptRead,
+        ReadFault::Memory => RunFault::Memory,
+    })
+}

@@ -1,0 +1,106 @@
+//! The command `show`, over any reader and writer.
+ghost use Rattle.std.specs.Prelude.{◌≡◌, ◌<◌, ◌^◌, IfErr, IfOk, OnOk, None, Some, false, length, true};
+ghost use Rattle.std.specs.Io.KnownBytes.{Appends};
+ghost use Rattle.nbd_wire.specs.Items.{flat};
+ghost use Rattle.nbd_session.specs.declared.fault.SessionFault.TheVariants.{Wire};
+ghost use Rattle.nbd_session.specs.Sessions.{fault_of};
+ghost use Rattle.nbd_judge.specs.Captures.{chunks_told};
+ghost use Rattle.nbd_tool.specs.Runs.{IsCapture};
+ghost use Rattle.nbd_tool.specs.Showing.{IsOver, LeavesLast, is_accepted, last_line};
+ghost use Rattle.nbd_tool.specs.Shown.{IsShowCause, LeavesShown, Shows};
+
+use crate::check::read_capture;
+use crate::fault::RunFault;
+use crate::verdict::Line;
+use nbd_capture::write_whole;
+use nbd_judge::Verdict;
+use nbd_lines::show;
+use nbd_session::{Session, SessionFault, Transcript, WireFault};
+use nbd_wire::Side;
+use std::alloc::{AllocError, Global};
+use std::io::{BufRead, Write};
+
+/// Reads a capture text whole, and writes a line for each message that its session accepts, in the order
+/// of their completion, and then `ok`, or where and why the session was refused. Answers true where it
+/// was accepted.
+///
+/// Nothing is written unless the capture was read whole and is well formed. After `Write` a front of the
+/// lines stands written, after `Memory` a front of the message lines, possibly nothing.
+pub fn run_show<C: BufRead + Drop, W: Write>(
+    alloc: Global,
+    mut capture: C,
+    out: &mut W,
+) -> Result<bool, RunFault>
+    ensures written { IfOk result (λ yes. Shows (C.remaining capture) yes (W.contents out.old) (W.contents out.new)) }
+    ensures well_formed { OnOk result (IsCapture (C.remaining capture)) }
+    ensures cause { IfErr result (IsShowCause (C.remaining capture)) }
+    ensures left { IfErr result (LeavesShown (C.remaining capture) (W.contents out.old) (W.contents out.new)) }
+{
+    let chunks = read_capture(alloc, &mut capture)?;
+    let session = session_over(alloc, chunks.as_slice())?;
+    show(alloc, session.messages(), out)?;
+    write_end(alloc, session.finish(), out)
+}
+
+/// A session over these chunks, up to the byte at which it is refused.
+fn session_over(alloc: Global, chunks: &[(Side, Vec<u8>)]) -> Result<Session, AllocError>
+    requires { length (flat (chunks_told chunks.now)) < 2 ^ 63 }
+    ensures { IfOk result (IsOver (flat (chunks_told chunks.now))) }
+{
+    let mut session = Session::new(alloc);
+    for (side, bytes) in chunks {
+        match session.push(*side, bytes) {
+            Ok(()) => {}
+            Err(SessionFault::Wire { .. }) => return Ok(session),
+            Err(SessionFault::Memory) => return Err(AllocError),
+        }
+    }
+    Ok(session)
+}
+
+/// Writes how the session ended: `ok`, or where and why it was refused. Answers true where it was
+/// accepted.
+///
+/// After `Write` a front of the line stands written, after `Memory` nothing of it.
+fn write_end<W: Write>(
+    alloc: Global,
+    finished: Result<Transcript, SessionFault>,
+    out: &mut W,
+) -> Result<bool, RunFault>
+    ensures answer { IfOk result (λ yes. yes ≡ is_accepted (fault_of finished)) }
+    ensures written { OnOk result (Appends (W.contents out.old) (W.contents out.new) (last_line (fault_of finished))) }
+    ensures left { IfErr result (LeavesLast (fault_of finished) (W.contents out.old) (W.contents out.new)) }
+{
+    match finished {
+        Ok(_) => write_accepted(out),
+        Err(SessionFault::Wire { at, fault }) => write_refused(alloc, at, fault, out),
+        Err(SessionFault::Memory) => Err(RunFault::Memory),
+    }
+}
+
+/// Writes that the session was accepted.
+fn write_accepted<W: Write>(out: &mut W) -> Result<bool, RunFault>
+    ensures answer { IfOk result (λ yes. yes ≡ true) }
+    ensures written { OnOk result (Appends (W.contents out.old) (W.contents out.new) (last_line None)) }
+    ensures left { IfErr result (LeavesLast None (W.contents out.old) (W.contents out.new)) }
+{
+    write_whole(out, b"ok\n")?;
+    Ok(true)
+}
+
+/// Writes where and why the session was refused.
+fn write_refused<W: Write>(
+    alloc: Global,
+    at: u64,
+    fault: WireFault,
+    out: &mut W,
+) -> Result<bool, RunFault>
+    ensures answer { IfOk result (λ yes. yes ≡ false) }
+    ensures written { OnOk result (Appends (W.contents out.old) (W.contents out.new) (last_line (Some (Wire at fault)))) }
+    ensures left { IfErr result (LeavesLast (Some (Wire at fault)) (W.contents out.old) (W.contents out.new)) }
+{
+    let verdict = Verdict::Wire { at, fault };
+    let line = format!(in alloc; "{}\n", Line { verdict })?;
+    write_whole(out, line.as_bytes())?;
+    Ok(false)
+}
