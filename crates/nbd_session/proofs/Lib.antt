@@ -28,16 +28,10 @@ pub mod LogKnown
 pub mod Answering
 pub mod HeadsIn
 pub mod ChunkFaults
-pub mod Recorded
 pub mod ShownEntries
-pub mod Targets
-pub mod Completed
-pub mod Telling
-pub mod NextPhases
 pub mod WholeFor
 pub mod Noting
 pub mod AwaitedHeld
-pub mod Transcribing
 pub mod Accepting
 pub mod Settling
 pub mod Pieces

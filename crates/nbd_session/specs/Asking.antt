@@ -14,20 +14,8 @@ use Rattle.nbd_laws.specs.declared.fault.WireFault.{WireFault}
 use Rattle.nbd_laws.specs.declared.fault.WireFault.TheVariants.{IncompleteRead, SuccessOfImproper}
 use Rattle.nbd_session.specs.declared.spans.Span.{Span}
 use Rattle.nbd_session.specs.Decisions.{fault_if}
-use Rattle.nbd_session.specs.declared.asked.Exchange.{Exchange}
-use Rattle.nbd_session.specs.Showing.{IsShown}
-
--- the request of this head, with this payload and these replies
-abbrev pub entry_of_head : RequestHead → List ℕ → List Message → Entry
-entry_of_head head payload replies = record {
-  flags = head.flags;
-  command = head.command;
-  cookie = head.cookie;
-  offset = head.offset;
-  length = head.length;
-  payload = payload;
-  replies = replies;
-}
+use Rattle.nbd_state.specs.declared.asked.Exchange.{Exchange}
+use Rattle.nbd_state.specs.Showing.{IsShown}
 
 -- an exchange shows a request where there is one, and there is none where there is no request
 abbrev pub ShownIf : Exporting → Option Entry → Option Exchange → Type 0

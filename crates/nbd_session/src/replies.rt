@@ -8,15 +8,15 @@ ghost use Rattle.nbd_wire.specs.Payloads.{number_at};
 ghost use Rattle.nbd_wire.specs.declared.magics.TheConstants.{CHUNK_MAGIC, SIMPLE_MAGIC};
 ghost use Rattle.nbd_wire.specs.declared.commands.TheConstants as commands;
 ghost use Rattle.nbd_session.specs.Asking.{ShownIf};
+ghost use Rattle.nbd_state.specs.Showing.{IsShown};
 ghost use Rattle.nbd_session.specs.JudgeTransmission.{begins, reply_by, simple_to};
 ghost use Rattle.nbd_session.specs.Readings.{reading_of};
-ghost use Rattle.nbd_session.specs.Showing.{IsShown};
 
-use crate::asked::{Asked, Exchange};
 use crate::chunks::read_chunk;
 use crate::heads::{MAGIC_LENGTH, magic_in, simple_in};
 use crate::reading::Reading;
 use nbd_laws::WireFault;
+use nbd_state::{Asked, Exchange};
 use nbd_wire::{commands, head_lengths, magics};
 
 /// What a server's bytes are; the exchange, if any, is the one that the reply's cookie names.

@@ -1,10 +1,10 @@
 use Rattle.std.proofs.Common.{◌∙◌, ◌++◌, ◌∷◌, [], ap, sym, subst}
 use Rattle.nbd_wire.specs.Rules.{complete}
-use Rattle.nbd_session.specs.declared.state.State.{State}
+use Rattle.nbd_state.specs.declared.state.State.{State}
 use Rattle.nbd_session.specs.Concrete.{concrete}
-use Rattle.nbd_session.specs.Logged.{logged}
+use Rattle.nbd_session.specs.Logging.{logged}
 use Rattle.nbd_laws.specs.Machine.{fresh}
-use Rattle.nbd_session.specs.Shows.{AreKnown, Shows}
+use Rattle.nbd_state.specs.Shows.{AreKnown, Shows}
 use Rattle.nbd_session.specs.Standing.{pairs_held}
 use Rattle.nbd_session.specs.declared.held.Held.{Held}
 use Rattle.nbd_session.specs.WholeMessage.{IsDecided, IsWholeFor}
