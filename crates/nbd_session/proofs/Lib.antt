@@ -26,7 +26,6 @@ pub mod Logs
 pub mod LogSteps
 pub mod LogKnown
 pub mod Answering
-pub mod HeadsIn
 pub mod ChunkFaults
 pub mod ShownEntries
 pub mod WholeFor

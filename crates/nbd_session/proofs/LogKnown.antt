@@ -14,7 +14,7 @@ use Rattle.nbd_laws.specs.Machine.{AreHeld, IsFilled, Judge, Machine, More, Whol
 use Rattle.nbd_session.proofs.Blockwise.{extended}
 use Rattle.nbd_session.proofs.Counted.{count_of}
 use Rattle.nbd_session.proofs.Folded.{core_is}
-use Rattle.nbd_state.specs.lemmas.Known.{known_here-other, known_here-same, known_or}
+use Rattle.nbd_state.specs.lemmas.Known.{known_by-within, known_here-other, known_here-same, known_or}
 use Rattle.nbd_session.proofs.LogSteps.{known-next, logged-piece, logged_messages}
 use Rattle.nbd_laws.specs.lemmas.Trace.{answered_by-within, length-complete}
 

@@ -13,7 +13,8 @@ ghost use Rattle.nbd_session.specs.JudgeTransmission.{begins, reply_by, simple_t
 ghost use Rattle.nbd_session.specs.Readings.{reading_of};
 
 use crate::chunks::read_chunk;
-use crate::heads::{MAGIC_LENGTH, magic_in, simple_in};
+use crate::heads::{MAGIC_LENGTH, magic_in};
+use crate::leading::leading_simple;
 use crate::reading::Reading;
 use nbd_laws::WireFault;
 use nbd_state::{Asked, Exchange};
@@ -48,7 +49,7 @@ fn read_simple(
     if bytes.len() < head_lengths::SIMPLE {
         return Ok(Reading::Await(head_lengths::SIMPLE));
     }
-    let Some(head) = simple_in(bytes) else {
+    let Some(head) = leading_simple(bytes) else {
         return Err(WireFault::BadMagic);
     };
     match exchange {

@@ -12,8 +12,8 @@ some_placed : (t : Option ℕ) → is_some (place_of t) ≡ is_some t
 some_placed (Some k) = refl
 some_placed None = refl
 
-pub returns-else-self : goal.returns-else-self
-returns-else-self c = λ core counted export s p.
+pub returns-else-state : goal.returns-else-state
+returns-else-state c = λ core counted export s p.
     c.read_request.ensures core (λ cookie. ap is_some (s.places cookie) ∙ some_placed (target cookie core.entries))
-    ∙ ap (λ b. reading_if (request_unless b core c.args.bytes.now) c.args.bytes.now) (sym c.if-self.false ∙ s.disconnected_is)
+    ∙ ap (λ b. reading_if (request_unless b core c.args.bytes.now) c.args.bytes.now) (sym c.if-state.false ∙ s.disconnected_is)
     ∙ ap (λ (q : definitions.Phase). reading_if (decided_with q (entry_counted counted core) core Client c.args.bytes.now) c.args.bytes.now) (sym p)

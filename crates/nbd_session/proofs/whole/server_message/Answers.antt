@@ -18,6 +18,6 @@ answer_message-requires-in-Answering c =
 
 pub returns-in-Transmission : goal.returns-in-Transmission
 returns-in-Transmission c =
-    IfOk-weaker c.reply_message.result (λ m. m ≡ reply_of c.args.bytes.now) (λ m. IsDecided c.args.self.now Server c.args.bytes.now m)
+    IfOk-weaker c.reply_message.result (λ m. m ≡ reply_of c.args.bytes.now) (λ m. IsDecided c.args.state.now Server c.args.bytes.now m)
     (λ m e core counted d shows decided. e ∙ reply_named (entry_counted counted core) core c.args.bytes.now d c.in-Transmission.field-0 core.phase (sym shows.phase_is ∙ c.in-Transmission.is) decided)
     c.reply_message.ensures

@@ -11,8 +11,8 @@ use Rattle.nbd_session.specs.WholeMessage.{IsDecided, IsWholeFor}
 use Rattle.nbd_session.proofs.Accepting.{accepted_holding, accepted_stands, is_whole_for, pairs_accepted, same_but_message}
 use Rattle.nbd_session.proofs.held.Held.accept.Goals as goal
 
-pub message-requires : goal.message-requires
-message-requires c = subst (IsWholeFor c.args.self.now.state c.args.side) (sym c.rest.ensures) (is_whole_for c.args.self.now c.args.side c.requires.taken c.requires.whole)
+pub whole_message-requires : goal.whole_message-requires
+whole_message-requires c = subst (IsWholeFor c.args.self.now.state c.args.side) (sym c.rest.ensures) (is_whole_for c.args.self.now c.args.side c.requires.taken c.requires.whole)
 
 pub returns-clause-stands : goal.returns-clause-stands
 returns-clause-stands c =
