@@ -7,7 +7,7 @@ use Rattle.nbd_wire.specs.declared.message.Message.TheVariants.{Chunk}
 use Rattle.nbd_wire.specs.declared.payloads.Failure.{Failure}
 use Rattle.nbd_wire.specs.declared.payloads.Piece.{Piece}
 use Rattle.nbd_wire.specs.Payloads.{content_of, failure_of, number_at}
-use Rattle.nbd_wire.specs.Requests.{Entry, Exporting, any, has, has_failed, is_error_chunk, is_failing, is_proper, piece_of, piece_offset, piece_size, pieces, chunk_piece}
+use Rattle.nbd_wire.specs.Requests.{Entry, Exporting, has, has_failed, is_error_chunk, is_failing, is_proper, piece_of, piece_offset, piece_size, pieces, chunk_piece}
 use Rattle.nbd_wire.specs.States.{with_reply}
 use Rattle.nbd_laws.specs.declared.fault.WireFault.{WireFault}
 use Rattle.nbd_laws.specs.declared.fault.WireFault.TheVariants.{BadChunk, BadContent}

@@ -1,14 +1,14 @@
 -- What a log knows is of requests that have completed.
-use Rattle.std.proofs.Common.{◌≡◌, ℕ, ◌<◌, ◌≤◌, ◌==◌, List, [], ◌∷◌, ◌++◌, length, refl, sym, ◌∙◌, ap, subst, inl, inr, Ok, Option, Some, None, Bool, true, false, is_some, if◌then◌else◌, arith, append-nil, eqb-true}
+use Rattle.std.proofs.Common.{◌≡◌, ℕ, ◌<◌, ◌≤◌, List, [], ◌∷◌, ◌++◌, length, refl, sym, ◌∙◌, ap, subst, Ok, Option, Some, None, is_some, if◌then◌else◌, arith, append-nil}
 use Rattle.nbd_wire.specs.declared.message.Message.{Message}
 use Rattle.nbd_wire.specs.declared.message.Side.{Side}
 use Rattle.nbd_wire.specs.Items.{Pair, sent}
-use Rattle.nbd_wire.specs.Rules.{answered_by, complete}
+use Rattle.nbd_wire.specs.Rules.{answered_by}
 use Rattle.nbd_wire.specs.States.{Core, start}
 use Rattle.nbd_session.specs.Concrete.{concrete}
 use Rattle.nbd_state.specs.Folded.{core_from}
 use Rattle.nbd_session.specs.Judge.{awaited}
-use Rattle.nbd_state.specs.Logged.{Logged, known_by, known_here, known_if, messages_of}
+use Rattle.nbd_state.specs.Logged.{Logged, known_by, messages_of}
 use Rattle.nbd_session.specs.Logging.{log_with, logged}
 use Rattle.nbd_laws.specs.Machine.{AreHeld, IsFilled, Judge, Machine, More, Whole, fresh, get, old_of, reads}
 use Rattle.nbd_session.proofs.Blockwise.{extended}
@@ -16,7 +16,6 @@ use Rattle.nbd_session.proofs.Counted.{count_of}
 use Rattle.nbd_session.proofs.Folded.{core_is}
 use Rattle.nbd_state.specs.lemmas.Known.{known_by-within, known_here-other, known_here-same, known_or}
 use Rattle.nbd_session.proofs.LogSteps.{known-next, logged-piece, logged_messages}
-use Rattle.nbd_laws.specs.lemmas.Trace.{answered_by-within, length-complete}
 
 -- of a request that has not completed nothing is known
 pub known_fresh : (judge : Judge) (ps : List Pair) (machine : Machine) (k : ℕ) → reads judge fresh ps ≡ Ok machine → length machine.core.entries < k → known_by start.core k (logged judge fresh ps) ≡ None

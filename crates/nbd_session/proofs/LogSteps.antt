@@ -1,5 +1,5 @@
 -- A log, step by step: by one more piece, and by one more message.
-use Rattle.std.proofs.Common.{◌≡◌, ℕ, ◌<◌, ◌≤◌, ◌==◌, List, [], ◌∷◌, ◌++◌, length, refl, sym, ◌∙◌, ap, subst, Result, Ok, Err, Option, Some, None, Bool, true, false, append_assoc, append-nil, arith, length-append, eq-eqb, ne_eqb}
+use Rattle.std.proofs.Common.{◌≡◌, ℕ, ◌<◌, ◌≤◌, List, [], ◌∷◌, ◌++◌, length, refl, sym, ◌∙◌, ap, subst, Result, Ok, Err, None, append_assoc, append-nil, arith, length-append}
 use Rattle.nbd_wire.specs.declared.message.Side.{Side}
 use Rattle.nbd_wire.specs.Items.{Item, Pair, ArePairs, pairs, sent}
 use Rattle.nbd_wire.specs.Report.{known, report}
@@ -9,7 +9,7 @@ use Rattle.nbd_laws.specs.declared.fault.WireFault.{WireFault}
 use Rattle.nbd_session.specs.Concrete.{concrete}
 use Rattle.nbd_state.specs.Folded.{core_from}
 use Rattle.nbd_session.specs.Judge.{awaited}
-use Rattle.nbd_state.specs.Logged.{Logged, known_by, known_here, known_if, messages_of}
+use Rattle.nbd_state.specs.Logged.{Logged, known_by, known_here, messages_of}
 use Rattle.nbd_session.specs.Logging.{log_with, logged, logged_on, report_by}
 use Rattle.nbd_state.specs.lemmas.Known.{known_by-snoc, known_or}
 use Rattle.nbd_laws.specs.Machine.{AreHeld, Bad, IsFilled, IsFilled-snoc, Judge, Machine, More, Reading, Rest, Whole, fresh, get, get-put_same, grown, old-filled, old_of, on_ok, put, reads, settle, step, with_byte}

@@ -1,23 +1,19 @@
 -- The exchanges of a state, and the requests that they show.
-use Rattle.std.proofs.Common.{◌≡◌, ℕ, zero, suc, ◌-◌, ◌<◌, ◌≤◌, List, [], ◌∷◌, length, refl, sym, ◌∙◌, ap, subst, Option, Some, None, if◌then◌else◌, arith, slice_get, Bor}
+use Rattle.std.proofs.Common.{◌≡◌, ℕ, suc, ◌<◌, ◌≤◌, List, length, refl, sym, ◌∙◌, ap, subst, Option, Some, None, if◌then◌else◌, arith, slice_get, Bor}
 use Rattle.std.proofs.lemmas.Bool.{le-leb, lt-leb}
 use Rattle.std.proofs.lemmas.Option.{slice_get_past, slice_get_read}
 use Rattle.std.specs.BTreeMap.{get}
 use Rattle.std.specs.Option.{option_copied}
 use Rattle.std.specs.Slice.{IsItemAt}
 use Rattle.std.specs.Ordering.{nat_cmp}
-use Rattle.nbd_wire.specs.Report.{export_in}
-use Rattle.nbd_wire.specs.Requests.{Entry, Exporting}
-use Rattle.nbd_wire.specs.States as definitions
-use Rattle.nbd_wire.specs.States.{Core, Transmission, entry, target}
+use Rattle.nbd_wire.specs.Requests.{Exporting}
+use Rattle.nbd_wire.specs.States.{Core, Transmission}
 use Rattle.nbd_state.specs.declared.asked.Exchange.{Exchange}
 use Rattle.nbd_state.specs.declared.state.State.{State}
 use Rattle.nbd_session.specs.Asking.{ShownIf}
-use Rattle.nbd_state.specs.Showing.{IsShown}
 use Rattle.nbd_session.specs.JudgeTransmission.{entry_counted, entry_if, within}
 use Rattle.nbd_state.specs.Shows.{Shows}
 use Rattle.nbd_state.specs.lemmas.Placed.{placed}
-use Rattle.nbd_laws.specs.lemmas.Outstanding.{IsFound, find}
 
 -- what a cookie finds of the requests up to a number
 pub within_count : (state : State) (core : Core) (export : Exporting) (cookie counted place : ℕ) (o : Option Exchange) → Shows state core → core.phase ≡ Transmission export →

@@ -1,6 +1,6 @@
 //! What a session under way holds of the bytes that it was given.
 
-ghost use Rattle.std.specs.Prelude.{◌≡◌, ◌+◌, ◌-◌, ◌<◌, ◌≤◌, ◌^◌, ◌++◌, ℕ, List, [], ◌∷◌, drop, length, if◌then◌else◌, IfErr, IfOk, None, OnErr, OnOk, Ok, slice_get};
+ghost use Rattle.std.specs.Prelude.{◌≡◌, ◌+◌, ◌-◌, ◌<◌, ◌≤◌, ◌^◌, ◌++◌, [], drop, length, if◌then◌else◌, IfErr, IfOk, None, OnErr, OnOk, Ok, slice_get};
 ghost use Rattle.nbd_wire.specs.declared.message.Side.TheVariants.{Client, Server};
 ghost use Rattle.nbd_wire.specs.Side.{same_side};
 ghost use Rattle.nbd_wire.specs.States.{Core, start};
@@ -24,7 +24,7 @@ use nbd_wire::{Message, Side};
 use std::alloc::{AllocError, Global};
 
 /// Bytes of one side that follow each other, by their number.
-#[derive(Clone, Copy, Debug, PartialEq, Eq, Drop)]
+#[derive(Clone, Copy, Drop)]
 pub(crate) struct Stretch {
     pub from: Side,
     pub length: u64,

@@ -1,7 +1,7 @@
 //! The messages before the options (proto.md, "Newstyle negotiation", "Flag fields"), and the answer to
 //! EXPORT_NAME ("NBD_OPT_EXPORT_NAME").
 
-ghost use Rattle.std.specs.Prelude.{◌≡◌, ◌≤◌, length};
+ghost use Rattle.std.specs.Prelude.{◌≡◌};
 ghost use Rattle.nbd_session.specs.JudgeNegotiation.{are_zeroes, client_flags, export_fault, exported, greeting, sets_more};
 ghost use Rattle.nbd_session.specs.Leading.{unless_fault};
 ghost use Rattle.nbd_session.specs.Readings.{reading_of};

@@ -4,7 +4,7 @@
 ghost use Rattle.std.specs.Prelude.{◌≡◌, ◌≤◌, ◌==◌, drop, length};
 ghost use Rattle.nbd_wire.specs.Options.{is_error};
 ghost use Rattle.nbd_wire.specs.Payloads.{info_of, number_at};
-ghost use Rattle.nbd_session.specs.JudgeNegotiation.{abort_answer, abort_fault, ack_fault, answer, answer_fault, answers_option, choice, info_fault, is_bad_payload, is_followed, is_good_info, payload_fault, success_fault, unless_error};
+ghost use Rattle.nbd_session.specs.JudgeNegotiation.{abort_answer, abort_fault, ack_fault, answer, answer_fault, answers_option, choice, info_fault, is_bad_payload, is_followed, is_good_info, payload_fault, success_fault};
 ghost use Rattle.nbd_session.specs.Leading.{answer_fields_of, unless_fault};
 ghost use Rattle.nbd_session.specs.Readings.{at_end, reading_of};
 ghost use Rattle.nbd_state.specs.Showing.{exporting_if};
@@ -14,8 +14,7 @@ use crate::reading::Reading;
 use nbd_laws::WireFault;
 use nbd_state::{Chosen, has, is_error};
 use nbd_wire::{
-    AnswerHead, Info, answers, go_of, head_lengths, info_of, limits, listed_of, options,
-    transmission,
+    AnswerHead, Info, answers, head_lengths, info_of, limits, listed_of, options, transmission,
 };
 
 /// The client's option.

@@ -25,7 +25,12 @@ use nbd_wire::{Side, handshake};
 
 /// What bytes of a side are that begin a message; a server's began when `counted` numbered requests
 /// had completed. A side that may not send is `OutOfTurn`.
-pub(crate) fn read(state: &State, side: Side, bytes: &[u8], counted: u64) -> Result<Reading, WireFault>
+pub(crate) fn read(
+    state: &State,
+    side: Side,
+    bytes: &[u8],
+    counted: u64,
+) -> Result<Reading, WireFault>
     ensures { (core : Core) → Shows state.now core → result ≡ reading_if (decided_counted counted core side bytes.now) bytes.now }
 {
     match side {

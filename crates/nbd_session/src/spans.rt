@@ -10,7 +10,7 @@ use nbd_state::ends_by;
 use nbd_wire::{Content, Piece};
 
 /// Where content lies: from an offset of the export on, so many bytes.
-#[derive(Clone, Copy, Debug, PartialEq, Eq, Drop)]
+#[derive(Clone, Copy, Drop)]
 pub(crate) struct Span {
     pub offset: u64,
     pub size: u64,

@@ -4,6 +4,7 @@ use Rattle.nbd_wire.specs.declared.message.Message.{Message}
 use Rattle.nbd_wire.specs.Rules.{complete}
 use Rattle.nbd_wire.specs.States.{Core, start}
 
+-- from a core on
 abbrev pub core_from : Core → List Message → Core
 core_from core [] = core
 core_from core (m ∷ messages) = core_from (complete core m) messages

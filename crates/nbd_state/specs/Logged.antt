@@ -10,9 +10,11 @@ pub record Logged : Type 0 where
   pub message : Message
   pub known : ℕ
 
+-- the messages of a log
 abbrev pub messages_of : List Logged → List Message
 messages_of log = map (λ l. l.message) log
 
+-- the count, where the message answers the request, or what a later one tells
 abbrev pub known_if : Bool → ℕ → Option ℕ → Option ℕ
 known_if true n later = Some n
 known_if false n later = later

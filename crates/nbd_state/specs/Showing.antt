@@ -9,6 +9,7 @@ use Rattle.nbd_state.specs.declared.asked.Outcome.{Outcome}
 use Rattle.nbd_state.specs.declared.asked.Outcome.TheVariants.{Success, Failure, Pending}
 use Rattle.nbd_state.specs.declared.state.Export.{Export}
 
+-- the export of a session
 abbrev pub exporting : Export → Exporting
 exporting export = record { size = export.size; flags = export.flags }
 
@@ -16,6 +17,7 @@ abbrev pub exporting_if : Option Export → Option Exporting
 exporting_if (Some export) = Some (exporting export)
 exporting_if None = None
 
+-- what became of a request
 abbrev pub outcome_of : Outcome → definitions.Outcome
 outcome_of Success = definitions.Success
 outcome_of Failure = definitions.Failure
@@ -33,6 +35,7 @@ entry_of_head head payload replies = record {
   replies = replies;
 }
 
+-- no reply message has come
 abbrev pub is_none_yet : List Message → Bool
 is_none_yet [] = true
 is_none_yet (m ∷ messages) = false

@@ -1,4 +1,3 @@
--- Internal: no public contract names what stands here.
 -- How the program's state shows what the completed messages have led to.
 use Rattle.std.specs.Prelude.{◌≡◌, ℕ, ◌+◌, ◌-◌, List, [], ◌∷◌, Option, Some, None, slice_get}
 use Rattle.std.specs.BTreeMap.{get}
@@ -16,6 +15,7 @@ use Rattle.nbd_state.specs.declared.state.State.{State}
 use Rattle.nbd_state.specs.Logged.{Logged, known_by}
 use Rattle.nbd_state.specs.Showing.{IsShown}
 
+-- an export as the program has it
 abbrev pub export_shown : Exporting → Export
 export_shown export = record { size = export.size; flags = export.flags }
 

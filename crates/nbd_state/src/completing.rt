@@ -23,12 +23,15 @@ use crate::asked::Exchange;
 use crate::flags::is_last_chunk;
 use crate::options::{is_error, is_proper_option, last_info};
 use crate::state::{Chosen, Export, Phase, State};
-use nbd_wire::{Message, RequestHead, answers, chunks, commands, options};
+use nbd_wire::{Message, RequestHead, answers, commands, options};
 use std::alloc::{AllocError, Global};
 
 impl State {
-    /// A message that may complete here has completed; before the first byte of a server's so many
-    /// numbered requests had. After an `Err`, that memory ran out, nothing is known of the state.
+    /// Takes a message that has completed (proto.md, "Newstyle negotiation", "Transmission"). Before the
+    /// first byte of a server's message `known` numbered requests had completed.
+    ///
+    /// Where the message may complete, the state shows what it leads to. After an `Err`, that memory ran
+    /// out, nothing is known of the state.
     pub fn complete(
         &mut self,
         alloc: Global,

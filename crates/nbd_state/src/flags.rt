@@ -6,14 +6,14 @@ ghost use Rattle.nbd_wire.specs.Requests.{has, has_only};
 
 use nbd_wire::chunks;
 
-/// Whether a flag is set.
+/// Whether a flag is set (proto.md, "Flag fields"). Flags of 16 bits are given as their number.
 pub fn has(flags: u32, mask: u32) -> bool
     ensures { result ≡ has flags mask }
 {
     flags & mask != 0
 }
 
-/// Whether no flag is set but those of the mask.
+/// Whether no flag is set but those of the mask (proto.md, "Flag fields").
 pub fn has_only(flags: u32, mask: u32) -> bool
     ensures { result ≡ has_only flags mask }
 {

@@ -1,4 +1,7 @@
 //! What the completed messages of a session have led to.
+//!
+//! A `State` takes each completed message, and has where the session stands, its export and its numbered
+//! requests; a `Transcript` is what it tells at the end. No byte is read here.
 #![tactic(auto)]
 
 mod asked;

@@ -24,7 +24,7 @@ pub(crate) fn is_proper_option(option: u32, payload: &[u8]) -> bool
     }
 }
 
-/// Whether the kind of an answer is an error.
+/// Whether an answer of this kind is an error (proto.md, "Option reply types").
 pub fn is_error(kind: u32) -> bool
     ensures { result ≡ is_error kind }
 {

@@ -18,8 +18,12 @@ pub(crate) fn is_proper(export: Export, request: &RequestHead) -> bool
     is_known(request.command)
         && is_in_range(export.size, request)
         && is_offered(export.flags, request.command)
-        && !(is_change(request.command) && has(u32::from(export.flags), u32::from(transmission::READ_ONLY)))
-        && has_only(u32::from(request.flags), u32::from(allowed_flags(export.flags, request.command)))
+        && !(is_change(request.command)
+            && has(u32::from(export.flags), u32::from(transmission::READ_ONLY)))
+        && has_only(
+            u32::from(request.flags),
+            u32::from(allowed_flags(export.flags, request.command)),
+        )
         && (request.command != commands::FLUSH || request.offset == 0 && request.length == 0)
 }
 
@@ -48,7 +52,7 @@ fn is_change(command: u16) -> bool
     command == commands::WRITE || command == commands::TRIM || command == commands::WRITE_ZEROES
 }
 
-/// A range of this offset and size ends there or before.
+/// Whether a range of this offset and size, in bytes, ends at `end` or before. No numbers are too large.
 pub fn ends_by(offset: u64, size: u64, end: u64) -> bool
     ensures { result ≡ nat_le (offset + size) end }
 {
@@ -83,8 +87,10 @@ fn allowed_flags(flags: u16, command: u16) -> u16
     let (is_read, is_zeroes) = (command == commands::READ, command == commands::WRITE_ZEROES);
     let flags = u32::from(flags);
     let has_fast = has(flags, u32::from(transmission::SEND_FAST_ZERO));
-    mask_if(has(flags, u32::from(transmission::SEND_FUA)), command_flags::FUA)
-        | mask_if(is_zeroes, command_flags::NO_HOLE)
+    mask_if(
+        has(flags, u32::from(transmission::SEND_FUA)),
+        command_flags::FUA,
+    ) | mask_if(is_zeroes, command_flags::NO_HOLE)
         | mask_if(
             is_read && has(flags, u32::from(transmission::SEND_DF)),
             command_flags::DF,

@@ -66,7 +66,7 @@ impl State {
     ghost use Rattle.nbd_laws.specs.Soundness.{IsSoundReport};
     ghost use Rattle.nbd_state.specs.Transcripts.{export_of, report_told};
 
-    /// Before the first message; takes no memory.
+    /// Before the first message (proto.md, "Newstyle negotiation"); takes no memory.
     pub fn new(alloc: Global) -> State
         ensures { Shows result start.core }
     {
@@ -81,7 +81,8 @@ impl State {
         }
     }
 
-    /// What a session that ends here tells.
+    /// What a session that ends here tells: its export, if it reached transmission, and its numbered
+    /// requests; takes no memory. The condition is that this is a sound report.
     pub fn transcript(self) -> Transcript
         requires { IsSoundReport (report_told (export_of self.phase) self.exchanges.items) }
         ensures { result ≡ report_told (export_of self.phase) self.exchanges.items }
