@@ -9,7 +9,7 @@ use Rattle.nbd_export.specs.Starts as contents
 use Rattle.nbd_export.specs.declared.start.Start as contents_start
 use Rattle.nbd_export.specs.declared.start.Start.TheVariants as contents_starts
 use Rattle.nbd_laws.specs.Soundness.{IsSoundReport}
-use Rattle.nbd_session.specs.Transcripts.{size_and_flags}
+use Rattle.nbd_state.specs.Transcripts.{size_and_flags}
 use Rattle.nbd_judge.specs.declared.verdict.Verdict.{Verdict}
 use Rattle.nbd_judge.specs.declared.verdict.Verdict.TheVariants as verdict
 use Rattle.nbd_judge.specs.Beginnings.{image_length, initial_of}

@@ -3,7 +3,7 @@
 ghost use Rattle.std.specs.Prelude.{◌≡◌, OnOk, Some};
 ghost use Rattle.nbd_export.specs.Ranges.{AreSameBelow, changed, unknown};
 ghost use Rattle.nbd_wire.specs.Exchanges.{exchange};
-ghost use Rattle.nbd_session.specs.Transcripts.{asked_told};
+ghost use Rattle.nbd_state.specs.Transcripts.{asked_told};
 ghost use Rattle.nbd_judge.specs.Folding.{applied};
 ghost use Rattle.nbd_judge.specs.Servable.{IsServable};
 

@@ -4,10 +4,10 @@ ghost use Rattle.std.specs.Prelude.{◌≡◌, ◌+◌, ◌≤◌, length};
 ghost use Rattle.nbd_export.specs.Ranges.{IsLeast};
 ghost use Rattle.nbd_wire.specs.Exchanges.{IsWrongIn, exchange, is_success};
 ghost use Rattle.nbd_wire.specs.Requests.{piece_offset, piece_size};
-ghost use Rattle.nbd_session.specs.Transcripts.{asked_told};
+ghost use Rattle.nbd_state.specs.Transcripts.{asked_told};
 ghost use Rattle.nbd_judge.specs.Pieces.{AreInside, DiffersInOneOf, DiffersInPiece};
 ghost use Rattle.nbd_judge.specs.Servable.{IsServable};
-ghost use Rattle.nbd_session.specs.Showing.{outcome_of};
+ghost use Rattle.nbd_state.specs.Showing.{outcome_of};
 
 use crate::least::lesser;
 use nbd_export::Contents;

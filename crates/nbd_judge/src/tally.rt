@@ -2,7 +2,7 @@
 
 ghost use Rattle.std.specs.Prelude.{◌≡◌, not};
 ghost use Rattle.nbd_wire.specs.Verdicts as definitions;
-ghost use Rattle.nbd_session.specs.Showing.{outcome_of};
+ghost use Rattle.nbd_state.specs.Showing.{outcome_of};
 
 use nbd_session::{Outcome, Transcript};
 

@@ -9,17 +9,18 @@ use Rattle.nbd_wire.specs.Sendable.{IsSendable}
 use Rattle.nbd_wire.specs.Side.{same_side, side}
 use Rattle.nbd_wire.specs.States.{Core, start}
 use Rattle.nbd_session.specs.declared.held.Held.{Held}
-use Rattle.nbd_session.specs.declared.asked.Exchange.{Exchange}
+use Rattle.nbd_state.specs.declared.asked.Exchange.{Exchange}
 use Rattle.nbd_session.specs.declared.reading.Reading.TheVariants as program
 use Rattle.nbd_session.specs.Concrete.{concrete}
 use Rattle.nbd_session.specs.Decisions.{Decision}
-use Rattle.nbd_session.specs.Folded.{core_from}
+use Rattle.nbd_state.specs.Folded.{core_from}
 use Rattle.nbd_session.specs.Holdings.{holding_of, spans_of}
 use Rattle.nbd_session.specs.Judge.{decided_counted}
-use Rattle.nbd_session.specs.Logged.{logged, messages_of}
+use Rattle.nbd_state.specs.Logged.{messages_of}
+use Rattle.nbd_session.specs.Logging.{logged}
 use Rattle.nbd_laws.specs.Machine.{IsReached, Machine, Whole, fresh, get, old_of, put, reached_of, reads}
 use Rattle.nbd_session.specs.Readings.{reading_if, reading_of}
-use Rattle.nbd_session.specs.Shows.{AreKnown, Shows}
+use Rattle.nbd_state.specs.Shows.{AreKnown, Shows}
 use Rattle.nbd_session.specs.Standing.{Holding, IsReadTo, counted_at, pairs_held, rest_of, with_message, with_taken}
 use Rattle.nbd_session.specs.Steps.{IsSame, IsTaken, Stands}
 use Rattle.nbd_session.specs.WholeMessage.{IsDecided, IsWholeFor}

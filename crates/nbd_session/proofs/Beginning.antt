@@ -3,15 +3,15 @@ use Rattle.std.proofs.Common.{◌≡◌, ℕ, List, [], ◌∷◌, length, refl,
 use Rattle.nbd_wire.specs.declared.message.Side.{Side}
 use Rattle.nbd_wire.specs.declared.message.Side.TheVariants.{Client, Server}
 use Rattle.nbd_wire.specs.States.{start}
-use Rattle.nbd_session.specs.declared.asked.Exchange.{Exchange}
+use Rattle.nbd_state.specs.declared.asked.Exchange.{Exchange}
 use Rattle.nbd_session.specs.declared.fault.SessionFault.{SessionFault}
 use Rattle.nbd_session.specs.declared.held.Held.{Held}
 use Rattle.nbd_session.specs.Concrete.{concrete}
 use Rattle.nbd_session.specs.Holdings.{holding_of}
-use Rattle.nbd_session.specs.Logged.{logged}
+use Rattle.nbd_session.specs.Logging.{logged}
 use Rattle.nbd_laws.specs.Machine.{fresh, get}
 use Rattle.nbd_session.specs.Sessions.{AddsFront, IsOfRun, Recorded, pairs_of}
-use Rattle.nbd_session.specs.Shows.{AreKnown, Shows}
+use Rattle.nbd_state.specs.Shows.{AreKnown, Shows}
 use Rattle.nbd_session.specs.Standing.{Holding, IsReadTo, pairs_held, rest_of}
 use Rattle.nbd_session.specs.Steps.{HoldsRun, IsKept, Stands, recorded}
 use Rattle.nbd_session.proofs.Pieces.{standing_run}

@@ -7,7 +7,7 @@ use Rattle.nbd_wire.specs.declared.message.Message.TheVariants.{Chunk}
 use Rattle.nbd_wire.specs.declared.payloads.Failure.{Failure}
 use Rattle.nbd_wire.specs.declared.payloads.Piece.{Piece}
 use Rattle.nbd_wire.specs.Payloads.{content_of, failure_of, number_at}
-use Rattle.nbd_wire.specs.Requests.{Entry, Exporting, any, has, has_failed, is_error_chunk, is_failing, is_proper, piece_of, piece_offset, piece_size, pieces, chunk_piece}
+use Rattle.nbd_wire.specs.Requests.{Entry, Exporting, has, has_failed, is_error_chunk, is_failing, is_proper, piece_of, piece_offset, piece_size, pieces, chunk_piece}
 use Rattle.nbd_wire.specs.States.{with_reply}
 use Rattle.nbd_laws.specs.declared.fault.WireFault.{WireFault}
 use Rattle.nbd_laws.specs.declared.fault.WireFault.TheVariants.{BadChunk, BadContent}
@@ -15,6 +15,7 @@ use Rattle.nbd_session.specs.declared.spans.Span.{Span}
 use Rattle.nbd_session.specs.Asking.{done_by, finish_by, span_of}
 use Rattle.nbd_session.specs.Decisions.{fault_if}
 use Rattle.nbd_session.specs.JudgeTransmission.{chunk_fault, content_fault, done_fault, finish_fault, fits_failure, fits_read, is_apart, is_apart_from, total}
+use Rattle.nbd_state.specs.lemmas.Replied.{any-snoc, proper-same}
 use Rattle.nbd_session.proofs.Bools.{and_true}
 use Rattle.nbd_laws.specs.lemmas.Laid.{pieces-snoc}
 use Rattle.nbd_session.proofs.Tidy.{failure_kind, no_content, none_content}
@@ -39,14 +40,6 @@ or-false : (b : Bool) → (b || false) ≡ b
 or-false true = refl
 or-false false = refl
 
-pub any-snoc : (p : Message → Bool) (ms : List Message) (m : Message) → any p (ms ++ m ∷ []) ≡ (any p ms || p m)
-any-snoc p [] m = or-false (p m)
-any-snoc p (n ∷ ms) m = go (p n) (any-snoc p ms m)
-  where
-    go : (b : Bool) → any p (ms ++ m ∷ []) ≡ (any p ms || p m) → (b || any p (ms ++ m ∷ [])) ≡ (b || any p ms || p m)
-    go true h = refl
-    go false h = h
-
 total-append : (ps qs : List Piece) → total (ps ++ qs) ≡ total ps + total qs
 total-append [] qs = sym (zero-add (total qs))
 total-append (p ∷ ps) qs = ap (λ n. piece_size p + n) (total-append ps qs) ∙ sym (add_assoc (piece_size p) (total ps) (total qs))
@@ -54,10 +47,6 @@ total-append (p ∷ ps) qs = ap (λ n. piece_size p + n) (total-append ps qs) �
 finish-by : (export : Exporting) (e : Entry) (failed : Bool) (ps : List Piece) → finish_fault export e failed ps ≡ finish_by e.command e.length (is_proper export e) failed (total ps)
 finish-by export e true ps = refl
 finish-by export e false ps = refl
-
-pub proper-same : (export : Exporting) (e : Entry) (m : Message) → is_proper export (with_reply e m) ≡ is_proper export e
-unfolding is_proper
-proper-same export e m = refl
 
 total-more : (e : Entry) (flags kind cookie : ℕ) (payload : List ℕ) (o : Option Piece) → content_of kind payload ≡ o → total (pieces (with_reply e (Chunk flags kind cookie payload))) ≡ total (pieces e) + total (chunk_piece o)
 unfolding piece_of

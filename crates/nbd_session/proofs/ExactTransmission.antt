@@ -22,7 +22,8 @@ use Rattle.nbd_wire.specs.States.{Core, target, with_reply}
 use Rattle.nbd_laws.specs.declared.fault.WireFault.{WireFault}
 use Rattle.nbd_laws.specs.declared.fault.WireFault.TheVariants.{BadChunk, BadContent, BadDisconnect, ChunkForbidden, CookieInUse, IncompleteRead, SimpleForbidden, SuccessOfImproper}
 use Rattle.nbd_session.specs.Decisions.{Decision, fault_if}
-use Rattle.nbd_session.specs.JudgeTransmission.{begins, chunk_fault, chunk_of, chunk_to, content_fault, cookie_fault, done_fault, finish_fault, fits_failure, fits_read, is_no_piece, is_none_yet, request, request_fault, request_payload_length, simple_fault, simple_last_fault, simple_to, total}
+use Rattle.nbd_state.specs.Showing.{is_none_yet}
+use Rattle.nbd_session.specs.JudgeTransmission.{begins, chunk_fault, chunk_of, chunk_to, content_fault, cookie_fault, done_fault, finish_fault, fits_failure, fits_read, is_no_piece, request, request_fault, request_payload_length, simple_fault, simple_last_fault, simple_to, total}
 use Rattle.nbd_session.proofs.Covers.{ArePositive, covered_total, shares-apart_from}
 use Rattle.nbd_session.proofs.ExactNegotiation.{Accepts, HasHead, HasLast, cleared, not_so}
 use Rattle.nbd_session.proofs.Tidy.{IsTidy, failure_kind, no_content, none_content, tidy_reply}

@@ -4,9 +4,8 @@ use Rattle.nbd_wire.specs.declared.message.Message.{Message}
 use Rattle.nbd_wire.specs.Items.{Item, Byte, Starts, Completes, Serves, Pair, completed}
 use Rattle.nbd_wire.specs.Rules.{after, complete, ends_at}
 use Rattle.nbd_wire.specs.States.{Core, State, start}
-use Rattle.nbd_session.specs.Folded.{core_from, core_of}
-use Rattle.nbd_laws.specs.Machine.{Bad, Judge, Machine, More, Reading, Rest, Whole, get, grown, on_ok, reads, settle}
-use Rattle.nbd_laws.specs.Machine.{fresh}
+use Rattle.nbd_state.specs.Folded.{core_from, core_of}
+use Rattle.nbd_laws.specs.Machine.{Bad, Judge, Machine, More, Reading, Rest, Whole, get, grown, on_ok, reads, settle, fresh}
 
 pub core_from-snoc : (core : Core) (messages : List Message) (m : Message) → core_from core (messages ++ m ∷ []) ≡ complete (core_from core messages) m
 core_from-snoc core [] m = refl

@@ -11,7 +11,8 @@ use Rattle.nbd_wire.specs.Requests.{Entry, Exporting}
 use Rattle.nbd_wire.specs.Rules.{IsRun, MayComplete, MayStartIn, answered_by, complete, cookie_of, target_of}
 use Rattle.nbd_wire.specs.Side.{side}
 use Rattle.nbd_wire.specs.States.{Core, Phase, Greet, Flags, Choosing, Naming, Aborting, Answering, Ended, Transmission, start, target}
-use Rattle.nbd_session.specs.Logged.{known_by, known_here, known_if, log_from, log_of}
+use Rattle.nbd_state.specs.Logged.{known_by, known_here, known_if}
+use Rattle.nbd_session.specs.Logging.{log_from, log_of}
 use Rattle.nbd_laws.specs.Machine.{Both, Busy, Idle, IsNotBusy, Later, Later-trans, Loose, Open, Walk, at_once, behind, ended, final, get, get-put_other, get-put_same, loose, middle, opening, put, same_or_not, serving}
 use Rattle.nbd_laws.specs.lemmas.Follow.{Follows, IsBegun, each_with, follows}
 use Rattle.nbd_session.proofs.Phases.{IsAppended, IsTransmitting, Later-appended, Later-turn, target-append}

@@ -1,52 +1,21 @@
 -- What a log knows is of requests that have completed.
-use Rattle.std.proofs.Common.{◌≡◌, ℕ, ◌<◌, ◌≤◌, ◌==◌, List, [], ◌∷◌, ◌++◌, length, refl, sym, ◌∙◌, ap, subst, inl, inr, Ok, Option, Some, None, Bool, true, false, is_some, if◌then◌else◌, arith, append-nil, eqb-true}
+use Rattle.std.proofs.Common.{◌≡◌, ℕ, ◌<◌, ◌≤◌, List, [], ◌∷◌, ◌++◌, length, refl, sym, ◌∙◌, ap, subst, Ok, Option, Some, None, is_some, if◌then◌else◌, arith, append-nil}
 use Rattle.nbd_wire.specs.declared.message.Message.{Message}
 use Rattle.nbd_wire.specs.declared.message.Side.{Side}
 use Rattle.nbd_wire.specs.Items.{Pair, sent}
-use Rattle.nbd_wire.specs.Rules.{answered_by, complete}
+use Rattle.nbd_wire.specs.Rules.{answered_by}
 use Rattle.nbd_wire.specs.States.{Core, start}
 use Rattle.nbd_session.specs.Concrete.{concrete}
-use Rattle.nbd_session.specs.Folded.{core_from}
+use Rattle.nbd_state.specs.Folded.{core_from}
 use Rattle.nbd_session.specs.Judge.{awaited}
-use Rattle.nbd_session.specs.Logged.{Logged, known_by, known_here, known_if, log_with, logged, messages_of}
+use Rattle.nbd_state.specs.Logged.{Logged, known_by, messages_of}
+use Rattle.nbd_session.specs.Logging.{log_with, logged}
 use Rattle.nbd_laws.specs.Machine.{AreHeld, IsFilled, Judge, Machine, More, Whole, fresh, get, old_of, reads}
 use Rattle.nbd_session.proofs.Blockwise.{extended}
 use Rattle.nbd_session.proofs.Counted.{count_of}
 use Rattle.nbd_session.proofs.Folded.{core_is}
-use Rattle.nbd_session.proofs.LogSteps.{known-next, known_here-other, known_here-same, known_or, logged-piece, logged_messages}
-use Rattle.nbd_laws.specs.lemmas.Trace.{answered_by-within, length-complete}
-
-complete_grows : (core : Core) (m : Message) → length core.entries ≤ length (complete core m).entries
-complete_grows core m = elim (length-complete core m) [ inl e ↦ omega (arith, e) | inr e ↦ omega (arith, e) ]
-
--- no request is forgotten
-pub core_from_grows : (core : Core) (messages : List Message) → length core.entries ≤ length (core_from core messages).entries
-core_from_grows core [] = omega arith
-core_from_grows core (m ∷ messages) =
-    let first : length core.entries ≤ length (complete core m).entries = complete_grows core m in
-    let others : length (complete core m).entries ≤ length (core_from (complete core m) messages).entries = core_from_grows (complete core m) messages in
-    omega (arith, first, others)
-
-pub known_by-within : (core : Core) (k n : ℕ) (log : List Logged) → known_by core k log ≡ Some n → (0 < k) × (k ≤ length (core_from core (messages_of log)).entries)
-known_by-within core k n [] e = absurd (cc)
-known_by-within core k n (l ∷ log) e = go (answered_by core l.message) refl (known_by-within (complete core l.message) k n log) e
-  where
-    end : Core
-    end = core_from (complete core l.message) (messages_of log)
-
-    chosen : (j : ℕ) → answered_by core l.message ≡ Some j → (b : Bool) → (j == k) ≡ b → (known_by (complete core l.message) k log ≡ Some n → (0 < k) × (k ≤ length end.entries)) →
-        known_if b l.known (known_by (complete core l.message) k log) ≡ Some n → (0 < k) × (k ≤ length end.entries)
-    chosen j a true is ih e =
-        let same : j ≡ k = eqb-true j k is in
-        let w : (0 < j) × (j ≤ length core.entries) = answered_by-within core l.message j a in
-        let grows : length core.entries ≤ length end.entries = core_from_grows core (l.message ∷ messages_of log) in
-        (subst (λ i. 0 < i) same w.0, omega (arith, same, w.1, grows))
-    chosen j a false is ih e = ih e
-
-    go : (o : Option ℕ) → answered_by core l.message ≡ o → (known_by (complete core l.message) k log ≡ Some n → (0 < k) × (k ≤ length end.entries)) →
-        known_here o l.known k (known_by (complete core l.message) k log) ≡ Some n → (0 < k) × (k ≤ length end.entries)
-    go None a ih e = ih e
-    go (Some j) a ih e = chosen j a (j == k) refl ih e
+use Rattle.nbd_state.specs.lemmas.Known.{known_by-within, known_here-other, known_here-same, known_or}
+use Rattle.nbd_session.proofs.LogSteps.{known-next, logged-piece, logged_messages}
 
 -- of a request that has not completed nothing is known
 pub known_fresh : (judge : Judge) (ps : List Pair) (machine : Machine) (k : ℕ) → reads judge fresh ps ≡ Ok machine → length machine.core.entries < k → known_by start.core k (logged judge fresh ps) ≡ None

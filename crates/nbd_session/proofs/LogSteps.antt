@@ -1,5 +1,5 @@
 -- A log, step by step: by one more piece, and by one more message.
-use Rattle.std.proofs.Common.{◌≡◌, ℕ, ◌<◌, ◌≤◌, ◌==◌, List, [], ◌∷◌, ◌++◌, length, refl, sym, ◌∙◌, ap, subst, Result, Ok, Err, Option, Some, None, Bool, true, false, append_assoc, append-nil, arith, length-append, eq-eqb, ne_eqb}
+use Rattle.std.proofs.Common.{◌≡◌, ℕ, ◌<◌, ◌≤◌, List, [], ◌∷◌, ◌++◌, length, refl, sym, ◌∙◌, ap, subst, Result, Ok, Err, None, append_assoc, append-nil, arith, length-append}
 use Rattle.nbd_wire.specs.declared.message.Side.{Side}
 use Rattle.nbd_wire.specs.Items.{Item, Pair, ArePairs, pairs, sent}
 use Rattle.nbd_wire.specs.Report.{known, report}
@@ -7,9 +7,11 @@ use Rattle.nbd_wire.specs.Rules.{IsRun, answered_by, complete}
 use Rattle.nbd_wire.specs.States.{Core, start}
 use Rattle.nbd_laws.specs.declared.fault.WireFault.{WireFault}
 use Rattle.nbd_session.specs.Concrete.{concrete}
-use Rattle.nbd_session.specs.Folded.{core_from}
+use Rattle.nbd_state.specs.Folded.{core_from}
 use Rattle.nbd_session.specs.Judge.{awaited}
-use Rattle.nbd_session.specs.Logged.{Logged, known_by, known_here, known_if, log_with, logged, logged_on, messages_of, report_by}
+use Rattle.nbd_state.specs.Logged.{Logged, known_by, known_here, messages_of}
+use Rattle.nbd_session.specs.Logging.{log_with, logged, logged_on, report_by}
+use Rattle.nbd_state.specs.lemmas.Known.{known_by-snoc, known_or}
 use Rattle.nbd_laws.specs.Machine.{AreHeld, Bad, IsFilled, IsFilled-snoc, Judge, Machine, More, Reading, Rest, Whole, fresh, get, get-put_same, grown, old-filled, old_of, on_ok, put, reads, settle, step, with_byte}
 use Rattle.nbd_session.proofs.Awaiting.{held_short}
 use Rattle.nbd_session.proofs.Blockwise.{GoesOn, extended}
@@ -105,27 +107,6 @@ pub logged-piece : (ps : List Pair) (machine : Machine) (s : Side) (more : List 
     logged concrete fresh (ps ++ sent s more) ≡ logged concrete fresh ps ++ log_with (extended machine.core (get machine.rests s) more) (concrete (old_of machine.core (get machine.rests s)) machine.core s ((get machine.rests s).bytes ++ more))
 logged-piece ps machine s more e held f l = logged-append concrete ps (sent s more) fresh machine e ∙ ap (λ l. logged concrete fresh ps ++ l) (logged_up_to machine s more held f l)
 
-abbrev pub known_or : Option ℕ → Option ℕ → Option ℕ
-known_or (Some n) later = Some n
-known_or None later = later
-
--- what is known with one more message: what was known, or its count where it answers the request
-pub known_by-snoc : (core : Core) (k : ℕ) (log : List Logged) (l : Logged) →
-    known_by core k (log ++ l ∷ []) ≡ known_or (known_by core k log) (known_here (answered_by (core_from core (messages_of log)) l.message) l.known k None)
-known_by-snoc core k [] l = refl
-known_by-snoc core k (x ∷ log) l = ap (known_here (answered_by core x.message) x.known k) (known_by-snoc (complete core x.message) k log l) ∙ here (answered_by core x.message)
-  where
-    last : Option ℕ
-    last = known_here (answered_by (core_from (complete core x.message) (messages_of log)) l.message) l.known k None
-
-    inner : (b : Bool) (before : Option ℕ) → known_if b x.known (known_or before last) ≡ known_or (known_if b x.known before) last
-    inner true before = refl
-    inner false before = refl
-
-    here : (a : Option ℕ) → known_here a x.known k (known_or (known_by (complete core x.message) k log) last) ≡ known_or (known_here a x.known k (known_by (complete core x.message) k log)) last
-    here None = refl
-    here (Some j) = inner (j == k) (known_by (complete core x.message) k log)
-
 -- from the start, where the machine stands
 pub known-next : (judge : Judge) (ps : List Pair) (machine : Machine) (k : ℕ) (l : Logged) → reads judge fresh ps ≡ Ok machine →
     known_by start.core k (logged judge fresh ps ++ l ∷ []) ≡ known_or (known_by start.core k (logged judge fresh ps)) (known_here (answered_by machine.core l.message) l.known k None)
@@ -133,14 +114,6 @@ known-next judge ps machine k l e =
     known_by-snoc start.core k (logged judge fresh ps) l
     ∙ ap (λ (c : Core). known_or (known_by start.core k (logged judge fresh ps)) (known_here (answered_by c l.message) l.known k None))
     (ap (core_from start.core) (logged_messages judge ps fresh machine e) ∙ sym (core_is judge ps machine e))
-
--- a message that answers request j tells of request j, and of no other
-pub known_here-same : (o : Option ℕ) (n k : ℕ) → o ≡ Some k → known_here o n k None ≡ Some n
-known_here-same o n k e = ap (λ a. known_here a n k None) e ∙ ap (λ b. known_if b n None) (eq-eqb k k refl)
-
-pub known_here-other : (o : Option ℕ) (n k : ℕ) → (o ≡ Some k → ⊥) → known_here o n k None ≡ None
-known_here-other None n k ne = refl
-known_here-other (Some j) n k ne = ap (λ b. known_if b n None) (ne_eqb j k (λ q. ne (ap Some q)))
 
 -- with the project's own judge
 pub read_known : (ps : List Pair) (end : Machine) → ArePairs ps → reads concrete fresh ps ≡ Ok end → ((s : Side) → (get end.rests s).bytes ≡ []) →

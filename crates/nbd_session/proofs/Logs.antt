@@ -8,8 +8,9 @@ use Rattle.nbd_wire.specs.Items.{ArePairs, Item, Pair, completed, pairs}
 use Rattle.nbd_wire.specs.Report.{Report, export_in, known, report, told_from}
 use Rattle.nbd_wire.specs.Rules.{IsRun, MayComplete, complete, ends_at}
 use Rattle.nbd_wire.specs.States.{Core, Names, start}
-use Rattle.nbd_session.specs.Folded.{core_of}
-use Rattle.nbd_session.specs.Logged.{Logged, known_by, log_from, log_of, log_with, logged, logged_on, report_by}
+use Rattle.nbd_state.specs.Folded.{core_of}
+use Rattle.nbd_state.specs.Logged.{Logged, known_by}
+use Rattle.nbd_session.specs.Logging.{log_from, log_of, log_with, logged, logged_on, report_by}
 use Rattle.nbd_laws.specs.Machine.{AreHeld, Bad, Both, Busy, Idle, IsFilled, IsFilled-snoc, IsSound, IsSoundAt, Judge, Loose, Machine, More, Open, Reading, Rest, Walk, Whole, at_once, ended, final, fresh, get, get-put_same, grown, held_more, held_whole, kept_next, loose, middle, old-empty, old-filled, old_of, on_ok, opening, put, reads, serving, settle, with_byte}
 use Rattle.nbd_session.proofs.Folded.{core_is, ends_folded}
 use Rattle.nbd_laws.specs.lemmas.Follow.{Follows, HasEnd, IsBegun, IsSidedOpen, completes_later, each_with, follows}

@@ -15,12 +15,12 @@ use Rattle.nbd_session.specs.Judge.{awaited}
 use Rattle.nbd_laws.specs.Machine.{IsFilled, Machine, fresh, get, old_of}
 use Rattle.nbd_session.specs.Sessions.{Adds}
 use Rattle.nbd_session.specs.Concrete.{concrete}
-use Rattle.nbd_session.specs.Logged.{logged}
-use Rattle.nbd_session.specs.Shows.{AreKnown, Shows}
+use Rattle.nbd_session.specs.Logging.{logged}
+use Rattle.nbd_state.specs.Shows.{AreKnown, Shows}
 use Rattle.nbd_session.specs.Standing.{AreSpansOf, IsReadTo, pairs_held, rest_of, span_total, with_taken}
 use Rattle.nbd_session.specs.Steps.{AddsHeld, HoldsRun, IsRefused, IsSame, IsShut, IsTaken, Stands}
 use Rattle.nbd_session.proofs.Awaiting.{held_short}
-use Rattle.nbd_session.proofs.Completed.{shown_length}
+use Rattle.nbd_state.specs.lemmas.Placed.{shown_length}
 use Rattle.nbd_session.proofs.Loose.{read_is_run_but}
 use Rattle.nbd_session.proofs.Pushing.{first_fits, left_spans, sent-append}
 use Rattle.nbd_session.proofs.Stepping.{held_of, pairs-taken}

@@ -7,20 +7,21 @@ use Rattle.nbd_wire.specs.Report.{export_in, report, told, told_from}
 use Rattle.nbd_wire.specs.Requests.{Entry, Exporting}
 use Rattle.nbd_wire.specs.Rules.{IsRun, IsRunBut}
 use Rattle.nbd_wire.specs.States.{Core, Phase, Greet, Flags, Choosing, Naming, Aborting, Answering, Ended, Transmission, start}
-use Rattle.nbd_session.specs.declared.asked.Exchange.{Exchange}
+use Rattle.nbd_state.specs.declared.asked.Exchange.{Exchange}
 use Rattle.nbd_session.specs.declared.held.Held.{Held}
-use Rattle.nbd_session.specs.declared.state.State.{State}
+use Rattle.nbd_state.specs.declared.state.State.{State}
 use Rattle.nbd_session.specs.Concrete.{concrete}
 use Rattle.nbd_session.specs.Holdings.{holding_of}
-use Rattle.nbd_session.specs.Logged.{Logged, known_by, logged, report_by}
+use Rattle.nbd_state.specs.Logged.{Logged, known_by}
+use Rattle.nbd_session.specs.Logging.{logged, report_by}
 use Rattle.nbd_laws.specs.Machine.{fresh, get}
 use Rattle.nbd_session.specs.Sessions.{IsReported}
-use Rattle.nbd_session.specs.Showing.{IsShown, exporting_if}
-use Rattle.nbd_session.specs.Shows.{AreKnown, AreShown, Shows, phase_shown}
+use Rattle.nbd_state.specs.Showing.{IsShown, exporting_if}
+use Rattle.nbd_state.specs.Shows.{AreKnown, AreShown, Shows, phase_shown}
 use Rattle.nbd_laws.specs.Soundness.{IsSoundReport}
 use Rattle.nbd_session.specs.Standing.{pairs_held}
 use Rattle.nbd_session.specs.Steps.{HoldsRun, Stands, recorded}
-use Rattle.nbd_session.specs.Transcripts.{asked_told, export_of, report_told}
+use Rattle.nbd_state.specs.Transcripts.{asked_told, export_of, report_told}
 use Rattle.nbd_session.proofs.LogSteps.{read_report}
 use Rattle.nbd_session.proofs.Pieces.{standing_run}
 use Rattle.nbd_laws.specs.lemmas.Soundness.{reports_are_sound}

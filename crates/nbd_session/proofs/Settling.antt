@@ -12,10 +12,10 @@ use Rattle.nbd_wire.specs.States.{Core}
 use Rattle.nbd_session.specs.Concrete.{concrete}
 use Rattle.nbd_session.specs.Holdings.{holding_of}
 use Rattle.nbd_session.specs.Judge.{decided_counted}
-use Rattle.nbd_session.specs.Logged.{logged}
+use Rattle.nbd_session.specs.Logging.{logged}
 use Rattle.nbd_laws.specs.Machine.{Machine, More, fresh, get, old_of, put, reads}
 use Rattle.nbd_session.specs.Readings.{reading_if}
-use Rattle.nbd_session.specs.Shows.{AreKnown, Shows}
+use Rattle.nbd_state.specs.Shows.{AreKnown, Shows}
 use Rattle.nbd_session.specs.Standing.{Holding, IsReadTo, counted_at, pairs_held, rest_of, with_taken}
 use Rattle.nbd_session.specs.Steps.{HoldsRun, IsSame, IsShut, IsTaken, Stands}
 use Rattle.nbd_session.proofs.Blockwise.{extended}

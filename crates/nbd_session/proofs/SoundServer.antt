@@ -19,7 +19,8 @@ use Rattle.nbd_wire.specs.Sendable.{IsSendable}
 use Rattle.nbd_wire.specs.States.{Transmission, Core, target, entry, with_reply}
 use Rattle.nbd_laws.specs.declared.fault.WireFault.TheVariants.{BadMagic, UnknownCookie, SimpleForbidden, ChunkForbidden, BadChunk, BadContent, IncompleteRead, SuccessOfImproper}
 use Rattle.nbd_session.specs.Decisions.{fault_if}
-use Rattle.nbd_session.specs.JudgeTransmission.{begins, chunk_fault, chunk_of, chunk_to, content_fault, done_fault, entry_if, entry_of, finish_fault, fits_failure, fits_read, is_apart_from, is_inside, is_no_piece, is_none_yet, no_reply, reply, reply_by, simple_of, simple_to, total}
+use Rattle.nbd_state.specs.Showing.{is_none_yet}
+use Rattle.nbd_session.specs.JudgeTransmission.{begins, chunk_fault, chunk_of, chunk_to, content_fault, done_fault, entry_if, entry_of, finish_fault, fits_failure, fits_read, is_apart_from, is_inside, is_no_piece, no_reply, reply, reply_by, simple_of, simple_to, total}
 use Rattle.nbd_session.proofs.Bools.{not_false, not_true, or_false, or_true, and_true, and_false, fault_none}
 use Rattle.nbd_session.specs.Concrete.{read_by}
 use Rattle.nbd_session.proofs.Covers.{covered, apart_from-shares}

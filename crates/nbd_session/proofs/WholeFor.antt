@@ -7,9 +7,9 @@ use Rattle.nbd_wire.specs.Requests.{Entry, Exporting}
 use Rattle.nbd_wire.specs.States as definitions
 use Rattle.nbd_wire.specs.States.{Core}
 use Rattle.nbd_session.specs.declared.reading.Reading.TheVariants.{Whole}
-use Rattle.nbd_session.specs.declared.state.Chosen.{Chosen}
-use Rattle.nbd_session.specs.declared.state.Export.{Export}
-use Rattle.nbd_session.specs.declared.state.Phase.TheVariants.{Greet, Answering, Transmission}
+use Rattle.nbd_state.specs.declared.state.Chosen.{Chosen}
+use Rattle.nbd_state.specs.declared.state.Export.{Export}
+use Rattle.nbd_state.specs.declared.state.Phase.TheVariants.{Greet, Answering, Transmission}
 use Rattle.nbd_session.specs.Decisions.{Decision}
 use Rattle.nbd_session.specs.Judge.{decided_with}
 use Rattle.nbd_wire.specs.Options.{is_proper_option}
@@ -17,7 +17,7 @@ use Rattle.nbd_wire.specs.Payloads.{number_at}
 use Rattle.nbd_session.specs.JudgeTransmission.{begins, chunk_of, reply_by, simple_of}
 use Rattle.nbd_session.specs.Leading.{HasGreeting, HasHead}
 use Rattle.nbd_session.specs.Readings.{reading_if, reading_of}
-use Rattle.nbd_session.specs.Shows.{phase_shown}
+use Rattle.nbd_state.specs.Shows.{phase_shown}
 use Rattle.nbd_session.specs.WholeMessage.{reply_of}
 use Rattle.nbd_session.proofs.WholeMessages.{whole_greeting, whole_answer}
 

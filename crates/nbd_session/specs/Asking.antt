@@ -1,12 +1,6 @@
 -- Internal: no public contract names what stands here.
 -- The program's values as the definitions have them.
-use Rattle.std.specs.Prelude.{ℕ, List, Bool, true, false, not, ◌&&◌, Option, Some, None, ◌==◌, if◌then◌else◌}
-use Rattle.nbd_wire.specs.declared.heads.transmission.RequestHead.{RequestHead}
-use Rattle.nbd_wire.specs.declared.heads.transmission.SimpleHead.{SimpleHead}
-use Rattle.nbd_wire.specs.declared.heads.transmission.ChunkHead.{ChunkHead}
-use Rattle.nbd_wire.specs.declared.magics.TheConstants.{REQUEST_MAGIC, SIMPLE_MAGIC, CHUNK_MAGIC}
-use Rattle.nbd_wire.specs.declared.message.Message.{Message}
-use Rattle.nbd_wire.specs.Payloads.{number_at}
+use Rattle.std.specs.Prelude.{ℕ, Bool, true, false, not, ◌&&◌, Option, Some, None, ◌==◌}
 use Rattle.nbd_wire.specs.declared.commands.TheConstants as commands
 use Rattle.nbd_wire.specs.declared.payloads.Piece.{Piece}
 use Rattle.nbd_wire.specs.Requests.{Entry, Exporting, piece_offset, piece_size}
@@ -14,20 +8,8 @@ use Rattle.nbd_laws.specs.declared.fault.WireFault.{WireFault}
 use Rattle.nbd_laws.specs.declared.fault.WireFault.TheVariants.{IncompleteRead, SuccessOfImproper}
 use Rattle.nbd_session.specs.declared.spans.Span.{Span}
 use Rattle.nbd_session.specs.Decisions.{fault_if}
-use Rattle.nbd_session.specs.declared.asked.Exchange.{Exchange}
-use Rattle.nbd_session.specs.Showing.{IsShown}
-
--- the request of this head, with this payload and these replies
-abbrev pub entry_of_head : RequestHead → List ℕ → List Message → Entry
-entry_of_head head payload replies = record {
-  flags = head.flags;
-  command = head.command;
-  cookie = head.cookie;
-  offset = head.offset;
-  length = head.length;
-  payload = payload;
-  replies = replies;
-}
+use Rattle.nbd_state.specs.declared.asked.Exchange.{Exchange}
+use Rattle.nbd_state.specs.Showing.{IsShown}
 
 -- an exchange shows a request where there is one, and there is none where there is no request
 abbrev pub ShownIf : Exporting → Option Entry → Option Exchange → Type 0
@@ -35,25 +17,6 @@ ShownIf export (Some e) (Some x) = IsShown export e x
 ShownIf export (Some e) None = ⊥
 ShownIf export None (Some x) = ⊥
 ShownIf export None None = Unit {0}
-
--- the heads in bytes that have as many as a head
-abbrev pub request_head_in : List ℕ → Option RequestHead
-request_head_in bytes =
-    if number_at 0 4 bytes == REQUEST_MAGIC
-    then Some (record { flags = number_at 4 2 bytes; command = number_at 6 2 bytes; cookie = number_at 8 8 bytes; offset = number_at 16 8 bytes; length = number_at 24 4 bytes })
-    else None
-
-abbrev pub simple_head_in : List ℕ → Option SimpleHead
-simple_head_in bytes =
-    if number_at 0 4 bytes == SIMPLE_MAGIC
-    then Some (record { error = number_at 4 4 bytes; cookie = number_at 8 8 bytes })
-    else None
-
-abbrev pub chunk_head_in : List ℕ → Option ChunkHead
-chunk_head_in bytes =
-    if number_at 0 4 bytes == CHUNK_MAGIC
-    then Some (record { flags = number_at 4 2 bytes; kind = number_at 6 2 bytes; cookie = number_at 8 8 bytes; length = number_at 16 4 bytes })
-    else None
 
 -- where a piece lies
 abbrev pub span_of : Piece → Span

@@ -16,6 +16,7 @@ use Rattle.nbd_wire.specs.Requests.{Exporting, Entry, has, has_failed, is_in, is
 use Rattle.nbd_wire.specs.States.{Core, target, entry, with_reply}
 use Rattle.nbd_laws.specs.declared.fault.WireFault.{WireFault}
 use Rattle.nbd_laws.specs.declared.fault.WireFault.TheVariants.{BadMagic, CookieInUse, UnknownCookie, SimpleForbidden, ChunkForbidden, BadChunk, BadContent, IncompleteRead, SuccessOfImproper, BadDisconnect}
+use Rattle.nbd_state.specs.Showing.{is_none_yet}
 use Rattle.nbd_session.specs.Decisions.{Decision, fault_if}
 
 -- at the head of a request
@@ -51,10 +52,6 @@ entry_if None entries = None
 -- the request that a reply with this cookie answers: it was outstanding when the reply started
 abbrev pub entry_of : (old now : Core) → (cookie : ℕ) → Option Entry
 entry_of old now cookie = entry_if (target cookie old.entries) now.entries
-
-abbrev pub is_none_yet : List Message → Bool
-is_none_yet [] = true
-is_none_yet (m ∷ messages) = false
 
 -- at the head of a simple reply
 abbrev pub simple_fault : (structured : Bool) → Option Entry → Option WireFault

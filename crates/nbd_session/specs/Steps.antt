@@ -9,10 +9,10 @@ use Rattle.nbd_session.specs.declared.held.Held.{Held}
 use Rattle.nbd_session.specs.Concrete.{concrete}
 use Rattle.nbd_session.specs.Holdings.{holding_of, spans_of}
 use Rattle.nbd_session.specs.Judge.{awaited}
-use Rattle.nbd_session.specs.Logged.{logged}
+use Rattle.nbd_session.specs.Logging.{logged}
 use Rattle.nbd_laws.specs.Machine.{IsFilled, Machine, fresh, get, old_of, reads}
 use Rattle.nbd_session.specs.Sessions.{Adds, HasRun, Recorded}
-use Rattle.nbd_session.specs.Shows.{AreKnown, Shows}
+use Rattle.nbd_state.specs.Shows.{AreKnown, Shows}
 use Rattle.nbd_session.specs.Standing.{Holding, IsReadTo, pairs_held, with_taken}
 
 -- a session under way

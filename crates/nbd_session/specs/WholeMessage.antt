@@ -6,13 +6,13 @@ use Rattle.nbd_wire.specs.declared.message.Side.{Side}
 use Rattle.nbd_wire.specs.declared.message.Message.{Message}
 use Rattle.nbd_wire.specs.States.{Core}
 use Rattle.nbd_session.specs.declared.reading.Reading.TheVariants.{Whole}
-use Rattle.nbd_session.specs.declared.state.State.{State}
+use Rattle.nbd_state.specs.declared.state.State.{State}
 use Rattle.nbd_session.specs.Decisions.{Decision}
 use Rattle.nbd_session.specs.Judge.{decided_counted}
 use Rattle.nbd_session.specs.JudgeTransmission.{begins, chunk_of, simple_of}
 use Rattle.nbd_session.specs.Leading.{HasHead}
 use Rattle.nbd_session.specs.Readings.{reading_of}
-use Rattle.nbd_session.specs.Shows.{Shows}
+use Rattle.nbd_state.specs.Shows.{Shows}
 
 -- where the session stands, these bytes are decided to be a whole message
 pub record IsWholeFor (state : State) (s : Side) (bytes : List ℕ) : Type 0 where

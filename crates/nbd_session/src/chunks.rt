@@ -14,17 +14,16 @@ ghost use Rattle.nbd_wire.specs.declared.message.Message.TheVariants.{Chunk};
 ghost use Rattle.nbd_wire.specs.Payloads.{number_at};
 ghost use Rattle.nbd_laws.specs.declared.fault.WireFault.TheVariants.{BadChunk, BadContent};
 ghost use Rattle.nbd_session.specs.Asking.{ShownIf, done_by, finish_by, span_of};
+ghost use Rattle.nbd_state.specs.Showing.{IsShown};
 ghost use Rattle.nbd_session.specs.Decisions.{fault_if};
 ghost use Rattle.nbd_session.specs.JudgeTransmission.{begins, chunk_to, chunk_fault, fits_read, fits_failure, total};
 ghost use Rattle.nbd_session.specs.Readings.{reading_of};
-ghost use Rattle.nbd_session.specs.Showing.{IsShown};
 
-use crate::asked::{Asked, Exchange};
-use crate::heads::chunk_in;
-use crate::proper::has;
+use crate::leading::leading_chunk;
 use crate::reading::Reading;
 use crate::spans::{Span, content_span, given, is_apart_from, is_inside};
 use nbd_laws::WireFault;
+use nbd_state::{Asked, Exchange, has, is_last_chunk};
 use nbd_wire::{ChunkHead, chunks, command_flags, commands, content_of, failure_of, head_lengths};
 
 /// What a server's bytes are that begin as a chunk; the exchange, if any, is the one that the chunk's
@@ -40,7 +39,7 @@ pub(crate) fn read_chunk(
     if bytes.len() < head_lengths::CHUNK {
         return Ok(Reading::Await(head_lengths::CHUNK));
     }
-    let Some(head) = chunk_in(bytes) else {
+    let Some(head) = leading_chunk(bytes) else {
         return Err(WireFault::BadMagic);
     };
     match exchange {
@@ -82,7 +81,7 @@ fn read_chunk_to(
 fn fault_of(flags: u16, kind: u16, payload: &[u8], exchange: &Exchange) -> Option<WireFault>
     ensures { (export : Exporting) (e : Entry) (cookie : ℕ) → IsShown export e exchange.now → result ≡ chunk_fault (kind == chunks.NONE) export e (with_reply e (Chunk flags kind cookie payload.now)) flags kind payload.now }
 {
-    let done = has(flags, chunks::DONE);
+    let done = is_last_chunk(flags);
     if kind == chunks::NONE {
         return none_fault(payload, done, exchange);
     }
@@ -140,7 +139,7 @@ fn fits_read(span: Span, exchange: &Exchange) -> bool
 fn is_to_be_whole(asked: &Asked) -> bool
     ensures { result ≡ (asked.now.proper && requests.has asked.now.flags command_flags.DF) }
 {
-    asked.proper && has(asked.flags, command_flags::DF)
+    asked.proper && has(u32::from(asked.flags), u32::from(command_flags::DF))
 }
 
 // The offset of an error chunk lies in the range of its request.

@@ -1,13 +1,10 @@
-//! The heads of messages of transmission, where they stand in a side's bytes.
+//! The number that a reply begins with and its cookie, where they stand in a side's bytes.
 
-ghost use Rattle.std.specs.Prelude.{◌≡◌, ◌≤◌, length, nat_le, if◌then◌else◌};
+ghost use Rattle.std.specs.Prelude.{◌≡◌, length, nat_le, if◌then◌else◌};
 ghost use Rattle.nbd_wire.specs.Payloads.{number_at};
-ghost use Rattle.nbd_session.specs.Asking.{request_head_in, simple_head_in, chunk_head_in};
 
 use byteorder::{BigEndian, ByteOrder};
-use nbd_wire::{
-    ChunkHead, RequestHead, SimpleHead, chunk_head, head_lengths, request_head, simple_head,
-};
+use nbd_wire::head_lengths;
 
 /// The length of the number that a reply begins with, in bytes.
 pub(crate) const MAGIC_LENGTH: usize = 4;
@@ -34,28 +31,4 @@ pub(crate) fn cookie_in(bytes: &[u8]) -> Option<u64>
     } else {
         Some(BigEndian::read_u64(&bytes[COOKIE..]))
     }
-}
-
-/// The head of a request, if they begin with its number.
-pub(crate) fn request_in(bytes: &[u8]) -> Option<RequestHead>
-    requires { 28 ≤ length bytes.now }
-    ensures { result ≡ request_head_in bytes.now }
-{
-    request_head(&bytes[..head_lengths::REQUEST])
-}
-
-/// The head of a simple reply, if they begin with its number.
-pub(crate) fn simple_in(bytes: &[u8]) -> Option<SimpleHead>
-    requires { 16 ≤ length bytes.now }
-    ensures { result ≡ simple_head_in bytes.now }
-{
-    simple_head(&bytes[..head_lengths::SIMPLE])
-}
-
-/// The head of a chunk, if they begin with its number.
-pub(crate) fn chunk_in(bytes: &[u8]) -> Option<ChunkHead>
-    requires { 20 ≤ length bytes.now }
-    ensures { result ≡ chunk_head_in bytes.now }
-{
-    chunk_head(&bytes[..head_lengths::CHUNK])
 }

@@ -1,6 +1,6 @@
 //! What a session under way holds of the bytes that it was given.
 
-ghost use Rattle.std.specs.Prelude.{◌≡◌, ◌+◌, ◌-◌, ◌<◌, ◌≤◌, ◌^◌, ◌++◌, ℕ, List, [], ◌∷◌, drop, length, if◌then◌else◌, IfErr, IfOk, None, OnErr, OnOk, Ok, slice_get};
+ghost use Rattle.std.specs.Prelude.{◌≡◌, ◌+◌, ◌-◌, ◌<◌, ◌≤◌, ◌^◌, ◌++◌, [], drop, length, if◌then◌else◌, IfErr, IfOk, None, OnErr, OnOk, Ok, slice_get};
 ghost use Rattle.nbd_wire.specs.declared.message.Side.TheVariants.{Client, Server};
 ghost use Rattle.nbd_wire.specs.Side.{same_side};
 ghost use Rattle.nbd_wire.specs.States.{Core, start};
@@ -10,20 +10,21 @@ ghost use Rattle.nbd_session.specs.Judge.{awaited, decided_counted};
 ghost use Rattle.nbd_laws.specs.Machine.{Machine, get, old_of};
 ghost use Rattle.nbd_session.specs.Readings.{reading_if, until};
 ghost use Rattle.nbd_session.specs.Sessions.{IsReported, fault_at_end, fault_of};
-ghost use Rattle.nbd_session.specs.Shows.{Shows};
+ghost use Rattle.nbd_state.specs.Shows.{Shows};
 ghost use Rattle.nbd_session.specs.Standing.{IsReadTo, noted, rest_of, span_total, with_taken};
 ghost use Rattle.nbd_session.specs.Steps.{AddsHeld, IsRefused, IsSame, IsShut, IsTaken, Stands, recorded};
 
 use crate::fault::SessionFault;
 use crate::reading::Reading;
-use crate::state::State;
-use crate::transcript::Transcript;
+use crate::reading_state::read;
+use crate::whole::whole_message;
 use nbd_laws::WireFault;
+use nbd_state::{State, Transcript};
 use nbd_wire::{Message, Side};
 use std::alloc::{AllocError, Global};
 
 /// Bytes of one side that follow each other, by their number.
-#[derive(Clone, Copy, Debug, PartialEq, Eq, Drop)]
+#[derive(Clone, Copy, Drop)]
 pub(crate) struct Stretch {
     pub from: Side,
     pub length: u64,
@@ -81,7 +82,7 @@ impl Held {
         ensures { (machine : Machine) → IsReadTo (holding_of self.now) machine → Shows self.now.state machine.core → result ≡ awaited (old_of machine.core (get machine.rests side)) machine.core side (rest_of (holding_of self.now) side) }
     {
         let rest = self.rest(side);
-        until(self.state.read(side, rest, self.counted), rest.len())
+        until(read(&self.state, side, rest, self.counted), rest.len())
     }
 
     /// Takes a piece of a side's bytes. The condition on its length is that all bytes have fewer than
@@ -156,7 +157,7 @@ impl Held {
         ensures same { IsSame self.old self.new }
         ensures shut { IfErr result (λ fault. IsShut self.new fault) }
     {
-        match self.state.read(side, self.rest(side), self.counted) {
+        match read(&self.state, side, self.rest(side), self.counted) {
             Ok(Reading::Await(_)) => Ok(()),
             Ok(Reading::Whole) => Ok(self.accept(alloc, side)?),
             Err(fault) => Err(SessionFault::Wire {
@@ -175,7 +176,7 @@ impl Held {
         ensures same { IsSame self.old self.new }
         ensures unchanged { OnErr result (holding_of self.new ≡ holding_of self.old) }
     {
-        let message = self.state.message(alloc, side, self.rest(side))?;
+        let message = whole_message(alloc, &self.state, side, self.rest(side))?;
         self.state.complete(alloc, &message, self.counted)?;
         self.messages.push(message)?;
         self.clear(side);

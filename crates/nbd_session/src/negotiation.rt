@@ -1,15 +1,15 @@
 //! The messages before the options (proto.md, "Newstyle negotiation", "Flag fields"), and the answer to
 //! EXPORT_NAME ("NBD_OPT_EXPORT_NAME").
 
-ghost use Rattle.std.specs.Prelude.{◌≡◌, ◌≤◌, length};
+ghost use Rattle.std.specs.Prelude.{◌≡◌};
 ghost use Rattle.nbd_session.specs.JudgeNegotiation.{are_zeroes, client_flags, export_fault, exported, greeting, sets_more};
 ghost use Rattle.nbd_session.specs.Leading.{unless_fault};
 ghost use Rattle.nbd_session.specs.Readings.{reading_of};
 
-use crate::flags::{has, has_only};
 use crate::leading::{leading_client_flags, leading_export, leading_greeting, of_length};
 use crate::reading::Reading;
 use nbd_laws::WireFault;
+use nbd_state::{has, has_only};
 use nbd_wire::{handshake, head_lengths, limits, transmission};
 
 /// How many zeroes follow the export's size and flags.

@@ -2,21 +2,19 @@
 //! types").
 
 ghost use Rattle.std.specs.Prelude.{◌≡◌, ◌≤◌, ◌==◌, drop, length};
-ghost use Rattle.nbd_wire.specs.Options.{is_error, is_proper_option, last_info};
+ghost use Rattle.nbd_wire.specs.Options.{is_error};
 ghost use Rattle.nbd_wire.specs.Payloads.{info_of, number_at};
-ghost use Rattle.nbd_session.specs.JudgeNegotiation.{abort_answer, abort_fault, ack_fault, answer, answer_fault, answers_option, choice, info_fault, is_bad_payload, is_followed, is_good_info, payload_fault, success_fault, unless_error};
+ghost use Rattle.nbd_session.specs.JudgeNegotiation.{abort_answer, abort_fault, ack_fault, answer, answer_fault, answers_option, choice, info_fault, is_bad_payload, is_followed, is_good_info, payload_fault, success_fault};
 ghost use Rattle.nbd_session.specs.Leading.{answer_fields_of, unless_fault};
 ghost use Rattle.nbd_session.specs.Readings.{at_end, reading_of};
-ghost use Rattle.nbd_session.specs.Showing.{exporting_if};
+ghost use Rattle.nbd_state.specs.Showing.{exporting_if};
 
-use crate::flags::has;
 use crate::leading::{leading_answer, leading_choice, of_length};
 use crate::reading::Reading;
-use crate::state::{Chosen, Export};
 use nbd_laws::WireFault;
+use nbd_state::{Chosen, has, is_error};
 use nbd_wire::{
-    AnswerHead, Info, answers, go_of, head_lengths, info_of, limits, listed_of, options,
-    transmission,
+    AnswerHead, Info, answers, head_lengths, info_of, limits, listed_of, options, transmission,
 };
 
 /// The client's option.
@@ -28,20 +26,6 @@ pub(crate) fn read_choice(bytes: &[u8]) -> Result<Reading, WireFault>
     }
     let head = leading_choice(bytes).ok_or(WireFault::BadMagic)?;
     Ok(of_length(head_lengths::CHOICE + head.length as usize, bytes))
-}
-
-/// Whether the data of an option has its form. EXPORT_NAME and ABORT take any data, and an option that
-/// is not listed here has no form.
-#[tactic(auto, unfolding(nbd_wire::specs::Options::is_proper_option))]
-pub(crate) fn is_proper_option(option: u32, payload: &[u8]) -> bool
-    ensures { result ≡ is_proper_option option payload.now }
-{
-    match option {
-        options::EXPORT_NAME | options::ABORT => true,
-        options::LIST | options::STRUCTURED_REPLY => payload.is_empty(),
-        options::INFO | options::GO => go_of(payload).is_some(),
-        _ => false,
-    }
 }
 
 /// The answer to ABORT.
@@ -100,13 +84,6 @@ fn answer_to(option: u32, bytes: &[u8]) -> Result<AnswerHead, WireFault>
         return Err(WireFault::WrongOption);
     }
     Ok(head)
-}
-
-/// Whether the kind of an answer is an error.
-pub(crate) fn is_error(kind: u32) -> bool
-    ensures { result ≡ is_error kind }
-{
-    has(kind, answers::ERROR)
 }
 
 /// ABORT is answered by an error or by an empty ACK.
@@ -207,15 +184,5 @@ fn is_good_info(info: Option<Info>) -> bool
             u32::from(transmission::HAS_FLAGS),
         ),
         Some(_) => true,
-    }
-}
-
-/// The last EXPORT info, with one more INFO payload.
-pub(crate) fn last_info(payload: &[u8], last: Option<Export>) -> Option<Export>
-    ensures { exporting_if result ≡ last_info (info_of payload.now) (exporting_if last) }
-{
-    match info_of(payload) {
-        Some(Info::Export { size, flags }) => Some(Export { size, flags }),
-        _ => last,
     }
 }

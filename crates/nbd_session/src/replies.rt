@@ -8,15 +8,16 @@ ghost use Rattle.nbd_wire.specs.Payloads.{number_at};
 ghost use Rattle.nbd_wire.specs.declared.magics.TheConstants.{CHUNK_MAGIC, SIMPLE_MAGIC};
 ghost use Rattle.nbd_wire.specs.declared.commands.TheConstants as commands;
 ghost use Rattle.nbd_session.specs.Asking.{ShownIf};
+ghost use Rattle.nbd_state.specs.Showing.{IsShown};
 ghost use Rattle.nbd_session.specs.JudgeTransmission.{begins, reply_by, simple_to};
 ghost use Rattle.nbd_session.specs.Readings.{reading_of};
-ghost use Rattle.nbd_session.specs.Showing.{IsShown};
 
-use crate::asked::{Asked, Exchange};
 use crate::chunks::read_chunk;
-use crate::heads::{MAGIC_LENGTH, magic_in, simple_in};
+use crate::heads::{MAGIC_LENGTH, magic_in};
+use crate::leading::leading_simple;
 use crate::reading::Reading;
 use nbd_laws::WireFault;
+use nbd_state::{Asked, Exchange};
 use nbd_wire::{commands, head_lengths, magics};
 
 /// What a server's bytes are; the exchange, if any, is the one that the reply's cookie names.
@@ -48,7 +49,7 @@ fn read_simple(
     if bytes.len() < head_lengths::SIMPLE {
         return Ok(Reading::Await(head_lengths::SIMPLE));
     }
-    let Some(head) = simple_in(bytes) else {
+    let Some(head) = leading_simple(bytes) else {
         return Err(WireFault::BadMagic);
     };
     match exchange {

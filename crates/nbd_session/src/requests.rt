@@ -7,7 +7,7 @@ ghost use Rattle.nbd_wire.specs.States.{Core, target};
 ghost use Rattle.nbd_session.specs.JudgeTransmission.{request, request_payload_length};
 ghost use Rattle.nbd_session.specs.Readings.{reading_of};
 
-use crate::heads::request_in;
+use crate::leading::leading_request;
 use crate::reading::Reading;
 use nbd_laws::WireFault;
 use nbd_wire::{RequestHead, commands, head_lengths};
@@ -23,7 +23,7 @@ pub(crate) fn read_request(
     if bytes.len() < head_lengths::REQUEST {
         return Ok(Reading::Await(head_lengths::REQUEST));
     }
-    let Some(head) = request_in(bytes) else {
+    let Some(head) = leading_request(bytes) else {
         return Err(WireFault::BadMagic);
     };
     let is_disc = head.command == commands::DISC;

@@ -7,7 +7,7 @@ ghost use Rattle.nbd_session.specs.Sessions.{AddsFront, IsAtEnd, IsOfRun, IsRepo
 
 use crate::fault::SessionFault;
 use crate::held::Held;
-use crate::transcript::Transcript;
+use nbd_state::Transcript;
 use nbd_wire::{Message, Side};
 use std::alloc::Global;
 use std::marker::Model;

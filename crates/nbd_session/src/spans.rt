@@ -6,11 +6,11 @@ ghost use Rattle.nbd_wire.specs.Contents.{piece_of};
 ghost use Rattle.nbd_session.specs.Asking.{span_of};
 ghost use Rattle.nbd_session.specs.JudgeTransmission.{is_apart_from, total};
 
-use crate::proper::ends_by;
+use nbd_state::ends_by;
 use nbd_wire::{Content, Piece};
 
 /// Where content lies: from an offset of the export on, so many bytes.
-#[derive(Clone, Copy, Debug, PartialEq, Eq, Drop)]
+#[derive(Clone, Copy, Drop)]
 pub(crate) struct Span {
     pub offset: u64,
     pub size: u64,

@@ -1,7 +1,7 @@
 use Rattle.std.proofs.Common.{ℕ, List, Option, length, sym, subst, ◌∙◌}
 use Rattle.nbd_export.specs.Ranges.{IsLeast}
 use Rattle.nbd_wire.specs.declared.payloads.Piece.{Piece}
-use Rattle.nbd_session.specs.Transcripts.{asked_told}
+use Rattle.nbd_state.specs.Transcripts.{asked_told}
 use Rattle.nbd_judge.specs.Pieces.{DiffersInOneOf}
 use Rattle.nbd_judge.proofs.Comparing.{wrong_read}
 use Rattle.nbd_judge.proofs.compare.wrong.Goals as goal

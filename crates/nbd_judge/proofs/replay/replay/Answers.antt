@@ -2,7 +2,7 @@ use Rattle.std.proofs.Common.{◌≡◌, ◌<◌, ℕ, Option, length, Some, Non
 use Rattle.nbd_wire.specs.Exchanges.{Exchange, IsWrong, exchange, exchange_if, exchanges}
 use Rattle.nbd_wire.specs.Report.{Asked}
 use Rattle.nbd_export.specs.Ranges.{AreSameBelow}
-use Rattle.nbd_session.specs.Transcripts.{asked_told}
+use Rattle.nbd_state.specs.Transcripts.{asked_told}
 use Rattle.nbd_judge.specs.Folding.{applied}
 use Rattle.nbd_judge.specs.Servable.{IsServable}
 use Rattle.nbd_judge.proofs.Effects.{next, none_through, served}

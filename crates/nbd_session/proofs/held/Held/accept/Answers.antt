@@ -1,18 +1,18 @@
 use Rattle.std.proofs.Common.{◌∙◌, ◌++◌, ◌∷◌, [], ap, sym, subst}
 use Rattle.nbd_wire.specs.Rules.{complete}
-use Rattle.nbd_session.specs.declared.state.State.{State}
+use Rattle.nbd_state.specs.declared.state.State.{State}
 use Rattle.nbd_session.specs.Concrete.{concrete}
-use Rattle.nbd_session.specs.Logged.{logged}
+use Rattle.nbd_session.specs.Logging.{logged}
 use Rattle.nbd_laws.specs.Machine.{fresh}
-use Rattle.nbd_session.specs.Shows.{AreKnown, Shows}
+use Rattle.nbd_state.specs.Shows.{AreKnown, Shows}
 use Rattle.nbd_session.specs.Standing.{pairs_held}
 use Rattle.nbd_session.specs.declared.held.Held.{Held}
 use Rattle.nbd_session.specs.WholeMessage.{IsDecided, IsWholeFor}
 use Rattle.nbd_session.proofs.Accepting.{accepted_holding, accepted_stands, is_whole_for, pairs_accepted, same_but_message}
 use Rattle.nbd_session.proofs.held.Held.accept.Goals as goal
 
-pub message-requires : goal.message-requires
-message-requires c = subst (IsWholeFor c.args.self.now.state c.args.side) (sym c.rest.ensures) (is_whole_for c.args.self.now c.args.side c.requires.taken c.requires.whole)
+pub whole_message-requires : goal.whole_message-requires
+whole_message-requires c = subst (IsWholeFor c.args.self.now.state c.args.side) (sym c.rest.ensures) (is_whole_for c.args.self.now c.args.side c.requires.taken c.requires.whole)
 
 pub returns-clause-stands : goal.returns-clause-stands
 returns-clause-stands c =

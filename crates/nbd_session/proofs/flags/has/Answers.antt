@@ -1,7 +1,0 @@
-use Rattle.std.proofs.Common.{refl}
-use Rattle.nbd_wire.specs.Requests.{has}
-use Rattle.nbd_session.proofs.flags.has.Goals as goal
-
-pub returns : goal.returns
-unfolding has
-returns c = refl

@@ -1,0 +1,11 @@
+use Rattle.std.proofs.Common.{◌∙◌, ap, refl, sym}
+use Rattle.nbd_wire.specs.declared.message.Message.TheVariants.{Simple}
+use Rattle.nbd_wire.specs.Requests.{ends_reply, is_failing, piece_of, simple_piece}
+use Rattle.nbd_state.proofs.Recorded.{weaken}
+use Rattle.nbd_state.proofs.asked.Exchange.take_simple.Goals as goal
+
+pub returns-clause-shown : goal.returns-clause-shown
+unfolding ends_reply is_failing piece_of
+returns-clause-shown c = weaken c.take.result (λ x shown export e cookie s u.
+    shown export e (Simple c.args.error cookie c.args.payload.now) s u refl refl (sym (c.in_ok-piece.ensures ∙ ap (λ o. simple_piece o c.args.payload.now) s.offset)))
+    c.take.ensures.shown

@@ -1,0 +1,7 @@
+use Rattle.std.proofs.Common.{refl}
+use Rattle.nbd_wire.specs.Requests.{has}
+use Rattle.nbd_state.proofs.flags.has.Goals as goal
+
+pub returns : goal.returns
+unfolding has
+returns c = refl

@@ -1,0 +1,15 @@
+use Rattle.std.proofs.Common.{refl, rules}
+use Rattle.nbd_wire.specs.States.{target}
+use Rattle.nbd_state.proofs.state.State.new.Goals as goal
+
+pub returns : goal.returns
+unfolding target
+returns c = record {
+  phase_is = refl;
+  offered_is = refl;
+  client_flags_are = refl;
+  structured_is = refl;
+  disconnected_is = refl;
+  are_shown = search rules;
+  places = search rules;
+}

@@ -1,0 +1,14 @@
+-- What messages lead to, one after the other.
+use Rattle.std.specs.Prelude.{List, [], ◌∷◌}
+use Rattle.nbd_wire.specs.declared.message.Message.{Message}
+use Rattle.nbd_wire.specs.Rules.{complete}
+use Rattle.nbd_wire.specs.States.{Core, start}
+
+-- from a core on
+abbrev pub core_from : Core → List Message → Core
+core_from core [] = core
+core_from core (m ∷ messages) = core_from (complete core m) messages
+
+-- from the start
+abbrev pub core_of : List Message → Core
+core_of messages = core_from start.core messages

@@ -1,0 +1,55 @@
+-- How the program's values show what the definitions speak of.
+use Rattle.std.specs.Prelude.{◌≡◌, ℕ, List, [], ◌∷◌, Bool, true, false, not, Option, Some, None, is_some}
+use Rattle.nbd_wire.specs.declared.heads.transmission.RequestHead.{RequestHead}
+use Rattle.nbd_wire.specs.declared.message.Message.{Message}
+use Rattle.nbd_wire.specs.Requests.{Entry, Exporting, is_proper, has_failed, outcome, pieces}
+use Rattle.nbd_wire.specs.Requests as definitions
+use Rattle.nbd_state.specs.declared.asked.Exchange.{Exchange}
+use Rattle.nbd_state.specs.declared.asked.Outcome.{Outcome}
+use Rattle.nbd_state.specs.declared.asked.Outcome.TheVariants.{Success, Failure, Pending}
+use Rattle.nbd_state.specs.declared.state.Export.{Export}
+
+-- the export of a session
+abbrev pub exporting : Export → Exporting
+exporting export = record { size = export.size; flags = export.flags }
+
+abbrev pub exporting_if : Option Export → Option Exporting
+exporting_if (Some export) = Some (exporting export)
+exporting_if None = None
+
+-- what became of a request
+abbrev pub outcome_of : Outcome → definitions.Outcome
+outcome_of Success = definitions.Success
+outcome_of Failure = definitions.Failure
+outcome_of Pending = definitions.Pending
+
+-- the request of this head, with this payload and these replies
+abbrev pub entry_of_head : RequestHead → List ℕ → List Message → Entry
+entry_of_head head payload replies = record {
+  flags = head.flags;
+  command = head.command;
+  cookie = head.cookie;
+  offset = head.offset;
+  length = head.length;
+  payload = payload;
+  replies = replies;
+}
+
+-- no reply message has come
+abbrev pub is_none_yet : List Message → Bool
+is_none_yet [] = true
+is_none_yet (m ∷ messages) = false
+
+-- an exchange shows a numbered request of a session on this export
+pub record IsShown (export : Exporting) (e : Entry) (x : Exchange) : Type 0 where
+  pub flags : x.asked.flags ≡ e.flags
+  pub command : x.asked.command ≡ e.command
+  pub cookie : x.asked.cookie ≡ e.cookie
+  pub offset : x.asked.offset ≡ e.offset
+  pub length : x.asked.length ≡ e.length
+  pub payload : x.asked.payload ≡ e.payload
+  pub proper : x.asked.proper ≡ is_proper export e
+  pub replied : is_some x.asked.known_at ≡ not (is_none_yet e.replies)
+  pub outcome_is : outcome_of x.asked.outcome ≡ outcome e
+  pub failed : x.failed ≡ has_failed e
+  pub pieces_are : x.asked.pieces.items ≡ pieces e

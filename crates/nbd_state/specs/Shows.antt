@@ -1,0 +1,60 @@
+-- How the program's state shows what the completed messages have led to.
+use Rattle.std.specs.Prelude.{◌≡◌, ℕ, ◌+◌, ◌-◌, List, [], ◌∷◌, Option, Some, None, slice_get}
+use Rattle.std.specs.BTreeMap.{get}
+use Rattle.std.specs.Ordering.{nat_cmp}
+use Rattle.nbd_wire.specs.Report.{export_in}
+use Rattle.nbd_wire.specs.Options.{is_proper_option}
+use Rattle.nbd_wire.specs.Requests.{Entry, Exporting}
+use Rattle.nbd_wire.specs.States as definitions
+use Rattle.nbd_wire.specs.States.{Core, start, target}
+use Rattle.nbd_state.specs.declared.asked.Exchange.{Exchange}
+use Rattle.nbd_state.specs.declared.state.Export.{Export}
+use Rattle.nbd_state.specs.declared.state.Phase.{Phase}
+use Rattle.nbd_state.specs.declared.state.Phase.TheVariants.{Greet, Flags, Choosing, Naming, Aborting, Answering, Ended, Transmission}
+use Rattle.nbd_state.specs.declared.state.State.{State}
+use Rattle.nbd_state.specs.Logged.{Logged, known_by}
+use Rattle.nbd_state.specs.Showing.{IsShown}
+
+-- an export as the program has it
+abbrev pub export_shown : Exporting → Export
+export_shown export = record { size = export.size; flags = export.flags }
+
+abbrev pub export_shown_if : Option Exporting → Option Export
+export_shown_if (Some export) = Some (export_shown export)
+export_shown_if None = None
+
+-- a phase keeps of an option's data only whether it was proper
+abbrev pub phase_shown : definitions.Phase → Phase
+phase_shown definitions.Greet = Greet
+phase_shown definitions.Flags = Flags
+phase_shown definitions.Choosing = Choosing
+phase_shown definitions.Naming = Naming
+phase_shown definitions.Aborting = Aborting
+phase_shown (definitions.Answering option payload info) = Answering (record { option = option; proper = is_proper_option option payload; info = export_shown_if info })
+phase_shown definitions.Ended = Ended
+phase_shown (definitions.Transmission export) = Transmission (export_shown export)
+
+-- the exchanges show the numbered requests of a session on this export, of which there are none without one
+abbrev pub AreShown : Option Exporting → List Entry → List Exchange → Type 0
+AreShown export [] [] = Unit {0}
+AreShown (Some export) (e ∷ entries) (x ∷ exchanges) = IsShown export e x × AreShown (Some export) entries exchanges
+AreShown export entries exchanges = ⊥
+
+-- the place, from 0, of the request with this number
+abbrev pub place_of : Option ℕ → Option ℕ
+place_of (Some k) = Some (k - 1)
+place_of None = None
+
+-- the state shows the core
+pub record Shows (state : State) (core : Core) : Type 0 where
+  pub phase_is : state.phase ≡ phase_shown core.phase
+  pub offered_is : state.offered ≡ core.offered
+  pub client_flags_are : state.client_flags ≡ core.client_flags
+  pub structured_is : state.structured ≡ core.structured
+  pub disconnected_is : state.disconnected ≡ core.disconnected
+  pub are_shown : AreShown (export_in core.phase) core.entries state.exchanges.items
+  pub places : (cookie : ℕ) → get nat_cmp state.outstanding cookie ≡ place_of (target cookie core.entries)
+
+-- each exchange knows what the log says of its request
+abbrev pub AreKnown : List Logged → List Exchange → Type 0
+AreKnown log exchanges = (place : ℕ) (x : Exchange) → slice_get exchanges place ≡ Some x → x.asked.known_at ≡ known_by start.core (place + 1) log

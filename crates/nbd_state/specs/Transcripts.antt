@@ -1,0 +1,45 @@
+-- What a transcript tells.
+use Rattle.std.specs.Prelude.{ℕ, List, map, Option, Some, None}
+use Rattle.nbd_wire.specs.Report as definitions
+use Rattle.nbd_wire.specs.Report.{Report}
+use Rattle.nbd_wire.specs.Requests.{Exporting}
+use Rattle.nbd_state.specs.declared.asked.Asked.{Asked}
+use Rattle.nbd_state.specs.declared.asked.Exchange.{Exchange}
+use Rattle.nbd_state.specs.declared.state.Export.{Export}
+use Rattle.nbd_state.specs.declared.state.Phase.{Phase}
+use Rattle.nbd_state.specs.declared.state.Phase.TheVariants.{Transmission}
+use Rattle.nbd_state.specs.Showing.{exporting_if, outcome_of}
+
+-- a request as a report tells it
+abbrev pub asked_told : Asked → definitions.Asked
+asked_told a = record {
+  flags = a.flags;
+  command = a.command;
+  cookie = a.cookie;
+  offset = a.offset;
+  length = a.length;
+  payload = a.payload;
+  proper = a.proper;
+  known_at = a.known_at;
+  outcome = outcome_of a.outcome;
+  pieces = a.pieces.items;
+}
+
+-- the same, of a request if there is one
+abbrev pub told_if : Option Asked → Option definitions.Asked
+told_if (Some a) = Some (asked_told a)
+told_if None = None
+
+-- size and flags of an export, if there is one
+abbrev pub size_and_flags : Option Exporting → Option (ℕ × ℕ)
+size_and_flags (Some export) = Some (export.size, export.flags)
+size_and_flags None = None
+
+-- the report of this export and these exchanges
+abbrev pub report_told : Option Export → List Exchange → Report
+report_told export exchanges = record { export = exporting_if export; asked = map (λ x. asked_told x.asked) exchanges }
+
+-- the export of transmission, if it was reached
+abbrev pub export_of : Phase → Option Export
+export_of (Transmission export) = Some export
+export_of phase = None

@@ -1,0 +1,42 @@
+//! A numbered request, and what became of it.
+
+use nbd_wire::{Bytes, Piece};
+
+/// What became of a request.
+#[derive(Clone, Copy, Debug, PartialEq, Eq, Drop)]
+pub enum Outcome {
+    Success,
+    Failure,
+    /// No reply to it was finished.
+    Pending,
+}
+
+/// A numbered request: its fields, and what the session told of it.
+#[derive(Drop)]
+pub struct Asked {
+    pub flags: u16,
+    pub command: u16,
+    pub cookie: u64,
+    /// Where its range begins, in bytes from the export's start.
+    pub offset: u64,
+    /// The length of its range in bytes.
+    pub length: u32,
+    /// The bytes of a WRITE.
+    pub payload: Bytes,
+    /// Whether a client should send it to this export.
+    pub proper: bool,
+    /// How many numbered requests had completed when its first reply message started; None where none
+    /// did.
+    pub known_at: Option<u64>,
+    pub outcome: Outcome,
+    /// What a READ was answered, in the order of the reply messages.
+    pub pieces: Vec<Piece>,
+}
+
+/// A request under way.
+#[derive(Drop)]
+pub struct Exchange {
+    pub asked: Asked,
+    /// A reply message told a failure.
+    pub failed: bool,
+}

@@ -1,0 +1,275 @@
+//! What a completed message leads to.
+
+ghost use Rattle.std.specs.Prelude.{◌≡◌, ◌==◌, ◌&&◌, ◌++◌, ◌∷◌, ℕ, List, [], Option, Some, None, false, if◌then◌else◌, length, OnOk};
+ghost use Rattle.std.specs.BTreeMap.{get};
+ghost use Rattle.std.specs.Ordering.{nat_cmp};
+ghost use Rattle.nbd_wire.specs.declared.commands.TheConstants as commands;
+ghost use Rattle.nbd_wire.specs.declared.message.Message.TheVariants.{Answer, Chunk, Simple};
+ghost use Rattle.nbd_wire.specs.Options as options;
+ghost use Rattle.nbd_wire.specs.Options.{acknowledged, answered_option, is_proper_option, next_phase};
+ghost use Rattle.nbd_wire.specs.Requests.{Exporting};
+ghost use Rattle.nbd_wire.specs.Rules.{MayComplete, complete, grants_structured, replied, requested};
+ghost use Rattle.nbd_wire.specs.Sendable.{IsSendable};
+ghost use Rattle.nbd_wire.specs.States as definitions;
+ghost use Rattle.nbd_wire.specs.States.{Core, start, target};
+ghost use Rattle.nbd_state.specs.Showing.{entry_of_head};
+ghost use Rattle.nbd_state.specs.Completing.{AddsUnanswered, TellsOne};
+ghost use Rattle.nbd_state.specs.Folded.{core_from};
+ghost use Rattle.nbd_state.specs.Logged.{Logged, messages_of};
+ghost use Rattle.nbd_laws.specs.Machine.{IsReached};
+ghost use Rattle.nbd_state.specs.Shows.{AreKnown, Shows, export_shown_if, phase_shown};
+
+use crate::asked::Exchange;
+use crate::flags::is_last_chunk;
+use crate::options::{is_error, is_proper_option, last_info};
+use crate::state::{Chosen, Export, Phase, State};
+use nbd_wire::{Message, RequestHead, answers, commands, options};
+use std::alloc::{AllocError, Global};
+
+impl State {
+    /// Takes a message that has completed (proto.md, "Newstyle negotiation", "Transmission"). Before the
+    /// first byte of a server's message `known` numbered requests had completed.
+    ///
+    /// Where the message may complete, the state shows what it leads to. After an `Err`, that memory ran
+    /// out, nothing is known of the state.
+    pub fn complete(
+        &mut self,
+        alloc: Global,
+        message: &Message,
+        known: u64,
+    ) -> Result<(), AllocError>
+        ensures shown { OnOk result ((core : Core) → IsReached core → Shows self.old core → IsSendable message.now → MayComplete core core.phase message.now → Shows self.new (complete core message.now)) }
+        ensures known { OnOk result ((core : Core) (log : List Logged) → IsReached core → Shows self.old core → MayComplete core core.phase message.now → core ≡ core_from start.core (messages_of log) → AreKnown log self.old.exchanges.items → AreKnown (log ++ record { message = message.now; known = known } ∷ []) self.new.exchanges.items) }
+    {
+        match message {
+            Message::Greeting { flags } => {
+                self.offered = *flags;
+                self.phase = Phase::Flags;
+                Ok(())
+            }
+            Message::ClientFlags { flags } => {
+                self.client_flags = *flags;
+                self.phase = Phase::Choosing;
+                Ok(())
+            }
+            Message::Choice { id, payload } => {
+                self.phase = chosen(*id, payload.as_slice());
+                Ok(())
+            }
+            Message::Answer {
+                option,
+                kind,
+                payload,
+            } => {
+                self.structured |= grants_structured(*option, *kind);
+                self.phase = answered(self.phase, *kind, payload.as_slice());
+                Ok(())
+            }
+            Message::Exported { size, flags, .. } => {
+                self.phase = exported(*size, *flags);
+                Ok(())
+            }
+            _ => self.transmitted(alloc, message, known),
+        }
+    }
+
+    // A message of transmission has completed.
+    fn transmitted(
+        &mut self,
+        alloc: Global,
+        message: &Message,
+        known: u64,
+    ) -> Result<(), AllocError>
+        ensures shown { OnOk result ((core : Core) (export : Exporting) → IsReached core → Shows self.old core → core.phase ≡ definitions.Transmission export → MayComplete core core.phase message.now → Shows self.new (complete core message.now)) }
+        ensures known { OnOk result ((core : Core) (export : Exporting) (log : List Logged) → Shows self.old core → core.phase ≡ definitions.Transmission export → MayComplete core core.phase message.now → core ≡ core_from start.core (messages_of log) → AreKnown log self.old.exchanges.items → AreKnown (log ++ record { message = message.now; known = known } ∷ []) self.new.exchanges.items) }
+    {
+        match message {
+            Message::Request {
+                flags,
+                command,
+                cookie,
+                offset,
+                length,
+                payload,
+            } => {
+                let head = RequestHead {
+                    flags: *flags,
+                    command: *command,
+                    cookie: *cookie,
+                    offset: *offset,
+                    length: *length,
+                };
+                self.request(alloc, &head, payload.as_slice())
+            }
+            Message::Simple {
+                error,
+                cookie,
+                payload,
+            } => self.simple(alloc, *error, *cookie, payload.as_slice(), known),
+            Message::Chunk {
+                flags,
+                kind,
+                cookie,
+                payload,
+            } => self.chunk(alloc, *flags, *kind, *cookie, payload.as_slice(), known),
+            _ => Ok(()),
+        }
+    }
+
+    // A request has completed.
+    fn request(
+        &mut self,
+        alloc: Global,
+        head: &RequestHead,
+        payload: &[u8],
+    ) -> Result<(), AllocError>
+        ensures shown { OnOk result ((core : Core) (export : Exporting) → Shows self.old core → core.phase ≡ definitions.Transmission export → ((head.now.command == commands.DISC) ≡ false → target head.now.cookie core.entries ≡ None) → Shows self.new (requested (head.now.command == commands.DISC) core (entry_of_head head.now payload.now []))) }
+        ensures adds { OnOk result (AddsUnanswered self.old.exchanges.items self.new.exchanges.items) }
+    {
+        if head.command == commands::DISC {
+            self.disconnected = true;
+            return Ok(());
+        }
+        match self.phase {
+            Phase::Transmission(export) => {
+                self.add(head.cookie, Exchange::new(alloc, export, head, payload)?)
+            }
+            _ => Ok(()),
+        }
+    }
+
+    // One more exchange, outstanding with this cookie.
+    fn add(&mut self, cookie: u64, exchange: Exchange) -> Result<(), AllocError>
+        ensures items { OnOk result (self.new.exchanges.items ≡ self.old.exchanges.items ++ exchange ∷ []) }
+        ensures places { OnOk result ((q : ℕ) → get nat_cmp self.new.outstanding q ≡ (if cookie == q then Some (length self.old.exchanges.items) else get nat_cmp self.old.outstanding q)) }
+        ensures kept { OnOk result (self.new ≡ record self.old { exchanges = self.new.exchanges; outstanding = self.new.outstanding }) }
+    {
+        let place = self.exchanges.len();
+        self.exchanges.push(exchange)?;
+        self.outstanding.insert(cookie, place)?;
+        Ok(())
+    }
+
+    // A simple reply has completed.
+    fn simple(
+        &mut self,
+        alloc: Global,
+        error: u32,
+        cookie: u64,
+        payload: &[u8],
+        known: u64,
+    ) -> Result<(), AllocError>
+        ensures shown { OnOk result ((core : Core) (export : Exporting) → IsReached core → Shows self.old core → core.phase ≡ definitions.Transmission export → Shows self.new (replied core (Simple error cookie payload.now))) }
+        ensures tells { OnOk result (TellsOne (get nat_cmp self.old.outstanding cookie) known self.old.exchanges.items self.new.exchanges.items) }
+    {
+        let Some(place) = self.answered_place(cookie, true) else {
+            return Ok(());
+        };
+        match self.exchanges.get_mut(place) {
+            Some(exchange) => exchange.take_simple(alloc, error, payload, known),
+            None => Ok(()),
+        }
+    }
+
+    // A chunk has completed.
+    fn chunk(
+        &mut self,
+        alloc: Global,
+        flags: u16,
+        kind: u16,
+        cookie: u64,
+        payload: &[u8],
+        known: u64,
+    ) -> Result<(), AllocError>
+        ensures shown { OnOk result ((core : Core) (export : Exporting) → IsReached core → Shows self.old core → core.phase ≡ definitions.Transmission export → Shows self.new (replied core (Chunk flags kind cookie payload.now))) }
+        ensures tells { OnOk result (TellsOne (get nat_cmp self.old.outstanding cookie) known self.old.exchanges.items self.new.exchanges.items) }
+    {
+        let Some(place) = self.answered_place(cookie, is_last_chunk(flags)) else {
+            return Ok(());
+        };
+        match self.exchanges.get_mut(place) {
+            Some(exchange) => exchange.take_chunk(alloc, flags, kind, payload, known),
+            None => Ok(()),
+        }
+    }
+
+    // The place of the request with this cookie, which is no longer outstanding where the reply ends.
+    fn answered_place(&mut self, cookie: u64, ends: bool) -> Option<usize>
+        ensures place { result ≡ get nat_cmp self.old.outstanding cookie }
+        ensures left { (q : ℕ) → get nat_cmp self.new.outstanding q ≡ (if ends && (cookie == q) then None else get nat_cmp self.old.outstanding q) }
+        ensures kept { self.new ≡ record self.old { outstanding = self.new.outstanding } }
+    {
+        if ends {
+            self.outstanding.remove(&cookie)
+        } else {
+            self.outstanding.get(&cookie).copied()
+        }
+    }
+}
+
+/// Where a chosen option leads.
+fn chosen(option: u32, payload: &[u8]) -> Phase
+    ensures { result ≡ phase_shown (options.chosen option payload.now) }
+{
+    match option {
+        options::EXPORT_NAME => Phase::Naming,
+        options::ABORT => Phase::Aborting,
+        _ => Phase::Answering(Chosen {
+            option,
+            proper: is_proper_option(option, payload),
+            info: None,
+        }),
+    }
+}
+
+/// Where the answer to EXPORT_NAME leads.
+fn exported(size: u64, flags: u16) -> Phase
+    ensures { result ≡ phase_shown (definitions.Transmission (record { size = size; flags = flags })) }
+{
+    Phase::Transmission(Export { size, flags })
+}
+
+/// Whether an answer puts structured replies in force.
+fn grants_structured(option: u32, kind: u32) -> bool
+    ensures { result ≡ grants_structured option kind }
+{
+    option == options::STRUCTURED_REPLY && kind == answers::ACK
+}
+
+/// Where an answer leads.
+fn answered(phase: Phase, kind: u32, payload: &[u8]) -> Phase
+    ensures { (p : definitions.Phase) (option : ℕ) → phase ≡ phase_shown p → result ≡ phase_shown (next_phase p (Answer option kind payload.now)) }
+{
+    match phase {
+        Phase::Aborting => Phase::Ended,
+        Phase::Answering(chosen) => behind_answer(chosen, kind, payload),
+        _ => phase,
+    }
+}
+
+/// Where an answer to an option leads.
+fn behind_answer(chosen: Chosen, kind: u32, payload: &[u8]) -> Phase
+    ensures { (given : List ℕ) (info : Option Exporting) → chosen.proper ≡ is_proper_option chosen.option given → chosen.info ≡ export_shown_if info → result ≡ phase_shown (answered_option chosen.option given info kind payload.now) }
+{
+    if is_error(kind) {
+        return Phase::Choosing;
+    }
+    match kind {
+        answers::SERVER => Phase::Answering(chosen),
+        answers::INFO => Phase::Answering(Chosen {
+            info: last_info(payload, chosen.info),
+            ..chosen
+        }),
+        _ => acknowledged(chosen),
+    }
+}
+
+/// Where an ACK leads.
+fn acknowledged(chosen: Chosen) -> Phase
+    ensures { (info : Option Exporting) → chosen.info ≡ export_shown_if info → result ≡ phase_shown (acknowledged chosen.option info) }
+{
+    match chosen.info {
+        Some(export) if chosen.option == options::GO => Phase::Transmission(export),
+        _ => Phase::Choosing,
+    }
+}

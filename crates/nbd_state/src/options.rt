@@ -1,0 +1,42 @@
+//! Options and their answers, as far as the state has them (proto.md, "Option types", "Option reply
+//! types").
+
+ghost use Rattle.std.specs.Prelude.{◌≡◌};
+ghost use Rattle.nbd_wire.specs.Options.{is_error, is_proper_option, last_info};
+ghost use Rattle.nbd_wire.specs.Payloads.{info_of};
+ghost use Rattle.nbd_state.specs.Showing.{exporting_if};
+
+use crate::flags::has;
+use crate::state::Export;
+use nbd_wire::{Info, answers, go_of, info_of, options};
+
+/// Whether the data of an option has its form. EXPORT_NAME and ABORT take any data, and an option that
+/// is not listed here has no form.
+#[tactic(auto, unfolding(nbd_wire::specs::Options::is_proper_option))]
+pub(crate) fn is_proper_option(option: u32, payload: &[u8]) -> bool
+    ensures { result ≡ is_proper_option option payload.now }
+{
+    match option {
+        options::EXPORT_NAME | options::ABORT => true,
+        options::LIST | options::STRUCTURED_REPLY => payload.is_empty(),
+        options::INFO | options::GO => go_of(payload).is_some(),
+        _ => false,
+    }
+}
+
+/// Whether an answer of this kind is an error (proto.md, "Option reply types").
+pub fn is_error(kind: u32) -> bool
+    ensures { result ≡ is_error kind }
+{
+    has(kind, answers::ERROR)
+}
+
+/// The last EXPORT info, with one more INFO payload.
+pub(crate) fn last_info(payload: &[u8], last: Option<Export>) -> Option<Export>
+    ensures { exporting_if result ≡ last_info (info_of payload.now) (exporting_if last) }
+{
+    match info_of(payload) {
+        Some(Info::Export { size, flags }) => Some(Export { size, flags }),
+        _ => last,
+    }
+}

@@ -1,0 +1,106 @@
+//! Whether a client should send a request (proto.md, "Request types", "Command flags",
+//! "Transmission flags").
+
+ghost use Rattle.std.specs.Prelude.{◌≡◌, ◌+◌, ◌==◌, ◌&&◌, ◌||◌, ℕ, List, not, nat_le};
+ghost use Rattle.nbd_wire.specs.declared.message.Message.{Message};
+ghost use Rattle.nbd_wire.specs.Requests as requests;
+ghost use Rattle.nbd_state.specs.Showing.{exporting, entry_of_head};
+
+use crate::flags::{has, has_only};
+use crate::state::Export;
+use nbd_wire::{RequestHead, command_flags, commands, transmission};
+
+/// Whether a client should send this request to the export.
+#[tactic(auto, unfolding(nbd_wire::specs::Requests::is_proper))]
+pub(crate) fn is_proper(export: Export, request: &RequestHead) -> bool
+    ensures { (payload : List ℕ) (replies : List Message) → result ≡ requests.is_proper (exporting export) (entry_of_head request.now payload replies) }
+{
+    is_known(request.command)
+        && is_in_range(export.size, request)
+        && is_offered(export.flags, request.command)
+        && !(is_change(request.command)
+            && has(u32::from(export.flags), u32::from(transmission::READ_ONLY)))
+        && has_only(
+            u32::from(request.flags),
+            u32::from(allowed_flags(export.flags, request.command)),
+        )
+        && (request.command != commands::FLUSH || request.offset == 0 && request.length == 0)
+}
+
+// The type of a numbered request is known.
+fn is_known(command: u16) -> bool
+    ensures { result ≡ requests.is_known command }
+{
+    command == commands::FLUSH || has_range(command)
+}
+
+// The offset and length of requests of this type are a range of the export.
+fn has_range(command: u16) -> bool
+    ensures { result ≡ requests.has_range command }
+{
+    command == commands::READ
+        || command == commands::WRITE
+        || command == commands::TRIM
+        || command == commands::CACHE
+        || command == commands::WRITE_ZEROES
+}
+
+// Requests of this type change the export.
+fn is_change(command: u16) -> bool
+    ensures { result ≡ requests.is_change command }
+{
+    command == commands::WRITE || command == commands::TRIM || command == commands::WRITE_ZEROES
+}
+
+/// Whether a range of this offset and size, in bytes, ends at `end` or before. No numbers are too large.
+pub fn ends_by(offset: u64, size: u64, end: u64) -> bool
+    ensures { result ≡ nat_le (offset + size) end }
+{
+    offset <= end && size <= end - offset
+}
+
+// The range of the request, if it has one, lies in the export.
+fn is_in_range(size: u64, request: &RequestHead) -> bool
+    ensures { result ≡ not (requests.has_range request.now.command) || nat_le (request.now.offset + request.now.length) size }
+{
+    !has_range(request.command) || ends_by(request.offset, u64::from(request.length), size)
+}
+
+// The export offers the type. CACHE needs no SEND_CACHE: servers carry it out without that flag
+// (this project's choice).
+fn is_offered(flags: u16, command: u16) -> bool
+    ensures { result ≡ requests.is_offered flags command }
+{
+    let flags = u32::from(flags);
+    match command {
+        commands::FLUSH => has(flags, u32::from(transmission::SEND_FLUSH)),
+        commands::TRIM => has(flags, u32::from(transmission::SEND_TRIM)),
+        commands::WRITE_ZEROES => has(flags, u32::from(transmission::SEND_WRITE_ZEROES)),
+        _ => true,
+    }
+}
+
+// The flags that a request of this type may carry.
+fn allowed_flags(flags: u16, command: u16) -> u16
+    ensures { result ≡ requests.allowed_flags flags command }
+{
+    let (is_read, is_zeroes) = (command == commands::READ, command == commands::WRITE_ZEROES);
+    let flags = u32::from(flags);
+    let has_fast = has(flags, u32::from(transmission::SEND_FAST_ZERO));
+    mask_if(
+        has(flags, u32::from(transmission::SEND_FUA)),
+        command_flags::FUA,
+    ) | mask_if(is_zeroes, command_flags::NO_HOLE)
+        | mask_if(
+            is_read && has(flags, u32::from(transmission::SEND_DF)),
+            command_flags::DF,
+        )
+        | mask_if(is_zeroes && has_fast, command_flags::FAST_ZERO)
+}
+
+// The mask, or no flag.
+fn mask_if(offered: bool, mask: u16) -> u16
+    ensures { result ≡ requests.mask_if offered mask }
+{
+    if offered { mask } else { 0 }
+}

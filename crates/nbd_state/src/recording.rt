@@ -1,0 +1,182 @@
+//! What the messages of transmission do to a request under way.
+
+ghost use Rattle.std.specs.Prelude.{◌≡◌, ◌++◌, ℕ, false, IfErr, IfOk, [], if◌then◌else◌, is_some};
+ghost use Rattle.nbd_wire.specs.declared.message.Message.{Message};
+ghost use Rattle.nbd_wire.specs.declared.message.Message.TheVariants.{Chunk, Simple};
+ghost use Rattle.nbd_wire.specs.Contents.{piece_of};
+ghost use Rattle.nbd_wire.specs.Payloads as payloads;
+ghost use Rattle.nbd_wire.specs.Requests as requests;
+ghost use Rattle.nbd_wire.specs.Requests.{Entry, Exporting, chunk_piece, ends_reply, is_error_chunk, is_failing, is_finished};
+ghost use Rattle.nbd_wire.specs.States.{with_reply};
+ghost use Rattle.nbd_state.specs.declared.asked.Outcome.TheVariants.{Failure, Success};
+ghost use Rattle.nbd_state.specs.Showing.{entry_of_head, IsShown, exporting};
+
+use crate::asked::{Asked, Exchange, Outcome};
+use crate::flags::is_last_chunk;
+use crate::proper::is_proper;
+use crate::state::Export;
+use nbd_wire::{Bytes, Content, Piece, RequestHead, chunks, content_of};
+use std::alloc::{AllocError, Global};
+
+impl Exchange {
+    /// A request that has just completed. An `Err` says that memory ran out.
+    pub(crate) fn new(
+        alloc: Global,
+        export: Export,
+        head: &RequestHead,
+        payload: &[u8],
+    ) -> Result<Exchange, AllocError>
+        ensures { IfOk result (λ x. IsShown (exporting export) (entry_of_head head.now payload.now []) x) }
+    {
+        let payload = Bytes::new(Vec::from_slice(alloc, payload)?);
+        let asked = Asked {
+            flags: head.flags,
+            command: head.command,
+            cookie: head.cookie,
+            offset: head.offset,
+            length: head.length,
+            payload,
+            proper: is_proper(export, head),
+            known_at: None,
+            outcome: Outcome::Pending,
+            pieces: Vec::new(alloc),
+        };
+        Ok(Exchange {
+            asked,
+            failed: false,
+        })
+    }
+
+    /// A whole simple reply has answered it, before whose first byte so many requests had completed.
+    /// After an `Err`, that memory ran out, the exchange is as it was.
+    pub(crate) fn take_simple(
+        &mut self,
+        alloc: Global,
+        error: u32,
+        payload: &[u8],
+        known: u64,
+    ) -> Result<(), AllocError>
+        ensures shown { IfOk result (λ _. (export : Exporting) (e : Entry) (cookie : ℕ) → IsShown export e self.old → is_finished e ≡ false → IsShown export (with_reply e (Simple error cookie payload.now)) self.new) }
+        ensures first { IfOk result (λ _. self.new.asked.known_at ≡ (if is_some self.old.asked.known_at then self.old.asked.known_at else Some known)) }
+        ensures unchanged { IfErr result (λ _. (export : Exporting) (e : Entry) → IsShown export e self.old → IsShown export e self.new) }
+        ensures kept { IfErr result (λ _. self.new.asked.known_at ≡ self.old.asked.known_at) }
+    {
+        let piece = simple_piece(alloc, self.asked.offset, payload)?;
+        self.take(piece, known, true, error != 0)
+    }
+
+    /// A whole chunk has answered it, before whose first byte so many requests had completed. After
+    /// an `Err`, that memory ran out, the exchange is as it was.
+    pub(crate) fn take_chunk(
+        &mut self,
+        alloc: Global,
+        flags: u16,
+        kind: u16,
+        payload: &[u8],
+        known: u64,
+    ) -> Result<(), AllocError>
+        ensures shown { IfOk result (λ _. (export : Exporting) (e : Entry) (cookie : ℕ) → IsShown export e self.old → is_finished e ≡ false → IsShown export (with_reply e (Chunk flags kind cookie payload.now)) self.new) }
+        ensures first { IfOk result (λ _. self.new.asked.known_at ≡ (if is_some self.old.asked.known_at then self.old.asked.known_at else Some known)) }
+        ensures unchanged { IfErr result (λ _. (export : Exporting) (e : Entry) → IsShown export e self.old → IsShown export e self.new) }
+        ensures kept { IfErr result (λ _. self.new.asked.known_at ≡ self.old.asked.known_at) }
+    {
+        let piece = content_piece(alloc, kind, payload)?;
+        self.take(piece, known, is_last_chunk(flags), is_error_chunk(kind))
+    }
+
+    // A reply message gave this piece, if any; the last one ends the reply.
+    fn take(
+        &mut self,
+        piece: Option<Piece>,
+        known: u64,
+        ends: bool,
+        fails: bool,
+    ) -> Result<(), AllocError>
+        ensures shown { IfOk result (λ _. (export : Exporting) (e : Entry) (m : Message) → IsShown export e self.old → is_finished e ≡ false → ends_reply m ≡ ends → is_failing m ≡ fails → requests.piece_of e.offset m ≡ chunk_piece piece → IsShown export (with_reply e m) self.new) }
+        ensures first { IfOk result (λ _. self.new.asked.known_at ≡ (if is_some self.old.asked.known_at then self.old.asked.known_at else Some known)) }
+        ensures unchanged { IfErr result (λ _. (export : Exporting) (e : Entry) → IsShown export e self.old → IsShown export e self.new) }
+        ensures kept { IfErr result (λ _. self.new.asked.known_at ≡ self.old.asked.known_at) }
+    {
+        push_if(&mut self.asked.pieces, piece)?;
+        self.failed |= fails;
+        self.asked.known_at = first(self.asked.known_at, known);
+        self.asked.outcome = outcome_behind(self.asked.outcome, ends, self.failed);
+        Ok(())
+    }
+}
+
+// The piece, if any, behind the others.
+fn push_if(pieces: &mut Vec<Piece>, piece: Option<Piece>) -> Result<(), AllocError>
+    ensures pushed { IfOk result (λ _. pieces.new.items ≡ pieces.old.items ++ chunk_piece piece) }
+    ensures unchanged { IfErr result (λ _. pieces.new.items ≡ pieces.old.items) }
+{
+    if let Some(piece) = piece {
+        pieces.push(piece)?;
+    }
+    Ok(())
+}
+
+// What was known at the first reply message, of which this may be the first.
+fn first(known_at: Option<u64>, known: u64) -> Option<u64>
+    ensures { result ≡ (if is_some known_at then known_at else Some known) }
+{
+    match known_at {
+        Some(known_at) => Some(known_at),
+        None => Some(known),
+    }
+}
+
+// What became of a request of which one more reply message came.
+fn outcome_behind(before: Outcome, ends: bool, failed: bool) -> Outcome
+    ensures { result ≡ (if ends then (if failed then Failure else Success) else before) }
+{
+    match (ends, failed) {
+        (false, _) => before,
+        (true, true) => Outcome::Failure,
+        (true, false) => Outcome::Success,
+    }
+}
+
+// An error chunk.
+fn is_error_chunk(kind: u16) -> bool
+    ensures { result ≡ is_error_chunk kind }
+{
+    kind == chunks::ERROR || kind == chunks::ERROR_OFFSET
+}
+
+// The bytes of a simple reply as a piece, unless there are none.
+fn simple_piece(alloc: Global, offset: u64, payload: &[u8]) -> Result<Option<Piece>, AllocError>
+    ensures { IfOk result (λ piece. chunk_piece piece ≡ requests.simple_piece offset payload.now) }
+{
+    if payload.is_empty() {
+        return Ok(None);
+    }
+    let bytes = Bytes::new(Vec::from_slice(alloc, payload)?);
+    Ok(Some(Piece::Bytes { offset, bytes }))
+}
+
+// A copy of the content of a chunk, if it has any.
+fn content_piece(alloc: Global, kind: u16, payload: &[u8]) -> Result<Option<Piece>, AllocError>
+    ensures { IfOk result (λ piece. piece ≡ payloads.content_of kind payload.now) }
+{
+    match content_of(kind, payload) {
+        Some(content) => Ok(Some(owned(alloc, &content)?)),
+        None => Ok(None),
+    }
+}
+
+// A copy of the content.
+fn owned(alloc: Global, content: &Content<'_>) -> Result<Piece, AllocError>
+    ensures { IfOk result (λ piece. piece ≡ piece_of content.now) }
+{
+    match content {
+        Content::Bytes { offset, bytes } => Ok(Piece::Bytes {
+            offset: *offset,
+            bytes: Bytes::new(Vec::from_slice(alloc, bytes)?),
+        }),
+        Content::Hole { offset, size } => Ok(Piece::Hole {
+            offset: *offset,
+            size: *size,
+        }),
+    }
+}

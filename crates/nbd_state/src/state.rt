@@ -1,0 +1,96 @@
+//! What the completed messages of a session have led to.
+
+use crate::asked::Exchange;
+use crate::transcript::Transcript;
+use std::alloc::Global;
+use std::collections::BTreeMap;
+
+/// An export as the server described it: its size in bytes and its transmission flags.
+#[derive(Clone, Copy, Debug, PartialEq, Eq, Drop)]
+pub struct Export {
+    pub size: u64,
+    pub flags: u16,
+}
+
+/// An option that the client chose, whether its data had its form, and the last EXPORT info that came
+/// since.
+#[derive(Clone, Copy, Debug, PartialEq, Eq, Drop)]
+pub struct Chosen {
+    pub option: u32,
+    pub proper: bool,
+    pub info: Option<Export>,
+}
+
+/// Where the session stands (proto.md, "Newstyle negotiation", "Transmission").
+#[derive(Clone, Copy, Debug, PartialEq, Eq, Drop)]
+pub enum Phase {
+    /// Nothing has come.
+    Greet,
+    /// The server has greeted.
+    Flags,
+    /// The client may choose an option.
+    Choosing,
+    /// EXPORT_NAME was chosen.
+    Naming,
+    /// ABORT was chosen.
+    Aborting,
+    /// Another option was chosen.
+    Answering(Chosen),
+    /// ABORT was answered.
+    Ended,
+    /// Requests and replies.
+    Transmission(Export),
+}
+
+/// What the completed messages have led to.
+#[derive(Drop)]
+pub struct State {
+    pub phase: Phase,
+    /// The server's handshake flags.
+    pub offered: u16,
+    pub client_flags: u32,
+    /// Structured replies are in force.
+    pub structured: bool,
+    /// The client has sent DISC.
+    pub disconnected: bool,
+    /// The numbered requests, in their order.
+    pub exchanges: Vec<Exchange>,
+    /// The places of the outstanding ones, by their cookies.
+    pub outstanding: BTreeMap<u64, usize>,
+}
+
+impl State {
+    ghost use Rattle.nbd_wire.specs.States.{start};
+    ghost use Rattle.std.specs.Prelude.{◌≡◌};
+    ghost use Rattle.nbd_state.specs.Shows.{Shows};
+    ghost use Rattle.nbd_laws.specs.Soundness.{IsSoundReport};
+    ghost use Rattle.nbd_state.specs.Transcripts.{export_of, report_told};
+
+    /// Before the first message (proto.md, "Newstyle negotiation"); takes no memory.
+    pub fn new(alloc: Global) -> State
+        ensures { Shows result start.core }
+    {
+        State {
+            phase: Phase::Greet,
+            offered: 0,
+            client_flags: 0,
+            structured: false,
+            disconnected: false,
+            exchanges: Vec::new(alloc),
+            outstanding: BTreeMap::new(alloc),
+        }
+    }
+
+    /// What a session that ends here tells: its export, if it reached transmission, and its numbered
+    /// requests; takes no memory. The condition is that this is a sound report.
+    pub fn transcript(self) -> Transcript
+        requires { IsSoundReport (report_told (export_of self.phase) self.exchanges.items) }
+        ensures { result ≡ report_told (export_of self.phase) self.exchanges.items }
+    {
+        let export = match self.phase {
+            Phase::Transmission(export) => Some(export),
+            _ => None,
+        };
+        Transcript::new(export, self.exchanges)
+    }
+}
