@@ -1,4 +1,4 @@
--- The judge of a side's bytes: a head is judged when it is there, and a message at its last byte.
+-- Internal: the judge of a side's bytes: a head is judged when it is there, and a message at its last byte.
 use Rattle.std.proofs.Common.{ℕ, List, ◌+◌, Option, Some, None, Bool, true, false, ◌==◌, nat_lt, length}
 use Rattle.nbd_wire.specs.declared.message.Side.{Side}
 use Rattle.nbd_wire.specs.declared.message.Message.{Message}

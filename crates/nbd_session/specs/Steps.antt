@@ -1,4 +1,4 @@
--- Internal: no public contract names what stands here.
+-- Internal, but for `recorded`, by which contracts see a session.
 -- What holds of a session under way between two steps, and of one that is closed.
 use Rattle.std.specs.Prelude.{◌≡◌, ◌≤◌, ◌++◌, ℕ, List, [], length, Option, Some, None, Err}
 use Rattle.nbd_wire.specs.declared.message.Side.{Side}
