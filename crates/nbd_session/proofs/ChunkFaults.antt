@@ -15,7 +15,7 @@ use Rattle.nbd_session.specs.declared.spans.Span.{Span}
 use Rattle.nbd_session.specs.Asking.{done_by, finish_by, span_of}
 use Rattle.nbd_session.specs.Decisions.{fault_if}
 use Rattle.nbd_session.specs.JudgeTransmission.{chunk_fault, content_fault, done_fault, finish_fault, fits_failure, fits_read, is_apart, is_apart_from, total}
-use Rattle.nbd_state.specs.lemmas.Replied.{any-snoc, proper-same}
+use Rattle.nbd_state.specs.lemmas.Replied.{any-snoc, or-false, proper-same}
 use Rattle.nbd_session.proofs.Bools.{and_true}
 use Rattle.nbd_laws.specs.lemmas.Laid.{pieces-snoc}
 use Rattle.nbd_session.proofs.Tidy.{failure_kind, no_content, none_content}
@@ -35,10 +35,6 @@ all-apart piece span ps e = subst (λ s. list_all (λ p. nat_le (s.offset + s.si
     go : (ps : List Piece) → list_all (λ p. nat_le (piece_offset piece + piece_size piece) (piece_offset p) || nat_le (piece_offset p + piece_size p) (piece_offset piece)) ps ≡ is_apart_from piece ps
     go [] = refl
     go (p ∷ ps) = ap (λ b. is_apart piece p && b) (go ps)
-
-or-false : (b : Bool) → (b || false) ≡ b
-or-false true = refl
-or-false false = refl
 
 total-append : (ps qs : List Piece) → total (ps ++ qs) ≡ total ps + total qs
 total-append [] qs = sym (zero-add (total qs))

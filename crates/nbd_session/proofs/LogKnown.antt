@@ -14,7 +14,7 @@ use Rattle.nbd_laws.specs.Machine.{AreHeld, IsFilled, Judge, Machine, More, Whol
 use Rattle.nbd_session.proofs.Blockwise.{extended}
 use Rattle.nbd_session.proofs.Counted.{count_of}
 use Rattle.nbd_session.proofs.Folded.{core_is}
-use Rattle.nbd_state.specs.lemmas.Known.{known_by-within, known_here-other, known_here-same, known_or}
+use Rattle.nbd_state.specs.lemmas.Known.{known_by-within, known_here-other, known_here-same, known_or, or_is, or_none}
 use Rattle.nbd_session.proofs.LogSteps.{known-next, logged-piece, logged_messages}
 
 -- of a request that has not completed nothing is known
@@ -30,14 +30,6 @@ known_fresh judge ps machine k e l = go (known_by start.core k (logged judge fre
         let w : (0 < k) × (k ≤ length (core_from start.core (messages_of (logged judge fresh ps))).entries) = known_by-within start.core k n (logged judge fresh ps) is in
         let at : k ≤ length machine.core.entries = subst (λ (c : Core). k ≤ length c.entries) core_same w.1 in
         absurd (omega (arith, l, at))
-
-or_is : (o : Option ℕ) (n : ℕ) → known_or o (Some n) ≡ (if is_some o then o else Some n)
-or_is (Some m) n = refl
-or_is None n = refl
-
-or_none : (o : Option ℕ) → known_or o None ≡ o
-or_none (Some m) = refl
-or_none None = refl
 
 -- one more message that answers request k: what was known of it stays, or its count is known
 pub known-answered : (judge : Judge) (ps : List Pair) (machine : Machine) (k : ℕ) (l : Logged) → reads judge fresh ps ≡ Ok machine → answered_by machine.core l.message ≡ Some k →

@@ -90,8 +90,8 @@ fn exchange_in<'s>(state: &'s State, bytes: &[u8], counted: u64) -> Option<&'s E
     exchange_with(state, cookie_in(bytes)?, counted)
 }
 
-/// The outstanding request with this cookie, if its number, counted from 1, is at most `counted`.
-pub(crate) fn exchange_with(state: &State, cookie: u64, counted: u64) -> Option<&Exchange>
+// The outstanding request with this cookie, if its number, counted from 1, is at most `counted`.
+fn exchange_with(state: &State, cookie: u64, counted: u64) -> Option<&Exchange>
     ensures { (core : Core) (export : Exporting) → Shows state.now core → core.phase ≡ definitions.Transmission export → ShownIf export (entry_counted counted core cookie) (option_copied result) }
 {
     let place = *state.outstanding.get(&cookie)?;

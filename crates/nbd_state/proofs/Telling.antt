@@ -15,7 +15,7 @@ use Rattle.nbd_state.specs.Logged.{Logged, known_by, known_here, messages_of}
 use Rattle.nbd_state.specs.Shows.{AreKnown, Shows, place_of}
 use Rattle.nbd_state.specs.lemmas.Placed.{shown_length, no_entry}
 use Rattle.nbd_laws.specs.lemmas.Latest.{same_number}
-use Rattle.nbd_state.specs.lemmas.Known.{known_by-within, known_by-snoc, known_here-other, known_here-same, known_or}
+use Rattle.nbd_state.specs.lemmas.Known.{known_by-within, known_by-snoc, known_here-other, known_here-same, known_or, or_is, or_none}
 use Rattle.nbd_laws.specs.lemmas.Outstanding.{find}
 
 -- the exchanges are as they were, and none has the place that was told
@@ -41,14 +41,6 @@ tells_at told n place old new z y t stands k is p x q = elim (set_at old place p
   | inl a ↦ (z, ap (slice_get old) a.0 ∙ stands, (λ u. ap (λ (w : Exchange). w.asked.known_at) a.1 ∙ k), λ ne. absurd (ne (t ∙ ap Some (sym a.0))))
   | inr b ↦ (x, b.1, (λ u. absurd (b.0 (let w : Some p ≡ Some place = sym u ∙ t in cc))), λ ne. refl)
 ]
-
-or_is : (o : Option ℕ) (n : ℕ) → known_or o (Some n) ≡ known_first o n
-or_is (Some m) n = refl
-or_is None n = refl
-
-or_none : (o : Option ℕ) → known_or o None ≡ o
-or_none (Some m) = refl
-or_none None = refl
 
 module _ (core : Core) (log : List Logged) (m : Message) (n : ℕ) (e : core ≡ core_from start.core (messages_of log)) where
   l : Logged

@@ -52,7 +52,7 @@ fn is_change(command: u16) -> bool
     command == commands::WRITE || command == commands::TRIM || command == commands::WRITE_ZEROES
 }
 
-/// Whether a range of this offset and size, in bytes, ends at `end` or before. No numbers are too large.
+/// Whether a range of this offset and size, in bytes, ends at `end` or before. The sum may pass 64 bits.
 pub fn ends_by(offset: u64, size: u64, end: u64) -> bool
     ensures { result ≡ nat_le (offset + size) end }
 {

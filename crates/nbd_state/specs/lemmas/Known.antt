@@ -1,5 +1,5 @@
 -- What a log knows of a request, with one more message.
-use Rattle.std.proofs.Common.{◌≡◌, ℕ, ◌<◌, ◌≤◌, ◌==◌, List, [], ◌∷◌, ◌++◌, length, refl, ◌∙◌, ap, subst, inl, inr, Option, Some, None, Bool, true, false, arith, eq-eqb, eqb-true, ne_eqb}
+use Rattle.std.proofs.Common.{◌≡◌, ℕ, ◌<◌, ◌≤◌, ◌==◌, List, [], ◌∷◌, ◌++◌, length, refl, ◌∙◌, ap, subst, inl, inr, Option, Some, None, Bool, true, false, arith, eq-eqb, eqb-true, ne_eqb, is_some, if◌then◌else◌}
 use Rattle.nbd_wire.specs.declared.message.Message.{Message}
 use Rattle.nbd_wire.specs.Rules.{answered_by, complete}
 use Rattle.nbd_wire.specs.States.{Core}
@@ -10,6 +10,14 @@ use Rattle.nbd_state.specs.Logged.{Logged, known_by, known_here, known_if, messa
 abbrev pub known_or : Option ℕ → Option ℕ → Option ℕ
 known_or (Some n) later = Some n
 known_or None later = later
+
+pub or_is : (o : Option ℕ) (n : ℕ) → known_or o (Some n) ≡ (if is_some o then o else Some n)
+or_is (Some m) n = refl
+or_is None n = refl
+
+pub or_none : (o : Option ℕ) → known_or o None ≡ o
+or_none (Some m) = refl
+or_none None = refl
 
 -- what is known with one more message: what was known, or its count where it answers the request
 pub known_by-snoc : (core : Core) (k : ℕ) (log : List Logged) (l : Logged) →

@@ -4,7 +4,7 @@ use Rattle.nbd_wire.specs.declared.message.Message.{Message}
 use Rattle.nbd_wire.specs.Requests.{Entry, Exporting, any, is_proper}
 use Rattle.nbd_wire.specs.States.{with_reply}
 
-or-false : (b : Bool) → (b || false) ≡ b
+pub or-false : (b : Bool) → (b || false) ≡ b
 or-false true = refl
 or-false false = refl
 
