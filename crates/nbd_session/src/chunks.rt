@@ -23,7 +23,7 @@ use crate::leading::leading_chunk;
 use crate::reading::Reading;
 use crate::spans::{Span, content_span, given, is_apart_from, is_inside};
 use nbd_laws::WireFault;
-use nbd_state::{Asked, Exchange, has, is_last_chunk};
+use nbd_state::{Asked, Exchange, has};
 use nbd_wire::{ChunkHead, chunks, command_flags, commands, content_of, failure_of, head_lengths};
 
 /// What a server's bytes are that begin as a chunk; the exchange, if any, is the one that the chunk's
@@ -81,7 +81,7 @@ fn read_chunk_to(
 fn fault_of(flags: u16, kind: u16, payload: &[u8], exchange: &Exchange) -> Option<WireFault>
     ensures { (export : Exporting) (e : Entry) (cookie : ℕ) → IsShown export e exchange.now → result ≡ chunk_fault (kind == chunks.NONE) export e (with_reply e (Chunk flags kind cookie payload.now)) flags kind payload.now }
 {
-    let done = is_last_chunk(flags);
+    let done = has(flags, chunks::DONE);
     if kind == chunks::NONE {
         return none_fault(payload, done, exchange);
     }
@@ -139,7 +139,7 @@ fn fits_read(span: Span, exchange: &Exchange) -> bool
 fn is_to_be_whole(asked: &Asked) -> bool
     ensures { result ≡ (asked.now.proper && requests.has asked.now.flags command_flags.DF) }
 {
-    asked.proper && has(u32::from(asked.flags), u32::from(command_flags::DF))
+    asked.proper && has(asked.flags, command_flags::DF)
 }
 
 // The offset of an error chunk lies in the range of its request.

@@ -9,7 +9,7 @@ ghost use Rattle.nbd_session.specs.Readings.{reading_of};
 use crate::leading::{leading_client_flags, leading_export, leading_greeting, of_length};
 use crate::reading::Reading;
 use nbd_laws::WireFault;
-use nbd_state::{has, has_only};
+use nbd_state::{has, has_only, has_wide};
 use nbd_wire::{handshake, head_lengths, limits, transmission};
 
 /// How many zeroes follow the export's size and flags.
@@ -23,7 +23,7 @@ pub(crate) fn read_greeting(bytes: &[u8]) -> Result<Reading, WireFault>
         return Ok(Reading::Await(head_lengths::GREETING));
     }
     let flags = leading_greeting(bytes).ok_or(WireFault::BadMagic)?;
-    if !has(u32::from(flags), u32::from(handshake::FIXED_NEWSTYLE)) {
+    if !has(flags, handshake::FIXED_NEWSTYLE) {
         return Err(WireFault::NotFixedNewstyle);
     }
     Ok(of_length(head_lengths::GREETING, bytes))
@@ -37,7 +37,7 @@ pub(crate) fn read_client_flags(bytes: &[u8], offered: u16) -> Result<Reading, W
         return Ok(Reading::Await(head_lengths::CLIENT_FLAGS));
     }
     let flags = leading_client_flags(bytes);
-    if !has(flags, handshake::C_FIXED_NEWSTYLE) {
+    if !has_wide(flags, handshake::C_FIXED_NEWSTYLE) {
         return Err(WireFault::NotFixedNewstyle);
     }
     if sets_more(offered, flags) {
@@ -51,8 +51,8 @@ fn sets_more(offered: u16, flags: u32) -> bool
     ensures { result ≡ sets_more offered flags }
 {
     !has_only(flags, handshake::C_FIXED_NEWSTYLE + handshake::C_NO_ZEROES)
-        || has(flags, handshake::C_NO_ZEROES)
-            && !has(u32::from(offered), u32::from(handshake::NO_ZEROES))
+        || has_wide(flags, handshake::C_NO_ZEROES)
+            && !has(offered, handshake::NO_ZEROES)
 }
 
 /// The answer to EXPORT_NAME, which is padded unless the client took NO_ZEROES.
@@ -81,7 +81,7 @@ pub(crate) fn read_exported(bytes: &[u8], no_zeroes: bool) -> Result<Reading, Wi
 fn may_export(size: u64, flags: u16) -> Result<(), WireFault>
     ensures { result ≡ unless_fault (export_fault size flags) tt }
 {
-    if !has(u32::from(flags), u32::from(transmission::HAS_FLAGS)) {
+    if !has(flags, transmission::HAS_FLAGS) {
         return Err(WireFault::BadExport);
     }
     if size > limits::EXPORT_SIZE {

@@ -179,10 +179,7 @@ fn is_good_info(info: Option<Info>) -> bool
 {
     match info {
         None => false,
-        Some(Info::Export { flags, .. }) => has(
-            u32::from(flags),
-            u32::from(transmission::HAS_FLAGS),
-        ),
+        Some(Info::Export { flags, .. }) => has(flags, transmission::HAS_FLAGS),
         Some(_) => true,
     }
 }

@@ -20,7 +20,7 @@ use crate::reading::Reading;
 use crate::replies::read_reply;
 use crate::requests::read_request;
 use nbd_laws::WireFault;
-use nbd_state::{Exchange, Phase, State, has};
+use nbd_state::{Exchange, Phase, State, has_wide};
 use nbd_wire::{Side, handshake};
 
 /// What bytes of a side are that begin a message; a server's began when `counted` numbered requests
@@ -68,7 +68,7 @@ fn read_server(state: &State, bytes: &[u8], counted: u64) -> Result<Reading, Wir
 {
     match state.phase {
         Phase::Greet => read_greeting(bytes),
-        Phase::Naming => read_exported(bytes, has(state.client_flags, handshake::C_NO_ZEROES)),
+        Phase::Naming => read_exported(bytes, has_wide(state.client_flags, handshake::C_NO_ZEROES)),
         Phase::Aborting => read_abort_answer(bytes),
         Phase::Answering(chosen) => read_answer(bytes, chosen),
         Phase::Transmission(_) => read_answered(state, bytes, counted),

@@ -9,7 +9,7 @@ use crate::messages::{
     answer_message, choice_message, chunk_message, client_flags_message, exported_message,
     greeting_message, request_message, simple_message,
 };
-use nbd_state::{Phase, State, has};
+use nbd_state::{Phase, State, has_wide};
 use nbd_wire::{Message, Side, handshake, magics};
 use std::alloc::{AllocError, Global};
 
@@ -51,7 +51,7 @@ fn server_message(alloc: Global, state: &State, bytes: &[u8]) -> Result<Message,
     match state.phase {
         Phase::Greet => Ok(greeting_message(bytes)),
         Phase::Naming => {
-            let no_zeroes = has(state.client_flags, handshake::C_NO_ZEROES);
+            let no_zeroes = has_wide(state.client_flags, handshake::C_NO_ZEROES);
             Ok(exported_message(bytes, no_zeroes))
         }
         Phase::Aborting => answer_message(alloc, bytes),

@@ -20,10 +20,10 @@ ghost use Rattle.nbd_laws.specs.Machine.{IsReached};
 ghost use Rattle.nbd_state.specs.Shows.{AreKnown, Shows, export_shown_if, phase_shown};
 
 use crate::asked::Exchange;
-use crate::flags::is_last_chunk;
+use crate::flags::has;
 use crate::options::{is_error, is_proper_option, last_info};
 use crate::state::{Chosen, Export, Phase, State};
-use nbd_wire::{Message, RequestHead, answers, commands, options};
+use nbd_wire::{Message, RequestHead, answers, chunks, commands, options};
 use std::alloc::{AllocError, Global};
 
 impl State {
@@ -184,7 +184,7 @@ impl State {
         ensures shown { OnOk result ((core : Core) (export : Exporting) → IsReached core → Shows self.old core → core.phase ≡ definitions.Transmission export → Shows self.new (replied core (Chunk flags kind cookie payload.now))) }
         ensures tells { OnOk result (TellsOne (get nat_cmp self.old.outstanding cookie) known self.old.exchanges.items self.new.exchanges.items) }
     {
-        let Some(place) = self.answered_place(cookie, is_last_chunk(flags)) else {
+        let Some(place) = self.answered_place(cookie, has(flags, chunks::DONE)) else {
             return Ok(());
         };
         match self.exchanges.get_mut(place) {

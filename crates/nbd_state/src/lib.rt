@@ -14,7 +14,7 @@ mod state;
 mod transcript;
 
 pub use asked::{Asked, Exchange, Outcome};
-pub use flags::{has, has_only, is_last_chunk};
+pub use flags::{has, has_only, has_wide};
 pub use options::is_error;
 pub use proper::ends_by;
 pub use state::{Chosen, Export, Phase, State};

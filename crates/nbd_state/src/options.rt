@@ -6,7 +6,7 @@ ghost use Rattle.nbd_wire.specs.Options.{is_error, is_proper_option, last_info};
 ghost use Rattle.nbd_wire.specs.Payloads.{info_of};
 ghost use Rattle.nbd_state.specs.Showing.{exporting_if};
 
-use crate::flags::has;
+use crate::flags::has_wide;
 use crate::state::Export;
 use nbd_wire::{Info, answers, go_of, info_of, options};
 
@@ -28,7 +28,7 @@ pub(crate) fn is_proper_option(option: u32, payload: &[u8]) -> bool
 pub fn is_error(kind: u32) -> bool
     ensures { result ≡ is_error kind }
 {
-    has(kind, answers::ERROR)
+    has_wide(kind, answers::ERROR)
 }
 
 /// The last EXPORT info, with one more INFO payload.

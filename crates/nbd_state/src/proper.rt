@@ -18,8 +18,7 @@ pub(crate) fn is_proper(export: Export, request: &RequestHead) -> bool
     is_known(request.command)
         && is_in_range(export.size, request)
         && is_offered(export.flags, request.command)
-        && !(is_change(request.command)
-            && has(u32::from(export.flags), u32::from(transmission::READ_ONLY)))
+        && !(is_change(request.command) && has(export.flags, transmission::READ_ONLY))
         && has_only(
             u32::from(request.flags),
             u32::from(allowed_flags(export.flags, request.command)),
@@ -71,11 +70,10 @@ fn is_in_range(size: u64, request: &RequestHead) -> bool
 fn is_offered(flags: u16, command: u16) -> bool
     ensures { result ≡ requests.is_offered flags command }
 {
-    let flags = u32::from(flags);
     match command {
-        commands::FLUSH => has(flags, u32::from(transmission::SEND_FLUSH)),
-        commands::TRIM => has(flags, u32::from(transmission::SEND_TRIM)),
-        commands::WRITE_ZEROES => has(flags, u32::from(transmission::SEND_WRITE_ZEROES)),
+        commands::FLUSH => has(flags, transmission::SEND_FLUSH),
+        commands::TRIM => has(flags, transmission::SEND_TRIM),
+        commands::WRITE_ZEROES => has(flags, transmission::SEND_WRITE_ZEROES),
         _ => true,
     }
 }
@@ -85,14 +83,11 @@ fn allowed_flags(flags: u16, command: u16) -> u16
     ensures { result ≡ requests.allowed_flags flags command }
 {
     let (is_read, is_zeroes) = (command == commands::READ, command == commands::WRITE_ZEROES);
-    let flags = u32::from(flags);
-    let has_fast = has(flags, u32::from(transmission::SEND_FAST_ZERO));
-    mask_if(
-        has(flags, u32::from(transmission::SEND_FUA)),
-        command_flags::FUA,
-    ) | mask_if(is_zeroes, command_flags::NO_HOLE)
+    let has_fast = has(flags, transmission::SEND_FAST_ZERO);
+    mask_if(has(flags, transmission::SEND_FUA), command_flags::FUA)
+        | mask_if(is_zeroes, command_flags::NO_HOLE)
         | mask_if(
-            is_read && has(flags, u32::from(transmission::SEND_DF)),
+            is_read && has(flags, transmission::SEND_DF),
             command_flags::DF,
         )
         | mask_if(is_zeroes && has_fast, command_flags::FAST_ZERO)

@@ -12,7 +12,7 @@ ghost use Rattle.nbd_state.specs.declared.asked.Outcome.TheVariants.{Failure, Su
 ghost use Rattle.nbd_state.specs.Showing.{entry_of_head, IsShown, exporting};
 
 use crate::asked::{Asked, Exchange, Outcome};
-use crate::flags::is_last_chunk;
+use crate::flags::has;
 use crate::proper::is_proper;
 use crate::state::Export;
 use nbd_wire::{Bytes, Content, Piece, RequestHead, chunks, content_of};
@@ -81,7 +81,7 @@ impl Exchange {
         ensures kept { IfErr result (λ _. self.new.asked.known_at ≡ self.old.asked.known_at) }
     {
         let piece = content_piece(alloc, kind, payload)?;
-        self.take(piece, known, is_last_chunk(flags), is_error_chunk(kind))
+        self.take(piece, known, has(flags, chunks::DONE), is_error_chunk(kind))
     }
 
     // A reply message gave this piece, if any; the last one ends the reply.

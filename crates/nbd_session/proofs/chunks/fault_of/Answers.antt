@@ -14,14 +14,14 @@ pub returns-then-kind-eq-NONE : goal.returns-then-kind-eq-NONE
 returns-then-kind-eq-NONE c = λ export e cookie h.
     let payload = c.args.payload.now in
     c.none_fault.ensures export e h
-    ∙ ap (λ d. fault_if (not (length payload == 0) || not d) BadChunk (done_by d (finish_by e.command e.length (is_proper export e) (has_failed e) (total (pieces e))))) c.is_last_chunk-done.ensures
+    ∙ ap (λ d. fault_if (not (length payload == 0) || not d) BadChunk (done_by d (finish_by e.command e.length (is_proper export e) (has_failed e) (total (pieces e))))) c.has-done.ensures
     ∙ sym (none-chunk export e c.args.flags c.args.kind cookie payload c.if-kind-eq-NONE.true)
 
 pub returns-in-Some : goal.returns-in-Some
 returns-in-Some c = λ export e cookie h.
     let piece : Piece = piece_of c.in-Some.content in
     c.content_fault.ensures export e piece h (sym c.content_span.ensures)
-    ∙ ap (λ d. fault_if (not (fits_read export e piece)) BadContent (done_by d (finish_by e.command e.length (is_proper export e) (has_failed e) (total (pieces e) + c.content_span.result.size)))) c.is_last_chunk-done.ensures
+    ∙ ap (λ d. fault_if (not (fits_read export e piece)) BadContent (done_by d (finish_by e.command e.length (is_proper export e) (has_failed e) (total (pieces e) + c.content_span.result.size)))) c.has-done.ensures
     ∙ ap (λ s. fault_if (not (fits_read export e piece)) BadContent (done_by (has c.args.flags chunks.DONE) (finish_by e.command e.length (is_proper export e) (has_failed e) (total (pieces e) + s.size)))) c.content_span.ensures
     ∙ sym (content-chunk export e c.args.flags c.args.kind cookie c.args.payload.now piece (sym c.in-Some.ensures.same))
 

@@ -17,3 +17,8 @@ returns-else-state c = λ core counted export s p.
     c.read_request.ensures core (λ cookie. ap is_some (s.places cookie) ∙ some_placed (target cookie core.entries))
     ∙ ap (λ b. reading_if (request_unless b core c.args.bytes.now) c.args.bytes.now) (sym c.if-state.false ∙ s.disconnected_is)
     ∙ ap (λ (q : definitions.Phase). reading_if (decided_with q (entry_counted counted core) core Client c.args.bytes.now) c.args.bytes.now) (sym p)
+
+pub returns-then-state : goal.returns-then-state
+returns-then-state c = λ core counted export s p.
+    ap (λ b. reading_if (request_unless b core c.args.bytes.now) c.args.bytes.now) (sym c.if-state.true ∙ s.disconnected_is)
+    ∙ ap (λ (q : definitions.Phase). reading_if (decided_with q (entry_counted counted core) core Client c.args.bytes.now) c.args.bytes.now) (sym p)

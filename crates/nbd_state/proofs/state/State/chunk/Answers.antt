@@ -22,7 +22,7 @@ returns-in-Some-get_mut-clause-shown c = on_one c.take_chunk.result (λ _ shown 
     (subst (λ (z : State). slice_get z.exchanges.items c.in-Some.place ≡ Some c.in-Some-get_mut.exchange.now) c.answered_place.ensures.kept (lent_at c.answered_place.new.self.exchanges.items c.in-Some.place c.in-Some-get_mut.exchange c.in-Some-get_mut.ensures.item))
     (λ e x u. shown export e c.args.cookie x u)
     c.answered_place.ensures.kept
-    (λ q. c.answered_place.ensures.left q ∙ ap (λ b. if b && (c.args.cookie == q) then None else get nat_cmp c.args.self.now.outstanding q) c.is_last_chunk.ensures) refl
+    (λ q. c.answered_place.ensures.left q ∙ ap (λ b. if b && (c.args.cookie == q) then None else get nat_cmp c.args.self.now.outstanding q) c.has.ensures) refl
     (ap (λ (z : State). slice_set z.exchanges.items c.in-Some.place c.take_chunk.new.self) c.answered_place.ensures.kept))
     c.take_chunk.ensures.shown
 

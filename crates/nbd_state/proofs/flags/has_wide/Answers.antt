@@ -1,6 +1,6 @@
 use Rattle.std.proofs.Common.{refl}
 use Rattle.nbd_wire.specs.Requests.{has}
-use Rattle.nbd_state.proofs.flags.has.Goals as goal
+use Rattle.nbd_state.proofs.flags.has_wide.Goals as goal
 
 pub returns : goal.returns
 unfolding has
