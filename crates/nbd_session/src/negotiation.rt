@@ -51,8 +51,7 @@ fn sets_more(offered: u16, flags: u32) -> bool
     ensures { result ≡ sets_more offered flags }
 {
     !has_only(flags, handshake::C_FIXED_NEWSTYLE + handshake::C_NO_ZEROES)
-        || has_wide(flags, handshake::C_NO_ZEROES)
-            && !has(offered, handshake::NO_ZEROES)
+        || has_wide(flags, handshake::C_NO_ZEROES) && !has(offered, handshake::NO_ZEROES)
 }
 
 /// The answer to EXPORT_NAME, which is padded unless the client took NO_ZEROES.

@@ -1,10 +1,9 @@
 -- What is shown of a session that is over.
-use Rattle.std.proofs.Common.{◌≡◌, ◌⊎◌, inl, inr, ℕ, List, [], ◌∷◌, ◌++◌, Bool, true, false, length, map, refl, sym, ◌∙◌, ap, subst, codes, append-nil, Option, Some, None, IfSome, Result, Ok, Err, IfOk, IfErr, IsErrAnd, OnOk, Vec}
+use Rattle.std.proofs.Common.{◌≡◌, inr, ℕ, List, [], ◌∷◌, ◌++◌, Bool, refl, sym, ◌∙◌, ap, subst, append-nil, Option, Some, None, IfSome, Result, Ok, Err, IfOk, IfErr, IsErrAnd, OnOk, Vec}
 use Rattle.std.specs.Io.KnownBytes.{Appends, Keeps}
 use Rattle.std.proofs.KnownBytes.{Appends-trans}
 use Rattle.std.specs.declared.alloc.Global.{Global}
 use Rattle.nbd_wire.specs.declared.message.Side.{Side}
-use Rattle.nbd_wire.specs.declared.message.Message.{Message}
 use Rattle.nbd_wire.specs.Items.{Pair, flat}
 use Rattle.nbd_capture.specs.Capture.{IsCaptureText, chunks_of}
 use Rattle.nbd_capture.specs.Writing.{AppendsFront}
@@ -15,7 +14,6 @@ use Rattle.nbd_session.specs.declared.fault.SessionFault.{SessionFault}
 use Rattle.nbd_session.specs.declared.fault.SessionFault.TheVariants as session
 use Rattle.nbd_session.specs.Sessions.{HasRun, IsOfRun, Recorded, end_by, fault_at_end, pairs_of, taken, unfinished}
 use Rattle.nbd_judge.specs.Captures.{chunks_told}
-use Rattle.nbd_judge.specs.declared.verdict.Verdict.TheVariants.{Wire}
 use Rattle.nbd_lines.specs.Script.{message_lines}
 use Rattle.nbd_tool.specs.declared.fault.RunFault.{RunFault}
 use Rattle.nbd_tool.specs.declared.fault.RunFault.TheVariants as faults
@@ -26,7 +24,6 @@ use Rattle.nbd_tool.specs.Runs.{pairs_of as pairs_of_chunks}
 use Rattle.nbd_tool.specs.Showing.{IsOver, IsWireAt, LeavesLast, is_accepted, last_line}
 use Rattle.nbd_tool.specs.Shown.{IsShown, Leads, LeavesShown, Shows, ShowsFront, ShowsMessages}
 use Rattle.nbd_tool.specs.Shown.IsShown.{accepted, refused}
-use Rattle.nbd_tool.specs.Verdicts.{line}
 use Rattle.nbd_tool.proofs.Judged.{pairs_told}
 
 -- the messages of a session that is over are those of a front of the capture

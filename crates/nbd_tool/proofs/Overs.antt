@@ -1,5 +1,5 @@
 -- A session over a capture's chunks: what it took, and how it stands at its end.
-use Rattle.std.proofs.Common.{◌≡◌, ℕ, zero, suc, ◌+◌, ◌<◌, ◌≤◌, List, [], ◌∷◌, ◌++◌, length, refl, sym, ◌∙◌, ap, subst, arith, take, drop, get_or, add-one, length-append, append_assoc, append-nil, Option, Some, None, IfSome, Vec}
+use Rattle.std.proofs.Common.{◌≡◌, ℕ, zero, suc, ◌+◌, ◌<◌, ◌≤◌, List, [], ◌∷◌, ◌++◌, length, refl, sym, ◌∙◌, ap, subst, arith, take, drop, get_or, add-one, length-append, append_assoc, append-nil, Some, None, IfSome, Vec}
 use Rattle.std.proofs.lemmas.List.{length-map}
 use Rattle.std.specs.declared.alloc.Global.{Global}
 use Rattle.nbd_wire.specs.declared.message.Side.{Side}

@@ -1,5 +1,5 @@
 -- What a line that begins with `yes` says.
-use Rattle.std.proofs.Common.{◌≡◌, ℕ, List, [], ◌∷◌, ◌++◌, refl, sym, ◌∙◌, ap, subst, append_assoc, append-nil, codes, arith, Option, Some, None}
+use Rattle.std.proofs.Common.{◌≡◌, ℕ, List, [], ◌∷◌, ◌++◌, refl, sym, ◌∙◌, ap, append_assoc, append-nil, codes, arith, Option, Some, None}
 use Rattle.std.proofs.lemmas.List.{append_cancel_left}
 use Rattle.std.specs.Io.KnownBytes.{Appends}
 use Rattle.nbd_capture.specs.Capture.{Chunk, IsCaptureText}
@@ -8,8 +8,7 @@ use Rattle.nbd_capture.specs.Writing.{AppendsFront}
 use Rattle.nbd_wire.specs.Explains.{Explained, Start}
 use Rattle.nbd_judge.specs.declared.verdict.Verdict.{Verdict}
 use Rattle.nbd_judge.specs.declared.verdict.Verdict.TheVariants.{Yes, Wire, Image, Order, Content}
-use Rattle.nbd_judge.specs.Captures.{IsChecked}
-use Rattle.nbd_tool.specs.Runs.{BeginsYes, IsVerdictOn, SaysYes, pairs_of}
+use Rattle.nbd_tool.specs.Runs.{IsVerdictOn, SaysYes, pairs_of}
 use Rattle.nbd_tool.specs.Verdicts.{line}
 
 abbrev IsExplainedOn : (text numbers_text : List ℕ) → Start → Type 0

@@ -1,10 +1,10 @@
 -- The chunks of a capture text have fewer bytes than the text.
-use Rattle.std.proofs.Common.{◌≡◌, ℕ, ◌+◌, ◌*◌, ◌≤◌, List, [], ◌∷◌, ◌++◌, length, map, refl, sym, ap, ◌∙◌, subst, arith, length-append, Vec, sum_by}
+use Rattle.std.proofs.Common.{◌≡◌, ℕ, ◌+◌, ◌≤◌, List, [], ◌∷◌, length, refl, sym, ap, ◌∙◌, arith, length-append, Vec, sum_by}
 use Rattle.std.proofs.lemmas.List.{length-map}
 use Rattle.std.proofs.lemmas.List.Sums.{sum_by-append, sum_by-cons}
 use Rattle.std.specs.declared.alloc.Global.{Global}
 use Rattle.nbd_wire.specs.declared.message.Side.{Side}
-use Rattle.nbd_capture.specs.Lines.{IsText, empty, line, line_feed}
+use Rattle.nbd_capture.specs.Lines.{empty, line, line_feed}
 use Rattle.nbd_capture.specs.Capture.{Chunk, IsCaptureLine, IsCaptureText, AreDigits, chunk_of, chunks_of, chunk, blank, comment, none, byte}
 use Rattle.nbd_wire.specs.Items.{flat, sent}
 use Rattle.nbd_judge.specs.Captures.{chunks_told}

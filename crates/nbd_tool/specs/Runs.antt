@@ -1,6 +1,5 @@
 -- What a run of `check` tells of its inputs and leaves written, where the readers and the writer tell their bytes.
-use Rattle.std.specs.Prelude.{◌≡◌, ◌↔◌, ℕ, List, ◌++◌, Option, Some, None, IfSome, IsTrue, Bool, codes, map}
-use Rattle.nbd_wire.specs.declared.message.Side.{Side}
+use Rattle.std.specs.Prelude.{◌≡◌, ◌↔◌, ℕ, List, ◌++◌, Option, Some, IfSome, IsTrue, Bool, codes, map}
 use Rattle.nbd_wire.specs.Explains.{Explained, Start}
 use Rattle.nbd_wire.specs.Items.{Pair, flat}
 use Rattle.std.specs.Io.KnownBytes.{Appends, Keeps}

@@ -1,6 +1,6 @@
 -- Internal: how a session that is shown stands at its end, and the last line.
-use Rattle.std.specs.Prelude.{◌≡◌, ℕ, List, [], ◌++◌, Bool, true, false, Option, Some, None, IfSome, codes, length}
-use Rattle.std.specs.Io.KnownBytes.{Appends, Keeps}
+use Rattle.std.specs.Prelude.{◌≡◌, ℕ, List, [], ◌++◌, Bool, true, false, Option, Some, None, IfSome, codes}
+use Rattle.std.specs.Io.KnownBytes.{Keeps}
 use Rattle.nbd_wire.specs.Items.{Pair}
 use Rattle.nbd_capture.specs.Writing.{AppendsFront}
 use Rattle.nbd_session.specs.declared.fault.SessionFault.{SessionFault}

@@ -23,7 +23,10 @@ pub enum StartFrom<I> {
 }
 
 /// Reads an image whole, if there is one.
-pub(crate) fn read_start<I: Read + Drop>(alloc: Global, start: StartFrom<I>) -> Result<Start, RunFault>
+pub(crate) fn read_start<I: Read + Drop>(
+    alloc: Global,
+    start: StartFrom<I>,
+) -> Result<Start, RunFault>
     ensures read { IfOk result (λ read. IfSome (initial_from I.remaining start) (λ initial. initial_of read ≡ initial)) }
     ensures cause { IfErr result (λ fault. (fault ≡ ImageRead) ⊎ (fault ≡ Memory)) }
 {

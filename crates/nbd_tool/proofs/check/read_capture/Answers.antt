@@ -1,4 +1,4 @@
-use Rattle.std.proofs.Common.{◌≤◌, ap, arith, length, rules, vec_len}
+use Rattle.std.proofs.Common.{◌≤◌, arith, rules, vec_len}
 use Rattle.nbd_tool.specs.declared.input.TheConstants.{READ_LIMIT}
 use Rattle.nbd_tool.proofs.Sizes.{flat-le}
 use Rattle.nbd_tool.proofs.check.read_capture.Goals as goal

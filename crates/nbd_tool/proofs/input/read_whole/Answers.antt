@@ -1,4 +1,4 @@
-use Rattle.std.proofs.Common.{◌≡◌, ◌<◌, [], sym, subst, rules, arith, refl, take, length, ap}
+use Rattle.std.proofs.Common.{◌<◌, sym, subst, rules, arith, take, length, ap}
 use Rattle.std.specs.Io.KnownBytes.{Consumes}
 use Rattle.std.proofs.KnownBytes.{Consumes-nil, Consumes-trans}
 use Rattle.nbd_tool.proofs.Endings.{all_read, filled}

@@ -2,7 +2,7 @@ use Rattle.std.proofs.Common.{◌++◌, sym, ◌∙◌, ap, arith, length, take}
 use Rattle.nbd_wire.specs.Items.{flat, sent}
 use Rattle.nbd_session.specs.declared.fault.SessionFault.TheVariants.{Wire}
 use Rattle.nbd_judge.specs.Captures.{chunks_told}
-use Rattle.nbd_tool.proofs.Overs.{front_more, over_closed, over_open, piece_fits}
+use Rattle.nbd_tool.proofs.Overs.{front_more, over_closed, piece_fits}
 use Rattle.nbd_tool.proofs.show.session_over.Goals as goal
 
 pub push-requires : goal.push-requires
