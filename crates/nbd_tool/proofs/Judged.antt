@@ -10,9 +10,9 @@ use Rattle.nbd_judge.specs.declared.verdict.Verdict.{Verdict}
 use Rattle.nbd_judge.specs.Captures.{IsChecked, chunks_told}
 use Rattle.nbd_tool.specs.declared.fault.RunFault.{RunFault}
 use Rattle.nbd_tool.specs.declared.fault.RunFault.TheVariants.{Write}
-use Rattle.nbd_tool.specs.Runs.{IsVerdictOn, pairs_of}
+use Rattle.nbd_tool.specs.Runs.{IsVerdictOn, flat_of}
 
-pub pairs_told : (chunks : List (Side × Vec ℕ Global)) → pairs_of (chunks_of chunks) ≡ flat (chunks_told chunks)
+pub pairs_told : (chunks : List (Side × Vec ℕ Global)) → flat_of (chunks_of chunks) ≡ flat (chunks_told chunks)
 pairs_told [] = refl
 pairs_told (c ∷ chunks) = ap (λ ps. sent c.0 c.1.items ++ ps) (pairs_told chunks)
 

@@ -20,10 +20,10 @@ use Rattle.nbd_tool.specs.declared.fault.RunFault.TheVariants as faults
 use Rattle.nbd_lines.specs.declared.output.OutputFault.{OutputFault}
 use Rattle.nbd_lines.specs.declared.output.OutputFault.TheVariants as output
 use Rattle.nbd_tool.specs.Faults.{of_output}
-use Rattle.nbd_tool.specs.Runs.{pairs_of as pairs_of_chunks}
-use Rattle.nbd_tool.specs.Showing.{IsOver, IsWireAt, LeavesLast, is_accepted, last_line}
-use Rattle.nbd_tool.specs.Shown.{IsShown, Leads, LeavesShown, Shows, ShowsFront, ShowsMessages}
-use Rattle.nbd_tool.specs.Shown.IsShown.{accepted, refused}
+use Rattle.nbd_tool.specs.Runs.{flat_of}
+use Rattle.nbd_tool.specs.Ends.{IsOver, IsWireAt, LeavesLast, is_accepted, last_line}
+use Rattle.nbd_tool.specs.Shown.{IsOutput, Leads, LeavesShown, WritesAll, WritesSome, WritesMessages}
+use Rattle.nbd_tool.specs.Shown.IsOutput.{accepted, refused}
 use Rattle.nbd_tool.proofs.Judged.{pairs_told}
 
 -- the messages of a session that is over are those of a front of the capture
@@ -32,7 +32,7 @@ leads capture r over run = record { rest = over.left; client = r.client; server 
 
 -- what a session shows that ends in this way
 abbrev EndsAs : List Pair → Recorded → Option SessionFault → Type 0
-EndsAs capture r ended = IsShown capture (is_accepted ended) (message_lines r.messages ++ last_line ended)
+EndsAs capture r ended = IsOutput capture (is_accepted ended) (message_lines r.messages ++ last_line ended)
 
 refused_at : (capture : List Pair) (r : Recorded) (at : ℕ) (fault : WireFault) → IsOver capture r → IsOfRun r → at ≡ taken r → EndsAs capture r (Some (session.Wire at fault))
 refused_at capture r at fault over run e =
@@ -61,10 +61,10 @@ then_kept (Some xs) (Some ys) None bytes a k = absurd k
 then_kept (Some xs) (Some ys) (Some zs) bytes a k = k ∙ a
 
 module _ (known : Option (List ℕ)) (chunks : List (Side × Vec ℕ Global)) (r : Recorded) (text : IfSome known (λ text. IsCaptureText text (chunks_of chunks))) (over : IsOver (flat (chunks_told chunks)) r) (run : IsOfRun r) where
-  told : EndsAs (pairs_of_chunks (chunks_of chunks)) r (fault_at_end r)
-  told = shown (pairs_of_chunks (chunks_of chunks)) r (subst (λ ps. IsOver ps r) (sym (pairs_told chunks)) over) run
+  told : EndsAs (flat_of (chunks_of chunks)) r (fault_at_end r)
+  told = shown (flat_of (chunks_of chunks)) r (subst (λ ps. IsOver ps r) (sym (pairs_told chunks)) over) run
 
-  front_shown : (old new : Option (List ℕ)) → AppendsFront old new (message_lines r.messages ++ last_line (fault_at_end r)) → ShowsFront known old new
+  front_shown : (old new : Option (List ℕ)) → AppendsFront old new (message_lines r.messages ++ last_line (fault_at_end r)) → WritesSome known old new
   front_shown old new a = record {
     chunks = chunks_of chunks;
     is_text = text;
@@ -74,13 +74,13 @@ module _ (known : Option (List ℕ)) (chunks : List (Side × Vec ℕ Global)) (r
     appended = a;
   }
 
-  messages_shown : (old new : Option (List ℕ)) → AppendsFront old new (message_lines r.messages) → ShowsMessages known old new
+  messages_shown : (old new : Option (List ℕ)) → AppendsFront old new (message_lines r.messages) → WritesMessages known old new
   messages_shown old new a = record {
     chunks = chunks_of chunks;
     is_text = text;
     front = pairs_of r;
     messages = r.messages;
-    leads = leads (pairs_of_chunks (chunks_of chunks)) r (subst (λ ps. IsOver ps r) (sym (pairs_told chunks)) over) run;
+    leads = leads (flat_of (chunks_of chunks)) r (subst (λ ps. IsOver ps r) (sym (pairs_told chunks)) over) run;
     appended = a;
   }
 
@@ -92,13 +92,13 @@ module _ (known : Option (List ℕ)) (chunks : List (Side × Vec ℕ Global)) (r
 
   -- all lines were written
   pub all_shown : (old mid new : Option (List ℕ)) (ended : Option SessionFault) (o : Result Bool RunFault) → ended ≡ fault_at_end r → Appends old mid (message_lines r.messages) →
-      IfOk o (λ yes. yes ≡ is_accepted ended) → OnOk o (Appends mid new (last_line ended)) → IfOk o (λ yes. Shows known yes old new)
+      IfOk o (λ yes. yes ≡ is_accepted ended) → OnOk o (Appends mid new (last_line ended)) → IfOk o (λ yes. WritesAll known yes old new)
   all_shown old mid new ended (Err e) same first answer last = tt
   all_shown old mid new ended (Ok answered) same first answer last = record {
     chunks = chunks_of chunks;
     is_text = text;
     lines = message_lines r.messages ++ last_line (fault_at_end r);
-    is_shown = subst (λ y. IsShown (pairs_of_chunks (chunks_of chunks)) y (message_lines r.messages ++ last_line (fault_at_end r))) (sym (answer ∙ ap is_accepted same)) told;
+    is_shown = subst (λ y. IsOutput (flat_of (chunks_of chunks)) y (message_lines r.messages ++ last_line (fault_at_end r))) (sym (answer ∙ ap is_accepted same)) told;
     appended = Appends-trans old mid new (message_lines r.messages) (last_line (fault_at_end r)) first (subst (λ e. Appends mid new (last_line e)) same last);
   }
 

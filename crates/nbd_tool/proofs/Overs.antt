@@ -7,7 +7,7 @@ use Rattle.nbd_wire.specs.Items.{Pair, flat, sent}
 use Rattle.nbd_session.specs.declared.fault.SessionFault.{SessionFault}
 use Rattle.nbd_session.specs.Sessions.{AddsFront, Recorded, pairs_of, taken}
 use Rattle.nbd_judge.specs.Captures.{chunks_told}
-use Rattle.nbd_tool.specs.Showing.{IsOver, IsWireAt}
+use Rattle.nbd_tool.specs.Ends.{IsOver, IsWireAt}
 
 sent_both : (s : Side) (a b : List ℕ) → sent s (a ++ b) ≡ sent s a ++ sent s b
 sent_both s [] b = refl

@@ -8,11 +8,11 @@ use Rattle.nbd_capture.specs.Writing.{AppendsFront}
 use Rattle.nbd_wire.specs.Explains.{Explained, Start}
 use Rattle.nbd_judge.specs.declared.verdict.Verdict.{Verdict}
 use Rattle.nbd_judge.specs.declared.verdict.Verdict.TheVariants.{Yes, Wire, Image, Order, Content}
-use Rattle.nbd_tool.specs.Runs.{IsVerdictOn, SaysYes, pairs_of}
+use Rattle.nbd_tool.specs.Runs.{IsVerdictOn, SaysYes, flat_of}
 use Rattle.nbd_tool.specs.Verdicts.{line}
 
 abbrev IsExplainedOn : (text numbers_text : List ℕ) → Start → Type 0
-IsExplainedOn text numbers_text initial = (chunks : List Chunk) × (numbers : List ℕ) × IsCaptureText text chunks × IsOrderText numbers_text numbers × Explained (pairs_of chunks) numbers initial
+IsExplainedOn text numbers_text initial = (chunks : List Chunk) × (numbers : List ℕ) × IsCaptureText text chunks × IsOrderText numbers_text numbers × Explained (flat_of chunks) numbers initial
 
 abbrev first : List ℕ → ℕ
 first [] = 0

@@ -35,13 +35,13 @@ IsOrderCause order Memory = Unit {0}
 IsOrderCause order _ = ⊥
 
 -- the chunks' bytes with their senders
-abbrev pub pairs_of : List Chunk → List Pair
-pairs_of chunks = flat (map (λ (c : Chunk). (c.side, c.bytes)) chunks)
+abbrev pub flat_of : List Chunk → List Pair
+flat_of chunks = flat (map (λ (c : Chunk). (c.side, c.bytes)) chunks)
 
 -- the verdict on known texts and a known start: that on the capture's chunks and the order's numbers
 abbrev pub IsVerdictOn : (capture order : Option (List ℕ)) → Option Start → Verdict → Type 0
 IsVerdictOn (Some text) (Some numbers_text) (Some initial) verdict =
-    (chunks : List Chunk) × (numbers : List ℕ) × IsCaptureText text chunks × IsOrderText numbers_text numbers × IsChecked (pairs_of chunks) numbers initial verdict
+    (chunks : List Chunk) × (numbers : List ℕ) × IsCaptureText text chunks × IsOrderText numbers_text numbers × IsChecked (flat_of chunks) numbers initial verdict
 IsVerdictOn capture order initial verdict = Unit {0}
 
 -- the whole line of one verdict was written, and true was answered exactly where it is a yes
@@ -82,5 +82,5 @@ BeginsYes text = (rest : List ℕ) × (text ≡ codes "yes" ++ rest)
 abbrev pub SaysYes : (capture order : Option (List ℕ)) → Option Start → (old new : Option (List ℕ)) → Type 0
 SaysYes (Some text) (Some numbers_text) (Some initial) (Some old) (Some new) =
     (written : List ℕ) → new ≡ old ++ written → BeginsYes written →
-    (chunks : List Chunk) × (numbers : List ℕ) × IsCaptureText text chunks × IsOrderText numbers_text numbers × Explained (pairs_of chunks) numbers initial
+    (chunks : List Chunk) × (numbers : List ℕ) × IsCaptureText text chunks × IsOrderText numbers_text numbers × Explained (flat_of chunks) numbers initial
 SaysYes capture order initial old new = Unit {0}

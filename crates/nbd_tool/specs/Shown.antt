@@ -11,7 +11,7 @@ use Rattle.nbd_judge.specs.declared.verdict.Verdict.TheVariants.{Wire}
 use Rattle.nbd_lines.specs.Script.{message_lines}
 use Rattle.nbd_tool.specs.declared.fault.RunFault.{RunFault}
 use Rattle.nbd_tool.specs.declared.fault.RunFault.TheVariants.{Write, Memory}
-use Rattle.nbd_tool.specs.Runs.{IsCapture, IsCaptureCause, pairs_of}
+use Rattle.nbd_tool.specs.Runs.{IsCapture, IsCaptureCause, flat_of}
 use Rattle.nbd_tool.specs.Verdicts.{line}
 
 -- the front of a capture's bytes is that of a run, but for bytes behind each side's last message, and these messages complete in
@@ -26,35 +26,35 @@ pub record Leads (capture front : List Pair) (messages : List Message) : Type 0 
 -- what is to be written of a capture's bytes, and the answer. A run has exactly these bytes: the lines of all its messages and
 -- `ok`. Or lines of messages that a front of the capture begins with, and the line of a wire fault: that the capture is no run's,
 -- and that these are all the messages before the fault, is not claimed yet.
-pub data IsShown (capture : List Pair) : Bool → List ℕ → Type 0 where
-  accepted : (messages : List Message) → HasRun capture messages [] [] → IsShown capture true (message_lines messages ++ codes "ok\n")
+pub data IsOutput (capture : List Pair) : Bool → List ℕ → Type 0 where
+  accepted : (messages : List Message) → HasRun capture messages [] [] → IsOutput capture true (message_lines messages ++ codes "ok\n")
   refused : (front : List Pair) (messages : List Message) (fault : WireFault)
-      → Leads capture front messages → IsShown capture false (message_lines messages ++ line (Wire (length front) fault))
+      → Leads capture front messages → IsOutput capture false (message_lines messages ++ line (Wire (length front) fault))
 
 -- a capture's session was shown
-pub record Shows (known : Option (List ℕ)) (yes : Bool) (old new : Option (List ℕ)) : Type 0 where
+pub record WritesAll (known : Option (List ℕ)) (yes : Bool) (old new : Option (List ℕ)) : Type 0 where
   pub chunks : List Chunk
   pub is_text : IfSome known (λ text. IsCaptureText text chunks)
   pub lines : List ℕ
-  pub is_shown : IsShown (pairs_of chunks) yes lines
+  pub is_shown : IsOutput (flat_of chunks) yes lines
   pub appended : Appends old new lines
 
 -- a front of what is to be shown was written
-pub record ShowsFront (known old new : Option (List ℕ)) : Type 0 where
+pub record WritesSome (known old new : Option (List ℕ)) : Type 0 where
   pub chunks : List Chunk
   pub is_text : IfSome known (λ text. IsCaptureText text chunks)
   pub yes : Bool
   pub lines : List ℕ
-  pub is_shown : IsShown (pairs_of chunks) yes lines
+  pub is_shown : IsOutput (flat_of chunks) yes lines
   pub appended : AppendsFront old new lines
 
 -- a front of the message lines was written
-pub record ShowsMessages (known old new : Option (List ℕ)) : Type 0 where
+pub record WritesMessages (known old new : Option (List ℕ)) : Type 0 where
   pub chunks : List Chunk
   pub is_text : IfSome known (λ text. IsCaptureText text chunks)
   pub front : List Pair
   pub messages : List Message
-  pub leads : Leads (pairs_of chunks) front messages
+  pub leads : Leads (flat_of chunks) front messages
   pub appended : AppendsFront old new (message_lines messages)
 
 -- what a fault says of the known bytes of the capture
@@ -65,6 +65,6 @@ IsShowCause known fault = IsCaptureCause known fault
 -- what stands written after a fault: a front of what is to be shown where the writer failed, a front of the message lines or
 -- nothing after want of memory, else nothing
 abbrev pub LeavesShown : (known old new : Option (List ℕ)) → RunFault → Type 0
-LeavesShown known old new Write = ShowsFront known old new
-LeavesShown known old new Memory = Keeps old new ⊎ ShowsMessages known old new
+LeavesShown known old new Write = WritesSome known old new
+LeavesShown known old new Memory = Keeps old new ⊎ WritesMessages known old new
 LeavesShown known old new _ = Keeps old new

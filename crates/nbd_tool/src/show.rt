@@ -6,8 +6,8 @@ ghost use Rattle.nbd_session.specs.declared.fault.SessionFault.TheVariants.{Wire
 ghost use Rattle.nbd_session.specs.Sessions.{fault_of};
 ghost use Rattle.nbd_judge.specs.Captures.{chunks_told};
 ghost use Rattle.nbd_tool.specs.Runs.{IsCapture};
-ghost use Rattle.nbd_tool.specs.Showing.{IsOver, LeavesLast, is_accepted, last_line};
-ghost use Rattle.nbd_tool.specs.Shown.{IsShowCause, LeavesShown, Shows};
+ghost use Rattle.nbd_tool.specs.Ends.{IsOver, LeavesLast, is_accepted, last_line};
+ghost use Rattle.nbd_tool.specs.Shown.{IsShowCause, LeavesShown, WritesAll};
 
 use crate::check::read_capture;
 use crate::fault::RunFault;
@@ -31,7 +31,7 @@ pub fn run_show<C: BufRead + Drop, W: Write>(
     mut capture: C,
     out: &mut W,
 ) -> Result<bool, RunFault>
-    ensures written { IfOk result (λ yes. Shows (C.remaining capture) yes (W.contents out.old) (W.contents out.new)) }
+    ensures written { IfOk result (λ yes. WritesAll (C.remaining capture) yes (W.contents out.old) (W.contents out.new)) }
     ensures well_formed { OnOk result (IsCapture (C.remaining capture)) }
     ensures cause { IfErr result (IsShowCause (C.remaining capture)) }
     ensures left { IfErr result (LeavesShown (C.remaining capture) (W.contents out.old) (W.contents out.new)) }

@@ -4,7 +4,7 @@ use Rattle.nbd_capture.specs.Writing.{AppendsFront}
 use Rattle.nbd_wire.specs.Items.{flat}
 use Rattle.nbd_judge.specs.Captures.{chunks_told}
 use Rattle.nbd_lines.specs.Script.{message_lines}
-use Rattle.nbd_tool.specs.Showing.{IsOver}
+use Rattle.nbd_tool.specs.Ends.{IsOver}
 use Rattle.nbd_tool.proofs.Lasts.{all_shown, last_stopped, stopped}
 use Rattle.nbd_tool.proofs.show.run_show.Goals as goal
 
