@@ -19,6 +19,10 @@ pub(crate) enum ReadFault {
 }
 
 impl From<AllocError> for ReadFault {
+    ghost use Rattle.nbd_tool.specs.declared.input.ReadFault.TheVariants.{Memory};
+
+    ghost from_gives = { λ _ fault. fault ≡ Memory };
+
     fn from(_: AllocError) -> ReadFault {
         ReadFault::Memory
     }
