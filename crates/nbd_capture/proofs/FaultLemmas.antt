@@ -9,9 +9,9 @@ use Rattle.nbd_capture.specs.Lines.{line_feed, IsUnbroken}
 use Rattle.nbd_capture.specs.Capture.{Chunk, IsCaptureLine, IsCaptureText, IsFirstBadCaptureLine}
 use Rattle.nbd_capture.specs.Order.{IsOrderLine, IsOrderText}
 use Rattle.nbd_capture.specs.Faults.{IsCaptureFault, IsOrderTextFault}
-use Rattle.nbd_capture.specs.Steps.{IsChunkFault}
-use Rattle.nbd_capture.specs.Progress.{Progress, stopped}
-use Rattle.nbd_capture.specs.Reading.{no_reading}
+use Rattle.nbd_capture.specs.internal.Steps.{IsChunkFault}
+use Rattle.nbd_capture.proofs.ProgressLemmas.{Progress, stopped}
+use Rattle.nbd_capture.proofs.ReadingLemmas.{no_reading}
 
 pub stopped_capture : (text rest bytes behind : List ℕ) (chunks : List Chunk) (number : ℕ) (fault : CaptureFault)
     → Progress IsCaptureLine text rest chunks number → IsUnbroken bytes → rest ≡ bytes ++ line_feed ∷ behind
@@ -20,7 +20,7 @@ stopped_capture text rest bytes behind chunks number (Line n) past u whole h =
     subst (λ m. IsFirstBadCaptureLine text m) (sym h.0) (stopped IsCaptureLine text rest bytes behind chunks number past u whole h.1)
 stopped_capture text rest bytes behind chunks number Memory past u whole h = tt
 
--- where the text has a reading, the only fault is want of memory
+-- where the text has a reading, the only fault is out of memory
 pub only_memory_of_capture : {T : Type 0} (text : List ℕ) (r : Result T CaptureFault) (P : List Chunk → T → Type 0) → IsErr r → IfErr r (IsCaptureFault text)
     → (chunks : List Chunk) → IsCaptureText text chunks → MatchResult r (P chunks) (λ e. e ≡ Memory)
 only_memory_of_capture text (Ok v) P failed h chunks read = cc failed

@@ -1,5 +1,10 @@
-pub mod Total
-pub mod Written
-pub mod Numerals
+pub mod DigitLemmas
 pub mod FaultLemmas
-pub mod Forms
+pub mod FormLemmas
+pub mod NumeralLemmas
+pub mod ProgressLemmas
+pub mod ReadingLemmas
+pub mod TotalLemmas
+pub mod TotalTextLemmas
+pub mod WriterLemmas
+pub mod WrittenLemmas

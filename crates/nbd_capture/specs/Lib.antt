@@ -1,11 +1,6 @@
-pub mod Lines
 pub mod Capture
-pub mod Order
 pub mod Faults
-pub mod Steps
+pub mod Lines
+pub mod Order
 pub mod Writing
-pub mod Reading
-pub mod Progress
-pub mod Told
-pub mod Digits
-pub mod Wrote
+pub mod internal

@@ -19,7 +19,7 @@ pub data IsText {V : Type 0} (Form : List ℕ → List V → Type 0) : List ℕ 
   line : (bytes : List ℕ) (said : List V) (rest : List ℕ) (values : List V)
       → IsUnbroken bytes → Form bytes said → IsText Form rest values → IsText Form (bytes ++ line_feed ∷ rest) (said ++ values)
 
--- A text and the number, from 1, of its first bad line: a line that no form describes, or bytes with no LF behind them.
+-- A text and the number, from 1, of its first bad line: a line that no form describes, or bytes with no LF after them.
 pub data IsFirstBadLine {V : Type 0} (Form : List ℕ → List V → Type 0) : List ℕ → ℕ → Type 0 where
   formless : (bytes rest : List ℕ)
       → IsUnbroken bytes → ((said : List V) → Form bytes said → ⊥) → IsFirstBadLine Form (bytes ++ line_feed ∷ rest) 1

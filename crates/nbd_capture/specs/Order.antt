@@ -8,7 +8,7 @@ use Rattle.nbd_capture.specs.Lines.{IsText, IsFirstBadLine}
 abbrev pub BeginsPlainly : List ℕ → Type 0
 BeginsPlainly line = IsAsciiDigit (slice_index line 0) × (slice_index line 0 ≡ 48 → length line ≡ 1)
 
--- the form of a line: decimal digits and nothing else, no `0` in front of others, of a number below 2^64
+-- the form of a line: decimal digits and nothing else, no `0` before others, of a number below 2^64
 pub data IsOrderLine : List ℕ → List ℕ → Type 0 where
   number : (digits : List ℕ)
       → IsNumeral 10 digits → BeginsPlainly digits → digits_value 10 digits < 2 ^ 64

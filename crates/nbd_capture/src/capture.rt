@@ -3,7 +3,7 @@
 ghost use Rattle.std.specs.Prelude.{◌≡◌, ◌↔◌, ◌∷◌, [], ℕ, List, IfOk, IfErr, IsTrue, MatchOption, MatchResult};
 ghost use Rattle.nbd_capture.specs.Capture.{Chunk, IsCaptureLine, IsCaptureText, chunks_of, letter, space};
 ghost use Rattle.nbd_capture.specs.Faults.{IsCaptureFault};
-ghost use Rattle.nbd_capture.specs.Steps.{IsChunkFault, said_by};
+ghost use Rattle.nbd_capture.specs.internal.Steps.{IsChunkFault, said_by};
 ghost use Rattle.nbd_wire.specs.declared.message.Side.{Side};
 ghost use Rattle.nbd_capture.specs.declared.capture.CaptureFault.TheVariants.{Memory};
 
@@ -16,7 +16,7 @@ use thiserror::Error;
 /// Why a capture text gave no chunks. Nothing is kept of a text after a fault.
 #[derive(Clone, Copy, Debug, PartialEq, Eq, Drop, Error)]
 pub enum CaptureFault {
-    /// The line with this number, from 1, is the first bad one: it has no form, or no LF behind it.
+    /// The line with this number, from 1, is the first bad one: it is malformed, or no LF follows it.
     #[error("capture line {0}")]
     Line(u64),
     /// An allocation was refused.
@@ -37,7 +37,7 @@ impl<T: Drop> From<AllocFailed<T>> for CaptureFault {
 /// A text is a sequence of lines, each ended by LF. A chunk line is `C` for the client or `S` for the
 /// server, one space, and two hexadecimal digits of either case for each byte. An empty line and one
 /// that begins with `#` say nothing. This format is this project's choice. The text is read once, from
-/// its front, and each chunk's bytes are a vector of their own. Memory may run out before a bad line is
+/// its prefix, and each chunk's bytes are a vector of their own. Memory may run out before a bad line is
 /// reached.
 pub fn parse_capture(alloc: Global, text: &[u8]) -> Result<Vec<(Side, Vec<u8>)>, CaptureFault>
     ensures chunks { IfOk result (λ chunks. IsCaptureText text.now (chunks_of chunks.items)) }
@@ -51,11 +51,11 @@ pub fn parse_capture(alloc: Global, text: &[u8]) -> Result<Vec<(Side, Vec<u8>)>,
     let mut number = 0;
     while !rest.is_empty() {
         number += 1;
-        let (line, behind) = first_line(rest).ok_or(CaptureFault::Line(number))?;
+        let (line, after) = first_line(rest).ok_or(CaptureFault::Line(number))?;
         if let Some(chunk) = chunk_on(alloc, line, number)? {
             chunks.push(chunk)?;
         }
-        rest = behind;
+        rest = after;
     }
     Ok(chunks)
 }

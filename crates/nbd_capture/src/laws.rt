@@ -15,7 +15,8 @@ pub fn one_capture_reading()
 
 /// A text with a bad capture line has no reading as a capture.
 pub fn no_capture_with_a_bad_line()
-    ensures { (text : List ℕ) (n : ℕ) (chunks : List Chunk) → IsFirstBadCaptureLine text n → IsCaptureText text chunks → ⊥ }
+    ensures { (text : List ℕ) (n : ℕ) (chunks : List Chunk) → IsFirstBadCaptureLine text n →
+        IsCaptureText text chunks → ⊥ }
 {}
 
 /// A text has one first bad capture line at most.
@@ -52,10 +53,12 @@ pub fn printed_numbers_are_read()
 
 /// Each text has a reading as a capture, or a first bad capture line.
 pub fn capture_or_bad_line()
-    ensures { (text : List ℕ) → ((chunks : List Chunk) × IsCaptureText text chunks) ⊎ ((n : ℕ) × IsFirstBadCaptureLine text n) }
+    ensures { (text : List ℕ) → ((chunks : List Chunk) × IsCaptureText text chunks)
+        ⊎ ((n : ℕ) × IsFirstBadCaptureLine text n) }
 {}
 
 /// Each text has a reading as an order, or a first bad order line.
 pub fn order_or_bad_line()
-    ensures { (text : List ℕ) → ((numbers : List ℕ) × IsOrderText text numbers) ⊎ ((n : ℕ) × IsFirstBadOrderLine text n) }
+    ensures { (text : List ℕ) → ((numbers : List ℕ) × IsOrderText text numbers)
+        ⊎ ((n : ℕ) × IsFirstBadOrderLine text n) }
 {}

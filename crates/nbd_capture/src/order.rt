@@ -13,7 +13,7 @@ use thiserror::Error;
 /// Why an order text gave no numbers. Nothing is kept of a text after a fault.
 #[derive(Clone, Copy, Debug, PartialEq, Eq, Drop, Error)]
 pub enum OrderTextFault {
-    /// The line with this number, from 1, is the first bad one: it has no form, or no LF behind it.
+    /// The line with this number, from 1, is the first bad one: it is malformed, or no LF follows it.
     #[error("order line {0}")]
     Line(u64),
     /// An allocation was refused.
@@ -31,7 +31,7 @@ impl<T: Drop> From<AllocFailed<T>> for OrderTextFault {
 
 /// The numbers of an order text, in order, from 0 to 2^64 - 1.
 ///
-/// Each line is one number in decimal digits, ended by LF: no sign, no other byte, and no `0` in front
+/// Each line is one number in decimal digits, ended by LF: no sign, no other byte, and no leading `0`
 /// of other digits. A text without bytes has no numbers. This format is this project's choice. Memory
 /// may run out before a bad line is reached.
 pub fn parse_order(alloc: Global, text: &[u8]) -> Result<Vec<u64>, OrderTextFault>
@@ -46,9 +46,9 @@ pub fn parse_order(alloc: Global, text: &[u8]) -> Result<Vec<u64>, OrderTextFaul
     let mut line_number = 0;
     while !rest.is_empty() {
         line_number += 1;
-        let (line, behind) = first_line(rest).ok_or(OrderTextFault::Line(line_number))?;
+        let (line, after) = first_line(rest).ok_or(OrderTextFault::Line(line_number))?;
         numbers.push(number_on(line).ok_or(OrderTextFault::Line(line_number))?)?;
-        rest = behind;
+        rest = after;
     }
     Ok(numbers)
 }

@@ -49,7 +49,7 @@ fn reads_order_lines(rt: HostRuntime) -> Result<(), Fail> {
 #[test]
 fn names_the_first_bad_order_line(rt: HostRuntime) {
     for (name, text, line) in [
-        ("a zero in front", b"01\n".as_slice(), 1),
+        ("a leading zero", b"01\n".as_slice(), 1),
         ("2^64", b"18446744073709551616\n", 1),
         ("an empty line", b"1\n\n", 2),
         ("no line feed", b"1\n2", 2),

@@ -1,1 +1,4 @@
-mod Least
+pub mod ExtentLemmas
+pub mod KindLemmas
+pub mod LeastLemmas
+pub mod PageLemmas

@@ -1,3 +1,8 @@
+pub mod Cells
+pub mod Extents
+pub mod Kinds
+pub mod Pages
+pub mod RangeKinds
 pub mod Ranges
 pub mod Starts
-pub mod Cells
+pub mod internal

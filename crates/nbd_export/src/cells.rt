@@ -23,7 +23,8 @@ pub fn cells_of(alloc: Global, image: &[u8]) -> Result<Vec<Option<u8>>, AllocErr
 /// Lets a range hold these bytes.
 pub fn store(cells: &mut [Option<u8>], offset: usize, bytes: &[u8])
     requires { offset + length bytes.now ≤ length cells.old }
-    ensures { (x : ℕ) → cell cells.new x ≡ changed offset (length bytes.now) (bytes_from offset bytes.now) (cell cells.old) x }
+    ensures { (x : ℕ) → cell cells.new x ≡ changed offset (length bytes.now) (bytes_from offset bytes.now)
+        (cell cells.old) x }
 {
     for i in 0..bytes.len() {
         cells[offset + i] = Some(bytes[i]);

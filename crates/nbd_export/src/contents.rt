@@ -30,21 +30,24 @@ pub trait Contents {
     fn put(&mut self, offset: u64, bytes: &[u8]) -> Result<(), AllocError>
         requires { offset + length bytes.now ≤ size self.old }
         ensures size { size self.new ≡ size self.old }
-        ensures done { OnOk result (AreSameBelow (size self.old) (byte self.new) (changed offset (length bytes.now) (bytes_from offset bytes.now) (byte self.old))) }
+        ensures done { OnOk result (AreSameBelow (size self.old) (byte self.new)
+            (changed offset (length bytes.now) (bytes_from offset bytes.now) (byte self.old))) }
         ensures refused { OnErr result (AreSameBelow (size self.old) (byte self.new) (byte self.old)) };
 
     /// Makes the range zeroes. All is as before where memory is refused.
     fn zero(&mut self, offset: u64, len: u64) -> Result<(), AllocError>
         requires { offset + len ≤ size self.old }
         ensures size { size self.new ≡ size self.old }
-        ensures done { OnOk result (AreSameBelow (size self.old) (byte self.new) (changed offset len zeroes (byte self.old))) }
+        ensures done { OnOk result (AreSameBelow (size self.old) (byte self.new)
+            (changed offset len zeroes (byte self.old))) }
         ensures refused { OnErr result (AreSameBelow (size self.old) (byte self.new) (byte self.old)) };
 
     /// Makes the range unknown. All is as before where memory is refused.
     fn forget(&mut self, offset: u64, len: u64) -> Result<(), AllocError>
         requires { offset + len ≤ size self.old }
         ensures size { size self.new ≡ size self.old }
-        ensures done { OnOk result (AreSameBelow (size self.old) (byte self.new) (changed offset len unknown (byte self.old))) }
+        ensures done { OnOk result (AreSameBelow (size self.old) (byte self.new)
+            (changed offset len unknown (byte self.old))) }
         ensures refused { OnErr result (AreSameBelow (size self.old) (byte self.new) (byte self.old)) };
 
     /// The least offset of the range that begins at `offset` where a byte is known and is not the one in

@@ -58,7 +58,8 @@ impl Contents for Flat {
         requires { offset + length bytes.now ≤ length self.old }
         ensures ok { IsOk result }
         ensures size { length self.new ≡ length self.old }
-        ensures done { (x : ℕ) → cell self.new x ≡ changed offset (length bytes.now) (bytes_from offset bytes.now) (cell self.old) x }
+        ensures done { (x : ℕ) →
+            cell self.new x ≡ changed offset (length bytes.now) (bytes_from offset bytes.now) (cell self.old) x }
     {
         store(&mut self.cells, offset as usize, bytes);
         Ok(())

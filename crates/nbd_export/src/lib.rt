@@ -6,11 +6,18 @@
 
 mod cells;
 pub mod contents;
+pub mod extents;
 pub mod flat;
+mod kind;
+mod kinds;
+mod pages;
+mod slices;
 pub mod start;
+mod starts;
 #[cfg(test)]
 mod tests;
 
 pub use contents::Contents;
+pub use extents::Extents;
 pub use flat::Flat;
 pub use start::Start;

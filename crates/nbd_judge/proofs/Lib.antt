@@ -1,13 +1,3 @@
-mod Deciding
-mod Marked
-mod Lateness
-mod Comparing
-mod Forward
-mod Effects
-mod Sound
-mod Single
-mod Counting
-mod Named
-mod Answering
-mod Starting
-mod Chunks
+pub mod contents
+pub mod orders
+pub mod verdicts

@@ -1,9 +1,10 @@
 -- What a verdict concludes from a session, and what it says of the runs with that session's report.
 use Rattle.std.specs.Prelude.{ℕ, List, ◌≡◌, Result, Ok, Err}
-use Rattle.nbd_wire.specs.Explains.{Start}
-use Rattle.nbd_wire.specs.Items.{Item, Pair, pairs, served}
-use Rattle.nbd_wire.specs.Report.{Report, report}
-use Rattle.nbd_wire.specs.Rules.{IsRun}
+use Rattle.nbd_wire.specs.protocol.Explains.{Start}
+use Rattle.nbd_wire.specs.protocol.Marks.{Item, pairs, service_order}
+use Rattle.nbd_wire.specs.protocol.Captures.{Pair}
+use Rattle.nbd_wire.specs.protocol.Reports.{Report, report}
+use Rattle.nbd_wire.specs.protocol.Rules.{IsRun}
 use Rattle.nbd_laws.specs.Explaining.{IsNo, IsYes}
 use Rattle.nbd_session.specs.declared.fault.SessionFault.{SessionFault}
 use Rattle.nbd_session.specs.declared.fault.SessionFault.TheVariants as session
@@ -11,7 +12,7 @@ use Rattle.nbd_judge.specs.declared.verdict.Verdict.{Verdict}
 use Rattle.nbd_judge.specs.declared.verdict.Verdict.TheVariants.{Yes, Wire, Image, Order, Content}
 use Rattle.nbd_judge.specs.Verdicts.{IsVerdict}
 
--- the verdict on a finished session: that on its report, or its wire fault; none where it met want of memory
+-- the verdict on a finished session: that on its report, or its wire fault; none where it met out of memory
 abbrev pub IsConclusion : Result Report SessionFault → List ℕ → Start → Verdict → Type 0
 IsConclusion (Ok r) order initial v = IsVerdict r order initial v
 IsConclusion (Err (session.Wire at fault)) order initial v = v ≡ Wire at fault
@@ -24,7 +25,7 @@ IsReportOf items (Err fault) = ⊥
 
 -- no run with these bytes is served in this order
 abbrev pub IsUnserved : List Pair → List ℕ → Type 0
-IsUnserved capture order = (items : List Item) → IsRun items → pairs items ≡ capture → served items ≡ order → ⊥
+IsUnserved capture order = (items : List Item) → IsRun items → pairs items ≡ capture → service_order items ≡ order → ⊥
 
 -- what a verdict says of a capture that is the bytes of a run: Yes that the order explains it, with its counts, every
 -- other that it does not; Order that no run with these bytes is served so

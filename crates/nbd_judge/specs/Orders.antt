@@ -1,7 +1,7 @@
 -- The fault that an order of service is answered with (this project's choice).
-use Rattle.std.specs.Prelude.{ℕ, List, ◌≡◌, ◌<◌, length, slice_index}
-use Rattle.nbd_wire.specs.Orders.{FirstLate, FirstNoSuchRequest, FirstTwice, LeastMissing}
-use Rattle.nbd_wire.specs.Report.{Report, known_in}
+use Rattle.std.specs.Prelude.{ℕ, List, length}
+use Rattle.nbd_wire.specs.protocol.Orders.{FirstLate, FirstNoSuchRequest, FirstTwice, LeastMissing}
+use Rattle.nbd_wire.specs.protocol.Reports.{Report, known_in}
 use Rattle.nbd_judge.specs.declared.verdict.OrderFault.{OrderFault}
 use Rattle.nbd_judge.specs.declared.verdict.OrderFault.TheVariants.{NoSuchRequest, Twice, Late, Missing}
 
@@ -11,7 +11,3 @@ IsOrderFault r order entry NoSuchRequest = FirstNoSuchRequest (length r.asked) o
 IsOrderFault r order entry Twice = FirstTwice (length r.asked) order entry
 IsOrderFault r order entry Late = FirstLate (length r.asked) (known_in r) order entry
 IsOrderFault r order entry Missing = LeastMissing (length r.asked) (known_in r) order entry
-
--- no two entries name one request
-abbrev pub IsOnce : List ℕ → Type 0
-IsOnce order = (i j : ℕ) → i < j → j < length order → slice_index order i ≡ slice_index order j → ⊥

@@ -1,7 +1,7 @@
 -- The cases of the definitions of a verdict exclude each other.
 use Rattle.std.specs.Prelude.{ℕ, List, ◌≡◌, Option}
-use Rattle.nbd_wire.specs.Explains.{Start}
-use Rattle.nbd_wire.specs.Report.{Report}
+use Rattle.nbd_wire.specs.protocol.Explains.{Start}
+use Rattle.nbd_wire.specs.protocol.Reports.{Report}
 use Rattle.nbd_judge.specs.Verdicts.{IsJudged, IsVerdict}
 use Rattle.nbd_judge.specs.declared.verdict.Verdict.{Verdict}
 

@@ -1,11 +1,11 @@
 -- The verdict on a report, an order of service and what the export held at first.
 use Rattle.std.specs.Prelude.{ℕ, List, ◌≡◌, ◌<◌, Option, length, slice_index}
-use Rattle.nbd_wire.specs.Exchanges.{IsWrong, exchanges}
-use Rattle.nbd_wire.specs.Explains.{FitsImage, Start, start_byte}
-use Rattle.nbd_wire.specs.Orders.{IsFirst}
-use Rattle.nbd_wire.specs.Report.{Report}
-use Rattle.nbd_wire.specs.States.{Names}
-use Rattle.nbd_wire.specs.Verdicts.{IsFaultless, answered, improper, requests}
+use Rattle.nbd_wire.specs.protocol.ExportBytes.{IsWrong, effects}
+use Rattle.nbd_wire.specs.protocol.Explains.{FitsImage, Start, start_byte}
+use Rattle.nbd_wire.specs.protocol.Orders.{IsFirst}
+use Rattle.nbd_wire.specs.protocol.Reports.{Report}
+use Rattle.nbd_wire.specs.protocol.States.{Names}
+use Rattle.nbd_wire.specs.protocol.Verdicts.{IsFaultless, answered_count, improper_count, request_count}
 use Rattle.nbd_judge.specs.Images.{IsOtherSize}
 use Rattle.nbd_judge.specs.Orders.{IsOrderFault}
 use Rattle.nbd_judge.specs.declared.verdict.Verdict.{Verdict}
@@ -13,23 +13,23 @@ use Rattle.nbd_judge.specs.declared.verdict.Verdict.TheVariants.{Yes, Wire, Imag
 
 -- no request that the order names has a wrong byte, where the export's bytes were these at first
 abbrev pub HasNoneWrongFrom : Report → List ℕ → (ℕ → Option ℕ) → Type 0
-HasNoneWrongFrom r order initial = (k x : ℕ) → Names order k → IsWrong (exchanges r) order initial k x → ⊥
+HasNoneWrongFrom r order initial = (k x : ℕ) → Names order k → IsWrong (effects r) order initial k x → ⊥
 
 -- entry i of the order, counted from 0, names a request with a wrong byte
 abbrev pub HasWrongFrom : Report → List ℕ → (ℕ → Option ℕ) → ℕ → Type 0
-HasWrongFrom r order initial i = (i < length order) × ((x : ℕ) × IsWrong (exchanges r) order initial (slice_index order i) x)
+HasWrongFrom r order initial i = (i < length order) × ((x : ℕ) × IsWrong (effects r) order initial (slice_index order i) x)
 
 -- the request of the first entry with a wrong byte, and its least wrong offset
 abbrev pub FirstWrongFrom : Report → List ℕ → (ℕ → Option ℕ) → (request offset : ℕ) → Type 0
 FirstWrongFrom r order initial request offset =
     ((i : ℕ) × (slice_index order i ≡ request) × IsFirst (HasWrongFrom r order initial) i)
-    × IsFirst (IsWrong (exchanges r) order initial request) offset
+    × IsFirst (IsWrong (effects r) order initial request) offset
 
 -- the verdict where the export's bytes were these at first: Order, Content or Yes
 abbrev pub IsJudged : Report → List ℕ → (ℕ → Option ℕ) → Verdict → Type 0
 IsJudged r order initial (Yes of_requests of_answered of_improper) =
     IsFaultless r order × HasNoneWrongFrom r order initial
-    × (of_requests ≡ requests r) × (of_answered ≡ answered r) × (of_improper ≡ improper r)
+    × (of_requests ≡ request_count r) × (of_answered ≡ answered_count r) × (of_improper ≡ improper_count r)
 IsJudged r order initial (Order entry fault) = IsOrderFault r order entry fault
 IsJudged r order initial (Content request offset) = IsFaultless r order × FirstWrongFrom r order initial request offset
 IsJudged r order initial (Wire at fault) = ⊥

@@ -2,10 +2,10 @@
 
 ghost use Rattle.std.specs.Prelude.{◌≡◌, OnOk, Some};
 ghost use Rattle.nbd_export.specs.Ranges.{AreSameBelow, changed, unknown};
-ghost use Rattle.nbd_wire.specs.Exchanges.{exchange};
+ghost use Rattle.nbd_wire.specs.protocol.ExportBytes.{effect};
 ghost use Rattle.nbd_state.specs.Transcripts.{asked_told};
 ghost use Rattle.nbd_judge.specs.Folding.{applied};
-ghost use Rattle.nbd_judge.specs.Servable.{IsServable};
+ghost use Rattle.nbd_judge.specs.internal.Servable.{IsServable};
 
 use crate::compare::succeeded;
 use nbd_export::Contents;
@@ -13,12 +13,13 @@ use nbd_session::Asked;
 use nbd_wire::commands;
 use std::alloc::AllocError;
 
-/// Lets the contents be those behind this request: a successful WRITE leaves its bytes, a successful
+/// Lets the contents be those after this request: a successful WRITE leaves its bytes, a successful
 /// WRITE_ZEROES zeroes, every other change unknown bytes, whatever else is asked no change.
 pub fn change<C: Contents>(one: &Asked, contents: &mut C) -> Result<(), AllocError>
     requires { IsServable (C.size contents.old) (asked_told one.now) }
     ensures size { C.size contents.new ≡ C.size contents.old }
-    ensures done { OnOk result (AreSameBelow (C.size contents.old) (C.byte contents.new) (applied (Some (exchange (asked_told one.now))) (C.byte contents.old))) }
+    ensures done { OnOk result (AreSameBelow (C.size contents.old) (C.byte contents.new)
+        (applied (Some (effect (asked_told one.now))) (C.byte contents.old))) }
 {
     match one.command {
         commands::WRITE => {
@@ -44,7 +45,8 @@ pub fn change<C: Contents>(one: &Asked, contents: &mut C) -> Result<(), AllocErr
 // Lets what of the range lies inside the export be unknown.
 fn erase<C: Contents>(offset: u64, len: u32, contents: &mut C) -> Result<(), AllocError>
     ensures size { C.size contents.new ≡ C.size contents.old }
-    ensures done { OnOk result (AreSameBelow (C.size contents.old) (C.byte contents.new) (changed offset len unknown (C.byte contents.old))) }
+    ensures done { OnOk result (AreSameBelow (C.size contents.old) (C.byte contents.new)
+        (changed offset len unknown (C.byte contents.old))) }
 {
     let size = contents.size();
     if offset < size {

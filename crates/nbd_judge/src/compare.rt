@@ -2,11 +2,11 @@
 
 ghost use Rattle.std.specs.Prelude.{◌≡◌, ◌+◌, ◌≤◌, length};
 ghost use Rattle.nbd_export.specs.Ranges.{IsLeast};
-ghost use Rattle.nbd_wire.specs.Exchanges.{IsWrongIn, exchange, is_success};
-ghost use Rattle.nbd_wire.specs.Requests.{piece_offset, piece_size};
+ghost use Rattle.nbd_wire.specs.protocol.ExportBytes.{IsWrongIn, effect, is_success};
+ghost use Rattle.nbd_wire.specs.protocol.Pieces.{piece_offset, piece_size};
 ghost use Rattle.nbd_state.specs.Transcripts.{asked_told};
-ghost use Rattle.nbd_judge.specs.Pieces.{AreInside, DiffersInOneOf, DiffersInPiece};
-ghost use Rattle.nbd_judge.specs.Servable.{IsServable};
+ghost use Rattle.nbd_judge.specs.internal.Pieces.{AreInside, DiffersInOneOf, DiffersInPiece};
+ghost use Rattle.nbd_judge.specs.internal.Servable.{IsServable};
 ghost use Rattle.nbd_state.specs.Showing.{outcome_of};
 
 use crate::least::lesser;
@@ -18,7 +18,7 @@ use nbd_wire::{Piece, commands};
 /// that of the bytes and holes of its reply.
 pub fn wrong<C: Contents>(one: &Asked, contents: &C) -> Option<u64>
     requires { IsServable (C.size contents.now) (asked_told one.now) }
-    ensures { IsLeast (IsWrongIn (exchange (asked_told one.now)) (C.byte contents.now)) result }
+    ensures { IsLeast (IsWrongIn (effect (asked_told one.now)) (C.byte contents.now)) result }
 {
     if one.command == commands::READ {
         if succeeded(one.outcome) {

@@ -1,22 +1,23 @@
 //! The verdict on a finished session and a start.
 
 ghost use Rattle.std.specs.Prelude.{◌≡◌, ℕ, List, IfOk, Ok, Err};
-ghost use Rattle.nbd_wire.specs.Items.{Item, pairs};
-ghost use Rattle.nbd_wire.specs.Rules.{IsRun};
-ghost use Rattle.nbd_laws.specs.declared.fault.WireFault.{WireFault};
+ghost use Rattle.nbd_wire.specs.protocol.Marks.{Item, pairs};
+ghost use Rattle.nbd_wire.specs.protocol.Rules.{IsRun};
+ghost use Rattle.nbd_wire.specs.declared.fault.WireFault.{WireFault};
 ghost use Rattle.nbd_session.specs.declared.fault.SessionFault.TheVariants as session;
 ghost use Rattle.nbd_judge.specs.declared.verdict.Verdict.TheVariants as verdict;
-ghost use Rattle.nbd_judge.specs.Beginnings.{image_length, initial_of};
+ghost use Rattle.nbd_judge.specs.internal.Beginnings.{image_length};
+ghost use Rattle.nbd_judge.specs.Beginnings.{initial_of};
 ghost use Rattle.nbd_judge.specs.Conclusions.{Answers, IsConclusion, IsReportOf};
 ghost use Rattle.nbd_judge.specs.Verdicts.{IsVerdict};
 
 use crate::{Verdict, judge, laws};
-use nbd_export::{Flat, Start};
+use nbd_export::{Extents, Start};
 use nbd_session::{SessionFault, Transcript};
 use std::alloc::{AllocError, Global};
 
 /// Concludes what a finished session, an order of service and the export's start come to. A wire fault is
-/// handed on as it is. Want of memory is answered where the session met it, or where it comes here.
+/// handed on as it is. Out of memory is returned where the session met it, or where it comes here.
 pub fn conclude(
     alloc: Global,
     finished: Result<Transcript, SessionFault>,
@@ -24,9 +25,11 @@ pub fn conclude(
     start: Start,
 ) -> Result<Verdict, AllocError>
     ensures verdict { IfOk result (IsConclusion finished order.now (initial_of start)) }
-    ensures wire { (at : ℕ) (fault : WireFault) → finished ≡ Err (session.Wire at fault) → result ≡ Ok (verdict.Wire at fault) }
+    ensures wire { (at : ℕ) (fault : WireFault) → finished ≡ Err (session.Wire at fault) →
+        result ≡ Ok (verdict.Wire at fault) }
     // Yes is said of exactly the runs with this report that the order explains, no of the others.
-    ensures answers { IfOk result (λ v. (items : List Item) → IsRun items → IsReportOf items finished → Answers (pairs items) order.now (initial_of start) v) }
+    ensures answers { IfOk result (λ v. (items : List Item) → IsRun items → IsReportOf items finished →
+        Answers (pairs items) order.now (initial_of start) v) }
 {
     laws::verdicts_answer_runs();
     match finished {
@@ -45,10 +48,10 @@ fn verdict_on(
 ) -> Result<Verdict, AllocError>
     ensures { IfOk result (IsVerdict transcript.now order.now (initial_of start)) }
 {
-    // Told by the contract of `count`: the export is within the limit.
+    // Told by the contract of `count`: what the report says is sound.
     let _count = transcript.count();
     let Some((size, _)) = transcript.export() else {
-        let mut contents = Flat::new(alloc, 0, Start::Zeroes)?;
+        let mut contents = Extents::new(alloc, 0, Start::Zeroes)?;
         return judge(alloc, transcript, order, &mut contents);
     };
     if let Some(image) = image_len(&start) {
@@ -56,7 +59,7 @@ fn verdict_on(
             return Ok(Verdict::Image { image, size });
         }
     }
-    let mut contents = Flat::new(alloc, size, start)?;
+    let mut contents = Extents::new(alloc, size, start)?;
     judge(alloc, transcript, order, &mut contents)
 }
 

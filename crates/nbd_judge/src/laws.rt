@@ -6,7 +6,7 @@ ghost use Rattle.nbd_judge.specs.Uniqueness.{OneJudgement, OneVerdict};
 
 use nbd_laws::laws::{explained_exactly, latest_moments, same_reports};
 
-/// The contents behind the requests before `k`, each applied to those before it, are the export's bytes
+/// The contents after the requests before `k`, each applied to those before it, are the export's bytes
 /// when `k` is served, each looked up backwards.
 pub fn folding()
     ensures { Folding }

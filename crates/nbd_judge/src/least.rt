@@ -1,7 +1,7 @@
 //! The lesser of two numbers that may be absent.
 
 ghost use Rattle.std.specs.Prelude.{◌≡◌};
-ghost use Rattle.nbd_judge.specs.Lesser.{is_above, lesser_of};
+ghost use Rattle.nbd_judge.specs.internal.Lesser.{is_above, lesser_of};
 
 /// The lesser of two numbers, or the one that there is.
 pub fn lesser(a: Option<u64>, b: Option<u64>) -> Option<u64>

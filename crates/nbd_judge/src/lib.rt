@@ -16,7 +16,7 @@ mod tally;
 mod tests;
 pub mod verdict;
 
-pub use checking::{are_countable, check};
+pub use checking::check;
 pub use concluding::conclude;
 pub use judging::judge;
 pub use verdict::{OrderFault, Verdict};

@@ -1,11 +1,11 @@
 //! The faults of an order of service: each test is one pass over the order or over the requests.
 
 ghost use Rattle.std.specs.Prelude.{◌≡◌, ◌+◌, ℕ, IfOk, MatchOption, length};
-ghost use Rattle.nbd_wire.specs.Orders.{IsFirst, IsLate};
-ghost use Rattle.nbd_wire.specs.Report.{known_in};
-ghost use Rattle.nbd_wire.specs.Verdicts.{IsFaultless};
+ghost use Rattle.nbd_wire.specs.protocol.Orders.{IsFirst, IsLate};
+ghost use Rattle.nbd_wire.specs.protocol.Reports.{known_in};
+ghost use Rattle.nbd_wire.specs.protocol.Verdicts.{IsFaultless};
 ghost use Rattle.nbd_judge.specs.Orders.{IsOrderFault};
-ghost use Rattle.nbd_judge.specs.Seen.{IsTable, IsUnmarked};
+ghost use Rattle.nbd_judge.specs.internal.Seen.{IsTable, IsUnmarked};
 
 use crate::OrderFault;
 use crate::least::{exceeds, lesser};
@@ -19,7 +19,8 @@ pub fn order_fault(
     transcript: &Transcript,
     order: &[u64],
 ) -> Result<Option<(u64, OrderFault)>, AllocError>
-    ensures { IfOk result (λ found. MatchOption found (IsFaultless transcript.now order.now) (λ p. IsOrderFault transcript.now order.now p.0 p.1)) }
+    ensures { IfOk result (λ found. MatchOption found (IsFaultless transcript.now order.now)
+        (λ p. IsOrderFault transcript.now order.now p.0 p.1)) }
 {
     let table = match seen(alloc, transcript.count() as usize, order)? {
         Err(fault) => return Ok(Some(fault)),
@@ -67,7 +68,8 @@ fn known_at(transcript: &Transcript, k: u64) -> Option<u64>
 
 // The first entry that is late: one pass from the end, with the least count known so far.
 fn late(transcript: &Transcript, order: &[u64]) -> Option<u64>
-    ensures { MatchOption result ((i : ℕ) → IsLate (known_in transcript.now) order.now i → ⊥) (λ e. (i : ℕ) × (e ≡ i + 1) × IsFirst (IsLate (known_in transcript.now) order.now) i) }
+    ensures { MatchOption result ((i : ℕ) → IsLate (known_in transcript.now) order.now i → ⊥)
+        (λ e. (i : ℕ) × (e ≡ i + 1) × IsFirst (IsLate (known_in transcript.now) order.now) i) }
 {
     let mut found = None;
     let mut least = None;
@@ -85,7 +87,8 @@ fn late(transcript: &Transcript, order: &[u64]) -> Option<u64>
 
 // The least request to which a reply started and that the table does not mark.
 fn missing(transcript: &Transcript, table: &[bool]) -> Option<u64>
-    ensures { MatchOption result ((k : ℕ) → IsUnmarked (known_in transcript.now) table.now k → ⊥) (IsFirst (IsUnmarked (known_in transcript.now) table.now)) }
+    ensures { MatchOption result ((k : ℕ) → IsUnmarked (known_in transcript.now) table.now k →
+        ⊥) (IsFirst (IsUnmarked (known_in transcript.now) table.now)) }
 {
     for i in 0..table.len() {
         if !table[i] {

@@ -2,7 +2,7 @@
 
 ghost use Rattle.std.specs.Prelude.{◌≡◌, ℕ, IfOk, MatchOption};
 ghost use Rattle.nbd_laws.specs.Soundness.{IsSoundReport};
-ghost use Rattle.nbd_judge.specs.Orders.{IsOnce};
+ghost use Rattle.nbd_judge.specs.internal.Orders.{IsOnce};
 ghost use Rattle.nbd_judge.specs.Servable.{size_of};
 ghost use Rattle.nbd_judge.specs.Verdicts.{FirstWrongFrom, HasWrongFrom};
 
@@ -14,7 +14,7 @@ use std::alloc::AllocError;
 
 /// The first request in the order with a wrong byte, and its least wrong offset; None where no request
 /// has one. Each request is compared with what those before it left, by the outcomes that stand at the
-/// end of the session. Behind the first wrong byte and behind a refusal of memory the contents hold the
+/// end of the session. After the first wrong byte and after a refusal of memory the contents hold the
 /// effect of some entries.
 pub fn replay<C: Contents>(
     transcript: &Transcript,
@@ -24,7 +24,9 @@ pub fn replay<C: Contents>(
     requires once { IsOnce order.now }
     requires sound { IsSoundReport transcript.now }
     requires sized { C.size contents.old ≡ size_of transcript.now.export }
-    ensures { IfOk result (λ found. MatchOption found ((i : ℕ) → HasWrongFrom transcript.now order.now (C.byte contents.old) i → ⊥) (λ p. FirstWrongFrom transcript.now order.now (C.byte contents.old) p.0 p.1)) }
+    ensures { IfOk result (λ found. MatchOption found ((i : ℕ) →
+        HasWrongFrom transcript.now order.now (C.byte contents.old) i → ⊥)
+        (λ p. FirstWrongFrom transcript.now order.now (C.byte contents.old) p.0 p.1)) }
 {
     for i in 0..order.len() {
         let k = order[i];

@@ -1,14 +1,14 @@
 //! The counts of a yes.
 
 ghost use Rattle.std.specs.Prelude.{◌≡◌, not};
-ghost use Rattle.nbd_wire.specs.Verdicts as definitions;
+ghost use Rattle.nbd_wire.specs.protocol.Verdicts as definitions;
 ghost use Rattle.nbd_state.specs.Showing.{outcome_of};
 
 use nbd_session::{Outcome, Transcript};
 
 /// How many requests were finished, with success or with failure.
 pub fn answered(transcript: &Transcript) -> u64
-    ensures { result ≡ definitions.answered transcript.now }
+    ensures { result ≡ definitions.answered_count transcript.now }
 {
     let mut answered = 0;
     for i in 0..transcript.count() {
@@ -23,7 +23,7 @@ pub fn answered(transcript: &Transcript) -> u64
 
 /// How many requests were improper.
 pub fn improper(transcript: &Transcript) -> u64
-    ensures { result ≡ definitions.improper transcript.now }
+    ensures { result ≡ definitions.improper_count transcript.now }
 {
     let mut improper = 0;
     for i in 0..transcript.count() {

@@ -1,4 +1,5 @@
 //! Whole sessions, message by message, and their verdicts.
 
+mod countable;
 mod recordings;
 mod verdicts;

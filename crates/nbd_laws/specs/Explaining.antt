@@ -1,10 +1,11 @@
 -- When a capture is explained, from any one run with its bytes.
 use Rattle.std.specs.Prelude.{◌≡◌, ℕ, List}
-use Rattle.nbd_wire.specs.Explains.{Explained, Start}
-use Rattle.nbd_wire.specs.Items.{Item, Pair, pairs}
-use Rattle.nbd_wire.specs.Report.{report}
-use Rattle.nbd_wire.specs.Rules.{IsRun}
-use Rattle.nbd_wire.specs.Verdicts.{Passes, answered, improper, requests}
+use Rattle.nbd_wire.specs.protocol.Explains.{Explained, Start}
+use Rattle.nbd_wire.specs.protocol.Marks.{Item, pairs}
+use Rattle.nbd_wire.specs.protocol.Captures.{Pair}
+use Rattle.nbd_wire.specs.protocol.Reports.{report}
+use Rattle.nbd_wire.specs.protocol.Rules.{IsRun}
+use Rattle.nbd_wire.specs.protocol.Verdicts.{Passes, answered_count, improper_count, request_count}
 
 -- where a run passes the tests, its bytes are explained
 abbrev pub PassingIsExplained : Type 0
@@ -16,9 +17,9 @@ ExplainedPasses = (items : List Item) (order : List ℕ) (initial : Start) → I
 
 -- the counts of a yes, the same for each run with these bytes
 pub record HasCounts (capture : List Pair) (of_requests of_answered of_improper : ℕ) : Type 0 where
-  pub requests_are : (items : List Item) → IsRun items → pairs items ≡ capture → requests (report items) ≡ of_requests
-  pub answered_are : (items : List Item) → IsRun items → pairs items ≡ capture → answered (report items) ≡ of_answered
-  pub improper_are : (items : List Item) → IsRun items → pairs items ≡ capture → improper (report items) ≡ of_improper
+  pub requests_are : (items : List Item) → IsRun items → pairs items ≡ capture → request_count (report items) ≡ of_requests
+  pub answered_are : (items : List Item) → IsRun items → pairs items ≡ capture → answered_count (report items) ≡ of_answered
+  pub improper_are : (items : List Item) → IsRun items → pairs items ≡ capture → improper_count (report items) ≡ of_improper
 
 -- the answer to a capture is yes with these counts
 pub record IsYes (capture : List Pair) (order : List ℕ) (initial : Start) (of_requests of_answered of_improper : ℕ) : Type 0 where

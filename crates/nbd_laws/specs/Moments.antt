@@ -1,15 +1,15 @@
 -- The moments of service that a run may have are those of an order without a fault.
 use Rattle.std.specs.Prelude.{◌≡◌, ℕ, List}
-use Rattle.nbd_wire.specs.Items.{Item, pairs, served}
-use Rattle.nbd_wire.specs.Report.{report}
-use Rattle.nbd_wire.specs.Rules.{IsRun}
-use Rattle.nbd_wire.specs.Verdicts.{IsFaultless}
+use Rattle.nbd_wire.specs.protocol.Marks.{Item, pairs, service_order}
+use Rattle.nbd_wire.specs.protocol.Reports.{report}
+use Rattle.nbd_wire.specs.protocol.Rules.{IsRun}
+use Rattle.nbd_wire.specs.protocol.Verdicts.{IsFaultless}
 
 -- where the order has no fault, a run with the same bytes is served in it
 abbrev pub LatestMoments : Type 0
 LatestMoments = (items : List Item) (order : List ℕ) → IsRun items → IsFaultless (report items) order →
-    (items' : List Item) × IsRun items' × (pairs items' ≡ pairs items) × (served items' ≡ order)
+    (items' : List Item) × IsRun items' × (pairs items' ≡ pairs items) × (service_order items' ≡ order)
 
 -- the order in which a run is served has no fault
 abbrev pub OrdersAreFaultless : Type 0
-OrdersAreFaultless = (items : List Item) → IsRun items → IsFaultless (report items) (served items)
+OrdersAreFaultless = (items : List Item) → IsRun items → IsFaultless (report items) (service_order items)

@@ -6,11 +6,12 @@ use Rattle.nbd_wire.specs.declared.options.TheConstants as options
 use Rattle.nbd_wire.specs.declared.message.Message.{Message}
 use Rattle.nbd_wire.specs.declared.message.Message.TheVariants.{Greeting, ClientFlags, Choice, Answer}
 use Rattle.nbd_wire.specs.declared.message.Side.TheVariants.{Server}
-use Rattle.nbd_wire.specs.Items.{Item, Completes, completed}
-use Rattle.nbd_wire.specs.Options.{is_error, is_proper_option, last_info}
-use Rattle.nbd_wire.specs.Payloads.{info_of}
-use Rattle.nbd_wire.specs.Requests.{Exporting, has}
-use Rattle.nbd_wire.specs.Rules.{IsRun}
+use Rattle.nbd_wire.specs.protocol.Marks.{Item, Completes, completed_messages}
+use Rattle.nbd_wire.specs.protocol.Options.{is_error, is_proper_option, last_info}
+use Rattle.nbd_wire.specs.protocol.Payloads.{info_of}
+use Rattle.nbd_wire.specs.protocol.Operations.{Exporting}
+use Rattle.nbd_wire.specs.protocol.Flags.{has}
+use Rattle.nbd_wire.specs.protocol.Rules.{IsRun}
 
 -- the client speaks fixed newstyle, and takes NO_ZEROES at most, where it was offered
 abbrev pub AreFairFlags : (offered flags : ℕ) → Type 0
@@ -25,7 +26,7 @@ BeginsWithFlags offered messages = (messages ≡ []) ⊎ ((flags : ℕ) × (rest
 -- a session begins with a greeting of a server that speaks fixed newstyle and the client's flags
 abbrev pub HandshakesAreFair : Type 0
 HandshakesAreFair = (items : List Item) → IsRun items →
-    (completed items ≡ []) ⊎ ((flags : ℕ) × (rest : List Message) × (completed items ≡ Greeting flags ∷ rest) × IsTrue (has flags handshake.FIXED_NEWSTYLE) × BeginsWithFlags flags rest)
+    (completed_messages items ≡ []) ⊎ ((flags : ℕ) × (rest : List Message) × (completed_messages items ≡ Greeting flags ∷ rest) × IsTrue (has flags handshake.FIXED_NEWSTYLE) × BeginsWithFlags flags rest)
 
 -- an option with its data
 pub record Chosen : Type 0 where
@@ -33,19 +34,19 @@ pub record Chosen : Type 0 where
   pub payload : List ℕ
 
 -- the option that was chosen last, at first this one
-abbrev pub choice_behind : Option Chosen → List Message → Option Chosen
-choice_behind last [] = last
-choice_behind last (Choice id payload ∷ messages) = choice_behind (Some (record { option = id; payload = payload })) messages
-choice_behind last (m ∷ messages) = choice_behind last messages
+abbrev pub choice_after : Option Chosen → List Message → Option Chosen
+choice_after last [] = last
+choice_after last (Choice id payload ∷ messages) = choice_after (Some (record { option = id; payload = payload })) messages
+choice_after last (m ∷ messages) = choice_after last messages
 
 -- the last info on an export since an option was chosen, at first this one
-abbrev pub info_behind : Option Exporting → List Message → Option Exporting
-info_behind last [] = last
-info_behind last (Choice id payload ∷ messages) = info_behind None messages
-info_behind last (Answer option kind payload ∷ messages) = info_behind (if kind == answers.INFO then last_info (info_of payload) last else last) messages
-info_behind last (m ∷ messages) = info_behind last messages
+abbrev pub info_after : Option Exporting → List Message → Option Exporting
+info_after last [] = last
+info_after last (Choice id payload ∷ messages) = info_after None messages
+info_after last (Answer option kind payload ∷ messages) = info_after (if kind == answers.INFO then last_info (info_of payload) last else last) messages
+info_after last (m ∷ messages) = info_after last messages
 
--- what may be acknowledged: ABORT, LIST and STRUCTURED_REPLY, and behind an info on an export INFO and GO
+-- what may be acknowledged: ABORT, LIST and STRUCTURED_REPLY, and after an info on an export INFO and GO
 abbrev pub IsAcknowledged : (option : ℕ) (info : Option Exporting) → Type 0
 IsAcknowledged option info =
     (option ≡ options.ABORT) ⊎ (option ≡ options.LIST) ⊎ (option ≡ options.STRUCTURED_REPLY)
@@ -62,5 +63,5 @@ IsAnswer asked info kind payload =
 
 -- an answer is one to the option that was chosen last
 abbrev pub AnswersFollowChoices : Type 0
-AnswersFollowChoices = (front back : List Item) (option kind : ℕ) (payload : List ℕ) → IsRun (front ++ Completes Server (Answer option kind payload) ∷ back) →
-    (asked : Chosen) × (choice_behind None (completed front) ≡ Some asked) × (asked.option ≡ option) × IsAnswer asked (info_behind None (completed front)) kind payload
+AnswersFollowChoices = (prefix back : List Item) (option kind : ℕ) (payload : List ℕ) → IsRun (prefix ++ Completes Server (Answer option kind payload) ∷ back) →
+    (asked : Chosen) × (choice_after None (completed_messages prefix) ≡ Some asked) × (asked.option ≡ option) × IsAnswer asked (info_after None (completed_messages prefix)) kind payload

@@ -1,12 +1,12 @@
 -- The bytes of a run determine all of it but the moments of service.
 use Rattle.std.specs.Prelude.{◌≡◌, List}
-use Rattle.nbd_wire.specs.Items.{Item, pairs, unserved}
-use Rattle.nbd_wire.specs.Report.{report}
-use Rattle.nbd_wire.specs.Rules.{IsRun}
+use Rattle.nbd_wire.specs.protocol.Marks.{Item, pairs, without_service}
+use Rattle.nbd_wire.specs.protocol.Reports.{report}
+use Rattle.nbd_wire.specs.protocol.Rules.{IsRun}
 
 -- runs with the same bytes have the same marks at the same places, but for those of service
 abbrev pub SameMarks : Type 0
-SameMarks = (items items' : List Item) → IsRun items → IsRun items' → pairs items ≡ pairs items' → unserved items ≡ unserved items'
+SameMarks = (items items' : List Item) → IsRun items → IsRun items' → pairs items ≡ pairs items' → without_service items ≡ without_service items'
 
 -- runs with the same bytes have the same report
 abbrev pub SameReports : Type 0
@@ -14,4 +14,4 @@ SameReports = (items items' : List Item) → IsRun items → IsRun items' → pa
 
 -- the report does not depend on where requests are served
 abbrev pub ReportsIgnoreService : Type 0
-ReportsIgnoreService = (items items' : List Item) → unserved items ≡ unserved items' → report items ≡ report items'
+ReportsIgnoreService = (items items' : List Item) → without_service items ≡ without_service items' → report items ≡ report items'

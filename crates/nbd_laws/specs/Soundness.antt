@@ -5,10 +5,12 @@ use Rattle.nbd_wire.specs.declared.commands.TheConstants as commands
 use Rattle.nbd_wire.specs.declared.limits.TheConstants.{EXPORT_SIZE}
 use Rattle.nbd_wire.specs.declared.transmission.TheConstants as transmission
 use Rattle.nbd_wire.specs.declared.payloads.Piece.{Piece}
-use Rattle.nbd_wire.specs.Items.{Item}
-use Rattle.nbd_wire.specs.Report.{Asked, Report, asked_at, report}
-use Rattle.nbd_wire.specs.Requests.{Exporting, Success, byte_at, has, has_range, holds, is_in, piece_offset, piece_size}
-use Rattle.nbd_wire.specs.Rules.{IsRun}
+use Rattle.nbd_wire.specs.protocol.Marks.{Item}
+use Rattle.nbd_wire.specs.protocol.Reports.{Asked, Report, asked_at, report}
+use Rattle.nbd_wire.specs.protocol.Operations.{Exporting, Success, has_range}
+use Rattle.nbd_wire.specs.protocol.Pieces.{byte_at, holds, is_in, piece_offset, piece_size}
+use Rattle.nbd_wire.specs.protocol.Flags.{has}
+use Rattle.nbd_wire.specs.protocol.Rules.{IsRun}
 
 -- the pieces of a READ lie in its range, and no two of them share an offset
 pub record AreLaid (offset len : ℕ) (pieces : List Piece) : Type 0 where
@@ -17,7 +19,7 @@ pub record AreLaid (offset len : ℕ) (pieces : List Piece) : Type 0 where
 
 -- of request k of a report of `count` requests to an export of this size
 pub record IsSoundAsked (size count k : ℕ) (a : Asked) : Type 0 where
-  -- its first reply started behind its own completion, and it counted the requests that had completed
+  -- its first reply started after its own completion, and it counted the requests that had completed
   pub known : (n : ℕ) → a.known_at ≡ Some n → (k ≤ n) × (n ≤ count)
   -- a WRITE carries as many bytes as it says
   pub carried : a.command ≡ commands.WRITE → length a.payload ≡ a.length

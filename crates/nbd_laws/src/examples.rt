@@ -1,13 +1,13 @@
 //! Worked examples: small captures that an order of service explains, or does not. The captures stand
 //! in specs/Captures.antt and the files beside it.
 ghost use Rattle.std.specs.Prelude.{◌≡◌, ℕ, List, [], ◌∷◌, length};
-ghost use Rattle.nbd_wire.specs.Explains.{Image, Start, Unknown, Zeroes};
-ghost use Rattle.nbd_wire.specs.Items.{Pair, flat};
-ghost use Rattle.nbd_laws.specs.Captures as captures;
-ghost use Rattle.nbd_laws.specs.CapturesReads as reads;
-ghost use Rattle.nbd_laws.specs.CapturesChunks as chunks;
-ghost use Rattle.nbd_laws.specs.CapturesRequests as requests;
-ghost use Rattle.nbd_laws.specs.CapturesOptions as options;
+ghost use Rattle.nbd_wire.specs.protocol.Explains.{Image, Start, Unknown, Zeroes};
+ghost use Rattle.nbd_wire.specs.protocol.Captures.{Pair, flat};
+ghost use Rattle.nbd_laws.specs.captures.Openings as captures;
+ghost use Rattle.nbd_laws.specs.captures.Reads as reads;
+ghost use Rattle.nbd_laws.specs.captures.Chunks as chunks;
+ghost use Rattle.nbd_laws.specs.captures.Requests as requests;
+ghost use Rattle.nbd_laws.specs.captures.Options as options;
 ghost use Rattle.nbd_laws.specs.Explaining.{IsNo, IsYes};
 
 /// A READ of four zeroes is explained by its service.
@@ -31,7 +31,7 @@ pub fn read_before_reply()
     ensures { IsYes (flat reads.read_before_reply) (1 ∷ 2 ∷ []) Zeroes 2 2 0 }
 {}
 
-/// A READ behind a WRITE that fails may show any bytes.
+/// A READ after a WRITE that fails may show any bytes.
 pub fn failed_write()
     ensures { IsYes (flat reads.failed_write) (1 ∷ 2 ∷ []) Zeroes 2 2 0 }
 {}
@@ -51,7 +51,7 @@ pub fn read_first()
     ensures { IsYes (flat reads.read_first) (1 ∷ 2 ∷ []) Zeroes 2 2 0 }
 {}
 
-/// A request that comes behind the reply to another is served behind it.
+/// A request that comes after the reply to another is served after it.
 pub fn two_reads()
     ensures yes { IsYes (flat reads.two_reads) (1 ∷ 2 ∷ []) Zeroes 2 2 0 }
     ensures late { IsNo (flat reads.two_reads) (2 ∷ 1 ∷ []) Zeroes }
@@ -85,7 +85,7 @@ pub fn shared_cookie()
     ensures { IsYes (flat reads.shared_cookie) (1 ∷ 2 ∷ []) Zeroes 2 2 0 }
 {}
 
-/// Behind a DISC the server may answer what is outstanding.
+/// After a DISC the server may answer what is outstanding.
 pub fn disconnected()
     ensures { IsYes (flat reads.disconnected) (1 ∷ 2 ∷ []) Zeroes 2 2 0 }
 {}

@@ -1,12 +1,13 @@
 //! Laws over the definitions of nbd_wire: each is the contract of a function that does nothing.
 ghost use Rattle.nbd_laws.specs.Soundness.{ReportsAreSound};
-ghost use Rattle.nbd_laws.specs.Fronts.{CompletionsStandBehindBytes, FrontsAreRuns, NoProperFront, StartsStandBeforeBytes};
+ghost use Rattle.nbd_laws.specs.Bytes.{OpenBytesEndRuns, RunsHoldEachSide};
+ghost use Rattle.nbd_laws.specs.Prefixes.{CompletionsStandAfterBytes, PrefixesAreRuns, NoProperPrefix, StartsStandBeforeBytes};
 ghost use Rattle.nbd_laws.specs.Holding.{CutsDoNotCount, PushedHoldsEachSide};
 ghost use Rattle.nbd_laws.specs.Moments.{LatestMoments, OrdersAreFaultless};
 ghost use Rattle.nbd_laws.specs.Negotiating.{AnswersFollowChoices, HandshakesAreFair};
 ghost use Rattle.nbd_laws.specs.Replying.{RepliesAreWhole};
 ghost use Rattle.nbd_laws.specs.Sameness.{SameMarks, SameReports, ReportsIgnoreService};
-ghost use Rattle.nbd_laws.specs.Service.{CookiesAreDistinct, DisconnectsAreEmpty, EachReplyAnswersOne, EmptyIsExplained, NothingBehindDisconnect, RepliesEndAsTheyStart, ServedOnceBehindCompletion};
+ghost use Rattle.nbd_laws.specs.Service.{CookiesAreDistinct, DisconnectsAreEmpty, EachReplyAnswersOne, EmptyIsExplained, NothingAfterDisconnect, RepliesEndAsTheyStart, ServedOnceAfterCompletion};
 ghost use Rattle.nbd_laws.specs.Explaining.{PassingIsExplained, ExplainedPasses};
 
 /// A run with given bytes and a given order of service exists exactly where a run with these bytes
@@ -36,15 +37,15 @@ pub fn empty_is_explained()
     ensures { EmptyIsExplained }
 {}
 
-/// Of two messages of one side that may complete in one state, neither's bytes are a proper front of
+/// Of two messages of one side that may complete in one state, neither's bytes are a proper prefix of
 /// the other's, and equal bytes are of one message.
-pub fn no_proper_front()
-    ensures { NoProperFront }
+pub fn no_proper_prefix()
+    ensures { NoProperPrefix }
 {}
 
-/// A front of a run at which no message is open is a run.
-pub fn fronts_are_runs()
-    ensures { FrontsAreRuns }
+/// A prefix of a run at which no message is open is a run.
+pub fn prefixes_are_runs()
+    ensures { PrefixesAreRuns }
 {}
 
 /// At no moment of a run two outstanding requests have one cookie.
@@ -59,8 +60,8 @@ pub fn each_reply_answers_one()
 {}
 
 /// The served numbers are distinct, each that of a request that had completed.
-pub fn served_once_behind_completion()
-    ensures { ServedOnceBehindCompletion }
+pub fn served_once_after_completion()
+    ensures { ServedOnceAfterCompletion }
 {}
 
 /// A capture is explained exactly where a run with its bytes, whichever, has an order without a
@@ -71,7 +72,7 @@ pub fn explained_exactly()
 {}
 
 /// The report of a run has an export within the limit, if any, and each of its requests was first
-/// answered behind its completion, carries as many bytes as it says, is proper where it succeeded,
+/// answered after its completion, carries as many bytes as it says, is proper where it succeeded,
 /// and where it is a READ has pieces in its range that share no offset and, at success, cover it.
 pub fn reports_are_sound()
     ensures { ReportsAreSound }
@@ -82,9 +83,9 @@ pub fn starts_stand_before_bytes()
     ensures { StartsStandBeforeBytes }
 {}
 
-/// A message completes directly behind a byte of its side.
-pub fn completions_stand_behind_bytes()
-    ensures { CompletionsStandBehindBytes }
+/// A message completes directly after a byte of its side.
+pub fn completions_stand_after_bytes()
+    ensures { CompletionsStandAfterBytes }
 {}
 
 /// A DISC has offset 0 and length 0.
@@ -92,9 +93,9 @@ pub fn disconnects_are_empty()
     ensures { DisconnectsAreEmpty }
 {}
 
-/// The client starts nothing behind a DISC.
-pub fn nothing_behind_disconnect()
-    ensures { NothingBehindDisconnect }
+/// The client starts nothing after a DISC.
+pub fn nothing_after_disconnect()
+    ensures { NothingAfterDisconnect }
 {}
 
 /// The replies to a request have its cookie and are one simple reply, or chunks of which only the last
@@ -110,7 +111,7 @@ pub fn handshakes_are_fair()
 
 /// An answer is one to the option that was chosen last: an error, or where the option's data has its
 /// form an ACK without payload, a name for LIST, an info for INFO and GO. The ACK to INFO or GO comes
-/// behind an info on an export.
+/// after an info on an export.
 pub fn answers_follow_choices()
     ensures { AnswersFollowChoices }
 {}
@@ -120,7 +121,7 @@ pub fn cuts_do_not_count()
     ensures { CutsDoNotCount }
 {}
 
-/// What a session holds gives back each side's bytes: its messages' encodings and what came behind them.
+/// What a session holds gives back each side's bytes: its messages' encodings and what came after them.
 pub fn pushed_holds_each_side()
     ensures { PushedHoldsEachSide }
 {}
@@ -129,4 +130,16 @@ pub fn pushed_holds_each_side()
 /// request.
 pub fn replies_end_as_they_start()
     ensures { RepliesEndAsTheyStart }
+{}
+
+/// Each side's bytes in a run but for open bytes are the encodings of its completed messages, and after them the
+/// open ones.
+pub fn runs_hold_each_side()
+    ensures { RunsHoldEachSide }
+{}
+
+/// A run but for open bytes is worth a run: one with the same completed messages, whose bytes are those without the
+/// open ones.
+pub fn open_bytes_end_runs()
+    ensures { OpenBytesEndRuns }
 {}

@@ -6,7 +6,4 @@
 #![tactic(auto)]
 
 pub mod examples;
-pub mod fault;
 pub mod laws;
-
-pub use fault::WireFault;

@@ -2,7 +2,7 @@
 use Rattle.std.specs.Prelude.{List, ℕ, ◌⊎◌, Option}
 use Rattle.std.specs.Io.KnownBytes.{Appends, Keeps}
 use Rattle.nbd_wire.specs.declared.message.Message.{Message}
-use Rattle.nbd_capture.specs.Writing.{AppendsFront}
+use Rattle.nbd_capture.specs.Writing.{AppendsPrefix}
 use Rattle.nbd_lines.specs.declared.making.MakeFault.{MakeFault}
 use Rattle.nbd_lines.specs.declared.making.MakeFault.TheVariants as make_faults
 use Rattle.nbd_lines.specs.declared.output.OutputFault.{OutputFault}
@@ -11,7 +11,7 @@ use Rattle.nbd_lines.specs.declared.script.ScriptFault.{ScriptFault}
 use Rattle.nbd_lines.specs.declared.script.ScriptFault.TheVariants as script_faults
 use Rattle.nbd_lines.specs.Script.{IsFirstBadScriptLine, IsScript, chunk_lines}
 
--- a line fault names the first bad line; want of memory says nothing of the text
+-- a line fault names the first bad line; out of memory says nothing of the text
 abbrev pub IsScriptFault : List ℕ → ScriptFault → Type 0
 IsScriptFault text (script_faults.Line n) = IsFirstBadScriptLine text n
 IsScriptFault text script_faults.Memory = Unit {0}
@@ -30,9 +30,9 @@ of_output output_faults.Memory = make_faults.Memory
 abbrev pub Makes : List ℕ → Option (List ℕ) → Option (List ℕ) → Type 0
 Makes text old new = (messages : List Message) × IsScript text messages × Appends old new (chunk_lines messages)
 
--- the text is a script, and the known bytes grew by a front of its messages' chunk lines
-abbrev pub MakesFront : List ℕ → Option (List ℕ) → Option (List ℕ) → Type 0
-MakesFront text old new = (messages : List Message) × IsScript text messages × AppendsFront old new (chunk_lines messages)
+-- the text is a script, and the known bytes grew by a prefix of its messages' chunk lines
+abbrev pub MakesPrefix : List ℕ → Option (List ℕ) → Option (List ℕ) → Type 0
+MakesPrefix text old new = (messages : List Message) × IsScript text messages × AppendsPrefix old new (chunk_lines messages)
 
 -- what a fault of `make` says of the text
 abbrev pub IsMakeCause : List ℕ → MakeFault → Type 0
@@ -40,8 +40,8 @@ IsMakeCause text (make_faults.Line n) = IsFirstBadScriptLine text n
 IsMakeCause text make_faults.Write = (messages : List Message) × IsScript text messages
 IsMakeCause text make_faults.Memory = Unit {0}
 
--- what stands written after a fault of `make`: nothing unless the text is a script, and then a front of its chunk lines
+-- what stands written after a fault of `make`: nothing unless the text is a script, and then a prefix of its chunk lines
 abbrev pub LeavesMade : List ℕ → Option (List ℕ) → Option (List ℕ) → MakeFault → Type 0
 LeavesMade text old new (make_faults.Line n) = Keeps old new
-LeavesMade text old new make_faults.Write = MakesFront text old new
-LeavesMade text old new make_faults.Memory = Keeps old new ⊎ MakesFront text old new
+LeavesMade text old new make_faults.Write = MakesPrefix text old new
+LeavesMade text old new make_faults.Memory = Keeps old new ⊎ MakesPrefix text old new

@@ -1,7 +1,5 @@
-pub mod Table
+pub mod Faults
 pub mod Line
 pub mod Script
-pub mod Printing
-pub mod Reading
-pub mod Faults
-pub mod Steps
+pub mod Table
+pub mod internal

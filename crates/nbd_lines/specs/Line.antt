@@ -26,7 +26,7 @@ AreWithin [] [] = Unit {0}
 AreWithin (f ∷ fs) (n ∷ ns) = (n ≤ f.most) × AreWithin fs ns
 AreWithin _ _ = ⊥
 
--- what stands in front of a payload's digits
+-- what stands before a payload's digits
 abbrev pub payload_words : List ℕ
 payload_words = codes " payload="
 

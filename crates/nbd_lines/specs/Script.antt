@@ -1,14 +1,14 @@
 -- Scripts: what `make` reads and writes, and what `show` writes. The formats are this project's choice.
 use Rattle.std.specs.Prelude.{ℕ, List, [], ◌∷◌, ◌++◌, codes, flat_map}
 use Rattle.nbd_wire.specs.declared.message.Message.{Message}
-use Rattle.nbd_wire.specs.Encoding.{enc}
-use Rattle.nbd_wire.specs.Fits.{FitsItsHead}
-use Rattle.nbd_wire.specs.Side.{side}
+use Rattle.nbd_wire.specs.protocol.Encoding.{enc}
+use Rattle.nbd_wire.specs.codec.Fits.{FitsItsHead}
+use Rattle.nbd_wire.specs.protocol.Sides.{side}
 use Rattle.nbd_capture.specs.Capture.{Chunk, chunk_line, hash}
 use Rattle.nbd_capture.specs.Lines.{line_feed, IsText, IsFirstBadLine}
 use Rattle.nbd_lines.specs.Line.{IsMessageLine, message_line}
 
--- the forms of a line: a message that fits its head; nothing; a `#`, and anything behind it; `ok`
+-- the forms of a line: a message that fits its head; nothing; a `#`, and anything after it; `ok`
 pub data IsScriptLine : List ℕ → List Message → Type 0 where
   message : (line : List ℕ) (m : Message) → IsMessageLine line m → FitsItsHead m → IsScriptLine line (m ∷ [])
   blank : IsScriptLine [] []

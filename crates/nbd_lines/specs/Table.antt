@@ -8,7 +8,7 @@ use Rattle.nbd_lines.specs.declared.forms.Form.TheVariants.{Greeting, ClientFlag
 use Rattle.nbd_lines.specs.declared.forms.Name.{Name}
 use Rattle.nbd_lines.specs.declared.forms.Name.TheVariants as names
 
--- the words in front: the sender's letter, and the kind of message
+-- the words at the beginning: the sender's letter, and the kind of message
 abbrev pub words : Form → List ℕ
 words Greeting = codes "S greeting"
 words ClientFlags = codes "C client-flags"
@@ -23,7 +23,7 @@ words Chunk = codes "S chunk"
 abbrev pub field : Name → ℕ → Field
 field n bits = record { name = n; most = 2 ^ bits - 1 }
 
--- the numbers behind the words, in order
+-- the numbers after the words, in order
 abbrev pub fields : Form → List Field
 fields Greeting = field names.Flags 16 ∷ []
 fields ClientFlags = field names.Flags 32 ∷ []
@@ -34,7 +34,7 @@ fields Request = field names.Flags 16 ∷ field names.Command 16 ∷ field names
 fields Simple = field names.Error 32 ∷ field names.Cookie 64 ∷ []
 fields Chunk = field names.Flags 16 ∷ field names.Kind 16 ∷ field names.Cookie 64 ∷ []
 
--- whether a payload stands behind the numbers
+-- whether a payload stands after the numbers
 abbrev pub has_payload : Form → Bool
 has_payload Greeting = false
 has_payload ClientFlags = false

@@ -3,23 +3,23 @@
 ghost use Rattle.std.specs.Prelude.{◌≡◌, ◌++◌, ◌<◌, ◌≤◌, ◌^◌, ◌↔◌, ℕ, List, IsTrue, MatchOption, length, take};
 ghost use Rattle.std.specs.Fmt.{decimal};
 ghost use Rattle.nbd_capture.specs.Order.{BeginsPlainly};
-ghost use Rattle.nbd_lines.specs.Reading.{BeginsNumber, BeginsNumbers, EndsWord, IsSpaceless, ReadsNumber, ReadsNumbers};
+ghost use Rattle.nbd_lines.specs.internal.Reading.{BeginsNumber, BeginsNumbers, EndsWord, IsSpaceless, ReadsNumber, ReadsNumbers};
 
 use crate::forms::Field;
 use crate::parts::MOST_NUMBERS;
 use memchr::memchr;
 use std::str;
 
-/// What stands behind this front of the text; `None` where the text begins otherwise.
-pub(crate) fn behind<'a>(front: &[u8], text: &'a [u8]) -> Option<&'a [u8]>
+/// What stands after this prefix of the text; `None` where the text begins otherwise.
+pub(crate) fn after_prefix<'a>(prefix: &[u8], text: &'a [u8]) -> Option<&'a [u8]>
     ensures { MatchOption result
-        ((rest : List ℕ) → text.now ≡ front.now ++ rest → ⊥)
-        (λ rest. text.now ≡ front.now ++ rest.now) }
+        ((rest : List ℕ) → text.now ≡ prefix.now ++ rest → ⊥)
+        (λ rest. text.now ≡ prefix.now ++ rest.now) }
 {
-    text.strip_prefix(front)
+    text.strip_prefix(prefix)
 }
 
-/// What stands behind these fields at the front of the text, with their numbers put into `numbers`; `None`
+/// What stands after these fields at the beginning of the text, with their numbers put into `numbers`; `None`
 /// where the text does not begin so.
 pub(crate) fn numbers_at<'a>(
     fields: &[Field],
@@ -33,22 +33,22 @@ pub(crate) fn numbers_at<'a>(
 {
     let mut rest = text;
     for (k, field) in fields.iter().enumerate() {
-        let (number, behind) = number_at(*field, rest)?;
+        let (number, after) = number_at(*field, rest)?;
         numbers[k] = number;
-        rest = behind;
+        rest = after;
     }
     Some(rest)
 }
 
-// The number of this field at the front of the text, and what stands behind it.
+// The number of this field at the beginning of the text, and what stands after it.
 fn number_at(field: Field, text: &[u8]) -> Option<(u64, &[u8])>
     ensures { MatchOption result
         ((n : ℕ) (rest : List ℕ) → BeginsNumber field n text.now rest → ⊥)
         (λ parts. ReadsNumber field parts.0 text.now parts.1.now) }
 {
-    let named = behind(b" ", text)?;
-    let valued = behind(field.name.text(), named)?;
-    let (digits, rest) = first_word(behind(b"=", valued)?);
+    let named = after_prefix(b" ", text)?;
+    let valued = after_prefix(field.name.text(), named)?;
+    let (digits, rest) = first_word(after_prefix(b"=", valued)?);
     let number = number_of(digits)?;
     if number > field.most {
         return None;
@@ -56,7 +56,7 @@ fn number_at(field: Field, text: &[u8]) -> Option<(u64, &[u8])>
     Some((number, rest))
 }
 
-// What stands in front of the first space of a text, and the rest of the text.
+// What stands before the first space of a text, and the rest of the text.
 fn first_word(text: &[u8]) -> (&[u8], &[u8])
     ensures spaceless { IsSpaceless result.0.now }
     ensures ends { EndsWord result.1.now }
@@ -66,7 +66,7 @@ fn first_word(text: &[u8]) -> (&[u8], &[u8])
     text.split_at(end)
 }
 
-// The number that these digits are, without a zero in front of other digits.
+// The number that these digits are, without a leading zero.
 fn number_of(digits: &[u8]) -> Option<u64>
     ensures { MatchOption result
         ((n : ℕ) → n < 2 ^ 64 → digits.now ≡ decimal n → ⊥)

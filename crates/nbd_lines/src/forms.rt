@@ -177,7 +177,7 @@ impl Form {
         }
     }
 
-    /// The numbers behind the words, in order.
+    /// The numbers after the words, in order.
     pub fn fields(self) -> &'static [Field]
         ensures { result.now ≡ fields self }
     {

@@ -3,8 +3,8 @@
 ghost use Rattle.std.specs.Prelude.{◌≡◌, ◌⊎◌, ◌++◌, ℕ, List, codes, map};
 ghost use Rattle.std.specs.List.{AllByRecursion};
 ghost use Rattle.nbd_wire.specs.declared.message.Message.{Message};
-ghost use Rattle.nbd_wire.specs.Fits.{FitsItsHead};
-ghost use Rattle.nbd_wire.specs.Sendable.{IsSendable};
+ghost use Rattle.nbd_wire.specs.codec.Fits.{FitsItsHead};
+ghost use Rattle.nbd_wire.specs.protocol.Sendable.{IsSendable};
 ghost use Rattle.nbd_capture.specs.Capture.{IsCaptureText};
 ghost use Rattle.nbd_lines.specs.Line.{IsMessageLine, message_line};
 ghost use Rattle.nbd_lines.specs.Script.{IsFirstBadScriptLine, IsScript, chunk_lines, made_chunk, message_lines};
@@ -23,7 +23,8 @@ pub fn one_script_reading()
 
 /// A text with a bad script line has no reading as a script.
 pub fn no_script_with_a_bad_line()
-    ensures { (text : List ℕ) (n : ℕ) (messages : List Message) → IsFirstBadScriptLine text n → IsScript text messages → ⊥ }
+    ensures { (text : List ℕ) (n : ℕ) (messages : List Message) → IsFirstBadScriptLine text n →
+        IsScript text messages → ⊥ }
 {}
 
 /// A text has one first bad script line at most.
@@ -33,7 +34,8 @@ pub fn one_first_bad_script_line()
 
 /// Each text has a reading as a script, or a first bad script line.
 pub fn script_or_bad_line()
-    ensures { (text : List ℕ) → ((messages : List Message) × IsScript text messages) ⊎ ((n : ℕ) × IsFirstBadScriptLine text n) }
+    ensures { (text : List ℕ) → ((messages : List Message) × IsScript text messages)
+        ⊎ ((n : ℕ) × IsFirstBadScriptLine text n) }
 {}
 
 /// The line that `append_line` prints of a message that can be sent stands for that message.
@@ -43,18 +45,21 @@ pub fn printed_lines_are_read()
 
 /// The lines that `show` writes of messages that can be sent are a script of these messages.
 pub fn shown_messages_are_a_script()
-    ensures { (messages : List Message) → AllByRecursion IsSendable messages → IsScript (message_lines messages) messages }
+    ensures { (messages : List Message) → AllByRecursion IsSendable messages →
+        IsScript (message_lines messages) messages }
 {}
 
-/// So are they with a line `ok` behind them.
+/// So are they with a line `ok` after them.
 pub fn shown_messages_and_ok_are_a_script()
-    ensures { (messages : List Message) → AllByRecursion IsSendable messages → IsScript (message_lines messages ++ codes "ok\n") messages }
+    ensures { (messages : List Message) → AllByRecursion IsSendable messages →
+        IsScript (message_lines messages ++ codes "ok\n") messages }
 {}
 
 /// The lines that `make` writes of messages that can be sent are a capture: a chunk for each message, its
 /// sender's, with all of its bytes.
 pub fn made_lines_are_a_capture()
-    ensures { (messages : List Message) → AllByRecursion IsSendable messages → IsCaptureText (chunk_lines messages) (map made_chunk messages) }
+    ensures { (messages : List Message) → AllByRecursion IsSendable messages →
+        IsCaptureText (chunk_lines messages) (map made_chunk messages) }
 {
     written_chunks_are_read();
 }

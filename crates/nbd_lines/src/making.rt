@@ -15,10 +15,10 @@ pub enum MakeFault {
     /// The line with this number, from 1, is the script's first bad one. Nothing was written.
     #[error("script line {0}")]
     Line(u64),
-    /// The writer failed, or took no byte. A front of the chunk lines stands written.
+    /// The writer failed, or took no byte. A prefix of the chunk lines stands written.
     #[error("write")]
     Write,
-    /// An allocation was refused. A front of the chunk lines, possibly nothing, stands written.
+    /// An allocation was refused. A prefix of the chunk lines, possibly nothing, stands written.
     #[error("memory")]
     Memory,
 }
@@ -49,7 +49,7 @@ impl From<OutputFault> for MakeFault {
 /// all of its bytes in lower case digits.
 ///
 /// Nothing is written unless the whole script is well formed. What stands written is said where the writer
-/// tells its bytes.
+/// states its bytes.
 pub fn make<W: io::Write>(alloc: Global, script: &[u8], out: &mut W) -> Result<(), MakeFault>
     ensures written { OnOk result (Makes script.now (W.contents out.old) (W.contents out.new)) }
     ensures cause { IfErr result (IsMakeCause script.now) }

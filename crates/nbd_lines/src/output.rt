@@ -3,8 +3,8 @@
 ghost use Rattle.std.specs.Prelude.{◌≡◌, OnOk, OnErr};
 ghost use Rattle.std.specs.Io.KnownBytes.{Appends};
 ghost use Rattle.std.specs.List.{AllByRecursion};
-ghost use Rattle.nbd_wire.specs.Fits.{FitsItsHead};
-ghost use Rattle.nbd_capture.specs.Writing.{AppendsFront};
+ghost use Rattle.nbd_wire.specs.codec.Fits.{FitsItsHead};
+ghost use Rattle.nbd_capture.specs.Writing.{AppendsPrefix};
 ghost use Rattle.nbd_lines.specs.Script.{chunk_lines, message_lines};
 ghost use Rattle.nbd_lines.specs.declared.output.OutputFault.TheVariants.{Memory, Write};
 
@@ -44,8 +44,8 @@ impl From<WriteFault> for OutputFault {
 
 /// Writes the lines of these messages in their order, each with its LF.
 ///
-/// Each line is made in memory and written whole. After a fault a front of the lines, possibly nothing,
-/// stands written, and nothing is tried again. What stands is said where the writer tells its bytes.
+/// Each line is made in memory and written whole. After a fault a prefix of the lines, possibly nothing,
+/// stands written, and nothing is tried again. What stands is said where the writer states its bytes.
 pub fn show<W: io::Write>(
     alloc: Global,
     messages: &[Message],
@@ -54,7 +54,7 @@ pub fn show<W: io::Write>(
     ensures ok { OnOk result
         (Appends (W.contents out.old) (W.contents out.new) (message_lines messages.now)) }
     ensures err { OnErr result
-        (AppendsFront (W.contents out.old) (W.contents out.new) (message_lines messages.now)) }
+        (AppendsPrefix (W.contents out.old) (W.contents out.new) (message_lines messages.now)) }
 {
     let mut line = Vec::new(alloc);
     for message in messages {
@@ -69,8 +69,8 @@ pub fn show<W: io::Write>(
 /// Writes one chunk line for each of these messages, in their order: with its sender, and with all of its
 /// bytes in lower case digits.
 ///
-/// A message's bytes are made in memory first. After a fault a front of the lines, possibly nothing, stands
-/// written, and nothing is tried again. What stands is said where the writer tells its bytes.
+/// A message's bytes are made in memory first. After a fault a prefix of the lines, possibly nothing, stands
+/// written, and nothing is tried again. What stands is said where the writer states its bytes.
 pub fn write_chunks<W: io::Write>(
     alloc: Global,
     messages: &[Message],
@@ -80,7 +80,7 @@ pub fn write_chunks<W: io::Write>(
     ensures ok { OnOk result
         (Appends (W.contents out.old) (W.contents out.new) (chunk_lines messages.now)) }
     ensures err { OnErr result
-        (AppendsFront (W.contents out.old) (W.contents out.new) (chunk_lines messages.now)) }
+        (AppendsPrefix (W.contents out.old) (W.contents out.new) (chunk_lines messages.now)) }
 {
     let mut bytes = Vec::new(alloc);
     for message in messages {

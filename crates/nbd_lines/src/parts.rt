@@ -26,7 +26,7 @@ pub fn form_of(message: &Message) -> Form
     }
 }
 
-/// The numbers of a message in the order of its line, and zeroes behind them.
+/// The numbers of a message in the order of its line, and zeroes after them.
 pub fn numbers_of(message: &Message) -> [u64; MOST_NUMBERS]
     ensures { take (length (fields (line_form message.now))) result ≡ numbers message.now }
 {
@@ -78,7 +78,7 @@ pub fn payload_of(message: &Message) -> &[u8]
     }
 }
 
-/// The message of these parts. What stands behind the form's own numbers is not read.
+/// The message of these parts. What stands after the form's own numbers is not read.
 pub fn message_of(form: Form, values: [u64; MOST_NUMBERS], payload: Bytes) -> Message
     requires within { AreWithin (fields form) (take (length (fields form)) values) }
     requires carried { (has_payload form ≡ true) ⊎ (payload ≡ []) }

@@ -2,7 +2,7 @@
 
 ghost use Rattle.std.specs.Prelude.{◌≡◌, ◌≤◌, ◌++◌, OnOk, OnErr, length};
 ghost use Rattle.nbd_lines.specs.Line.{end_text, message_line, number_text, numbers_text};
-ghost use Rattle.nbd_lines.specs.Printing.{AddsFront};
+ghost use Rattle.nbd_lines.specs.internal.Printing.{AddsPrefix};
 
 use crate::forms::Field;
 use crate::parts::{MOST_NUMBERS, form_of, numbers_of, payload_of};
@@ -25,10 +25,10 @@ pub fn append_line(out: &mut Vec<u8>, message: &Message) -> Result<(), AllocErro
     added
 }
 
-// The same, but an error may leave a front of the line behind what `out` held.
+// The same, but an error may leave a prefix of the line after what `out` held.
 fn append_parts(out: &mut Vec<u8>, message: &Message) -> Result<(), AllocError>
     ensures ok { OnOk result (out.new.items ≡ out.old.items ++ message_line message.now) }
-    ensures err { OnErr result (AddsFront out.old.items out.new.items) }
+    ensures err { OnErr result (AddsPrefix out.old.items out.new.items) }
 {
     let form = form_of(message);
     out.extend_from_slice(form.words())?;
@@ -45,7 +45,7 @@ fn append_numbers(
 ) -> Result<(), AllocError>
     requires { length fields.now ≤ MOST_NUMBERS }
     ensures ok { OnOk result (out.new.items ≡ out.old.items ++ numbers_text fields.now numbers.now) }
-    ensures err { OnErr result (AddsFront out.old.items out.new.items) }
+    ensures err { OnErr result (AddsPrefix out.old.items out.new.items) }
 {
     for (k, field) in fields.iter().enumerate() {
         append_number(out, *field, numbers[k])?;
@@ -56,7 +56,7 @@ fn append_numbers(
 // Adds a field with its number.
 fn append_number(out: &mut Vec<u8>, field: Field, number: u64) -> Result<(), AllocError>
     ensures ok { OnOk result (out.new.items ≡ out.old.items ++ number_text field number) }
-    ensures err { OnErr result (AddsFront out.old.items out.new.items) }
+    ensures err { OnErr result (AddsPrefix out.old.items out.new.items) }
 {
     let mut buffer = Buffer::new();
     out.push(b' ')?;
@@ -68,7 +68,7 @@ fn append_number(out: &mut Vec<u8>, field: Field, number: u64) -> Result<(), All
 // Adds what ends the line: the payload in lower case digits, where there is one.
 fn append_end(out: &mut Vec<u8>, has_payload: bool, payload: &[u8]) -> Result<(), AllocError>
     ensures ok { OnOk result (out.new.items ≡ out.old.items ++ end_text has_payload payload.now) }
-    ensures err { OnErr result (AddsFront out.old.items out.new.items) }
+    ensures err { OnErr result (AddsPrefix out.old.items out.new.items) }
 {
     if !has_payload {
         return Ok(());

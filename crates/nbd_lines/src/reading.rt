@@ -2,12 +2,12 @@
 
 ghost use Rattle.std.specs.Prelude.{◌≡◌, ◌++◌, ℕ, List, IfOk, MatchOption};
 ghost use Rattle.nbd_wire.specs.declared.message.Message.{Message};
-ghost use Rattle.nbd_wire.specs.Fits.{FitsItsHead};
+ghost use Rattle.nbd_wire.specs.codec.Fits.{FitsItsHead};
 ghost use Rattle.nbd_lines.specs.declared.forms.Form.{Form};
 ghost use Rattle.nbd_lines.specs.Line.{IsEnd, IsMessageLine};
 ghost use Rattle.nbd_lines.specs.Table.{has_payload, words};
 
-use crate::fields::{behind, numbers_at};
+use crate::fields::{after_prefix, numbers_at};
 use crate::forms::{FORMS, Form};
 use crate::parts::{MOST_NUMBERS, message_of};
 use hex::FromHexError;
@@ -41,14 +41,14 @@ pub fn parse_message(alloc: Global, line: &[u8]) -> Result<Option<Message>, Allo
     }
 }
 
-// The form with whose words the line begins, and what stands behind them.
+// The form with whose words the line begins, and what stands after them.
 fn form_at(line: &[u8]) -> Option<(Form, &[u8])>
     ensures { MatchOption result
         ((form : Form) (rest : List ℕ) → line.now ≡ words form ++ rest → ⊥)
         (λ parts. line.now ≡ words parts.0 ++ parts.1.now) }
 {
     for form in &FORMS {
-        if let Some(rest) = behind(form.words(), line) {
+        if let Some(rest) = after_prefix(form.words(), line) {
             return Some((*form, rest));
         }
     }
@@ -67,7 +67,7 @@ fn end_at(alloc: Global, form: Form, end: &[u8]) -> Result<Option<Bytes>, AllocE
         }
         return Ok(Some(Bytes::new(Vec::new(alloc))));
     }
-    let Some(digits) = behind(b" payload=", end) else {
+    let Some(digits) = after_prefix(b" payload=", end) else {
         return Ok(None);
     };
     match hex::decode(alloc, digits) {

@@ -4,7 +4,7 @@ ghost use Rattle.std.specs.Prelude.{◌≡◌, ◌↔◌, [], List, IfOk, IfErr,
 ghost use Rattle.nbd_wire.specs.declared.message.Message.{Message};
 ghost use Rattle.nbd_lines.specs.Faults.{IsScriptFault};
 ghost use Rattle.nbd_lines.specs.Script.{IsScript, IsScriptLine};
-ghost use Rattle.nbd_lines.specs.Steps.{IsLineFault, said_by};
+ghost use Rattle.nbd_lines.specs.internal.Steps.{IsLineFault, said_by};
 ghost use Rattle.nbd_lines.specs.declared.script.ScriptFault.TheVariants.{Memory};
 
 use crate::reading::parse_message;
@@ -16,8 +16,8 @@ use thiserror::Error;
 /// Why a script gave no messages. Nothing is kept of a text after a fault.
 #[derive(Clone, Copy, Debug, PartialEq, Eq, Drop, Error)]
 pub enum ScriptFault {
-    /// The line with this number, from 1, is the first bad one: it has no form, its message has no encoding,
-    /// or no LF stands behind it.
+    /// The line with this number, from 1, is the first bad one: it is malformed, its message has no encoding,
+    /// or no LF stands after it.
     #[error("script line {0}")]
     Line(u64),
     /// An allocation was refused.
@@ -45,7 +45,7 @@ impl From<AllocError> for ScriptFault {
 ///
 /// A text is a sequence of lines, each ended by LF. A message line stands for its message, which has to have
 /// an encoding. An empty line, one that begins with `#` and one that is exactly `ok` stand for none. This
-/// format is this project's choice. The text is read once, from its front. Memory may run out before a bad
+/// format is this project's choice. The text is read once, from its beginning. Memory may run out before a bad
 /// line is reached.
 pub fn parse_script(alloc: Global, text: &[u8]) -> Result<Vec<Message>, ScriptFault>
     ensures messages { IfOk result (λ messages. IsScript text.now messages.items) }
@@ -59,11 +59,11 @@ pub fn parse_script(alloc: Global, text: &[u8]) -> Result<Vec<Message>, ScriptFa
     let mut number = 0;
     while !rest.is_empty() {
         number += 1;
-        let (line, behind) = first_line(rest).ok_or(ScriptFault::Line(number))?;
+        let (line, after) = first_line(rest).ok_or(ScriptFault::Line(number))?;
         if let Some(message) = message_on(alloc, line, number)? {
             messages.push(message)?;
         }
-        rest = behind;
+        rest = after;
     }
     Ok(messages)
 }

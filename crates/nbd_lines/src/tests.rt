@@ -154,11 +154,7 @@ fn skips_the_lines_without_a_message(rt: HostRuntime) -> Result<(), Fail> {
 #[test]
 fn names_the_first_bad_line_and_writes_nothing(rt: HostRuntime) {
     for (name, text, line) in [
-        (
-            "a zero in front",
-            b"C client-flags flags=03\n".as_slice(),
-            1,
-        ),
+        ("a leading zero", b"C client-flags flags=03\n".as_slice(), 1),
         ("a number past 16 bits", b"S greeting flags=65536\n", 1),
         (
             "a number past 32 bits",
@@ -180,7 +176,7 @@ fn names_the_first_bad_line_and_writes_nothing(rt: HostRuntime) {
             b"S greeting flags=3\nS greeting  flags=3\n",
             2,
         ),
-        ("a space in front", b" S greeting flags=3\n", 1),
+        ("a leading space", b" S greeting flags=3\n", 1),
         ("a space behind", b"S greeting flags=3 \n", 1),
         ("a space before the value", b"S greeting flags= 3\n", 1),
         (

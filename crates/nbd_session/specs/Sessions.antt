@@ -2,15 +2,16 @@
 use Rattle.std.specs.Prelude.{◌≡◌, ◌++◌, ℕ, List, [], Option, Some, None, Result, Ok, Err, length}
 use Rattle.nbd_wire.specs.declared.message.Message.{Message}
 use Rattle.nbd_wire.specs.declared.message.Side.{Side}
-use Rattle.nbd_wire.specs.Items.{Item, Pair, completed, pairs, sent}
-use Rattle.nbd_wire.specs.Pushed.{Span, pushed}
-use Rattle.nbd_wire.specs.Report.{Report, report}
-use Rattle.nbd_wire.specs.Rules.{IsRun, IsRunBut}
+use Rattle.nbd_wire.specs.protocol.Marks.{Item, completed_messages, pairs}
+use Rattle.nbd_wire.specs.protocol.Captures.{Pair, side_pairs}
+use Rattle.nbd_wire.specs.Pushed.{Span, pushed_pairs}
+use Rattle.nbd_wire.specs.protocol.Reports.{Report, report}
+use Rattle.nbd_wire.specs.protocol.Rules.{IsRun, IsRunBut}
 use Rattle.nbd_session.specs.declared.fault.SessionFault.{SessionFault}
 use Rattle.nbd_session.specs.declared.fault.SessionFault.TheVariants.{Memory, Wire}
-use Rattle.nbd_laws.specs.declared.fault.WireFault.TheVariants.{Unfinished}
+use Rattle.nbd_wire.specs.declared.fault.WireFault.TheVariants.{Unfinished}
 
--- the accepted messages in the order of their completion, each side's bytes behind its messages, the
+-- the accepted messages in the order of their completion, each side's bytes after its messages, the
 -- spans of all bytes, and the fault that closed the session, if one did
 pub record Recorded : Type 0 where
   pub messages : List Message
@@ -21,19 +22,19 @@ pub record Recorded : Type 0 where
 
 -- the bytes that were taken, with their senders
 abbrev pub pairs_of : Recorded → List Pair
-pairs_of r = pushed r.messages r.client r.server r.spans
+pairs_of r = pushed_pairs r.messages r.client r.server r.spans
 
 -- how many bytes were taken
 abbrev pub taken : Recorded → ℕ
 taken r = length (pairs_of r)
 
--- some run, but for these bytes behind each side's last message, has the pairs, and these messages
+-- some run, but for these bytes after each side's last message, has the pairs, and these messages
 -- complete in it in this order
 pub record HasRun (ps : List Pair) (messages : List Message) (client server : List ℕ) : Type 0 where
   pub items : List Item
   pub is_run : IsRunBut items client server
   pub has_pairs : pairs items ≡ ps
-  pub has_messages : completed items ≡ messages
+  pub has_messages : completed_messages items ≡ messages
 
 -- what was taken belongs to such a run
 abbrev pub IsOfRun : Recorded → Type 0
@@ -41,22 +42,22 @@ IsOfRun r = HasRun (pairs_of r) r.messages r.client r.server
 
 -- of a side's piece all but `left` was taken, and more messages may have been accepted
 pub record Adds (before after : List Pair) (earlier later : List Message) (s : Side) (piece left : List ℕ) : Type 0 where
-  pub front : List ℕ
+  pub prefix : List ℕ
   pub more : List Message
-  pub parts : front ++ left ≡ piece
-  pub has_pairs : after ≡ before ++ sent s front
+  pub parts : prefix ++ left ≡ piece
+  pub has_pairs : after ≡ before ++ side_pairs s prefix
   pub has_messages : later ≡ earlier ++ more
 
--- a front of a side's piece was taken, and more messages may have been accepted
-abbrev pub AddsFront : (old new : Recorded) → Side → (piece : List ℕ) → Type 0
-AddsFront old new s piece = (left : List ℕ) × Adds (pairs_of old) (pairs_of new) old.messages new.messages s piece left
+-- a prefix of a side's piece was taken, and more messages may have been accepted
+abbrev pub AddsPrefix : (old new : Recorded) → Side → (piece : List ℕ) → Type 0
+AddsPrefix old new s piece = (left : List ℕ) × Adds (pairs_of old) (pairs_of new) old.messages new.messages s piece left
 
 -- a wire fault names the last byte that was taken
 abbrev pub IsAtEnd : Recorded → SessionFault → Type 0
 IsAtEnd r (Wire at fault) = at ≡ taken r
 IsAtEnd r Memory = Unit {0}
 
--- a message that started has not completed where bytes of a side stand behind its messages
+-- a message that started has not completed where bytes of a side stand after its messages
 abbrev pub unfinished : (client server : List ℕ) → (at : ℕ) → Option SessionFault
 unfinished [] [] at = None
 unfinished client server at = Some (Wire at Unfinished)
@@ -85,5 +86,5 @@ pub record IsReported (r : Recorded) (told : Report) : Type 0 where
   pub items : List Item
   pub is_run : IsRun items
   pub has_pairs : pairs items ≡ pairs_of r
-  pub has_messages : completed items ≡ r.messages
+  pub has_messages : completed_messages items ≡ r.messages
   pub told_so : (others : List Item) → IsRun others → pairs others ≡ pairs_of r → report others ≡ told

@@ -7,24 +7,26 @@ ghost use Rattle.nbd_wire.specs.declared.magics.TheConstants.{CHUNK_MAGIC};
 ghost use Rattle.nbd_wire.specs.declared.chunks.TheConstants as chunks;
 ghost use Rattle.nbd_wire.specs.declared.payloads.Piece.{Piece};
 ghost use Rattle.nbd_wire.specs.declared.command_flags.TheConstants as command_flags;
-ghost use Rattle.nbd_wire.specs.Requests as requests;
-ghost use Rattle.nbd_wire.specs.Requests.{Entry, Exporting, has_failed, is_proper, pieces};
-ghost use Rattle.nbd_wire.specs.States.{Core, with_reply};
+ghost use Rattle.nbd_wire.specs.protocol.Flags as flags;
+ghost use Rattle.nbd_wire.specs.protocol.Operations.{Operation, Exporting, has_failed, is_proper, pieces};
+ghost use Rattle.nbd_wire.specs.protocol.States.{Core, with_reply};
 ghost use Rattle.nbd_wire.specs.declared.message.Message.TheVariants.{Chunk};
-ghost use Rattle.nbd_wire.specs.Payloads.{number_at};
-ghost use Rattle.nbd_laws.specs.declared.fault.WireFault.TheVariants.{BadChunk, BadContent};
-ghost use Rattle.nbd_session.specs.Asking.{ShownIf, done_by, finish_by, span_of};
+ghost use Rattle.nbd_wire.specs.protocol.Payloads.{number_at};
+ghost use Rattle.nbd_wire.specs.declared.fault.WireFault.TheVariants.{BadChunk, BadContent};
+ghost use Rattle.nbd_session.specs.internal.Asking.{ShownIf, done_by, finish_by, span_of};
 ghost use Rattle.nbd_state.specs.Showing.{IsShown};
-ghost use Rattle.nbd_session.specs.Decisions.{fault_if};
-ghost use Rattle.nbd_session.specs.JudgeTransmission.{begins, chunk_to, chunk_fault, fits_read, fits_failure, total};
-ghost use Rattle.nbd_session.specs.Readings.{reading_of};
+ghost use Rattle.nbd_session.specs.internal.Decisions.{fault_if};
+ghost use Rattle.nbd_session.specs.internal.JudgeTransmission.{begins, chunk_to, chunk_fault, fits_read, fits_failure, total};
+ghost use Rattle.nbd_session.specs.internal.Readings.{reading_of};
 
 use crate::leading::leading_chunk;
 use crate::reading::Reading;
 use crate::spans::{Span, content_span, given, is_apart_from, is_inside};
-use nbd_laws::WireFault;
-use nbd_state::{Asked, Exchange, has};
-use nbd_wire::{ChunkHead, chunks, command_flags, commands, content_of, failure_of, head_lengths};
+use nbd_state::{Asked, Exchange};
+use nbd_wire::flags::has;
+use nbd_wire::{
+    ChunkHead, WireFault, chunks, command_flags, commands, content_of, failure_of, head_lengths,
+};
 
 /// What a server's bytes are that begin as a chunk; the exchange, if any, is the one that the chunk's
 /// cookie names.
@@ -34,7 +36,9 @@ pub(crate) fn read_chunk(
     structured: bool,
 ) -> Result<Reading, WireFault>
     requires { IsTrue (begins CHUNK_MAGIC bytes.now) }
-    ensures { (export : Exporting) (now : Core) (to : Option Entry) → now.structured ≡ structured → (16 ≤ length bytes.now → ShownIf export to (option_copied exchange.entry)) → result ≡ reading_of (chunk_to export now to bytes.now) bytes.now }
+    ensures { (export : Exporting) (now : Core) (to : Option Operation) → now.structured ≡ structured →
+        (16 ≤ length bytes.now → ShownIf export to (option_copied exchange.entry)) →
+        result ≡ reading_of (chunk_to export now to bytes.now) bytes.now }
 {
     if bytes.len() < head_lengths::CHUNK {
         return Ok(Reading::Await(head_lengths::CHUNK));
@@ -56,8 +60,15 @@ fn read_chunk_to(
     structured: bool,
 ) -> Result<Reading, WireFault>
     requires whole { 20 ≤ length bytes.now }
-    requires head { head.now ≡ record { flags = number_at 4 2 bytes.now; kind = number_at 6 2 bytes.now; cookie = number_at 8 8 bytes.now; length = number_at 16 4 bytes.now } }
-    ensures { (export : Exporting) (now : Core) (e : Entry) → now.structured ≡ structured → IsShown export e exchange.now → result ≡ reading_of (chunk_to export now (Some e) bytes.now) bytes.now }
+    requires head { head.now ≡ record {
+      flags = number_at 4 2 bytes.now;
+      kind = number_at 6 2 bytes.now;
+      cookie
+          = number_at 8 8 bytes.now;
+      length = number_at 16 4 bytes.now;
+    } }
+    ensures { (export : Exporting) (now : Core) (e : Operation) → now.structured ≡ structured →
+        IsShown export e exchange.now → result ≡ reading_of (chunk_to export now (Some e) bytes.now) bytes.now }
 {
     if !structured {
         return Err(WireFault::ChunkForbidden);
@@ -79,7 +90,9 @@ fn read_chunk_to(
 
 // Why a whole chunk may not stand in the reply to its request.
 fn fault_of(flags: u16, kind: u16, payload: &[u8], exchange: &Exchange) -> Option<WireFault>
-    ensures { (export : Exporting) (e : Entry) (cookie : ℕ) → IsShown export e exchange.now → result ≡ chunk_fault (kind == chunks.NONE) export e (with_reply e (Chunk flags kind cookie payload.now)) flags kind payload.now }
+    ensures { (export : Exporting) (e : Operation) (cookie : ℕ) → IsShown export e exchange.now →
+        result ≡ chunk_fault (kind == chunks.NONE) export e
+        (with_reply e (Chunk flags kind cookie payload.now)) flags kind payload.now }
 {
     let done = has(flags, chunks::DONE);
     if kind == chunks::NONE {
@@ -100,7 +113,9 @@ fn fault_of(flags: u16, kind: u16, payload: &[u8], exchange: &Exchange) -> Optio
 
 // A chunk without content is empty, and ends its reply.
 fn none_fault(payload: &[u8], done: bool, exchange: &Exchange) -> Option<WireFault>
-    ensures { (export : Exporting) (e : Entry) → IsShown export e exchange.now → result ≡ fault_if (not (length payload.now == 0) || not done) BadChunk (done_by done (finish_by e.command e.length (is_proper export e) (has_failed e) (total (pieces e)))) }
+    ensures { (export : Exporting) (e : Operation) → IsShown export e exchange.now →
+        result ≡ fault_if (not (length payload.now == 0) || not done) BadChunk
+        (done_by done (finish_by e.command e.length (is_proper export e) (has_failed e) (total (pieces e)))) }
 {
     if !payload.is_empty() || !done {
         Some(WireFault::BadChunk)
@@ -111,7 +126,11 @@ fn none_fault(payload: &[u8], done: bool, exchange: &Exchange) -> Option<WireFau
 
 // Content fits its request, and so does the end of the reply that it is the last of.
 fn content_fault(span: Span, done: bool, exchange: &Exchange) -> Option<WireFault>
-    ensures { (export : Exporting) (e : Entry) (piece : Piece) → IsShown export e exchange.now → span_of piece ≡ span → result ≡ fault_if (not (fits_read export e piece)) BadContent (done_by done (finish_by e.command e.length (is_proper export e) (has_failed e) (total (pieces e) + span.size))) }
+    ensures { (export : Exporting) (e : Operation) (piece : Piece) → IsShown export e exchange.now →
+        span_of piece ≡ span →
+        result ≡ fault_if (not (fits_read export e piece)) BadContent
+        (done_by done (finish_by e.command e.length (is_proper export e) (has_failed e)
+        (total (pieces e) + span.size))) }
 {
     if !fits_read(span, exchange) {
         return Some(WireFault::BadContent);
@@ -126,7 +145,8 @@ fn content_fault(span: Span, done: bool, exchange: &Exchange) -> Option<WireFaul
 // Content answers a READ, lies in its range, shares no offset with an earlier piece, and is the only
 // piece of a proper READ with DF.
 fn fits_read(span: Span, exchange: &Exchange) -> bool
-    ensures { (export : Exporting) (e : Entry) (piece : Piece) → IsShown export e exchange.now → span_of piece ≡ span → result ≡ fits_read export e piece }
+    ensures { (export : Exporting) (e : Operation) (piece : Piece) → IsShown export e exchange.now →
+        span_of piece ≡ span → result ≡ fits_read export e piece }
 {
     let asked = &exchange.asked;
     asked.command == commands::READ
@@ -137,14 +157,15 @@ fn fits_read(span: Span, exchange: &Exchange) -> bool
 
 // A proper request asks that its content come in one chunk.
 fn is_to_be_whole(asked: &Asked) -> bool
-    ensures { result ≡ (asked.now.proper && requests.has asked.now.flags command_flags.DF) }
+    ensures { result ≡ (asked.now.proper && flags.has asked.now.flags command_flags.DF) }
 {
     asked.proper && has(asked.flags, command_flags::DF)
 }
 
 // The offset of an error chunk lies in the range of its request.
 fn fits_failure(offset: Option<u64>, asked: &Asked) -> bool
-    ensures { (e : Entry) → e.offset ≡ asked.now.offset → e.length ≡ asked.now.length → result ≡ fits_failure e offset }
+    ensures { (e : Operation) → e.offset ≡ asked.now.offset → e.length ≡ asked.now.length →
+        result ≡ fits_failure e offset }
 {
     match offset {
         Some(offset) => offset >= asked.offset && offset - asked.offset < u64::from(asked.length),
@@ -152,10 +173,11 @@ fn fits_failure(offset: Option<u64>, asked: &Asked) -> bool
     }
 }
 
-// A reply that ends behind so many more bytes of content tells a failure, or it is the reply to a
+// A reply that ends after so many more bytes of content states a failure, or it is the reply to a
 // proper request, whose range it gives whole.
 fn finish_fault(exchange: &Exchange, more: u64) -> Option<WireFault>
-    ensures { (export : Exporting) (e : Entry) → IsShown export e exchange.now → result ≡ finish_by e.command e.length (is_proper export e) (has_failed e) (total (pieces e) + more) }
+    ensures { (export : Exporting) (e : Operation) → IsShown export e exchange.now →
+        result ≡ finish_by e.command e.length (is_proper export e) (has_failed e) (total (pieces e) + more) }
 {
     let asked = &exchange.asked;
     if exchange.failed {

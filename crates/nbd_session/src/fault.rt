@@ -1,6 +1,6 @@
 //! Why a session is closed.
 
-use nbd_laws::WireFault;
+use nbd_wire::WireFault;
 use std::alloc::AllocError;
 
 /// Why a session was closed.

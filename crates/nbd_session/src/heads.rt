@@ -1,7 +1,7 @@
 //! The number that a reply begins with and its cookie, where they stand in a side's bytes.
 
 ghost use Rattle.std.specs.Prelude.{◌≡◌, length, nat_le, if◌then◌else◌};
-ghost use Rattle.nbd_wire.specs.Payloads.{number_at};
+ghost use Rattle.nbd_wire.specs.protocol.Payloads.{number_at};
 
 use byteorder::{BigEndian, ByteOrder};
 use nbd_wire::head_lengths;

@@ -2,25 +2,25 @@
 
 ghost use Rattle.std.specs.Prelude.{◌≡◌, ◌+◌, ◌-◌, ◌<◌, ◌≤◌, ◌^◌, ◌++◌, [], drop, length, if◌then◌else◌, IfErr, IfOk, None, OnErr, OnOk, Ok, slice_get};
 ghost use Rattle.nbd_wire.specs.declared.message.Side.TheVariants.{Client, Server};
-ghost use Rattle.nbd_wire.specs.Side.{same_side};
-ghost use Rattle.nbd_wire.specs.States.{Core, start};
+ghost use Rattle.nbd_wire.specs.protocol.Sides.{same_side};
+ghost use Rattle.nbd_wire.specs.protocol.States.{Core, start};
 ghost use Rattle.nbd_session.specs.declared.reading.Reading.TheVariants.{Whole};
-ghost use Rattle.nbd_session.specs.Holdings.{holding_of, is_of, spans_of};
-ghost use Rattle.nbd_session.specs.Judge.{awaited, decided_counted};
-ghost use Rattle.nbd_laws.specs.Machine.{Machine, get, old_of};
-ghost use Rattle.nbd_session.specs.Readings.{reading_if, until};
+ghost use Rattle.nbd_session.specs.internal.Holdings.{holding_of, is_of};
+ghost use Rattle.nbd_session.specs.Views.{spans_of, recorded};
+ghost use Rattle.nbd_session.specs.internal.Judge.{awaited, decided_counted};
+ghost use Rattle.nbd_laws.specs.internal.Machine.{Machine, get, old_of};
+ghost use Rattle.nbd_session.specs.internal.Readings.{reading_if, until};
 ghost use Rattle.nbd_session.specs.Sessions.{IsReported, fault_at_end, fault_of};
 ghost use Rattle.nbd_state.specs.Shows.{Shows};
-ghost use Rattle.nbd_session.specs.Standing.{IsReadTo, noted, rest_of, span_total, with_taken};
-ghost use Rattle.nbd_session.specs.Steps.{AddsHeld, IsRefused, IsSame, IsShut, IsTaken, Stands, recorded};
+ghost use Rattle.nbd_session.specs.internal.Standing.{IsReadTo, noted, rest_of, span_total, with_taken};
+ghost use Rattle.nbd_session.specs.internal.Steps.{AddsHeld, IsRefused, IsSame, IsShut, IsTaken, Stands};
 
 use crate::fault::SessionFault;
 use crate::reading::Reading;
 use crate::reading_state::read;
 use crate::whole::whole_message;
-use nbd_laws::WireFault;
 use nbd_state::{State, Transcript};
-use nbd_wire::{Message, Side};
+use nbd_wire::{Message, Side, WireFault};
 use std::alloc::{AllocError, Global};
 
 /// Bytes of one side that follow each other, by their number.
@@ -36,7 +36,7 @@ pub(crate) struct Held {
     pub state: State,
     /// The accepted messages, in the order of their completion.
     pub messages: Vec<Message>,
-    /// The client's bytes behind its messages.
+    /// The client's bytes after its messages.
     pub client: Vec<u8>,
     /// The server's.
     pub server: Vec<u8>,
@@ -52,7 +52,13 @@ impl Held {
     /// Before the first byte; takes no memory.
     pub(crate) fn new(alloc: Global) -> Held
         ensures shows { Shows result.state start.core }
-        ensures holds { holding_of result ≡ record { messages = []; client = []; server = []; counted = 0; spans = [] } }
+        ensures holds { holding_of result ≡ record {
+          messages = [];
+          client = [];
+          server = [];
+          counted = 0;
+          spans = [];
+        } }
         ensures none { result.state.exchanges.items ≡ [] }
         ensures taken { result.taken ≡ 0 }
     {
@@ -67,7 +73,7 @@ impl Held {
         }
     }
 
-    /// A side's bytes behind its messages.
+    /// A side's bytes after its messages.
     pub(crate) fn rest(&self, side: Side) -> &[u8]
         ensures { result.now ≡ rest_of (holding_of self.now) side }
     {
@@ -79,14 +85,17 @@ impl Held {
 
     /// The next length of a side's bytes at which something is decided of them.
     pub(crate) fn awaited(&self, side: Side) -> usize
-        ensures { (machine : Machine) → IsReadTo (holding_of self.now) machine → Shows self.now.state machine.core → result ≡ awaited (old_of machine.core (get machine.rests side)) machine.core side (rest_of (holding_of self.now) side) }
+        ensures { (machine : Machine) → IsReadTo (holding_of self.now) machine →
+            Shows self.now.state machine.core →
+            result ≡ awaited (old_of machine.core (get machine.rests side)) machine.core side
+            (rest_of (holding_of self.now) side) }
     {
         let rest = self.rest(side);
         until(read(&self.state, side, rest, self.counted), rest.len())
     }
 
     /// Takes a piece of a side's bytes. The condition on its length is that all bytes have fewer than
-    /// 2^63. After an `Err` the front of the piece that was taken stands.
+    /// 2^63. After an `Err` the prefix of the piece that was taken stands.
     pub(crate) fn push(
         &mut self,
         alloc: Global,
@@ -107,8 +116,8 @@ impl Held {
         Ok(())
     }
 
-    /// Takes the front of these bytes of a side up to the next length at which something is decided, and
-    /// tells its length.
+    /// Takes the prefix of these bytes of a side up to the next length at which something is decided, and
+    /// states its length.
     fn step(&mut self, alloc: Global, side: Side, left: &[u8]) -> Result<usize, SessionFault>
         requires stands { Stands self.old }
         requires filled { 0 < length left.now }
@@ -130,10 +139,12 @@ impl Held {
     fn take(&mut self, side: Side, piece: &[u8]) -> Result<(), AllocError>
         requires spans { span_total side (spans_of self.old.stretches.items) + length piece.now < 2 ^ 64 }
         requires fits { self.old.taken + length piece.now < 2 ^ 64 }
-        ensures taken { OnOk result (holding_of self.new ≡ with_taken (holding_of self.old) side piece.now (length self.old.state.exchanges.items)) }
+        ensures taken { OnOk result (holding_of self.new ≡ with_taken (holding_of self.old) side piece.now
+            (length self.old.state.exchanges.items)) }
         ensures state { self.new.state ≡ self.old.state }
         ensures count { OnOk result (self.new.taken ≡ self.old.taken + length piece.now) }
-        ensures unchanged { OnErr result ((holding_of self.new ≡ holding_of self.old) × (self.new.taken ≡ self.old.taken)) }
+        ensures unchanged { OnErr result ((holding_of self.new ≡ holding_of self.old)
+            × (self.new.taken ≡ self.old.taken)) }
     {
         match side {
             Side::Client => append(&mut self.client, &mut self.stretches, side, piece)?,
@@ -171,7 +182,9 @@ impl Held {
     /// held is as it was but for the state, of which nothing is known.
     fn accept(&mut self, alloc: Global, side: Side) -> Result<(), AllocError>
         requires taken { IsTaken self.old side }
-        requires whole { (core : Core) → Shows self.old.state core → reading_if (decided_counted self.old.counted core side (rest_of (holding_of self.old) side)) (rest_of (holding_of self.old) side) ≡ Ok Whole }
+        requires whole { (core : Core) → Shows self.old.state core →
+            reading_if (decided_counted self.old.counted core side (rest_of (holding_of self.old) side))
+            (rest_of (holding_of self.old) side) ≡ Ok Whole }
         ensures stands { OnOk result (Stands self.new) }
         ensures same { IsSame self.old self.new }
         ensures unchanged { OnErr result (holding_of self.new ≡ holding_of self.old) }
@@ -183,7 +196,7 @@ impl Held {
         Ok(())
     }
 
-    /// What the session tells, unless bytes stand behind a side's messages.
+    /// What the session states, unless bytes stand after a side's messages.
     pub(crate) fn finish(self) -> Result<Transcript, SessionFault>
         requires { Stands self }
         ensures told { IfOk result (λ told. IsReported (recorded self None) told) }
@@ -199,7 +212,7 @@ impl Held {
         }
     }
 
-    /// No more bytes of a side are behind its messages.
+    /// No more bytes of a side are after its messages.
     fn clear(&mut self, side: Side)
         ensures client { self.new.client.items ≡ (if same_side side Client then [] else self.old.client.items) }
         ensures server { self.new.server.items ≡ (if same_side side Server then [] else self.old.server.items) }
@@ -212,7 +225,7 @@ impl Held {
     }
 }
 
-/// These bytes of a side behind its others and behind all. After an `Err`, that memory ran out, both are
+/// These bytes of a side after its others and after all. After an `Err`, that memory ran out, both are
 /// as they were.
 fn append(
     bytes: &mut Vec<u8>,
@@ -222,8 +235,10 @@ fn append(
 ) -> Result<(), AllocError>
     requires { span_total side (spans_of stretches.old.items) + length piece.now < 2 ^ 64 }
     ensures bytes { OnOk result (bytes.new.items ≡ bytes.old.items ++ piece.now) }
-    ensures spans { OnOk result (spans_of stretches.new.items ≡ noted (spans_of stretches.old.items) side (length piece.now)) }
-    ensures unchanged { OnErr result ((bytes.new.items ≡ bytes.old.items) × (spans_of stretches.new.items ≡ spans_of stretches.old.items)) }
+    ensures spans { OnOk result (spans_of stretches.new.items ≡ noted (spans_of stretches.old.items) side
+        (length piece.now)) }
+    ensures unchanged { OnErr result ((bytes.new.items ≡ bytes.old.items)
+        × (spans_of stretches.new.items ≡ spans_of stretches.old.items)) }
 {
     bytes.reserve(piece.len())?;
     note(stretches, side, piece.len() as u64)?;
@@ -243,7 +258,7 @@ fn until(reading: Result<Reading, WireFault>, have: usize) -> usize
     }
 }
 
-/// So many more bytes of a side behind all others. After an `Err`, that memory ran out, nothing changed.
+/// So many more bytes of a side after all others. After an `Err`, that memory ran out, nothing changed.
 fn note(stretches: &mut Vec<Stretch>, side: Side, count: u64) -> Result<(), AllocError>
     requires { span_total side (spans_of stretches.old.items) + count < 2 ^ 64 }
     ensures noted { OnOk result (spans_of stretches.new.items ≡ noted (spans_of stretches.old.items) side count) }

@@ -1,11 +1,11 @@
 //! The head that a side's bytes begin with.
 //!
-//! Each reader is given at least as many bytes as the head has, and answers None exactly where they
+//! Each reader is given at least as many bytes as the head has, and returns None exactly where they
 //! begin with a wrong number.
 
 ghost use Rattle.std.specs.Prelude.{◌≡◌, ◌≤◌, length};
-ghost use Rattle.nbd_wire.specs.Payloads.{number_at};
-ghost use Rattle.nbd_session.specs.Leading.{answer_head_of, choice_head_of, chunk_head_of, greeting_flags_of, of_length, request_head_of, simple_head_of};
+ghost use Rattle.nbd_wire.specs.protocol.Payloads.{number_at};
+ghost use Rattle.nbd_session.specs.internal.Leading.{answer_head_of, choice_head_of, chunk_head_of, greeting_flags_of, of_length, request_head_of, simple_head_of};
 
 use crate::reading::Reading;
 use nbd_wire::{

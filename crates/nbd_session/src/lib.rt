@@ -2,9 +2,11 @@
 #![tactic(auto)]
 
 mod chunks;
+pub mod examples;
 pub mod fault;
 mod heads;
 mod held;
+pub mod laws;
 mod leading;
 mod messages;
 mod negotiation;
@@ -20,7 +22,6 @@ mod tests;
 mod whole;
 
 pub use fault::SessionFault;
-pub use nbd_laws::WireFault;
 pub use nbd_state::{Asked, Outcome, Transcript};
-pub use nbd_wire::Piece;
+pub use nbd_wire::{Piece, WireFault};
 pub use session::Session;

@@ -2,18 +2,14 @@
 //! EXPORT_NAME ("NBD_OPT_EXPORT_NAME").
 
 ghost use Rattle.std.specs.Prelude.{◌≡◌};
-ghost use Rattle.nbd_session.specs.JudgeNegotiation.{are_zeroes, client_flags, export_fault, exported, greeting, sets_more};
-ghost use Rattle.nbd_session.specs.Leading.{unless_fault};
-ghost use Rattle.nbd_session.specs.Readings.{reading_of};
+ghost use Rattle.nbd_session.specs.internal.JudgeNegotiation.{are_zeroes, client_flags, export_fault, exported, greeting, sets_more};
+ghost use Rattle.nbd_session.specs.internal.Leading.{unless_fault};
+ghost use Rattle.nbd_session.specs.internal.Readings.{reading_of};
 
 use crate::leading::{leading_client_flags, leading_export, leading_greeting, of_length};
 use crate::reading::Reading;
-use nbd_laws::WireFault;
-use nbd_state::{has, has_only, has_wide};
-use nbd_wire::{handshake, head_lengths, limits, transmission};
-
-/// How many zeroes follow the export's size and flags.
-const PADDING: usize = 124;
+use nbd_wire::flags::{has, has_only, has_wide};
+use nbd_wire::{WireFault, handshake, head_lengths, limits, transmission};
 
 /// The server's greeting.
 pub(crate) fn read_greeting(bytes: &[u8]) -> Result<Reading, WireFault>
@@ -66,7 +62,7 @@ pub(crate) fn read_exported(bytes: &[u8], no_zeroes: bool) -> Result<Reading, Wi
     if no_zeroes {
         return Ok(of_length(head_lengths::EXPORT, bytes));
     }
-    let whole = head_lengths::EXPORT + PADDING;
+    let whole = head_lengths::EXPORT + head_lengths::PADDING;
     if bytes.len() != whole {
         return Ok(Reading::Await(whole));
     }

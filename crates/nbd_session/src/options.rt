@@ -2,19 +2,21 @@
 //! types").
 
 ghost use Rattle.std.specs.Prelude.{◌≡◌, ◌≤◌, ◌==◌, drop, length};
-ghost use Rattle.nbd_wire.specs.Options.{is_error};
-ghost use Rattle.nbd_wire.specs.Payloads.{info_of, number_at};
-ghost use Rattle.nbd_session.specs.JudgeNegotiation.{abort_answer, abort_fault, ack_fault, answer, answer_fault, answers_option, choice, info_fault, is_bad_payload, is_followed, is_good_info, payload_fault, success_fault};
-ghost use Rattle.nbd_session.specs.Leading.{answer_fields_of, unless_fault};
-ghost use Rattle.nbd_session.specs.Readings.{at_end, reading_of};
+ghost use Rattle.nbd_wire.specs.protocol.Options.{is_error};
+ghost use Rattle.nbd_wire.specs.protocol.Payloads.{info_of, number_at};
+ghost use Rattle.nbd_session.specs.internal.JudgeNegotiation.{abort_answer, abort_fault, ack_fault, answer, answer_fault, answers_option, choice, info_fault, is_bad_payload, is_followed, is_good_info, payload_fault, success_fault};
+ghost use Rattle.nbd_session.specs.internal.Leading.{answer_fields_of, unless_fault};
+ghost use Rattle.nbd_session.specs.internal.Readings.{at_end, reading_of};
 ghost use Rattle.nbd_state.specs.Showing.{exporting_if};
 
 use crate::leading::{leading_answer, leading_choice, of_length};
 use crate::reading::Reading;
-use nbd_laws::WireFault;
-use nbd_state::{Chosen, has, is_error};
+use nbd_state::Chosen;
+use nbd_wire::answers::is_error;
+use nbd_wire::flags::has;
 use nbd_wire::{
-    AnswerHead, Info, answers, head_lengths, info_of, limits, listed_of, options, transmission,
+    AnswerHead, Info, WireFault, answers, head_lengths, info_of, limits, listed_of, options,
+    transmission,
 };
 
 /// The client's option.
@@ -77,7 +79,8 @@ fn read_success(bytes: &[u8], whole: usize, kind: u32, proper: bool) -> Result<R
 /// The head of an answer to this option.
 fn answer_to(option: u32, bytes: &[u8]) -> Result<AnswerHead, WireFault>
     requires { 20 ≤ length bytes.now }
-    ensures { result ≡ unless_fault (answer_fault option (number_at 0 8 bytes.now) (number_at 8 4 bytes.now) None) (answer_fields_of bytes.now) }
+    ensures { result ≡ unless_fault (answer_fault option (number_at 0 8 bytes.now) (number_at 8 4 bytes.now)
+        None) (answer_fields_of bytes.now) }
 {
     let head = leading_answer(bytes).ok_or(WireFault::BadMagic)?;
     if head.option != option {
@@ -108,7 +111,8 @@ fn is_empty_ack(head: AnswerHead) -> Result<(), WireFault>
 
 /// The head of an answer of success may answer the option that was chosen.
 fn may_succeed(head: AnswerHead, chosen: Chosen) -> Result<(), WireFault>
-    ensures { result ≡ unless_fault (success_fault chosen.option chosen.proper (exporting_if chosen.info) head.kind head.length) tt }
+    ensures { result ≡ unless_fault (success_fault chosen.option chosen.proper (exporting_if chosen.info)
+        head.kind head.length) tt }
 {
     if !is_followed(chosen.option) {
         return Err(WireFault::OutOfProfile);
@@ -146,7 +150,7 @@ fn answers_option(option: u32, kind: u32) -> bool
     }
 }
 
-/// An ACK to a proper INFO or GO comes behind an EXPORT info, and one to GO gives out an export within
+/// An ACK to a proper INFO or GO comes after an EXPORT info, and one to GO gives out an export within
 /// the limit.
 fn may_acknowledge(chosen: Chosen) -> Result<(), WireFault>
     ensures { result ≡ unless_fault (info_fault chosen.option chosen.proper (exporting_if chosen.info)) tt }

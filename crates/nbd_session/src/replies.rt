@@ -2,23 +2,22 @@
 
 ghost use Rattle.std.specs.Prelude.{◌≡◌, ◌<◌, ◌≤◌, ◌^◌, ◌==◌, ◌&&◌, ◌||◌, length, IsTrue, Option, is_some, if◌then◌else◌};
 ghost use Rattle.std.specs.Option.{option_copied};
-ghost use Rattle.nbd_wire.specs.Requests.{Entry, Exporting};
-ghost use Rattle.nbd_wire.specs.States.{Core};
-ghost use Rattle.nbd_wire.specs.Payloads.{number_at};
+ghost use Rattle.nbd_wire.specs.protocol.Operations.{Operation, Exporting};
+ghost use Rattle.nbd_wire.specs.protocol.States.{Core};
+ghost use Rattle.nbd_wire.specs.protocol.Payloads.{number_at};
 ghost use Rattle.nbd_wire.specs.declared.magics.TheConstants.{CHUNK_MAGIC, SIMPLE_MAGIC};
 ghost use Rattle.nbd_wire.specs.declared.commands.TheConstants as commands;
-ghost use Rattle.nbd_session.specs.Asking.{ShownIf};
+ghost use Rattle.nbd_session.specs.internal.Asking.{ShownIf};
 ghost use Rattle.nbd_state.specs.Showing.{IsShown};
-ghost use Rattle.nbd_session.specs.JudgeTransmission.{begins, reply_by, simple_to};
-ghost use Rattle.nbd_session.specs.Readings.{reading_of};
+ghost use Rattle.nbd_session.specs.internal.JudgeTransmission.{begins, reply_by, simple_to};
+ghost use Rattle.nbd_session.specs.internal.Readings.{reading_of};
 
 use crate::chunks::read_chunk;
 use crate::heads::{MAGIC_LENGTH, magic_in};
 use crate::leading::leading_simple;
 use crate::reading::Reading;
-use nbd_laws::WireFault;
 use nbd_state::{Asked, Exchange};
-use nbd_wire::{commands, head_lengths, magics};
+use nbd_wire::{WireFault, commands, head_lengths, magics};
 
 /// What a server's bytes are; the exchange, if any, is the one that the reply's cookie names.
 pub(crate) fn read_reply(
@@ -26,7 +25,10 @@ pub(crate) fn read_reply(
     exchange: Option<&Exchange>,
     structured: bool,
 ) -> Result<Reading, WireFault>
-    ensures { (export : Exporting) (now : Core) (to : Option Entry) → now.structured ≡ structured → (16 ≤ length bytes.now → ShownIf export to (option_copied exchange.entry)) → result ≡ reading_of (reply_by (begins CHUNK_MAGIC bytes.now) (begins SIMPLE_MAGIC bytes.now) export now to bytes.now) bytes.now }
+    ensures { (export : Exporting) (now : Core) (to : Option Operation) → now.structured ≡ structured →
+        (16 ≤ length bytes.now → ShownIf export to (option_copied exchange.entry)) →
+        result ≡ reading_of (reply_by (begins CHUNK_MAGIC bytes.now) (begins SIMPLE_MAGIC bytes.now) export now
+        to bytes.now) bytes.now }
 {
     match magic_in(bytes) {
         Some(magics::SIMPLE_MAGIC) => read_simple(bytes, exchange, structured),
@@ -44,7 +46,9 @@ fn read_simple(
     structured: bool,
 ) -> Result<Reading, WireFault>
     requires { IsTrue (begins SIMPLE_MAGIC bytes.now) }
-    ensures { (export : Exporting) (now : Core) (to : Option Entry) → now.structured ≡ structured → (16 ≤ length bytes.now → ShownIf export to (option_copied exchange.entry)) → result ≡ reading_of (simple_to export now to bytes.now) bytes.now }
+    ensures { (export : Exporting) (now : Core) (to : Option Operation) → now.structured ≡ structured →
+        (16 ≤ length bytes.now → ShownIf export to (option_copied exchange.entry)) →
+        result ≡ reading_of (simple_to export now to bytes.now) bytes.now }
 {
     if bytes.len() < head_lengths::SIMPLE {
         return Ok(Reading::Await(head_lengths::SIMPLE));
@@ -67,7 +71,8 @@ fn read_simple_to(
 ) -> Result<Reading, WireFault>
     requires head { 16 ≤ length bytes.now }
     requires error { number_at 4 4 bytes.now ≡ error }
-    ensures { (export : Exporting) (now : Core) (e : Entry) → now.structured ≡ structured → IsShown export e exchange.now → result ≡ reading_of (simple_to export now (Some e) bytes.now) bytes.now }
+    ensures { (export : Exporting) (now : Core) (e : Operation) → now.structured ≡ structured →
+        IsShown export e exchange.now → result ≡ reading_of (simple_to export now (Some e) bytes.now) bytes.now }
 {
     let asked = &exchange.asked;
     if is_simple_forbidden(asked, structured) {

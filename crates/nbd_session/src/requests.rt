@@ -3,14 +3,13 @@
 ghost use Rattle.std.specs.Prelude.{◌≡◌, ℕ, is_some};
 ghost use Rattle.std.specs.BTreeMap.{get};
 ghost use Rattle.std.specs.Ordering.{nat_cmp};
-ghost use Rattle.nbd_wire.specs.States.{Core, target};
-ghost use Rattle.nbd_session.specs.JudgeTransmission.{request, request_payload_length};
-ghost use Rattle.nbd_session.specs.Readings.{reading_of};
+ghost use Rattle.nbd_wire.specs.protocol.States.{Core, target};
+ghost use Rattle.nbd_session.specs.internal.JudgeTransmission.{request, request_payload_length};
+ghost use Rattle.nbd_session.specs.internal.Readings.{reading_of};
 
 use crate::leading::leading_request;
 use crate::reading::Reading;
-use nbd_laws::WireFault;
-use nbd_wire::{RequestHead, commands, head_lengths};
+use nbd_wire::{RequestHead, WireFault, commands, head_lengths};
 use std::collections::BTreeMap;
 
 /// What a client's bytes are; the map has the cookies of the outstanding requests.
@@ -18,7 +17,9 @@ pub(crate) fn read_request(
     bytes: &[u8],
     outstanding: &BTreeMap<u64, usize>,
 ) -> Result<Reading, WireFault>
-    ensures { (now : Core) → ((cookie : ℕ) → is_some (get nat_cmp outstanding.now cookie) ≡ is_some (target cookie now.entries)) → result ≡ reading_of (request now bytes.now) bytes.now }
+    ensures { (now : Core) →
+        ((cookie : ℕ) → is_some (get nat_cmp outstanding.now cookie) ≡ is_some (target cookie now.entries)) →
+        result ≡ reading_of (request now bytes.now) bytes.now }
 {
     if bytes.len() < head_lengths::REQUEST {
         return Ok(Reading::Await(head_lengths::REQUEST));

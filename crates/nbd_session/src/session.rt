@@ -1,9 +1,11 @@
 //! A session, given piece by piece.
 
 ghost use Rattle.std.specs.Prelude.{◌≡◌, ◌+◌, ◌++◌, ◌<◌, ◌^◌, Err, IfErr, IfOk, None, OnOk, Some, length};
-ghost use Rattle.nbd_wire.specs.Items.{sent};
+ghost use Rattle.nbd_wire.specs.protocol.Captures.{side_pairs};
+ghost use Rattle.nbd_wire.specs.protocol.Within.{CompletesExactly};
 ghost use Rattle.nbd_session.specs.declared.fault.SessionFault.{SessionFault};
-ghost use Rattle.nbd_session.specs.Sessions.{AddsFront, IsAtEnd, IsOfRun, IsReported, fault_at_end, fault_of, none_taken, pairs_of, taken};
+ghost use Rattle.nbd_session.specs.Refusals.{EndsIn, HasNoPlace, IsComplete, Refuses};
+ghost use Rattle.nbd_session.specs.Sessions.{AddsPrefix, IsAtEnd, IsOfRun, IsReported, fault_at_end, fault_of, none_taken, pairs_of, taken};
 
 use crate::fault::SessionFault;
 use crate::held::Held;
@@ -15,7 +17,7 @@ use std::marker::Model;
 /// A session under way, or one that was closed by a fault.
 ///
 /// In a contract it is what it holds of the bytes that it was given (`specs/Sessions.antt`): the
-/// accepted messages, each side's bytes behind them, and the side and length of each one-sided run, which
+/// accepted messages, each side's bytes after them, and the side and length of each one-sided run, which
 /// together give back every byte that was taken.
 #[derive(Drop)]
 pub struct Session {
@@ -26,7 +28,8 @@ pub struct Session {
 
 impl Model for Session {
     ghost use Rattle.nbd_session.specs.Sessions.{Recorded};
-    ghost use Rattle.nbd_session.specs.Steps.{IsKept, recorded};
+    ghost use Rattle.nbd_session.specs.internal.Steps.{IsKept};
+    ghost use Rattle.nbd_session.specs.Views.{recorded};
 
     ghost Value = { Recorded };
 
@@ -47,7 +50,7 @@ impl Session {
         }
     }
 
-    /// How many bytes were taken, of both sides. The byte of a wire fault counts, bytes behind it do not.
+    /// How many bytes were taken, of both sides. The byte of a wire fault counts, bytes after it do not.
     pub fn taken(&self) -> u64
         ensures { result ≡ taken self.now }
     {
@@ -57,17 +60,21 @@ impl Session {
     /// Takes the next piece of the capture, of any length. The condition is that `taken` and its length
     /// are below 2^63 together.
     ///
-    /// After `Wire` or `Memory` the session is closed: each later call answers the same fault and changes
+    /// After `Wire` or `Memory` the session is closed: each later call returns the same fault and changes
     /// nothing, and `messages` are those that were accepted before. At `Wire` the bytes up to the refused
-    /// one were taken, at `Memory` some front of the piece.
+    /// one were taken, at `Memory` some prefix of the piece.
     pub fn push(&mut self, side: Side, piece: &[u8]) -> Result<(), SessionFault>
         requires { taken self.old + length piece.now < 2 ^ 63 }
-        ensures added { OnOk result (pairs_of self.new ≡ pairs_of self.old ++ sent side piece.now) }
+        ensures added { OnOk result (pairs_of self.new ≡ pairs_of self.old ++ side_pairs side piece.now) }
         ensures open { OnOk result (self.new.closed ≡ None) }
-        ensures front { AddsFront self.old self.new side piece.now }
+        ensures prefix { AddsPrefix self.old self.new side piece.now }
         ensures refused { IfErr result (λ fault. self.new.closed ≡ Some fault) }
         ensures at { IfErr result (λ fault. self.old.closed ≡ None → IsAtEnd self.new fault) }
-        ensures closed { (fault : SessionFault) → self.old.closed ≡ Some fault → (result ≡ Err fault) × (self.new ≡ self.old) }
+        ensures closed { (fault : SessionFault) → self.old.closed ≡ Some fault → (result ≡ Err fault)
+            × (self.new ≡ self.old) }
+        ensures complete { OnOk result (CompletesExactly (pairs_of self.new) self.new.messages) }
+        ensures placeless { OnOk result (HasNoPlace (pairs_of self.new)) }
+        ensures wire { IfErr result (λ fault. Refuses self.new fault) }
     {
         if let Some(fault) = self.closed {
             return Err(fault);
@@ -83,6 +90,7 @@ impl Session {
     pub fn messages(&self) -> &[Message]
         ensures messages { result.now ≡ self.now.messages }
         ensures run { IsOfRun self.now }
+        ensures complete { IsComplete self.now }
     {
         self.held.messages.as_slice()
     }
@@ -94,6 +102,7 @@ impl Session {
     pub fn finish(self) -> Result<Transcript, SessionFault>
         ensures told { IfOk result (λ told. IsReported self told) }
         ensures fault { fault_of result ≡ fault_at_end self }
+        ensures wire { IfErr result (λ fault. EndsIn self fault) }
     {
         match self.closed {
             Some(fault) => Err(fault),

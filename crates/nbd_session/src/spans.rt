@@ -2,9 +2,9 @@
 
 ghost use Rattle.std.specs.Prelude.{◌≡◌, ◌+◌, ◌-◌, ◌^◌, ◌&&◌, ◌||◌, min, nat_le};
 ghost use Rattle.nbd_wire.specs.declared.payloads.Piece.{Piece};
-ghost use Rattle.nbd_wire.specs.Contents.{piece_of};
-ghost use Rattle.nbd_session.specs.Asking.{span_of};
-ghost use Rattle.nbd_session.specs.JudgeTransmission.{is_apart_from, total};
+ghost use Rattle.nbd_wire.specs.codec.Contents.{piece_of};
+ghost use Rattle.nbd_session.specs.internal.Asking.{span_of};
+ghost use Rattle.nbd_session.specs.internal.JudgeTransmission.{is_apart_from, total};
 
 use nbd_state::ends_by;
 use nbd_wire::{Content, Piece};
@@ -57,12 +57,13 @@ pub(crate) fn is_inside(span: Span, offset: u64, length: u32) -> bool
 
 // One lies before the other.
 fn is_apart(span: Span, other: Span) -> bool
-    ensures { result ≡ (nat_le (span.offset + span.size) other.offset || nat_le (other.offset + other.size) span.offset) }
+    ensures { result ≡ (nat_le (span.offset + span.size) other.offset || nat_le (other.offset + other.size)
+        span.offset) }
 {
     ends_by(span.offset, span.size, other.offset) || ends_by(other.offset, other.size, span.offset)
 }
 
-/// Content lies before or behind each of the pieces.
+/// Content lies before or after each of the pieces.
 pub(crate) fn is_apart_from(span: Span, pieces: &[Piece]) -> bool
     ensures { (piece : Piece) → span_of piece ≡ span → result ≡ is_apart_from piece pieces.now }
 {

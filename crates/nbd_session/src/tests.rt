@@ -1,4 +1,4 @@
-//! Sessions as a caller drives them: what they tell at the end, and what stays after a fault.
+//! Sessions as a caller drives them: what they state at the end, and what stays after a fault.
 
 mod memory;
 mod refused;
@@ -44,7 +44,7 @@ const BEGUN_STRUCTURED: &[Sent] = &[
     (Server, "0003e889045565a9000000070000000100000000"),
 ];
 
-/// The bytes that these digits tell.
+/// The bytes that these digits state.
 fn bytes_of(alloc: Global, digits: &str) -> Result<Vec<u8>, AllocError> {
     let mut bytes = Vec::new(alloc);
     for pair in digits.as_bytes().chunks(2) {

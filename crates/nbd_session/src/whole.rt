@@ -2,14 +2,15 @@
 
 ghost use Rattle.std.specs.Prelude.{◌≡◌, IfOk};
 ghost use Rattle.nbd_wire.specs.declared.message.Side.TheVariants.{Client, Server};
-ghost use Rattle.nbd_session.specs.WholeMessage.{HasReply, IsDecided, IsWholeFor, reply_of};
+ghost use Rattle.nbd_session.specs.internal.WholeMessage.{HasReply, IsDecided, IsWholeFor, reply_of};
 
 use crate::heads::magic_in;
 use crate::messages::{
     answer_message, choice_message, chunk_message, client_flags_message, exported_message,
     greeting_message, request_message, simple_message,
 };
-use nbd_state::{Phase, State, has_wide};
+use nbd_state::{Phase, State};
+use nbd_wire::flags::has_wide;
 use nbd_wire::{Message, Side, handshake, magics};
 use std::alloc::{AllocError, Global};
 

@@ -1,6 +1,9 @@
-pub mod Recorded
-pub mod Targets
-pub mod Completed
-pub mod Telling
-pub mod NextPhases
-pub mod Transcribing
+pub mod CompletionLemmas
+pub mod KnownLemmas
+pub mod PhaseLemmas
+pub mod PlacedLemmas
+pub mod RecordingLemmas
+pub mod ReplyLemmas
+pub mod TargetLemmas
+pub mod TellingLemmas
+pub mod TranscriptLemmas

@@ -1,8 +1,8 @@
 -- What messages lead to, one after the other.
 use Rattle.std.specs.Prelude.{List, [], ◌∷◌}
 use Rattle.nbd_wire.specs.declared.message.Message.{Message}
-use Rattle.nbd_wire.specs.Rules.{complete}
-use Rattle.nbd_wire.specs.States.{Core, start}
+use Rattle.nbd_wire.specs.protocol.Rules.{complete}
+use Rattle.nbd_wire.specs.protocol.States.{Core, start}
 
 -- from a core on
 abbrev pub core_from : Core → List Message → Core

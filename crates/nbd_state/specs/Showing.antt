@@ -1,9 +1,8 @@
 -- How the program's values show what the definitions speak of.
-use Rattle.std.specs.Prelude.{◌≡◌, ℕ, List, [], ◌∷◌, Bool, true, false, not, Option, Some, None, is_some}
-use Rattle.nbd_wire.specs.declared.heads.transmission.RequestHead.{RequestHead}
+use Rattle.std.specs.Prelude.{◌≡◌, List, [], ◌∷◌, Bool, true, false, not, Option, Some, None, is_some}
 use Rattle.nbd_wire.specs.declared.message.Message.{Message}
-use Rattle.nbd_wire.specs.Requests.{Entry, Exporting, is_proper, has_failed, outcome, pieces}
-use Rattle.nbd_wire.specs.Requests as definitions
+use Rattle.nbd_wire.specs.protocol.Operations.{Operation, Exporting, is_proper, has_failed, outcome, pieces}
+use Rattle.nbd_wire.specs.protocol.Operations as definitions
 use Rattle.nbd_state.specs.declared.asked.Exchange.{Exchange}
 use Rattle.nbd_state.specs.declared.asked.Outcome.{Outcome}
 use Rattle.nbd_state.specs.declared.asked.Outcome.TheVariants.{Success, Failure, Pending}
@@ -23,25 +22,13 @@ outcome_of Success = definitions.Success
 outcome_of Failure = definitions.Failure
 outcome_of Pending = definitions.Pending
 
--- the request of this head, with this payload and these replies
-abbrev pub entry_of_head : RequestHead → List ℕ → List Message → Entry
-entry_of_head head payload replies = record {
-  flags = head.flags;
-  command = head.command;
-  cookie = head.cookie;
-  offset = head.offset;
-  length = head.length;
-  payload = payload;
-  replies = replies;
-}
-
 -- no reply message has come
 abbrev pub is_none_yet : List Message → Bool
 is_none_yet [] = true
 is_none_yet (m ∷ messages) = false
 
 -- an exchange shows a numbered request of a session on this export
-pub record IsShown (export : Exporting) (e : Entry) (x : Exchange) : Type 0 where
+pub record IsShown (export : Exporting) (e : Operation) (x : Exchange) : Type 0 where
   pub flags : x.asked.flags ≡ e.flags
   pub command : x.asked.command ≡ e.command
   pub cookie : x.asked.cookie ≡ e.cookie

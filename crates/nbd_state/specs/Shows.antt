@@ -2,11 +2,11 @@
 use Rattle.std.specs.Prelude.{◌≡◌, ℕ, ◌+◌, ◌-◌, List, [], ◌∷◌, Option, Some, None, slice_get}
 use Rattle.std.specs.BTreeMap.{get}
 use Rattle.std.specs.Ordering.{nat_cmp}
-use Rattle.nbd_wire.specs.Report.{export_in}
-use Rattle.nbd_wire.specs.Options.{is_proper_option}
-use Rattle.nbd_wire.specs.Requests.{Entry, Exporting}
-use Rattle.nbd_wire.specs.States as definitions
-use Rattle.nbd_wire.specs.States.{Core, start, target}
+use Rattle.nbd_wire.specs.protocol.Reports.{export_in}
+use Rattle.nbd_wire.specs.protocol.Options.{is_proper_option}
+use Rattle.nbd_wire.specs.protocol.Operations.{Operation, Exporting}
+use Rattle.nbd_wire.specs.protocol.States as definitions
+use Rattle.nbd_wire.specs.protocol.States.{Core, start, target}
 use Rattle.nbd_state.specs.declared.asked.Exchange.{Exchange}
 use Rattle.nbd_state.specs.declared.state.Export.{Export}
 use Rattle.nbd_state.specs.declared.state.Phase.{Phase}
@@ -35,7 +35,7 @@ phase_shown definitions.Ended = Ended
 phase_shown (definitions.Transmission export) = Transmission (export_shown export)
 
 -- the exchanges show the numbered requests of a session on this export, of which there are none without one
-abbrev pub AreShown : Option Exporting → List Entry → List Exchange → Type 0
+abbrev pub AreShown : Option Exporting → List Operation → List Exchange → Type 0
 AreShown export [] [] = Unit {0}
 AreShown (Some export) (e ∷ entries) (x ∷ exchanges) = IsShown export e x × AreShown (Some export) entries exchanges
 AreShown export entries exchanges = ⊥

@@ -1,8 +1,8 @@
--- What a transcript tells.
+-- What a transcript states.
 use Rattle.std.specs.Prelude.{ℕ, List, map, Option, Some, None}
-use Rattle.nbd_wire.specs.Report as definitions
-use Rattle.nbd_wire.specs.Report.{Report}
-use Rattle.nbd_wire.specs.Requests.{Exporting}
+use Rattle.nbd_wire.specs.protocol.Reports as definitions
+use Rattle.nbd_wire.specs.protocol.Reports.{Report}
+use Rattle.nbd_wire.specs.protocol.Operations.{Exporting}
 use Rattle.nbd_state.specs.declared.asked.Asked.{Asked}
 use Rattle.nbd_state.specs.declared.asked.Exchange.{Exchange}
 use Rattle.nbd_state.specs.declared.state.Export.{Export}
@@ -10,7 +10,7 @@ use Rattle.nbd_state.specs.declared.state.Phase.{Phase}
 use Rattle.nbd_state.specs.declared.state.Phase.TheVariants.{Transmission}
 use Rattle.nbd_state.specs.Showing.{exporting_if, outcome_of}
 
--- a request as a report tells it
+-- a request as a report states it
 abbrev pub asked_told : Asked → definitions.Asked
 asked_told a = record {
   flags = a.flags;

@@ -5,24 +5,25 @@ ghost use Rattle.std.specs.BTreeMap.{get};
 ghost use Rattle.std.specs.Ordering.{nat_cmp};
 ghost use Rattle.nbd_wire.specs.declared.commands.TheConstants as commands;
 ghost use Rattle.nbd_wire.specs.declared.message.Message.TheVariants.{Answer, Chunk, Simple};
-ghost use Rattle.nbd_wire.specs.Options as options;
-ghost use Rattle.nbd_wire.specs.Options.{acknowledged, answered_option, is_proper_option, next_phase};
-ghost use Rattle.nbd_wire.specs.Requests.{Exporting};
-ghost use Rattle.nbd_wire.specs.Rules.{MayComplete, complete, grants_structured, replied, requested};
-ghost use Rattle.nbd_wire.specs.Sendable.{IsSendable};
-ghost use Rattle.nbd_wire.specs.States as definitions;
-ghost use Rattle.nbd_wire.specs.States.{Core, start, target};
-ghost use Rattle.nbd_state.specs.Showing.{entry_of_head};
-ghost use Rattle.nbd_state.specs.Completing.{AddsUnanswered, TellsOne};
+ghost use Rattle.nbd_wire.specs.protocol.Options as options;
+ghost use Rattle.nbd_wire.specs.protocol.Options.{ack_phase, reply_phase, is_proper_option, next_phase};
+ghost use Rattle.nbd_wire.specs.protocol.Operations.{Exporting};
+ghost use Rattle.nbd_wire.specs.protocol.Rules.{MayComplete, complete, grants_structured, core_with_reply, core_with_request};
+ghost use Rattle.nbd_wire.specs.protocol.Sendable.{IsSendable};
+ghost use Rattle.nbd_wire.specs.protocol.States as definitions;
+ghost use Rattle.nbd_wire.specs.protocol.States.{Core, start, target};
+ghost use Rattle.nbd_state.specs.internal.Showing.{operation_of_head};
+ghost use Rattle.nbd_state.specs.internal.Completing.{AddsUnanswered, TellsOne};
 ghost use Rattle.nbd_state.specs.Folded.{core_from};
 ghost use Rattle.nbd_state.specs.Logged.{Logged, messages_of};
-ghost use Rattle.nbd_laws.specs.Machine.{IsReached};
+ghost use Rattle.nbd_laws.specs.Reached.{IsReached};
 ghost use Rattle.nbd_state.specs.Shows.{AreKnown, Shows, export_shown_if, phase_shown};
 
 use crate::asked::Exchange;
-use crate::flags::has;
-use crate::options::{is_error, is_proper_option, last_info};
+use crate::options::{is_proper_option, last_info};
 use crate::state::{Chosen, Export, Phase, State};
+use nbd_wire::answers::is_error;
+use nbd_wire::flags::has;
 use nbd_wire::{Message, RequestHead, answers, chunks, commands, options};
 use std::alloc::{AllocError, Global};
 
@@ -38,8 +39,13 @@ impl State {
         message: &Message,
         known: u64,
     ) -> Result<(), AllocError>
-        ensures shown { OnOk result ((core : Core) → IsReached core → Shows self.old core → IsSendable message.now → MayComplete core core.phase message.now → Shows self.new (complete core message.now)) }
-        ensures known { OnOk result ((core : Core) (log : List Logged) → IsReached core → Shows self.old core → MayComplete core core.phase message.now → core ≡ core_from start.core (messages_of log) → AreKnown log self.old.exchanges.items → AreKnown (log ++ record { message = message.now; known = known } ∷ []) self.new.exchanges.items) }
+        ensures shown { OnOk result ((core : Core) → IsReached core → Shows self.old core →
+            IsSendable message.now → MayComplete core core.phase message.now →
+            Shows self.new (complete core message.now)) }
+        ensures known { OnOk result ((core : Core) (log : List Logged) → IsReached core → Shows self.old core →
+            MayComplete core core.phase message.now → core ≡ core_from start.core (messages_of log) →
+            AreKnown log self.old.exchanges.items →
+            AreKnown (log ++ record { message = message.now; known = known } ∷ []) self.new.exchanges.items) }
     {
         match message {
             Message::Greeting { flags } => {
@@ -80,8 +86,14 @@ impl State {
         message: &Message,
         known: u64,
     ) -> Result<(), AllocError>
-        ensures shown { OnOk result ((core : Core) (export : Exporting) → IsReached core → Shows self.old core → core.phase ≡ definitions.Transmission export → MayComplete core core.phase message.now → Shows self.new (complete core message.now)) }
-        ensures known { OnOk result ((core : Core) (export : Exporting) (log : List Logged) → Shows self.old core → core.phase ≡ definitions.Transmission export → MayComplete core core.phase message.now → core ≡ core_from start.core (messages_of log) → AreKnown log self.old.exchanges.items → AreKnown (log ++ record { message = message.now; known = known } ∷ []) self.new.exchanges.items) }
+        ensures shown { OnOk result ((core : Core) (export : Exporting) → IsReached core →
+            Shows self.old core → core.phase ≡ definitions.Transmission export →
+            MayComplete core core.phase message.now → Shows self.new (complete core message.now)) }
+        ensures known { OnOk result ((core : Core) (export : Exporting) (log : List Logged) →
+            Shows self.old core → core.phase ≡ definitions.Transmission export →
+            MayComplete core core.phase message.now → core ≡ core_from start.core (messages_of log) →
+            AreKnown log self.old.exchanges.items →
+            AreKnown (log ++ record { message = message.now; known = known } ∷ []) self.new.exchanges.items) }
     {
         match message {
             Message::Request {
@@ -123,7 +135,11 @@ impl State {
         head: &RequestHead,
         payload: &[u8],
     ) -> Result<(), AllocError>
-        ensures shown { OnOk result ((core : Core) (export : Exporting) → Shows self.old core → core.phase ≡ definitions.Transmission export → ((head.now.command == commands.DISC) ≡ false → target head.now.cookie core.entries ≡ None) → Shows self.new (requested (head.now.command == commands.DISC) core (entry_of_head head.now payload.now []))) }
+        ensures shown { OnOk result ((core : Core) (export : Exporting) → Shows self.old core →
+            core.phase ≡ definitions.Transmission export → ((head.now.command == commands.DISC) ≡ false →
+            target head.now.cookie core.entries ≡ None) →
+            Shows self.new (core_with_request (head.now.command == commands.DISC) core
+            (operation_of_head head.now payload.now []))) }
         ensures adds { OnOk result (AddsUnanswered self.old.exchanges.items self.new.exchanges.items) }
     {
         if head.command == commands::DISC {
@@ -141,8 +157,14 @@ impl State {
     // One more exchange, outstanding with this cookie.
     fn add(&mut self, cookie: u64, exchange: Exchange) -> Result<(), AllocError>
         ensures items { OnOk result (self.new.exchanges.items ≡ self.old.exchanges.items ++ exchange ∷ []) }
-        ensures places { OnOk result ((q : ℕ) → get nat_cmp self.new.outstanding q ≡ (if cookie == q then Some (length self.old.exchanges.items) else get nat_cmp self.old.outstanding q)) }
-        ensures kept { OnOk result (self.new ≡ record self.old { exchanges = self.new.exchanges; outstanding = self.new.outstanding }) }
+        ensures places { OnOk result ((q : ℕ) →
+            get nat_cmp self.new.outstanding q ≡ (if cookie == q then Some (length self.old.exchanges.items)
+            else get nat_cmp self.old.outstanding q)) }
+        ensures kept { OnOk result (self.new ≡ record self.old {
+          exchanges = self.new.exchanges;
+          outstanding =
+              self.new.outstanding;
+        }) }
     {
         let place = self.exchanges.len();
         self.exchanges.push(exchange)?;
@@ -159,8 +181,11 @@ impl State {
         payload: &[u8],
         known: u64,
     ) -> Result<(), AllocError>
-        ensures shown { OnOk result ((core : Core) (export : Exporting) → IsReached core → Shows self.old core → core.phase ≡ definitions.Transmission export → Shows self.new (replied core (Simple error cookie payload.now))) }
-        ensures tells { OnOk result (TellsOne (get nat_cmp self.old.outstanding cookie) known self.old.exchanges.items self.new.exchanges.items) }
+        ensures shown { OnOk result ((core : Core) (export : Exporting) → IsReached core →
+            Shows self.old core → core.phase ≡ definitions.Transmission export →
+            Shows self.new (core_with_reply core (Simple error cookie payload.now))) }
+        ensures tells { OnOk result (TellsOne (get nat_cmp self.old.outstanding cookie) known
+            self.old.exchanges.items self.new.exchanges.items) }
     {
         let Some(place) = self.answered_place(cookie, true) else {
             return Ok(());
@@ -181,8 +206,11 @@ impl State {
         payload: &[u8],
         known: u64,
     ) -> Result<(), AllocError>
-        ensures shown { OnOk result ((core : Core) (export : Exporting) → IsReached core → Shows self.old core → core.phase ≡ definitions.Transmission export → Shows self.new (replied core (Chunk flags kind cookie payload.now))) }
-        ensures tells { OnOk result (TellsOne (get nat_cmp self.old.outstanding cookie) known self.old.exchanges.items self.new.exchanges.items) }
+        ensures shown { OnOk result ((core : Core) (export : Exporting) → IsReached core →
+            Shows self.old core → core.phase ≡ definitions.Transmission export →
+            Shows self.new (core_with_reply core (Chunk flags kind cookie payload.now))) }
+        ensures tells { OnOk result (TellsOne (get nat_cmp self.old.outstanding cookie) known
+            self.old.exchanges.items self.new.exchanges.items) }
     {
         let Some(place) = self.answered_place(cookie, has(flags, chunks::DONE)) else {
             return Ok(());
@@ -196,7 +224,9 @@ impl State {
     // The place of the request with this cookie, which is no longer outstanding where the reply ends.
     fn answered_place(&mut self, cookie: u64, ends: bool) -> Option<usize>
         ensures place { result ≡ get nat_cmp self.old.outstanding cookie }
-        ensures left { (q : ℕ) → get nat_cmp self.new.outstanding q ≡ (if ends && (cookie == q) then None else get nat_cmp self.old.outstanding q) }
+        ensures left { (q : ℕ) →
+            get nat_cmp self.new.outstanding q ≡ (if ends && (cookie == q) then None else get nat_cmp
+            self.old.outstanding q) }
         ensures kept { self.new ≡ record self.old { outstanding = self.new.outstanding } }
     {
         if ends {
@@ -209,7 +239,7 @@ impl State {
 
 /// Where a chosen option leads.
 fn chosen(option: u32, payload: &[u8]) -> Phase
-    ensures { result ≡ phase_shown (options.chosen option payload.now) }
+    ensures { result ≡ phase_shown (options.choice_phase option payload.now) }
 {
     match option {
         options::EXPORT_NAME => Phase::Naming,
@@ -238,18 +268,21 @@ fn grants_structured(option: u32, kind: u32) -> bool
 
 /// Where an answer leads.
 fn answered(phase: Phase, kind: u32, payload: &[u8]) -> Phase
-    ensures { (p : definitions.Phase) (option : ℕ) → phase ≡ phase_shown p → result ≡ phase_shown (next_phase p (Answer option kind payload.now)) }
+    ensures { (p : definitions.Phase) (option : ℕ) → phase ≡ phase_shown p →
+        result ≡ phase_shown (next_phase p (Answer option kind payload.now)) }
 {
     match phase {
         Phase::Aborting => Phase::Ended,
-        Phase::Answering(chosen) => behind_answer(chosen, kind, payload),
+        Phase::Answering(chosen) => after_reply(chosen, kind, payload),
         _ => phase,
     }
 }
 
 /// Where an answer to an option leads.
-fn behind_answer(chosen: Chosen, kind: u32, payload: &[u8]) -> Phase
-    ensures { (given : List ℕ) (info : Option Exporting) → chosen.proper ≡ is_proper_option chosen.option given → chosen.info ≡ export_shown_if info → result ≡ phase_shown (answered_option chosen.option given info kind payload.now) }
+fn after_reply(chosen: Chosen, kind: u32, payload: &[u8]) -> Phase
+    ensures { (given : List ℕ) (info : Option Exporting) →
+        chosen.proper ≡ is_proper_option chosen.option given → chosen.info ≡ export_shown_if info →
+        result ≡ phase_shown (reply_phase chosen.option given info kind payload.now) }
 {
     if is_error(kind) {
         return Phase::Choosing;
@@ -260,13 +293,14 @@ fn behind_answer(chosen: Chosen, kind: u32, payload: &[u8]) -> Phase
             info: last_info(payload, chosen.info),
             ..chosen
         }),
-        _ => acknowledged(chosen),
+        _ => ack_phase(chosen),
     }
 }
 
 /// Where an ACK leads.
-fn acknowledged(chosen: Chosen) -> Phase
-    ensures { (info : Option Exporting) → chosen.info ≡ export_shown_if info → result ≡ phase_shown (acknowledged chosen.option info) }
+fn ack_phase(chosen: Chosen) -> Phase
+    ensures { (info : Option Exporting) → chosen.info ≡ export_shown_if info →
+        result ≡ phase_shown (ack_phase chosen.option info) }
 {
     match chosen.info {
         Some(export) if chosen.option == options::GO => Phase::Transmission(export),

@@ -1,12 +1,11 @@
 //! What the completed messages of a session have led to.
 //!
 //! A `State` takes each completed message, and has where the session stands, its export and its numbered
-//! requests; a `Transcript` is what it tells at the end. No byte is read here.
+//! requests; a `Transcript` is what it states at the end. No byte is read here.
 #![tactic(auto)]
 
 mod asked;
 mod completing;
-mod flags;
 mod options;
 mod proper;
 mod recording;
@@ -14,8 +13,6 @@ mod state;
 mod transcript;
 
 pub use asked::{Asked, Exchange, Outcome};
-pub use flags::{has, has_only, has_wide};
-pub use options::is_error;
 pub use proper::ends_by;
 pub use state::{Chosen, Export, Phase, State};
 pub use transcript::Transcript;

@@ -2,17 +2,16 @@
 //! types").
 
 ghost use Rattle.std.specs.Prelude.{◌≡◌};
-ghost use Rattle.nbd_wire.specs.Options.{is_error, is_proper_option, last_info};
-ghost use Rattle.nbd_wire.specs.Payloads.{info_of};
+ghost use Rattle.nbd_wire.specs.protocol.Options.{is_proper_option, last_info};
+ghost use Rattle.nbd_wire.specs.protocol.Payloads.{info_of};
 ghost use Rattle.nbd_state.specs.Showing.{exporting_if};
 
-use crate::flags::has_wide;
 use crate::state::Export;
-use nbd_wire::{Info, answers, go_of, info_of, options};
+use nbd_wire::{Info, go_of, info_of, options};
 
 /// Whether the data of an option has its form. EXPORT_NAME and ABORT take any data, and an option that
-/// is not listed here has no form.
-#[tactic(auto, unfolding(nbd_wire::specs::Options::is_proper_option))]
+/// is not listed here is malformed.
+#[tactic(auto, unfolding(nbd_wire::specs::protocol::Options::is_proper_option))]
 pub(crate) fn is_proper_option(option: u32, payload: &[u8]) -> bool
     ensures { result ≡ is_proper_option option payload.now }
 {
@@ -22,13 +21,6 @@ pub(crate) fn is_proper_option(option: u32, payload: &[u8]) -> bool
         options::INFO | options::GO => go_of(payload).is_some(),
         _ => false,
     }
-}
-
-/// Whether an answer of this kind is an error (proto.md, "Option reply types").
-pub fn is_error(kind: u32) -> bool
-    ensures { result ≡ is_error kind }
-{
-    has_wide(kind, answers::ERROR)
 }
 
 /// The last EXPORT info, with one more INFO payload.

@@ -3,17 +3,19 @@
 
 ghost use Rattle.std.specs.Prelude.{◌≡◌, ◌+◌, ◌==◌, ◌&&◌, ◌||◌, ℕ, List, not, nat_le};
 ghost use Rattle.nbd_wire.specs.declared.message.Message.{Message};
-ghost use Rattle.nbd_wire.specs.Requests as requests;
-ghost use Rattle.nbd_state.specs.Showing.{exporting, entry_of_head};
+ghost use Rattle.nbd_wire.specs.protocol.Operations as operations;
+ghost use Rattle.nbd_state.specs.Showing.{exporting};
+ghost use Rattle.nbd_state.specs.internal.Showing.{operation_of_head};
 
-use crate::flags::{has, has_only};
 use crate::state::Export;
+use nbd_wire::flags::{has, has_only};
 use nbd_wire::{RequestHead, command_flags, commands, transmission};
 
 /// Whether a client should send this request to the export.
-#[tactic(auto, unfolding(nbd_wire::specs::Requests::is_proper))]
+#[tactic(auto, unfolding(nbd_wire::specs::protocol::Operations::is_proper))]
 pub(crate) fn is_proper(export: Export, request: &RequestHead) -> bool
-    ensures { (payload : List ℕ) (replies : List Message) → result ≡ requests.is_proper (exporting export) (entry_of_head request.now payload replies) }
+    ensures { (payload : List ℕ) (replies : List Message) →
+        result ≡ operations.is_proper (exporting export) (operation_of_head request.now payload replies) }
 {
     is_known(request.command)
         && is_in_range(export.size, request)
@@ -28,14 +30,14 @@ pub(crate) fn is_proper(export: Export, request: &RequestHead) -> bool
 
 // The type of a numbered request is known.
 fn is_known(command: u16) -> bool
-    ensures { result ≡ requests.is_known command }
+    ensures { result ≡ operations.is_known command }
 {
     command == commands::FLUSH || has_range(command)
 }
 
 // The offset and length of requests of this type are a range of the export.
 fn has_range(command: u16) -> bool
-    ensures { result ≡ requests.has_range command }
+    ensures { result ≡ operations.has_range command }
 {
     command == commands::READ
         || command == commands::WRITE
@@ -46,7 +48,7 @@ fn has_range(command: u16) -> bool
 
 // Requests of this type change the export.
 fn is_change(command: u16) -> bool
-    ensures { result ≡ requests.is_change command }
+    ensures { result ≡ operations.is_change command }
 {
     command == commands::WRITE || command == commands::TRIM || command == commands::WRITE_ZEROES
 }
@@ -60,7 +62,8 @@ pub fn ends_by(offset: u64, size: u64, end: u64) -> bool
 
 // The range of the request, if it has one, lies in the export.
 fn is_in_range(size: u64, request: &RequestHead) -> bool
-    ensures { result ≡ not (requests.has_range request.now.command) || nat_le (request.now.offset + request.now.length) size }
+    ensures { result ≡ not (operations.has_range request.now.command) || nat_le
+        (request.now.offset + request.now.length) size }
 {
     !has_range(request.command) || ends_by(request.offset, u64::from(request.length), size)
 }
@@ -68,7 +71,7 @@ fn is_in_range(size: u64, request: &RequestHead) -> bool
 // The export offers the type. CACHE needs no SEND_CACHE: servers carry it out without that flag
 // (this project's choice).
 fn is_offered(flags: u16, command: u16) -> bool
-    ensures { result ≡ requests.is_offered flags command }
+    ensures { result ≡ operations.is_offered flags command }
 {
     match command {
         commands::FLUSH => has(flags, transmission::SEND_FLUSH),
@@ -80,7 +83,7 @@ fn is_offered(flags: u16, command: u16) -> bool
 
 // The flags that a request of this type may carry.
 fn allowed_flags(flags: u16, command: u16) -> u16
-    ensures { result ≡ requests.allowed_flags flags command }
+    ensures { result ≡ operations.allowed_flags flags command }
 {
     let (is_read, is_zeroes) = (command == commands::READ, command == commands::WRITE_ZEROES);
     let has_fast = has(flags, transmission::SEND_FAST_ZERO);
@@ -95,7 +98,7 @@ fn allowed_flags(flags: u16, command: u16) -> u16
 
 // The mask, or no flag.
 fn mask_if(offered: bool, mask: u16) -> u16
-    ensures { result ≡ requests.mask_if offered mask }
+    ensures { result ≡ operations.mask_if offered mask }
 {
     if offered { mask } else { 0 }
 }

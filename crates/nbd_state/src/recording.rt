@@ -3,18 +3,20 @@
 ghost use Rattle.std.specs.Prelude.{◌≡◌, ◌++◌, ℕ, false, IfErr, IfOk, [], if◌then◌else◌, is_some};
 ghost use Rattle.nbd_wire.specs.declared.message.Message.{Message};
 ghost use Rattle.nbd_wire.specs.declared.message.Message.TheVariants.{Chunk, Simple};
-ghost use Rattle.nbd_wire.specs.Contents.{piece_of};
-ghost use Rattle.nbd_wire.specs.Payloads as payloads;
-ghost use Rattle.nbd_wire.specs.Requests as requests;
-ghost use Rattle.nbd_wire.specs.Requests.{Entry, Exporting, chunk_piece, ends_reply, is_error_chunk, is_failing, is_finished};
-ghost use Rattle.nbd_wire.specs.States.{with_reply};
+ghost use Rattle.nbd_wire.specs.codec.Contents.{piece_of};
+ghost use Rattle.nbd_wire.specs.protocol.Payloads as payloads;
+ghost use Rattle.nbd_wire.specs.protocol.Pieces as pieces;
+ghost use Rattle.nbd_wire.specs.protocol.Operations.{Operation, Exporting, ends_reply, is_error_chunk, is_failing, is_finished};
+ghost use Rattle.nbd_wire.specs.protocol.Pieces.{chunk_piece};
+ghost use Rattle.nbd_wire.specs.protocol.States.{with_reply};
 ghost use Rattle.nbd_state.specs.declared.asked.Outcome.TheVariants.{Failure, Success};
-ghost use Rattle.nbd_state.specs.Showing.{entry_of_head, IsShown, exporting};
+ghost use Rattle.nbd_state.specs.internal.Showing.{operation_of_head};
+ghost use Rattle.nbd_state.specs.Showing.{IsShown, exporting};
 
 use crate::asked::{Asked, Exchange, Outcome};
-use crate::flags::has;
 use crate::proper::is_proper;
 use crate::state::Export;
+use nbd_wire::flags::has;
 use nbd_wire::{Bytes, Content, Piece, RequestHead, chunks, content_of};
 use std::alloc::{AllocError, Global};
 
@@ -26,7 +28,7 @@ impl Exchange {
         head: &RequestHead,
         payload: &[u8],
     ) -> Result<Exchange, AllocError>
-        ensures { IfOk result (λ x. IsShown (exporting export) (entry_of_head head.now payload.now []) x) }
+        ensures { IfOk result (λ x. IsShown (exporting export) (operation_of_head head.now payload.now []) x) }
     {
         let payload = Bytes::new(Vec::from_slice(alloc, payload)?);
         let asked = Asked {
@@ -56,9 +58,14 @@ impl Exchange {
         payload: &[u8],
         known: u64,
     ) -> Result<(), AllocError>
-        ensures shown { IfOk result (λ _. (export : Exporting) (e : Entry) (cookie : ℕ) → IsShown export e self.old → is_finished e ≡ false → IsShown export (with_reply e (Simple error cookie payload.now)) self.new) }
-        ensures first { IfOk result (λ _. self.new.asked.known_at ≡ (if is_some self.old.asked.known_at then self.old.asked.known_at else Some known)) }
-        ensures unchanged { IfErr result (λ _. (export : Exporting) (e : Entry) → IsShown export e self.old → IsShown export e self.new) }
+        ensures shown { IfOk result (λ _. (export : Exporting) (e : Operation) (cookie : ℕ) →
+            IsShown export e self.old → is_finished e ≡ false →
+            IsShown export (with_reply e (Simple error cookie payload.now)) self.new) }
+        ensures first { IfOk result
+            (λ _. self.new.asked.known_at ≡ (if is_some self.old.asked.known_at then self.old.asked.known_at
+            else Some known)) }
+        ensures unchanged { IfErr result (λ _. (export : Exporting) (e : Operation) →
+            IsShown export e self.old → IsShown export e self.new) }
         ensures kept { IfErr result (λ _. self.new.asked.known_at ≡ self.old.asked.known_at) }
     {
         let piece = simple_piece(alloc, self.asked.offset, payload)?;
@@ -75,9 +82,14 @@ impl Exchange {
         payload: &[u8],
         known: u64,
     ) -> Result<(), AllocError>
-        ensures shown { IfOk result (λ _. (export : Exporting) (e : Entry) (cookie : ℕ) → IsShown export e self.old → is_finished e ≡ false → IsShown export (with_reply e (Chunk flags kind cookie payload.now)) self.new) }
-        ensures first { IfOk result (λ _. self.new.asked.known_at ≡ (if is_some self.old.asked.known_at then self.old.asked.known_at else Some known)) }
-        ensures unchanged { IfErr result (λ _. (export : Exporting) (e : Entry) → IsShown export e self.old → IsShown export e self.new) }
+        ensures shown { IfOk result (λ _. (export : Exporting) (e : Operation) (cookie : ℕ) →
+            IsShown export e self.old → is_finished e ≡ false →
+            IsShown export (with_reply e (Chunk flags kind cookie payload.now)) self.new) }
+        ensures first { IfOk result
+            (λ _. self.new.asked.known_at ≡ (if is_some self.old.asked.known_at then self.old.asked.known_at
+            else Some known)) }
+        ensures unchanged { IfErr result (λ _. (export : Exporting) (e : Operation) →
+            IsShown export e self.old → IsShown export e self.new) }
         ensures kept { IfErr result (λ _. self.new.asked.known_at ≡ self.old.asked.known_at) }
     {
         let piece = content_piece(alloc, kind, payload)?;
@@ -92,20 +104,25 @@ impl Exchange {
         ends: bool,
         fails: bool,
     ) -> Result<(), AllocError>
-        ensures shown { IfOk result (λ _. (export : Exporting) (e : Entry) (m : Message) → IsShown export e self.old → is_finished e ≡ false → ends_reply m ≡ ends → is_failing m ≡ fails → requests.piece_of e.offset m ≡ chunk_piece piece → IsShown export (with_reply e m) self.new) }
-        ensures first { IfOk result (λ _. self.new.asked.known_at ≡ (if is_some self.old.asked.known_at then self.old.asked.known_at else Some known)) }
-        ensures unchanged { IfErr result (λ _. (export : Exporting) (e : Entry) → IsShown export e self.old → IsShown export e self.new) }
+        ensures shown { IfOk result (λ _. (export : Exporting) (e : Operation) (m : Message) →
+            IsShown export e self.old → is_finished e ≡ false → ends_reply m ≡ ends → is_failing m ≡ fails →
+            pieces.piece_of e.offset m ≡ chunk_piece piece → IsShown export (with_reply e m) self.new) }
+        ensures first { IfOk result
+            (λ _. self.new.asked.known_at ≡ (if is_some self.old.asked.known_at then self.old.asked.known_at
+            else Some known)) }
+        ensures unchanged { IfErr result (λ _. (export : Exporting) (e : Operation) →
+            IsShown export e self.old → IsShown export e self.new) }
         ensures kept { IfErr result (λ _. self.new.asked.known_at ≡ self.old.asked.known_at) }
     {
         push_if(&mut self.asked.pieces, piece)?;
         self.failed |= fails;
         self.asked.known_at = first(self.asked.known_at, known);
-        self.asked.outcome = outcome_behind(self.asked.outcome, ends, self.failed);
+        self.asked.outcome = outcome_after(self.asked.outcome, ends, self.failed);
         Ok(())
     }
 }
 
-// The piece, if any, behind the others.
+// The piece, if any, after the others.
 fn push_if(pieces: &mut Vec<Piece>, piece: Option<Piece>) -> Result<(), AllocError>
     ensures pushed { IfOk result (λ _. pieces.new.items ≡ pieces.old.items ++ chunk_piece piece) }
     ensures unchanged { IfErr result (λ _. pieces.new.items ≡ pieces.old.items) }
@@ -127,7 +144,7 @@ fn first(known_at: Option<u64>, known: u64) -> Option<u64>
 }
 
 // What became of a request of which one more reply message came.
-fn outcome_behind(before: Outcome, ends: bool, failed: bool) -> Outcome
+fn outcome_after(before: Outcome, ends: bool, failed: bool) -> Outcome
     ensures { result ≡ (if ends then (if failed then Failure else Success) else before) }
 {
     match (ends, failed) {
@@ -146,7 +163,7 @@ fn is_error_chunk(kind: u16) -> bool
 
 // The bytes of a simple reply as a piece, unless there are none.
 fn simple_piece(alloc: Global, offset: u64, payload: &[u8]) -> Result<Option<Piece>, AllocError>
-    ensures { IfOk result (λ piece. chunk_piece piece ≡ requests.simple_piece offset payload.now) }
+    ensures { IfOk result (λ piece. chunk_piece piece ≡ pieces.simple_piece offset payload.now) }
 {
     if payload.is_empty() {
         return Ok(None);

@@ -60,7 +60,7 @@ pub struct State {
 }
 
 impl State {
-    ghost use Rattle.nbd_wire.specs.States.{start};
+    ghost use Rattle.nbd_wire.specs.protocol.States.{start};
     ghost use Rattle.std.specs.Prelude.{◌≡◌};
     ghost use Rattle.nbd_state.specs.Shows.{Shows};
     ghost use Rattle.nbd_laws.specs.Soundness.{IsSoundReport};
@@ -81,7 +81,7 @@ impl State {
         }
     }
 
-    /// What a session that ends here tells: its export, if it reached transmission, and its numbered
+    /// What a session that ends here states: its export, if it reached transmission, and its numbered
     /// requests; takes no memory. The condition is that this is a sound report.
     pub fn transcript(self) -> Transcript
         requires { IsSoundReport (report_told (export_of self.phase) self.exchanges.items) }

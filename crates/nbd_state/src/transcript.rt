@@ -1,8 +1,8 @@
-//! What a finished session tells of its requests.
+//! What a finished session says of its requests.
 
 ghost use Rattle.std.specs.Prelude.{◌≡◌, length};
 ghost use Rattle.std.specs.Option.{option_copied};
-ghost use Rattle.nbd_wire.specs.Report.{asked_at};
+ghost use Rattle.nbd_wire.specs.protocol.Reports.{asked_at};
 ghost use Rattle.nbd_laws.specs.Soundness.{IsSoundReport};
 ghost use Rattle.nbd_state.specs.Transcripts.{size_and_flags, told_if};
 
@@ -12,7 +12,7 @@ use std::marker::Model;
 
 /// The export and the numbered requests of a session in which each message that started has completed.
 ///
-/// In a contract a transcript is the report of its session (nbd_wire, `specs/Report.antt`).
+/// In a contract a transcript is the report of its session (nbd_wire, `specs/protocol/Reports.antt`).
 #[derive(Drop)]
 pub struct Transcript {
     export: Option<Export>,
@@ -20,7 +20,7 @@ pub struct Transcript {
 }
 
 impl Model for Transcript {
-    ghost use Rattle.nbd_wire.specs.Report.{Report};
+    ghost use Rattle.nbd_wire.specs.protocol.Reports.{Report};
     ghost use Rattle.nbd_laws.specs.Soundness.{IsSoundReport};
     ghost use Rattle.nbd_state.specs.Transcripts.{report_told};
 
@@ -34,7 +34,7 @@ impl Model for Transcript {
 impl Transcript {
     ghost use Rattle.nbd_state.specs.Transcripts.{report_told};
 
-    /// What a session on this export tells with these exchanges.
+    /// What a session on this export states with these exchanges.
     pub(crate) fn new(export: Option<Export>, exchanges: Vec<Exchange>) -> Transcript
         requires { IsSoundReport (report_told export exchanges.items) }
         ensures { result ≡ report_told export exchanges.items }

@@ -1,6 +1,6 @@
-mod Endings
-mod Sizes
-mod Judged
-mod Saying
-mod Overs
-mod Lasts
+pub mod EndLemmas
+pub mod JudgedLemmas
+pub mod LastLineLemmas
+pub mod OverLemmas
+pub mod SayLemmas
+pub mod SizeLemmas

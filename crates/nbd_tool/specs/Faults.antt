@@ -11,7 +11,7 @@ use Rattle.nbd_lines.specs.declared.making.MakeFault.TheVariants as make_faults
 use Rattle.nbd_lines.specs.declared.output.OutputFault.{OutputFault}
 use Rattle.nbd_lines.specs.declared.output.OutputFault.TheVariants as output_faults
 
--- the exit status: 4 for want of memory, 3 for anything else
+-- the exit status: 4 for out of memory, 3 for anything else
 abbrev pub status : RunFault → ℕ
 status Memory = 4
 status _ = 3

@@ -1,7 +1,7 @@
 pub mod Faults
 pub mod Runs
 pub mod Scripts
-pub mod Ends
 pub mod Shown
 pub mod Starts
 pub mod Verdicts
+pub mod internal

@@ -1,7 +1,7 @@
--- What a run of `check` tells of its inputs and leaves written, where the readers and the writer tell their bytes.
+-- What a run of `check` says of its inputs and leaves written, where the readers and the writer state their bytes.
 use Rattle.std.specs.Prelude.{◌≡◌, ◌↔◌, ℕ, List, ◌++◌, Option, Some, IfSome, IsTrue, Bool, codes, map}
-use Rattle.nbd_wire.specs.Explains.{Explained, Start}
-use Rattle.nbd_wire.specs.Items.{Pair, flat}
+use Rattle.nbd_wire.specs.protocol.Explains.{Explained, Start}
+use Rattle.nbd_wire.specs.protocol.Captures.{Pair, flat}
 use Rattle.std.specs.Io.KnownBytes.{Appends, Keeps}
 use Rattle.nbd_capture.specs.Capture.{Chunk, IsCaptureText, IsFirstBadCaptureLine}
 use Rattle.nbd_capture.specs.Order.{IsOrderText, IsFirstBadOrderLine}
@@ -9,7 +9,7 @@ use Rattle.nbd_tool.specs.declared.fault.RunFault.{RunFault}
 use Rattle.nbd_tool.specs.declared.fault.RunFault.TheVariants.{CaptureLine, CaptureRead, OrderLine, OrderRead, ImageRead, Write, Memory}
 use Rattle.nbd_judge.specs.declared.verdict.Verdict.{Verdict}
 use Rattle.nbd_judge.specs.Captures.{IsChecked}
-use Rattle.nbd_capture.specs.Writing.{AppendsFront}
+use Rattle.nbd_capture.specs.Writing.{AppendsPrefix}
 use Rattle.nbd_tool.specs.Verdicts.{IsYes, line}
 
 -- known bytes are a capture text
@@ -26,13 +26,6 @@ IsCaptureCause capture (CaptureLine n) = IfSome capture (λ text. IsFirstBadCapt
 IsCaptureCause capture CaptureRead = Unit {0}
 IsCaptureCause capture Memory = Unit {0}
 IsCaptureCause capture _ = ⊥
-
--- the same of the order
-abbrev pub IsOrderCause : Option (List ℕ) → RunFault → Type 0
-IsOrderCause order (OrderLine n) = IfSome order (λ text. IsFirstBadOrderLine text n)
-IsOrderCause order OrderRead = Unit {0}
-IsOrderCause order Memory = Unit {0}
-IsOrderCause order _ = ⊥
 
 -- the chunks' bytes with their senders
 abbrev pub flat_of : List Chunk → List Pair
@@ -62,15 +55,15 @@ IsCause capture order Memory = Unit {0}
 IsCause capture order ImageRead = IsCapture capture × IsOrder order
 IsCause capture order _ = ⊥
 
--- a front of a verdict's line was written
-pub record TellsFront (capture order : Option (List ℕ)) (initial : Option Start) (old new : Option (List ℕ)) : Type 0 where
+-- a prefix of a verdict's line was written
+pub record TellsPrefix (capture order : Option (List ℕ)) (initial : Option Start) (old new : Option (List ℕ)) : Type 0 where
   pub verdict : Verdict
   pub is_verdict : IsVerdictOn capture order initial verdict
-  pub appended : AppendsFront old new (line verdict)
+  pub appended : AppendsPrefix old new (line verdict)
 
--- what stands written after a fault: a front of a verdict's line where the writer failed, else nothing
+-- what stands written after a fault: a prefix of a verdict's line where the writer failed, else nothing
 abbrev pub LeavesWritten : (capture order : Option (List ℕ)) → Option Start → (old new : Option (List ℕ)) → RunFault → Type 0
-LeavesWritten capture order initial old new Write = TellsFront capture order initial old new
+LeavesWritten capture order initial old new Write = TellsPrefix capture order initial old new
 LeavesWritten capture order initial old new _ = Keeps old new
 
 -- a text begins with `yes`

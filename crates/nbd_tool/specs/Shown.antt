@@ -1,11 +1,13 @@
--- What a run of `show` tells of its capture and leaves written, where the reader and the writer tell their bytes.
+-- What a run of `show` says of its capture and leaves written, where the reader and the writer state their bytes.
 use Rattle.std.specs.Prelude.{◌≡◌, ◌⊎◌, ℕ, List, [], ◌++◌, Bool, true, false, Option, IfSome, codes, length}
 use Rattle.std.specs.Io.KnownBytes.{Appends, Keeps}
 use Rattle.nbd_wire.specs.declared.message.Message.{Message}
-use Rattle.nbd_wire.specs.Items.{Pair}
+use Rattle.nbd_wire.specs.protocol.Captures.{Pair}
+use Rattle.nbd_wire.specs.protocol.Within.{IsOfNoRun}
 use Rattle.nbd_capture.specs.Capture.{Chunk, IsCaptureText}
-use Rattle.nbd_capture.specs.Writing.{AppendsFront}
-use Rattle.nbd_laws.specs.declared.fault.WireFault.{WireFault}
+use Rattle.nbd_capture.specs.Writing.{AppendsPrefix}
+use Rattle.nbd_wire.specs.declared.fault.WireFault.{WireFault}
+use Rattle.nbd_session.specs.Refusals.{IsWireFault}
 use Rattle.nbd_session.specs.Sessions.{HasRun}
 use Rattle.nbd_judge.specs.declared.verdict.Verdict.TheVariants.{Wire}
 use Rattle.nbd_lines.specs.Script.{message_lines}
@@ -14,22 +16,22 @@ use Rattle.nbd_tool.specs.declared.fault.RunFault.TheVariants.{Write, Memory}
 use Rattle.nbd_tool.specs.Runs.{IsCapture, IsCaptureCause, flat_of}
 use Rattle.nbd_tool.specs.Verdicts.{line}
 
--- the front of a capture's bytes is that of a run, but for bytes behind each side's last message, and these messages complete in
+-- the prefix of a capture's bytes is that of a run, but for bytes after each side's last message, and these messages complete in
 -- that run, in this order
-pub record Leads (capture front : List Pair) (messages : List Message) : Type 0 where
+pub record Leads (capture prefix : List Pair) (messages : List Message) : Type 0 where
   pub rest : List Pair
   pub client : List ℕ
   pub server : List ℕ
-  pub parts : front ++ rest ≡ capture
-  pub run : HasRun front messages client server
+  pub parts : prefix ++ rest ≡ capture
+  pub run : HasRun prefix messages client server
 
 -- what is to be written of a capture's bytes, and the answer. A run has exactly these bytes: the lines of all its messages and
--- `ok`. Or lines of messages that a front of the capture begins with, and the line of a wire fault: that the capture is no run's,
--- and that these are all the messages before the fault, is not claimed yet.
+-- `ok`. Or no run has them: the lines of the messages that completed before the fault, and the line of the wire fault.
 pub data IsOutput (capture : List Pair) : Bool → List ℕ → Type 0 where
   accepted : (messages : List Message) → HasRun capture messages [] [] → IsOutput capture true (message_lines messages ++ codes "ok\n")
-  refused : (front : List Pair) (messages : List Message) (fault : WireFault)
-      → Leads capture front messages → IsOutput capture false (message_lines messages ++ line (Wire (length front) fault))
+  refused : (prefix : List Pair) (messages : List Message) (fault : WireFault)
+      → Leads capture prefix messages → IsWireFault capture messages (length prefix) fault → IsOfNoRun capture
+      → IsOutput capture false (message_lines messages ++ line (Wire (length prefix) fault))
 
 -- a capture's session was shown
 pub record WritesAll (known : Option (List ℕ)) (yes : Bool) (old new : Option (List ℕ)) : Type 0 where
@@ -39,31 +41,31 @@ pub record WritesAll (known : Option (List ℕ)) (yes : Bool) (old new : Option 
   pub is_shown : IsOutput (flat_of chunks) yes lines
   pub appended : Appends old new lines
 
--- a front of what is to be shown was written
+-- a prefix of what is to be shown was written
 pub record WritesSome (known old new : Option (List ℕ)) : Type 0 where
   pub chunks : List Chunk
   pub is_text : IfSome known (λ text. IsCaptureText text chunks)
   pub yes : Bool
   pub lines : List ℕ
   pub is_shown : IsOutput (flat_of chunks) yes lines
-  pub appended : AppendsFront old new lines
+  pub appended : AppendsPrefix old new lines
 
--- a front of the message lines was written
+-- a prefix of the message lines was written
 pub record WritesMessages (known old new : Option (List ℕ)) : Type 0 where
   pub chunks : List Chunk
   pub is_text : IfSome known (λ text. IsCaptureText text chunks)
-  pub front : List Pair
+  pub prefix : List Pair
   pub messages : List Message
-  pub leads : Leads (flat_of chunks) front messages
-  pub appended : AppendsFront old new (message_lines messages)
+  pub leads : Leads (flat_of chunks) prefix messages
+  pub appended : AppendsPrefix old new (message_lines messages)
 
 -- what a fault says of the known bytes of the capture
 abbrev pub IsShowCause : Option (List ℕ) → RunFault → Type 0
 IsShowCause known Write = IsCapture known
 IsShowCause known fault = IsCaptureCause known fault
 
--- what stands written after a fault: a front of what is to be shown where the writer failed, a front of the message lines or
--- nothing after want of memory, else nothing
+-- what stands written after a fault: a prefix of what is to be shown where the writer failed, a prefix of the message lines or
+-- nothing after out of memory, else nothing
 abbrev pub LeavesShown : (known old new : Option (List ℕ)) → RunFault → Type 0
 LeavesShown known old new Write = WritesSome known old new
 LeavesShown known old new Memory = Keeps old new ⊎ WritesMessages known old new

@@ -1,7 +1,7 @@
 -- What is known of the start of a run.
 use Rattle.std.specs.Prelude.{ℕ, List, Option, Some, None}
-use Rattle.nbd_wire.specs.Explains as definitions
-use Rattle.nbd_wire.specs.Explains.{Start}
+use Rattle.nbd_wire.specs.protocol.Explains as definitions
+use Rattle.nbd_wire.specs.protocol.Explains.{Start}
 use Rattle.nbd_tool.specs.declared.start.StartFrom.{StartFrom}
 use Rattle.nbd_tool.specs.declared.start.StartFrom.TheVariants.{Unknown, Zeroes, Image}
 

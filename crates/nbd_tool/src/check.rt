@@ -2,9 +2,10 @@
 ghost use Rattle.std.specs.Prelude.{◌≡◌, ◌<◌, ◌^◌, OnOk, IfErr, IfOk, IfSome, length};
 ghost use Rattle.nbd_capture.specs.Capture.{IsCaptureText, chunks_of};
 ghost use Rattle.nbd_capture.specs.Order.{IsOrderText};
-ghost use Rattle.nbd_wire.specs.Items.{flat};
+ghost use Rattle.nbd_wire.specs.protocol.Captures.{flat};
 ghost use Rattle.nbd_judge.specs.Captures.{chunks_told};
-ghost use Rattle.nbd_tool.specs.Runs.{IsCapture, IsOrder, IsCaptureCause, IsOrderCause, IsCause, LeavesWritten, SaysYes, Tells};
+ghost use Rattle.nbd_tool.specs.Runs.{IsCapture, IsOrder, IsCaptureCause, IsCause, LeavesWritten, SaysYes, Tells};
+ghost use Rattle.nbd_tool.specs.internal.Runs.{IsOrderCause};
 ghost use Rattle.nbd_tool.specs.Starts.{initial_from};
 
 use crate::fault::RunFault;
@@ -22,7 +23,7 @@ use std::io::{BufRead, Read, Write};
 ///
 /// The capture is read first, then the order, then the image; a fault of a text or of its reader is
 /// answered before any verdict. Nothing is written unless all were read whole and are well formed. After
-/// `Write` a front of the line stands written.
+/// `Write` a prefix of the line stands written.
 pub fn run_check<C: BufRead + Drop, O: Read + Drop, I: Read + Drop, W: Write>(
     alloc: Global,
     mut capture: C,
@@ -30,11 +31,15 @@ pub fn run_check<C: BufRead + Drop, O: Read + Drop, I: Read + Drop, W: Write>(
     start: StartFrom<I>,
     out: &mut W,
 ) -> Result<bool, RunFault>
-    ensures written { IfOk result (λ yes. Tells (C.remaining capture) (O.remaining order) (initial_from I.remaining start) yes (W.contents out.old) (W.contents out.new)) }
-    ensures yes { SaysYes (C.remaining capture) (O.remaining order) (initial_from I.remaining start) (W.contents out.old) (W.contents out.new) }
+    ensures written { IfOk result
+        (λ yes. Tells (C.remaining capture) (O.remaining order) (initial_from I.remaining start) yes
+        (W.contents out.old) (W.contents out.new)) }
+    ensures yes { SaysYes (C.remaining capture) (O.remaining order) (initial_from I.remaining start)
+        (W.contents out.old) (W.contents out.new) }
     ensures well_formed { OnOk result (IsCapture (C.remaining capture) × IsOrder (O.remaining order)) }
     ensures cause { IfErr result (IsCause (C.remaining capture) (O.remaining order)) }
-    ensures left { IfErr result (LeavesWritten (C.remaining capture) (O.remaining order) (initial_from I.remaining start) (W.contents out.old) (W.contents out.new)) }
+    ensures left { IfErr result (LeavesWritten (C.remaining capture) (O.remaining order)
+        (initial_from I.remaining start) (W.contents out.old) (W.contents out.new)) }
 {
     let chunks = read_capture(alloc, &mut capture)?;
     let order = read_order(alloc, &mut order)?;

@@ -11,7 +11,7 @@ use thiserror::Error;
 /// `Memory`.
 #[derive(Debug, Drop, Error)]
 pub enum RunFault {
-    /// The capture's line with this number, counted from 1, has no form of a capture line, or no line feed
+    /// The capture's line with this number, counted from 1, is malformed of a capture line, or no line feed
     /// ends it.
     #[error("fault capture line {0}")]
     CaptureLine(u64),
@@ -27,24 +27,24 @@ pub enum RunFault {
     /// The image could not be opened or read, or has more bytes than `READ_LIMIT`.
     #[error("fault image read")]
     ImageRead,
-    /// The script's line with this number, counted from 1, has no form, or no line feed ends it, or its
+    /// The script's line with this number, counted from 1, is malformed, or no line feed ends it, or its
     /// message has no encoding.
     #[error("fault script line {0}")]
     ScriptLine(u64),
     /// The script could not be opened or read, or has more bytes than `READ_LIMIT`.
     #[error("fault script read")]
     ScriptRead,
-    /// The output could not be written whole. A front of it stands written.
+    /// The output could not be written whole. A prefix of it stands written.
     #[error("fault write")]
     Write,
     /// A growth of memory was refused. Of `run_check` nothing stands written, of `run_show` and `run_make`
-    /// a front of the message lines or chunk lines, possibly nothing.
+    /// a prefix of the message lines or chunk lines, possibly nothing.
     #[error("fault memory")]
     Memory,
 }
 
 impl RunFault {
-    /// The exit status of a run with this fault: 4 for want of memory, else 3.
+    /// The exit status of a run with this fault: 4 for out of memory, else 3.
     pub fn status(&self) -> u8
         ensures { result ≡ status self.now }
     {

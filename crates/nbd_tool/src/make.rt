@@ -12,8 +12,8 @@ use std::io::{BufRead, Write};
 /// Reads a script whole, and writes one chunk line for each of its messages, in their order: with the
 /// message's sender, and with all of its bytes in lower case digits.
 ///
-/// Nothing is written unless the script was read whole and is well formed. After `Write` a front of the
-/// chunk lines stands written, after `Memory` a front of them, possibly nothing.
+/// Nothing is written unless the script was read whole and is well formed. After `Write` a prefix of the
+/// chunk lines stands written, after `Memory` a prefix of them, possibly nothing.
 pub fn run_make<S: BufRead + Drop, W: Write>(
     alloc: Global,
     mut script: S,

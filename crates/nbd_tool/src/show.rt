@@ -1,12 +1,12 @@
 //! The command `show`, over any reader and writer.
 ghost use Rattle.std.specs.Prelude.{◌≡◌, ◌<◌, ◌^◌, IfErr, IfOk, OnOk, None, Some, false, length, true};
 ghost use Rattle.std.specs.Io.KnownBytes.{Appends};
-ghost use Rattle.nbd_wire.specs.Items.{flat};
+ghost use Rattle.nbd_wire.specs.protocol.Captures.{flat};
 ghost use Rattle.nbd_session.specs.declared.fault.SessionFault.TheVariants.{Wire};
 ghost use Rattle.nbd_session.specs.Sessions.{fault_of};
 ghost use Rattle.nbd_judge.specs.Captures.{chunks_told};
 ghost use Rattle.nbd_tool.specs.Runs.{IsCapture};
-ghost use Rattle.nbd_tool.specs.Ends.{IsOver, LeavesLast, is_accepted, last_line};
+ghost use Rattle.nbd_tool.specs.internal.Ends.{IsOver, LeavesLast, is_accepted, last_line};
 ghost use Rattle.nbd_tool.specs.Shown.{IsShowCause, LeavesShown, WritesAll};
 
 use crate::check::read_capture;
@@ -24,14 +24,15 @@ use std::io::{BufRead, Write};
 /// of their completion, and then `ok`, or where and why the session was refused. Answers true where it
 /// was accepted.
 ///
-/// Nothing is written unless the capture was read whole and is well formed. After `Write` a front of the
-/// lines stands written, after `Memory` a front of the message lines, possibly nothing.
+/// Nothing is written unless the capture was read whole and is well formed. After `Write` a prefix of the
+/// lines stands written, after `Memory` a prefix of the message lines, possibly nothing.
 pub fn run_show<C: BufRead + Drop, W: Write>(
     alloc: Global,
     mut capture: C,
     out: &mut W,
 ) -> Result<bool, RunFault>
-    ensures written { IfOk result (λ yes. WritesAll (C.remaining capture) yes (W.contents out.old) (W.contents out.new)) }
+    ensures written { IfOk result
+        (λ yes. WritesAll (C.remaining capture) yes (W.contents out.old) (W.contents out.new)) }
     ensures well_formed { OnOk result (IsCapture (C.remaining capture)) }
     ensures cause { IfErr result (IsShowCause (C.remaining capture)) }
     ensures left { IfErr result (LeavesShown (C.remaining capture) (W.contents out.old) (W.contents out.new)) }
@@ -61,7 +62,7 @@ fn session_over(alloc: Global, chunks: &[(Side, Vec<u8>)]) -> Result<Session, Al
 /// Writes how the session ended: `ok`, or where and why it was refused. Answers true where it was
 /// accepted.
 ///
-/// After `Write` a front of the line stands written, after `Memory` nothing of it.
+/// After `Write` a prefix of the line stands written, after `Memory` nothing of it.
 fn write_end<W: Write>(
     alloc: Global,
     finished: Result<Transcript, SessionFault>,
@@ -96,7 +97,8 @@ fn write_refused<W: Write>(
     out: &mut W,
 ) -> Result<bool, RunFault>
     ensures answer { IfOk result (λ yes. yes ≡ false) }
-    ensures written { OnOk result (Appends (W.contents out.old) (W.contents out.new) (last_line (Some (Wire at fault)))) }
+    ensures written { OnOk result (Appends (W.contents out.old) (W.contents out.new)
+        (last_line (Some (Wire at fault)))) }
     ensures left { IfErr result (LeavesLast (Some (Wire at fault)) (W.contents out.old) (W.contents out.new)) }
 {
     let verdict = Verdict::Wire { at, fault };

@@ -27,7 +27,8 @@ pub(crate) fn read_start<I: Read + Drop>(
     alloc: Global,
     start: StartFrom<I>,
 ) -> Result<Start, RunFault>
-    ensures read { IfOk result (λ read. IfSome (initial_from I.remaining start) (λ initial. initial_of read ≡ initial)) }
+    ensures read { IfOk result (λ read. IfSome (initial_from I.remaining start)
+        (λ initial. initial_of read ≡ initial)) }
     ensures cause { IfErr result (λ fault. (fault ≡ ImageRead) ⊎ (fault ≡ Memory)) }
 {
     match start {

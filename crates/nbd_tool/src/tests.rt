@@ -5,11 +5,13 @@ mod cases;
 mod chunks;
 mod contents;
 mod faults;
+mod infos;
 mod inputs;
 mod large_numbers;
 mod makes;
 mod messages;
 mod negotiation;
+mod offers;
 mod orders;
 mod refused_negotiation;
 mod shows;
@@ -55,7 +57,7 @@ fn answer(alloc: Global, capture: &[u8], order: &[u8], start: Start<'_>) -> Resu
     }
 }
 
-/// What `show` wrote, and behind it its exit status, or its fault.
+/// What `show` wrote, and after it its exit status, or its fault.
 fn shown(alloc: Global, capture: &[u8]) -> Result<String, Fail> {
     let mut out = Vec::new(alloc);
     let answer = run_show(alloc, capture, &mut out);
@@ -88,6 +90,19 @@ fn one_by_one(alloc: Global, capture: &[u8]) -> Result<Vec<u8>, Fail> {
             write_chunk(&mut text, side, byte)?;
         }
     }
+    Ok(text)
+}
+
+/// The same capture with a chunk without bytes of each side before each chunk, and after all.
+fn with_empty_chunks(alloc: Global, capture: &[u8]) -> Result<Vec<u8>, Fail> {
+    let none: &[u8] = b"";
+    let mut text = Vec::new(alloc);
+    for (side, bytes) in parse_capture(alloc, capture)? {
+        write_chunk(&mut text, Side::Client, none)?;
+        write_chunk(&mut text, Side::Server, none)?;
+        write_chunk(&mut text, side, bytes.as_slice())?;
+    }
+    write_chunk(&mut text, Side::Server, none)?;
     Ok(text)
 }
 

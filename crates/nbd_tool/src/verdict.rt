@@ -1,4 +1,4 @@
-//! The line that tells a verdict.
+//! The line that states a verdict.
 ghost use Rattle.std.specs.Prelude.{◌≡◌, ◌↔◌, IsTrue};
 ghost use Rattle.nbd_tool.specs.Verdicts.{IsYes, fault_name, order_fault_name};
 

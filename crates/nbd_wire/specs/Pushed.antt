@@ -3,9 +3,9 @@ use Rattle.std.specs.Prelude.{ℕ, List, [], ◌∷◌, ◌++◌, take, drop, if
 use Rattle.nbd_wire.specs.declared.message.Side.{Side}
 use Rattle.nbd_wire.specs.declared.message.Side.TheVariants.{Client, Server}
 use Rattle.nbd_wire.specs.declared.message.Message.{Message}
-use Rattle.nbd_wire.specs.Encoding.{enc}
-use Rattle.nbd_wire.specs.Items.{Pair, sent}
-use Rattle.nbd_wire.specs.Side.{side, same_side}
+use Rattle.nbd_wire.specs.protocol.Encoding.{enc}
+use Rattle.nbd_wire.specs.protocol.Captures.{Pair, side_pairs}
+use Rattle.nbd_wire.specs.protocol.Sides.{side, same_side}
 
 -- bytes of one side that follow each other, by their number
 pub record Span : Type 0 where
@@ -23,16 +23,16 @@ of_two Client client server = client
 of_two Server client server = server
 
 -- what a span leaves of the bytes of side s
-abbrev pub left_of : Side → Span → List ℕ → List ℕ
-left_of s span bytes = if same_side s span.from then drop span.length bytes else bytes
+abbrev pub bytes_after_span : Side → Span → List ℕ → List ℕ
+bytes_after_span s span bytes = if same_side s span.from then drop span.length bytes else bytes
 
 -- the two sides' bytes, mixed as the spans say
-abbrev pub mixed : List Span → (client server : List ℕ) → List Pair
-mixed [] client server = []
-mixed (span ∷ spans) client server =
-    sent span.from (take span.length (of_two span.from client server))
-    ++ mixed spans (left_of Client span client) (left_of Server span server)
+abbrev pub mixture : List Span → (client server : List ℕ) → List Pair
+mixture [] client server = []
+mixture (span ∷ spans) client server =
+    side_pairs span.from (take span.length (of_two span.from client server))
+    ++ mixture spans (bytes_after_span Client span client) (bytes_after_span Server span server)
 
 -- the pushed pairs: each side's bytes are its messages' encodings and a rest, mixed as the spans say
-abbrev pub pushed : List Message → (client server : List ℕ) → List Span → List Pair
-pushed messages client server spans = mixed spans (bytes_of Client messages ++ client) (bytes_of Server messages ++ server)
+abbrev pub pushed_pairs : List Message → (client server : List ℕ) → List Span → List Pair
+pushed_pairs messages client server spans = mixture spans (bytes_of Client messages ++ client) (bytes_of Server messages ++ server)

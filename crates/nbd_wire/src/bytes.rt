@@ -48,12 +48,4 @@ impl Bytes {
     {
         self.bytes.as_slice()
     }
-
-    /// Gives the vector back; takes no memory.
-    pub fn into_vec(self) -> Vec<u8>
-        ensures { result.items ≡ self }
-    {
-        let Self { bytes } = self;
-        bytes
-    }
 }

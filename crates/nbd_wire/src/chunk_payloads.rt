@@ -1,14 +1,14 @@
-//! What the payloads of chunks tell (proto.md, "Structured reply types").
+//! What the payloads of chunks state (proto.md, "Structured reply types").
 //!
-//! A reader is given a chunk's type and its whole payload. It answers `Some` exactly where the
+//! A reader is given a chunk's type and its whole payload. It returns `Some` exactly where the
 //! payload has a form of that type, and takes no memory.
 
 ghost use Rattle.std.specs.Prelude.{◌≡◌};
 ghost use Rattle.std.specs.Option.{option_map};
-ghost use Rattle.nbd_wire.specs.Contents.{piece_of};
-ghost use Rattle.nbd_wire.specs.Forms.{HasContentForm, HasFailureForm};
-ghost use Rattle.nbd_wire.specs.Payloads.{content_of, failure_of};
-ghost use Rattle.nbd_wire.specs.Reads.{Reads, ReadsAs};
+ghost use Rattle.nbd_wire.specs.codec.Contents.{piece_of};
+ghost use Rattle.nbd_wire.specs.protocol.Forms.{HasContentForm, HasFailureForm};
+ghost use Rattle.nbd_wire.specs.protocol.Payloads.{content_of, failure_of};
+ghost use Rattle.nbd_wire.specs.codec.Reads.{Reads, ReadsAs};
 
 use crate::chunks::{ERROR, ERROR_OFFSET, OFFSET_DATA, OFFSET_HOLE};
 use crate::numbers::{u16_at, u32_at, u64_at};
@@ -63,7 +63,7 @@ fn hole_of(bytes: &[u8]) -> Option<Content<'_>>
     })
 }
 
-/// The error in an error chunk's payload. The message behind it is not read, nor are bytes behind
+/// The error in an error chunk's payload. The message after it is not read, nor are bytes after
 /// the last field.
 pub fn failure_of(kind: u16, bytes: &[u8]) -> Option<Failure>
     ensures form { Reads result (λ failure. HasFailureForm kind failure bytes.now) }

@@ -1,19 +1,19 @@
 //! Messages as bytes.
 
 ghost use Rattle.std.specs.Prelude.{◌≡◌, ◌+◌, ◌<◌, ◌^◌, ◌++◌, length, vec_capacity, vec_len, OnErr, OnOk};
-ghost use Rattle.nbd_wire.specs.Encoding.{enc, tail};
-ghost use Rattle.nbd_wire.specs.Fits.{FitsItsHead};
+ghost use Rattle.nbd_wire.specs.protocol.Encoding.{enc, tail};
+ghost use Rattle.nbd_wire.specs.codec.Fits.{FitsItsHead};
 
-use crate::Message;
 use crate::head_bytes::{
     answer_bytes, choice_bytes, chunk_bytes, client_flags_bytes, export_bytes, greeting_bytes,
     request_bytes, simple_bytes,
 };
+use crate::{Message, head_lengths};
 use std::alloc::{AllocError, Allocator};
 
 /// What follows an export's size and flags where the client did not agree to leave it out
 /// (proto.md, "Newstyle negotiation").
-static PADDING: [u8; 124] = [0; 124];
+static PADDING: [u8; head_lengths::PADDING] = [0; head_lengths::PADDING];
 
 /// Adds the bytes of a message at the end of `out`.
 ///
@@ -29,7 +29,7 @@ pub fn append(out: &mut Vec<u8>, message: &Message) -> Result<(), AllocError>
 }
 
 // The same for a vector of any allocator.
-#[tactic(auto, unfolding(crate::specs::Encoding::enc, crate::specs::Encoding::head, crate::specs::Encoding::tail))]
+#[tactic(auto, unfolding(crate::specs::protocol::Encoding::enc, crate::specs::protocol::Encoding::head, crate::specs::protocol::Encoding::tail))]
 fn append_in<A: Allocator>(out: &mut Vec<u8, A>, message: &Message) -> Result<(), AllocError>
     requires { FitsItsHead message.now }
     ensures ok { OnOk result (out.new.items ≡ out.old.items ++ enc message.now) }
@@ -73,7 +73,7 @@ fn append_in<A: Allocator>(out: &mut Vec<u8, A>, message: &Message) -> Result<()
 }
 
 // What follows a message's head.
-#[tactic(auto, unfolding(crate::specs::Encoding::tail))]
+#[tactic(auto, unfolding(crate::specs::protocol::Encoding::tail))]
 fn tail_of(message: &Message) -> &[u8]
     ensures { result.now ≡ tail message.now }
 {

@@ -1,7 +1,7 @@
 //! The heads of messages as bytes. Numbers are big-endian.
 
 ghost use Rattle.std.specs.Prelude.{◌≡◌};
-ghost use Rattle.nbd_wire.specs.Layouts.{answer_bytes, choice_bytes, chunk_bytes, client_flags_bytes, export_bytes, greeting_bytes, request_bytes, simple_bytes};
+ghost use Rattle.nbd_wire.specs.protocol.Layouts.{answer_bytes, choice_bytes, chunk_bytes, client_flags_bytes, export_bytes, greeting_bytes, request_bytes, simple_bytes};
 
 use crate::head_lengths::{ANSWER, CHOICE, CHUNK, CLIENT_FLAGS, EXPORT, GREETING, REQUEST, SIMPLE};
 use crate::magics::{
@@ -52,7 +52,7 @@ pub(crate) fn answer_bytes(option: u32, kind: u32, length: u32) -> [u8; ANSWER]
     bytes
 }
 
-/// The answer to EXPORT_NAME, but for the zeroes behind it.
+/// The answer to EXPORT_NAME, but for the zeroes after it.
 pub(crate) fn export_bytes(size: u64, flags: u16) -> [u8; EXPORT]
     ensures { result ≡ export_bytes size flags }
 {

@@ -1,4 +1,4 @@
-//! Lengths of the heads of messages, in bytes (proto.md, "Newstyle negotiation", "Request
+//! Lengths of the heads of messages and of what the answer to EXPORT_NAME ends with, in bytes (proto.md, "Newstyle negotiation", "Request
 //! message", "Simple reply message", "Structured reply chunk message").
 
 /// The server's greeting: two magic numbers and its flags.
@@ -11,6 +11,8 @@ pub const CHOICE: usize = 16;
 pub const ANSWER: usize = 20;
 /// The answer to EXPORT_NAME: the export's size and transmission flags.
 pub const EXPORT: usize = 10;
+/// The zeroes after an export's size and flags where the client did not agree to leave them out.
+pub const PADDING: usize = 124;
 /// A request: a magic number, flags, type, cookie, offset and length.
 pub const REQUEST: usize = 28;
 /// A simple reply: a magic number, the error and the cookie.

@@ -1,4 +1,4 @@
-//! What an INFO answer may tell (proto.md, "Option reply types").
+//! What an INFO answer may state (proto.md, "Option reply types").
 
 pub const EXPORT: u16 = 0;
 

@@ -2,18 +2,20 @@
 
 ghost use Rattle.std.specs.Prelude.{◌≡◌, ◌≤◌, ◌↔◌, ℕ, List, IsTrue, length, drop, take};
 ghost use Rattle.byteorder.specs.Endian.{big_bytes, big_number};
-ghost use Rattle.nbd_wire.specs.Encoding.{AreBytes, enc, tail};
-ghost use Rattle.nbd_wire.specs.Fits.{FitsItsHead};
-ghost use Rattle.nbd_wire.specs.Forms.{HasContentForm, HasFailureForm, HasGoForm, HasInfoForm, HasListedForm};
-ghost use Rattle.nbd_wire.specs.Payloads.{content_of, failure_of, info_of, is_go, is_listed};
-ghost use Rattle.nbd_wire.specs.Reads.{Reads};
-ghost use Rattle.nbd_wire.specs.RoundTrip.{IsHeadOf, head_length};
-ghost use Rattle.nbd_wire.specs.Sendable.{IsSendable};
+ghost use Rattle.nbd_wire.specs.protocol.Encoding.{AreBytes, enc, tail};
+ghost use Rattle.nbd_wire.specs.codec.Fits.{FitsItsHead};
+ghost use Rattle.nbd_wire.specs.protocol.Forms.{HasContentForm, HasFailureForm, HasGoForm, HasInfoForm, HasListedForm};
+ghost use Rattle.nbd_wire.specs.protocol.Payloads.{content_of, failure_of, info_of, is_go, is_listed};
+ghost use Rattle.nbd_wire.specs.codec.Reads.{Reads};
+ghost use Rattle.nbd_wire.specs.codec.RoundTrip.{IsHeadOf, head_length};
+ghost use Rattle.nbd_wire.specs.protocol.Sendable.{IsSendable};
 ghost use Rattle.nbd_wire.specs.declared.message.Message.{Message};
+ghost use Rattle.nbd_wire.specs.Numbers.{ChunksAreLiteral, CommandFlagsAreLiteral, CommandsAreLiteral, HandshakeFlagsAreLiteral, InfosAreLiteral, LengthsAreLiteral, LimitsAreLiteral, MagicsAreLiteral, OptionsAreLiteral, ReplyKindsAreLiteral, TransmissionFlagsAreLiteral};
 
 /// A number that was read and is written back gives the bytes that it was read from.
 pub fn number_gives_its_bytes()
-    ensures { (n : ℕ) (bytes : List ℕ) → n ≤ length bytes → AreBytes bytes → big_bytes n (big_number n bytes) ≡ take n bytes }
+    ensures { (n : ℕ) (bytes : List ℕ) → n ≤ length bytes → AreBytes bytes →
+        big_bytes n (big_number n bytes) ≡ take n bytes }
 {}
 
 /// The specification's `info_of` gives exactly what has the form of an INFO payload.
@@ -21,24 +23,28 @@ pub fn info_of_is_exact()
     ensures { (bytes : List ℕ) → AreBytes bytes → Reads (info_of bytes) (λ info. HasInfoForm info bytes) }
 {}
 
-/// The specification's `is_listed` tells exactly whether bytes have the form of a SERVER payload.
+/// The specification's `is_listed` states exactly whether bytes have the form of a SERVER payload.
 pub fn is_listed_is_exact()
-    ensures { (bytes : List ℕ) → AreBytes bytes → IsTrue (is_listed bytes) ↔ ((name : List ℕ) × (text : List ℕ) × HasListedForm name text bytes) }
+    ensures { (bytes : List ℕ) → AreBytes bytes → IsTrue (is_listed bytes) ↔ ((name : List ℕ) × (text : List ℕ)
+        × HasListedForm name text bytes) }
 {}
 
-/// The specification's `is_go` tells exactly whether bytes have the form of the data of INFO or GO.
+/// The specification's `is_go` states exactly whether bytes have the form of the data of INFO or GO.
 pub fn is_go_is_exact()
-    ensures { (bytes : List ℕ) → AreBytes bytes → IsTrue (is_go bytes) ↔ ((name : List ℕ) × (count : ℕ) × HasGoForm name count bytes) }
+    ensures { (bytes : List ℕ) → AreBytes bytes → IsTrue (is_go bytes) ↔ ((name : List ℕ) × (count : ℕ)
+        × HasGoForm name count bytes) }
 {}
 
 /// The specification's `content_of` gives exactly what has the form of a content chunk's payload.
 pub fn content_of_is_exact()
-    ensures { (kind : ℕ) (bytes : List ℕ) → AreBytes bytes → Reads (content_of kind bytes) (λ piece. HasContentForm kind piece bytes) }
+    ensures { (kind : ℕ) (bytes : List ℕ) → AreBytes bytes →
+        Reads (content_of kind bytes) (λ piece. HasContentForm kind piece bytes) }
 {}
 
 /// The specification's `failure_of` gives exactly what has the form of an error chunk's payload.
 pub fn failure_of_is_exact()
-    ensures { (kind : ℕ) (bytes : List ℕ) → AreBytes bytes → Reads (failure_of kind bytes) (λ failure. HasFailureForm kind failure bytes) }
+    ensures { (kind : ℕ) (bytes : List ℕ) → AreBytes bytes →
+        Reads (failure_of kind bytes) (λ failure. HasFailureForm kind failure bytes) }
 {}
 
 /// The encoding of each message that may be sent begins with a head, which is one with the
@@ -46,10 +52,27 @@ pub fn failure_of_is_exact()
 ///
 /// So the reader of that head, given the first bytes of what `append` added, answers these fields.
 pub fn encoding_is_read_back()
-    ensures { (m : Message) → IsSendable m → IsHeadOf m (take (head_length m) (enc m)) × (drop (head_length m) (enc m) ≡ tail m) }
+    ensures { (m : Message) → IsSendable m → IsHeadOf m (take (head_length m) (enc m))
+        × (drop (head_length m) (enc m) ≡ tail m) }
 {}
 
 /// Each message that may be sent can be given to `append`.
 pub fn sendable_messages_fit()
     ensures { (m : Message) → IsSendable m → FitsItsHead m }
+{}
+
+/// Each constant by whose name the definitions speak of a number of the protocol is that number of
+/// proto.md, and the limit is the one that this project sets.
+pub fn numbers_are_literal()
+    ensures magics { MagicsAreLiteral }
+    ensures handshake { HandshakeFlagsAreLiteral }
+    ensures options { OptionsAreLiteral }
+    ensures reply_kinds { ReplyKindsAreLiteral }
+    ensures infos { InfosAreLiteral }
+    ensures transmission { TransmissionFlagsAreLiteral }
+    ensures commands { CommandsAreLiteral }
+    ensures command_flags { CommandFlagsAreLiteral }
+    ensures chunks { ChunksAreLiteral }
+    ensures lengths { LengthsAreLiteral }
+    ensures limits { LimitsAreLiteral }
 {}

@@ -1,7 +1,7 @@
 //! Numbers at a place of a slice. They are big-endian, as all numbers of the protocol.
 
 ghost use Rattle.std.specs.Prelude.{◌≡◌, ◌≤◌, ◌+◌, length};
-ghost use Rattle.nbd_wire.specs.Payloads.{number_at};
+ghost use Rattle.nbd_wire.specs.protocol.Payloads.{number_at};
 
 use byteorder::{BigEndian, ByteOrder};
 

@@ -1,23 +1,23 @@
-//! What the data of options and of their answers tell (proto.md, "Option types", "Option reply
+//! What the data of options and of their answers state (proto.md, "Option types", "Option reply
 //! types").
 //!
-//! A reader is given the whole data. It answers `Some` exactly where they have the form, and takes
+//! A reader is given the whole data. It returns `Some` exactly where they have the form, and takes
 //! no memory.
 
 ghost use Rattle.std.specs.Prelude.{◌≡◌, ℕ, List, is_some};
-ghost use Rattle.nbd_wire.specs.Forms.{HasGoForm, HasInfoForm, HasListedForm};
-ghost use Rattle.nbd_wire.specs.Payloads.{info_of, is_go, is_listed};
-ghost use Rattle.nbd_wire.specs.Reads.{Reads, ReadsAs};
+ghost use Rattle.nbd_wire.specs.protocol.Forms.{HasGoForm, HasInfoForm, HasListedForm};
+ghost use Rattle.nbd_wire.specs.protocol.Payloads.{info_of, is_go, is_listed};
+ghost use Rattle.nbd_wire.specs.codec.Reads.{Reads, ReadsAs};
 
 use crate::numbers::{u16_at, u32_at, u64_at};
 use crate::{Info, infos};
 
-/// The length of what an INFO answer tells of an export, in bytes.
+/// The length of what an INFO answer states of an export, in bytes.
 const EXPORT_LENGTH: usize = 12;
-/// The length of what an INFO answer tells of block sizes, in bytes.
+/// The length of what an INFO answer states of block sizes, in bytes.
 const BLOCK_SIZE_LENGTH: usize = 14;
 
-/// What an INFO answer tells. Of other kinds than EXPORT and BLOCK_SIZE only the number is read.
+/// What an INFO answer states. Of other kinds than EXPORT and BLOCK_SIZE only the number is read.
 pub fn info_of(bytes: &[u8]) -> Option<Info>
     ensures form { Reads result (λ info. HasInfoForm info bytes.now) }
     ensures same { result ≡ info_of bytes.now }

@@ -2,7 +2,7 @@
 
 use crate::Bytes;
 
-/// What an INFO answer tells of an export (proto.md, "Option reply types").
+/// What an INFO answer states of an export (proto.md, "Option reply types").
 #[derive(Clone, Copy, Debug, PartialEq, Eq, Drop)]
 pub enum Info {
     /// The export itself.
@@ -66,7 +66,7 @@ pub enum Piece {
     },
 }
 
-/// What an error chunk tells (proto.md, "Structured reply types").
+/// What an error chunk states (proto.md, "Structured reply types").
 #[derive(Clone, Copy, Debug, PartialEq, Eq, Drop)]
 pub struct Failure {
     /// The error, not 0.

@@ -1,8 +1,8 @@
 //! Who sends a message, and which messages have an encoding.
 
 ghost use Rattle.std.specs.Prelude.{◌≡◌, ◌↔◌, ◌<◌, ◌^◌, IsTrue, length};
-ghost use Rattle.nbd_wire.specs.Fits.{FitsItsHead};
-ghost use Rattle.nbd_wire.specs.Side.{side};
+ghost use Rattle.nbd_wire.specs.codec.Fits.{FitsItsHead};
+ghost use Rattle.nbd_wire.specs.protocol.Sides.{side};
 
 use crate::{Bytes, Message, Side, commands};
 
@@ -23,7 +23,7 @@ pub fn side_of(message: &Message) -> Side
 
 /// Whether the message has an encoding: each payload has at most 2^32 - 1 bytes, and a request
 /// carries as many bytes as its length says where it is a WRITE, and none otherwise.
-#[tactic(auto, unfolding(crate::specs::Fits::FitsItsHead))]
+#[tactic(auto, unfolding(crate::specs::codec::Fits::FitsItsHead))]
 pub fn fits(message: &Message) -> bool
     ensures { IsTrue result ↔ FitsItsHead message.now }
 {

@@ -13,9 +13,9 @@ use std::{env, io};
 const YES: u8 = 0;
 /// The exit status of a no.
 const NO: u8 = 1;
-/// The exit status of a command line that has no form.
+/// The exit status of a command line that is malformed.
 const USAGE: u8 = 2;
-/// The exit status of want of memory.
+/// The exit status of out of memory.
 const MEMORY: u8 = 4;
 
 const ABOUT: &str = "Checks recorded sessions between an NBD client and an NBD server";

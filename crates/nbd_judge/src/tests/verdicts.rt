@@ -1,8 +1,9 @@
 //! Sessions on an export of 8 bytes that holds zeroes at first, orders of service, and the verdicts.
 
+use super::countable::are_countable;
 use super::recordings::Sent::{Ask, Bad, Data, Done, Good, Hole, Write};
 use super::recordings::{Sent, one_by_one, recorded};
-use crate::{OrderFault, Verdict, are_countable, check, judge};
+use crate::{OrderFault, Verdict, check, judge};
 use nbd_export::{Flat, Start};
 use nbd_session::{Session, WireFault};
 use nbd_wire::Side;

@@ -25,7 +25,7 @@ const ANSWERED: [(Side, &str); 4] = [
     (Server, "668e33ef00010000000000000000000200000000"),
 ];
 
-/// Want of memory is answered from then on, and nothing else changes.
+/// Out of memory is returned from then on, and nothing else changes.
 fn stays_closed(rt: &impl Abort, mut session: Session) {
     let (taken, count) = (session.taken(), session.messages().len());
     for piece in [b"".as_slice(), b"\x00"] {

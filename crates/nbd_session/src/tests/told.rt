@@ -1,4 +1,4 @@
-//! What a finished session tells of its export and its requests.
+//! What a finished session says of its export and its requests.
 
 use super::{BEGUN, BEGUN_STRUCTURED, Sent, push_all};
 use crate::{Asked, Outcome, Session};
@@ -57,7 +57,7 @@ fn told_of(asked: &Asked) -> Told {
     }
 }
 
-/// A session of this beginning and these pieces tells of its requests what is wanted, as it stands and
+/// A session of this beginning and these pieces says of its requests what is wanted, as it stands and
 /// as pieces of one byte.
 fn tells<R: Abort + AllocGlobal>(
     rt: &R,
@@ -244,7 +244,7 @@ fn replies_after_disc(rt: HostRuntime) -> Result<(), Fail> {
 #[test]
 fn a_failure_and_a_pending_read(rt: HostRuntime) -> Result<(), Fail> {
     let pieces = [
-        // A READ of one byte behind the export's end with the cookie 1, and the reply with error 22.
+        // A READ of one byte after the export's end with the cookie 1, and the reply with error 22.
         (
             Client,
             "25609513000000000000000000000001000000000000000800000001",

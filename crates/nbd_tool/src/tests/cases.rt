@@ -1,6 +1,6 @@
 //! A case of `check` as data, and how it is run.
 
-use super::{Start, answer, longest_runs, one_by_one};
+use super::{Start, answer, longest_runs, one_by_one, with_empty_chunks};
 use std::alloc::Global;
 use std::process::Abort;
 use std::test::Fail;
@@ -22,7 +22,7 @@ pub struct Case {
     pub want: &'static str,
 }
 
-/// These texts, one behind the other.
+/// These texts, one after the other.
 pub fn text(alloc: Global, parts: &[&str]) -> Result<String, Fail> {
     let mut text = String::new(alloc);
     for part in parts {
@@ -31,7 +31,7 @@ pub fn text(alloc: Global, parts: &[&str]) -> Result<String, Fail> {
     Ok(text)
 }
 
-/// The case's capture as it stands, as chunks of one byte and as longest one-sided runs.
+/// The case's capture as it stands, as chunks of one byte, as longest one-sided runs, and with chunks without bytes.
 fn run_one(rt: &impl Abort, alloc: Global, case: &Case, capture: &[u8]) -> Result<(), Fail> {
     let (name, order) = (case.name, case.order.as_bytes());
     let found = answer(alloc, capture, order, case.start)?;
@@ -42,6 +42,13 @@ fn run_one(rt: &impl Abort, alloc: Global, case: &Case, capture: &[u8]) -> Resul
     let runs = longest_runs(alloc, capture)?;
     let found = answer(alloc, runs.as_slice(), order, case.start)?;
     assert_eq!(rt; found.as_str(), case.want, "{name}, as longest runs");
+    let gaps = with_empty_chunks(alloc, capture)?;
+    let found = answer(alloc, gaps.as_slice(), order, case.start)?;
+    assert_eq!(rt;
+        found.as_str(),
+        case.want,
+        "{name}, with chunks without bytes"
+    );
     Ok(())
 }
 
@@ -55,7 +62,7 @@ pub fn run<R: Abort + AllocGlobal>(rt: &R, cases: &[Case]) -> Result<(), Fail> {
     Ok(())
 }
 
-/// Runs each case of a refused session, also with a READ and its reply behind what refused it.
+/// Runs each case of a refused session, also with a READ and its reply after what refused it.
 pub fn refuses<R: Abort + AllocGlobal>(rt: &R, cases: &[Case]) -> Result<(), Fail> {
     let alloc = rt.alloc();
     for case in cases {

@@ -1,4 +1,4 @@
-//! Texts that have no form.
+//! Texts that are malformed.
 
 use super::{Start, answer};
 use std::test::Fail;

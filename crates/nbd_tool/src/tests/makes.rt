@@ -93,7 +93,7 @@ const SESSIONS: &[&[&str]] = &[
         "S 67446698000000000000000000000002abce0000\n",
     ],
     &[BEGUN, WRITE_ABCD, READ_2_OF_2, FOUND_2_ABCD, DONE_1],
-    // The READ gets other bytes, and the WRITE fails behind it or does not.
+    // The READ gets other bytes, and the WRITE fails after it or does not.
     &[
         BEGUN,
         WRITE_ABCD,
@@ -209,7 +209,7 @@ fn makes_of_what_was_shown_the_same_capture(rt: HostRuntime) -> Result<(), Fail>
     for parts in SESSIONS {
         let capture = text(alloc, parts)?;
         let lines = shown(alloc, capture.as_bytes())?;
-        // Without the exit status behind it.
+        // Without the exit status after it.
         let script = lines.as_str().strip_suffix("0\n").unwrap_or("");
         assert!(rt; script.ends_with("ok\n"), "{lines}");
         let found = made(alloc, script.as_bytes())?;

@@ -57,7 +57,7 @@ pub const ABORT_ACK: &str = "S 0003e889045565a9000000020000000100000000\n";
 /// The option EXPORT_NAME with the name `disk`.
 pub const EXPORT_NAME: &str = "C 49484156454f505400000001000000046469736b\n";
 
-/// 31 of the 124 zeroes behind the answer to EXPORT_NAME.
+/// 31 of the 124 zeroes after the answer to EXPORT_NAME.
 pub const ZEROES_31: &str = "S 00000000000000000000000000000000000000000000000000000000000000\n";
 
 /// A READ of one byte at 0, with the cookie 1, 2 or 3.

@@ -30,7 +30,7 @@ S answer option=7 kind=3 payload=00000000000000000008006d
 S answer option=7 kind=1 payload=
 ";
 
-/// A capture, made of these texts, and what is written: the lines, and behind them the exit status.
+/// A capture, made of these texts, and what is written: the lines, and after them the exit status.
 #[derive(Drop)]
 struct Case {
     name: &'static str,

@@ -6,7 +6,7 @@ use linked_list_allocator::LocalHeap;
 use std::test::Fail;
 
 // What an encoding did not fit into holds what it held before, and takes another later.
-#[tactic(auto, unfolding(crate::specs::Fits::FitsItsHead))]
+#[tactic(auto, unfolding(crate::specs::codec::Fits::FitsItsHead))]
 #[test]
 fn refused_memory(rt: HostRuntime) -> Result<(), Fail> {
     let heap = LocalHeap::new(rt.alloc(), 48)?;

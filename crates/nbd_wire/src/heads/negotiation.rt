@@ -1,7 +1,7 @@
 //! The heads of the negotiation (proto.md, "Newstyle negotiation", "Fixed newstyle negotiation").
 
-ghost use Rattle.nbd_wire.specs.Heads.{IsAnswerHead, IsChoiceHead, IsClientFlagsHead, IsExportHead, IsGreetingHead};
-ghost use Rattle.nbd_wire.specs.Reads.{Reads};
+ghost use Rattle.nbd_wire.specs.codec.Heads.{IsAnswerHead, IsChoiceHead, IsClientFlagsHead, IsExportHead, IsGreetingHead};
+ghost use Rattle.nbd_wire.specs.codec.Reads.{Reads};
 
 use crate::head_lengths;
 use crate::magics::{ANSWER_MAGIC, GREETING_MAGIC, OPTION_MAGIC};

@@ -1,7 +1,7 @@
 //! The heads of transmission (proto.md, "Transmission").
 
-ghost use Rattle.nbd_wire.specs.Heads.{IsChunkHead, IsRequestHead, IsSimpleHead};
-ghost use Rattle.nbd_wire.specs.Reads.{Reads};
+ghost use Rattle.nbd_wire.specs.codec.Heads.{IsChunkHead, IsRequestHead, IsSimpleHead};
+ghost use Rattle.nbd_wire.specs.codec.Reads.{Reads};
 
 use crate::head_lengths;
 use crate::magics::{CHUNK_MAGIC, REQUEST_MAGIC, SIMPLE_MAGIC};

@@ -1,6 +1,6 @@
 use Rattle.std.proofs.Common.{◌≡◌, ◌∷◌, [], inl, inr, sym, subst, refl}
-use Rattle.nbd_capture.specs.Digits.{spelled}
-use Rattle.nbd_capture.proofs.Forms.{undecodable}
+use Rattle.nbd_capture.proofs.DigitLemmas.{spelled}
+use Rattle.nbd_capture.proofs.FormLemmas.{undecodable}
 use Rattle.nbd_capture.specs.Capture.{IsCaptureLine, chunk_of, letter, space}
 use Rattle.nbd_capture.specs.Capture.IsCaptureLine.{chunk}
 use Rattle.nbd_capture.proofs.capture.chunk_on.Goals as goal

@@ -1,5 +1,5 @@
 use Rattle.std.proofs.Common.{arith}
-use Rattle.nbd_capture.proofs.Forms.{from_nil, from_first}
+use Rattle.nbd_capture.proofs.FormLemmas.{from_nil, from_first}
 use Rattle.nbd_capture.proofs.capture.is_silent.Goals as goal
 
 pub returns-in-empty : goal.returns-in-empty

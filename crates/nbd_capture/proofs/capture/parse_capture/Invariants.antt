@@ -1,6 +1,6 @@
 use Rattle.std.proofs.Common.{length}
 use Rattle.nbd_capture.specs.Capture.{IsCaptureLine, chunks_of}
-use Rattle.nbd_capture.specs.Progress.{Progress}
+use Rattle.nbd_capture.proofs.ProgressLemmas.{Progress}
 use Rattle.nbd_capture.proofs.capture.parse_capture.Given as goal
 
 abbrev pub invariant-loop-rest : goal.invariant-loop-rest

@@ -1,5 +1,5 @@
 use Rattle.nbd_capture.specs.Order.{IsOrderLine}
-use Rattle.nbd_capture.specs.Reading.{one_first_bad}
+use Rattle.nbd_capture.proofs.ReadingLemmas.{one_first_bad}
 use Rattle.nbd_capture.proofs.laws.one_first_bad_order_line.Goals as goal
 
 pub returns : goal.returns

@@ -1,6 +1,6 @@
 use Rattle.nbd_capture.specs.Order.{IsOrderLine}
-use Rattle.nbd_capture.proofs.Numerals.{one_number}
-use Rattle.nbd_capture.specs.Reading.{one_reading}
+use Rattle.nbd_capture.proofs.NumeralLemmas.{one_number}
+use Rattle.nbd_capture.proofs.ReadingLemmas.{one_reading}
 use Rattle.nbd_capture.proofs.laws.one_order_reading.Goals as goal
 
 pub returns : goal.returns

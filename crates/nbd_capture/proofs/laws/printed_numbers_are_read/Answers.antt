@@ -1,4 +1,4 @@
-use Rattle.nbd_capture.proofs.Written.{printed_numbers}
+use Rattle.nbd_capture.proofs.WrittenLemmas.{printed_numbers}
 use Rattle.nbd_capture.proofs.laws.printed_numbers_are_read.Goals as goal
 
 pub returns : goal.returns

@@ -2,7 +2,7 @@ use Rattle.std.proofs.Common.{◌≡◌, refl}
 use Rattle.std.specs.Str.{IsUtf8, IsValidUpTo, valid_up_to}
 use Rattle.std.specs.Str.Parse.{ParsesUnsigned}
 use Rattle.nbd_capture.specs.Order.{BeginsPlainly}
-use Rattle.nbd_capture.proofs.Numerals.{no_text, not_utf8, parsed, utf8_text}
+use Rattle.nbd_capture.proofs.NumeralLemmas.{no_text, not_utf8, parsed, utf8_text}
 use Rattle.nbd_capture.proofs.order.number_on.Goals as goal
 
 pub returns-in_err-digits : goal.returns-in_err-digits

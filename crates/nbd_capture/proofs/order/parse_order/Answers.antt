@@ -4,9 +4,9 @@ use Rattle.nbd_capture.specs.declared.order.OrderTextFault.TheVariants.{Line}
 use Rattle.nbd_capture.specs.Lines.{line_feed, IsUnbroken}
 use Rattle.nbd_capture.specs.Order.{IsOrderLine}
 use Rattle.nbd_capture.proofs.FaultLemmas.{only_memory_of_order}
-use Rattle.nbd_capture.proofs.Numerals.{one_number}
-use Rattle.nbd_capture.specs.Reading.{one_reading}
-use Rattle.nbd_capture.specs.Progress.{advance, done, stopped, cut_off}
+use Rattle.nbd_capture.proofs.NumeralLemmas.{one_number}
+use Rattle.nbd_capture.proofs.ReadingLemmas.{one_reading}
+use Rattle.nbd_capture.proofs.ProgressLemmas.{advance, done, stopped, cut_off}
 use Rattle.nbd_capture.proofs.order.parse_order.Goals as goal
 
 pub returns-in_err-line-clause-fault : goal.returns-in_err-line-clause-fault
@@ -20,10 +20,10 @@ returns-in_err-line-clause-fault c =
 pub returns-in_err-ok_or-clause-fault : goal.returns-in_err-ok_or-clause-fault
 returns-in_err-ok_or-clause-fault c =
     let p = err_from_is_err_and c.from_residual-in_err-ok_or.result c.from_residual-in_err-ok_or.ensures.1 in
-    let parts : IsUnbroken c.in_ok-line.line.now × (c.loop-rest.rest.now ≡ c.in_ok-line.line.now ++ line_feed ∷ c.in_ok-line.behind.now) = rw c.in_ok-line.ensures.ok_part at c.first_line.ensures in
+    let parts : IsUnbroken c.in_ok-line.line.now × (c.loop-rest.rest.now ≡ c.in_ok-line.line.now ++ line_feed ∷ c.in_ok-line.after.now) = rw c.in_ok-line.ensures.ok_part at c.first_line.ensures in
     let none : (said : List ℕ) → IsOrderLine c.in_ok-line.line.now said → ⊥ = rw c.in_err-ok_or.ensures.ok_part at c.number_on.ensures in
     let fault : c.in_err-ok_or.field-0.0 ≡ Line (c.loop-rest.line_number + 1) = cc (rw c.in_err-ok_or.ensures.ok_part at c.in_err-ok_or.ensures.value) in
-    let bad = stopped IsOrderLine c.args.text.now c.loop-rest.rest.now c.in_ok-line.line.now c.in_ok-line.behind.now c.loop-rest.numbers.items c.loop-rest.line_number c.loop-rest.invariant parts.0 parts.1 none in
+    let bad = stopped IsOrderLine c.args.text.now c.loop-rest.rest.now c.in_ok-line.line.now c.in_ok-line.after.now c.loop-rest.numbers.items c.loop-rest.line_number c.loop-rest.invariant parts.0 parts.1 none in
     rw (p.1, p.2, fault) bad
 
 pub returns-clause-numbers : goal.returns-clause-numbers
@@ -32,9 +32,9 @@ returns-clause-numbers c =
 
 pub loop-rest-preserved : goal.loop-rest-preserved
 loop-rest-preserved c =
-    let parts : IsUnbroken c.in_ok-line.line.now × (c.loop-rest.rest.now ≡ c.in_ok-line.line.now ++ line_feed ∷ c.in_ok-line.behind.now) = rw c.in_ok-line.ensures.ok_part at c.first_line.ensures in
+    let parts : IsUnbroken c.in_ok-line.line.now × (c.loop-rest.rest.now ≡ c.in_ok-line.line.now ++ line_feed ∷ c.in_ok-line.after.now) = rw c.in_ok-line.ensures.ok_part at c.first_line.ensures in
     let form : IsOrderLine c.in_ok-line.line.now (c.in_ok-ok_or.field-0 ∷ []) = rw c.in_ok-ok_or.ensures.ok_part at c.number_on.ensures in
-    let next = advance IsOrderLine c.args.text.now c.loop-rest.rest.now c.in_ok-line.line.now c.in_ok-line.behind.now c.loop-rest.numbers.items (c.in_ok-ok_or.field-0 ∷ []) c.loop-rest.line_number c.loop-rest.invariant parts.0 parts.1 form in
+    let next = advance IsOrderLine c.args.text.now c.loop-rest.rest.now c.in_ok-line.line.now c.in_ok-line.after.now c.loop-rest.numbers.items (c.in_ok-ok_or.field-0 ∷ []) c.loop-rest.line_number c.loop-rest.invariant parts.0 parts.1 form in
     rw c.in_ok-push.ensures.items next
 
 pub returns-in_err-line-clause-only : goal.returns-in_err-line-clause-only

@@ -1,6 +1,6 @@
 use Rattle.std.proofs.Common.{length}
 use Rattle.hex.specs.Hex.{encode_lower}
-use Rattle.nbd_capture.specs.Wrote.{Wrote}
+use Rattle.nbd_capture.proofs.WriterLemmas.{Wrote}
 use Rattle.nbd_capture.proofs.writing.write_digits.Given as goal
 
 abbrev pub invariant-loop-rest : goal.invariant-loop-rest

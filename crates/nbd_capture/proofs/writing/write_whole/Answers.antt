@@ -1,6 +1,6 @@
 use Rattle.std.proofs.Common.{List, ℕ, take, drop, sym, take-append-drop}
 use Rattle.std.proofs.lemmas.List.{take_rest}
-use Rattle.nbd_capture.specs.Wrote.{one_more, plainly}
+use Rattle.nbd_capture.proofs.WriterLemmas.{one_more, plainly}
 use Rattle.nbd_capture.proofs.writing.write_whole.Goals as goal
 
 pub loop-rest-preserved : goal.loop-rest-preserved

@@ -1,7 +1,7 @@
 use Rattle.std.proofs.Common.{Some, sym, ◌∙◌, ap, arith}
 use Rattle.nbd_export.specs.Ranges.{zeroes}
 use Rattle.nbd_export.specs.Cells.{cell}
-use Rattle.nbd_export.proofs.Least.{none_more}
+use Rattle.nbd_export.proofs.LeastLemmas.{none_more}
 use Rattle.nbd_export.proofs.cells.first_nonzero.Goals as goal
 use Rattle.nbd_export.proofs.cells.first_nonzero.Goals.{in-Some+else-byte-ne0, in_default}
 

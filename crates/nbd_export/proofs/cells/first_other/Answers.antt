@@ -2,7 +2,7 @@ use Rattle.std.proofs.Common.{◌≡◌, ◌+◌, length, Some, ◌-◌, sym, �
 use Rattle.std.proofs.lemmas.Option.{slice_get-get_or}
 use Rattle.nbd_export.specs.Ranges.{bytes_from}
 use Rattle.nbd_export.specs.Cells.{cell}
-use Rattle.nbd_export.proofs.Least.{none_more}
+use Rattle.nbd_export.proofs.LeastLemmas.{none_more}
 use Rattle.nbd_export.proofs.cells.first_other.Goals as goal
 use Rattle.nbd_export.proofs.cells.first_other.Goals.{in-Some+else-byte-bytes, in_default}
 

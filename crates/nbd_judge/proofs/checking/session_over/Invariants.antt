@@ -1,5 +1,5 @@
 use Rattle.std.proofs.Common.{◌≡◌, None, take}
-use Rattle.nbd_wire.specs.Items.{flat}
+use Rattle.nbd_wire.specs.protocol.Captures.{flat}
 use Rattle.nbd_session.specs.Sessions.{pairs_of}
 use Rattle.nbd_judge.specs.Captures.{chunks_told}
 use Rattle.nbd_judge.proofs.checking.session_over.Given as goal

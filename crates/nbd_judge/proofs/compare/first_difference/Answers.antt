@@ -1,8 +1,8 @@
 use Rattle.std.proofs.Common.{ℕ, Option, length, sym, subst, refl, arith, ◌≡◌, ◌+◌}
 use Rattle.std.proofs.lemmas.Option.{slice_get_read}
 use Rattle.nbd_export.specs.Ranges.{IsLeast}
-use Rattle.nbd_judge.specs.Pieces.{DiffersInOneOf}
-use Rattle.nbd_judge.proofs.Comparing.{one_more}
+use Rattle.nbd_judge.specs.internal.Pieces.{DiffersInOneOf}
+use Rattle.nbd_judge.proofs.contents.CompareLemmas.{one_more}
 use Rattle.nbd_judge.proofs.compare.first_difference.Goals as goal
 
 pub loop-piece-preserved : goal.loop-piece-preserved

@@ -1,5 +1,5 @@
 use Rattle.nbd_export.specs.Ranges.{IsLeast}
-use Rattle.nbd_judge.specs.Pieces.{DiffersInOneOf}
+use Rattle.nbd_judge.specs.internal.Pieces.{DiffersInOneOf}
 use Rattle.nbd_judge.proofs.compare.first_difference.Given as goal
 
 abbrev pub invariant-loop-piece : goal.invariant-loop-piece

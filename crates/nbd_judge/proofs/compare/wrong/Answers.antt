@@ -2,8 +2,8 @@ use Rattle.std.proofs.Common.{ℕ, List, Option, length, sym, subst, ◌∙◌}
 use Rattle.nbd_export.specs.Ranges.{IsLeast}
 use Rattle.nbd_wire.specs.declared.payloads.Piece.{Piece}
 use Rattle.nbd_state.specs.Transcripts.{asked_told}
-use Rattle.nbd_judge.specs.Pieces.{DiffersInOneOf}
-use Rattle.nbd_judge.proofs.Comparing.{wrong_read}
+use Rattle.nbd_judge.specs.internal.Pieces.{DiffersInOneOf}
+use Rattle.nbd_judge.proofs.contents.CompareLemmas.{wrong_read}
 use Rattle.nbd_judge.proofs.compare.wrong.Goals as goal
 
 pub returns-then-succeeded : goal.returns-then-succeeded

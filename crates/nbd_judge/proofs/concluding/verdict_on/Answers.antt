@@ -1,19 +1,12 @@
-use Rattle.std.proofs.Common.{◌≡◌, ℕ, ◌<◌, ◌≤◌, None, Some, sym, ◌∙◌, ap, subst, arith}
-use Rattle.nbd_wire.specs.Explains.{FitsImage, start_byte}
-use Rattle.nbd_export.specs.Cells.{cell}
+use Rattle.std.proofs.Common.{◌≡◌, ℕ, ◌<◌, None, Some, sym, ◌∙◌, ap, subst}
+use Rattle.nbd_wire.specs.protocol.Explains.{FitsImage, start_byte}
+use Rattle.nbd_export.specs.Extents.{byte_of}
 use Rattle.nbd_export.specs.Ranges.{AreSameBelow}
 use Rattle.nbd_judge.specs.Beginnings.{initial_of}
 use Rattle.nbd_judge.specs.Servable.{size_of}
-use Rattle.nbd_judge.proofs.Starting.{concluded, exporting_of, image_fits, same_start}
+use Rattle.nbd_judge.proofs.contents.StartLemmas.{concluded, exporting_of, image_fits, same_start}
 use Rattle.nbd_judge.proofs.concluding.verdict_on.Goals as goal
 use Rattle.nbd_judge.proofs.concluding.verdict_on.Goals.{in-Some-image_len+else-image-size, in_default-image_len}
-
-pub new-requires-2-clause-small : goal.new-requires-2-clause-small
-new-requires-2-clause-small c =
-    let e = exporting_of c.args.transcript.now.export c.in-Some.size c.in-Some.field-0-1 c.in-Some.ensures in
-    let limit : e.0.size ≤ 1048576 = (c.count-count.ensures.facts.limit e.0 e.1).0 in
-    let size : e.0.size ≡ c.in-Some.size = e.2 in
-    omega arith
 
 pub returns : goal.returns
 returns c =
@@ -27,6 +20,6 @@ returns c =
           let image : w.in-Some-image_len.image ≡ c.in-Some.size = w.if-image-size.false in cc)
       | in_default-image_len w ↦ (let s : Some n ≡ None = sym q ∙ sym c.image_len.ensures ∙ w.in_default-image_len.is in absurd (cc))
     ]) in
-    let same : AreSameBelow (size_of c.args.transcript.now.export) (cell c.in_ok-contents-2.contents) (start_byte (initial_of c.args.start)) =
+    let same : AreSameBelow (size_of c.args.transcript.now.export) (byte_of c.in_ok-contents-2.contents) (start_byte (initial_of c.args.start)) =
     λ x l. c.in_ok-contents-2.ensures.bytes x (subst (λ (n : ℕ). x < n) sized l) ∙ same_start c.args.start x in
-    concluded c.args.transcript.now c.count-count.ensures.facts c.args.order.now (cell c.in_ok-contents-2.contents) (initial_of c.args.start) fits same c.judge-2.result c.judge-2.ensures
+    concluded c.args.transcript.now c.count-count.ensures.facts c.args.order.now (byte_of c.in_ok-contents-2.contents) (initial_of c.args.start) fits same c.judge-2.result c.judge-2.ensures

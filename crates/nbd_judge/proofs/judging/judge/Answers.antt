@@ -1,4 +1,4 @@
-use Rattle.nbd_judge.proofs.Named.{none_wrong}
+use Rattle.nbd_judge.proofs.orders.NameLemmas.{none_wrong}
 use Rattle.nbd_judge.proofs.judging.judge.Goals as goal
 
 pub returns : goal.returns

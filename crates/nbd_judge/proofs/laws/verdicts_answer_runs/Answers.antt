@@ -1,4 +1,4 @@
-use Rattle.nbd_judge.proofs.Answering.{answers_runs}
+use Rattle.nbd_judge.proofs.verdicts.AnswerLemmas.{answers_runs}
 use Rattle.nbd_judge.proofs.laws.verdicts_answer_runs.Goals as goal
 
 pub returns : goal.returns

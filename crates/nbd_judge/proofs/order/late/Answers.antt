@@ -1,7 +1,7 @@
 use Rattle.std.proofs.Common.{◌≡◌, ◌+◌, ◌-◌, ◌<◌, ℕ, List, Option, length, Some, None, MatchOption, sym, ◌∙◌, subst, arith}
-use Rattle.nbd_wire.specs.Orders.{IsFirst, IsLate}
-use Rattle.nbd_wire.specs.Report.{known_in}
-use Rattle.nbd_judge.proofs.Lateness.{IsLeastFrom, IsFound, least_step, is_late, not_late, found_now, found_later}
+use Rattle.nbd_wire.specs.protocol.Orders.{IsFirst, IsLate}
+use Rattle.nbd_wire.specs.protocol.Reports.{known_in}
+use Rattle.nbd_judge.proofs.orders.LateLemmas.{IsLeastFrom, IsFound, least_step, is_late, not_late, found_now, found_later}
 use Rattle.nbd_judge.proofs.order.late.Goals as goal
 
 pub loop-i-preserved-then-exceeds : goal.loop-i-preserved-then-exceeds

@@ -1,6 +1,6 @@
 use Rattle.std.proofs.Common.{◌≤◌, length}
-use Rattle.nbd_wire.specs.Report.{known_in}
-use Rattle.nbd_judge.proofs.Lateness.{IsLeastFrom, IsFound}
+use Rattle.nbd_wire.specs.protocol.Reports.{known_in}
+use Rattle.nbd_judge.proofs.orders.LateLemmas.{IsLeastFrom, IsFound}
 use Rattle.nbd_judge.proofs.order.late.Given as goal
 
 abbrev pub invariant-loop-i : goal.invariant-loop-i

@@ -1,8 +1,8 @@
 use Rattle.std.proofs.Common.{ℕ, length, sym, subst}
-use Rattle.nbd_wire.specs.Orders.{IsMissing}
-use Rattle.nbd_wire.specs.Report.{known_in}
-use Rattle.nbd_judge.specs.Seen.{IsFirstBad, IsSeen, IsUnmarked}
-use Rattle.nbd_judge.proofs.Marked.{answered_with, first_of, none_bad, to_missing, to_unmarked}
+use Rattle.nbd_wire.specs.protocol.Orders.{IsMissing}
+use Rattle.nbd_wire.specs.protocol.Reports.{known_in}
+use Rattle.nbd_judge.specs.internal.Seen.{IsFirstBad, IsSeen, IsUnmarked}
+use Rattle.nbd_judge.proofs.orders.MarkLemmas.{answered_with, first_of, none_bad, to_missing, to_unmarked}
 use Rattle.nbd_judge.proofs.order.order_fault.Goals as goal
 
 pub returns-in-Err : goal.returns-in-Err

@@ -1,5 +1,5 @@
 use Rattle.std.proofs.Common.{◌≡◌, ◌+◌, ◌-◌, ◌<◌, ℕ, refl, ◌∙◌, slice_index, slice_index_or, true, false, arith}
-use Rattle.nbd_judge.proofs.Marked.{at_default}
+use Rattle.nbd_judge.proofs.orders.MarkLemmas.{at_default}
 use Rattle.nbd_judge.proofs.order.seen.Goals as goal
 
 pub returns-then-index : goal.returns-then-index

@@ -1,4 +1,4 @@
-use Rattle.nbd_judge.specs.Seen.{IsSeen}
+use Rattle.nbd_judge.specs.internal.Seen.{IsSeen}
 use Rattle.nbd_judge.proofs.order.seen.Given as goal
 
 abbrev pub invariant-loop-i : goal.invariant-loop-i

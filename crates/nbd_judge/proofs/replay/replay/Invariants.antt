@@ -1,5 +1,5 @@
 use Rattle.std.proofs.Common.{◌≡◌, ◌<◌, ℕ, take}
-use Rattle.nbd_wire.specs.Exchanges.{exchanges}
+use Rattle.nbd_wire.specs.protocol.ExportBytes.{effects}
 use Rattle.nbd_export.specs.Ranges.{AreSameBelow}
 use Rattle.nbd_judge.specs.Folding.{contents_after}
 use Rattle.nbd_judge.specs.Verdicts.{HasWrongFrom}
@@ -8,6 +8,6 @@ use Rattle.nbd_judge.proofs.replay.replay.Given as goal
 abbrev pub invariant-loop-i : goal.invariant-loop-i
 invariant-loop-i g l = record {
   size : g.C.Contents.size l.contents ≡ g.C.Contents.size l.initial.contents;
-  bytes : AreSameBelow (g.C.Contents.size l.initial.contents) (g.C.Contents.byte l.contents) (contents_after (exchanges l.transcript) (take l.i l.order) (g.C.Contents.byte l.initial.contents));
+  bytes : AreSameBelow (g.C.Contents.size l.initial.contents) (g.C.Contents.byte l.contents) (contents_after (effects l.transcript) (take l.i l.order) (g.C.Contents.byte l.initial.contents));
   none : (j : ℕ) → j < l.i → HasWrongFrom l.transcript l.order (g.C.Contents.byte l.initial.contents) j → ⊥;
 }

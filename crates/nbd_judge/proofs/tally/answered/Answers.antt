@@ -1,8 +1,8 @@
 use Rattle.std.proofs.Common.{◌≡◌, ◌+◌, ◌<◌, Bool, List, length, sym, ◌∙◌, ap, arith}
-use Rattle.nbd_wire.specs.Report.{Asked}
-use Rattle.nbd_wire.specs.Verdicts.{is_answered}
+use Rattle.nbd_wire.specs.protocol.Reports.{Asked}
+use Rattle.nbd_wire.specs.protocol.Verdicts.{is_answered}
 use Rattle.nbd_state.specs.Transcripts.{asked_told}
-use Rattle.nbd_judge.proofs.Counting.{none_there, one_counted, one_passed}
+use Rattle.nbd_judge.proofs.verdicts.CountLemmas.{none_there, one_counted, one_passed}
 use Rattle.nbd_judge.proofs.tally.answered.Goals as goal
 use Rattle.nbd_judge.proofs.tally.answered.Goals.{in-Some+then-is_finished, in-Some+else-is_finished, in_default}
 

@@ -1,6 +1,6 @@
 use Rattle.std.proofs.Common.{◌≡◌, ◌≤◌, length, take, count_by}
-use Rattle.nbd_wire.specs.Report.{Asked}
-use Rattle.nbd_wire.specs.Verdicts.{is_answered}
+use Rattle.nbd_wire.specs.protocol.Reports.{Asked}
+use Rattle.nbd_wire.specs.protocol.Verdicts.{is_answered}
 use Rattle.nbd_judge.proofs.tally.answered.Given as goal
 
 abbrev pub invariant-loop-i : goal.invariant-loop-i

@@ -1,8 +1,7 @@
-use Rattle.std.proofs.Common.{◌≡◌, ◌+◌, ◌<◌, Bool, List, length, sym, ◌∙◌, ap, arith}
-use Rattle.nbd_wire.specs.Report.{Asked}
-use Rattle.std.proofs.Common.{not}
+use Rattle.std.proofs.Common.{◌≡◌, ◌+◌, ◌<◌, Bool, List, length, sym, ◌∙◌, ap, arith, not}
+use Rattle.nbd_wire.specs.protocol.Reports.{Asked}
 use Rattle.nbd_state.specs.Transcripts.{asked_told}
-use Rattle.nbd_judge.proofs.Counting.{none_there, one_counted, one_passed}
+use Rattle.nbd_judge.proofs.verdicts.CountLemmas.{none_there, one_counted, one_passed}
 use Rattle.nbd_judge.proofs.tally.improper.Goals as goal
 use Rattle.nbd_judge.proofs.tally.improper.Goals.{in-Some+then-not-one, in-Some+else-not-one, in_default}
 

@@ -1,5 +1,5 @@
 use Rattle.std.proofs.Common.{◌≡◌, ◌≤◌, length, not, take, count_by}
-use Rattle.nbd_wire.specs.Report.{Asked}
+use Rattle.nbd_wire.specs.protocol.Reports.{Asked}
 use Rattle.nbd_judge.proofs.tally.improper.Given as goal
 
 abbrev pub invariant-loop-i : goal.invariant-loop-i

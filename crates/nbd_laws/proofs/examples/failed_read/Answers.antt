@@ -1,4 +1,4 @@
-use Rattle.nbd_laws.proofs.WorkedChunks as worked
+use Rattle.nbd_laws.proofs.worked.WorkedChunkLemmas as worked
 use Rattle.nbd_laws.proofs.examples.failed_read.Goals as goal
 
 pub returns : goal.returns

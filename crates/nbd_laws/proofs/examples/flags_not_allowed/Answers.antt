@@ -1,4 +1,4 @@
-use Rattle.nbd_laws.proofs.WorkedRequests as worked
+use Rattle.nbd_laws.proofs.worked.WorkedRequestLemmas as worked
 use Rattle.nbd_laws.proofs.examples.flags_not_allowed.Goals as goal
 
 pub returns : goal.returns

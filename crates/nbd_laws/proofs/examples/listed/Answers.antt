@@ -1,4 +1,4 @@
-use Rattle.nbd_laws.proofs.WorkedOptions as worked
+use Rattle.nbd_laws.proofs.worked.WorkedOptionLemmas as worked
 use Rattle.nbd_laws.proofs.examples.listed.Goals as goal
 
 pub returns : goal.returns

@@ -1,4 +1,4 @@
-use Rattle.nbd_laws.proofs.WorkedRefusals as worked
+use Rattle.nbd_laws.proofs.worked.WorkedRefusalLemmas as worked
 use Rattle.nbd_laws.proofs.examples.named_twice.Goals as goal
 
 pub returns : goal.returns

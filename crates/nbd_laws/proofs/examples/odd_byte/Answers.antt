@@ -1,4 +1,4 @@
-use Rattle.nbd_laws.proofs.WorkedReads as worked
+use Rattle.nbd_laws.proofs.worked.WorkedReadLemmas as worked
 use Rattle.nbd_laws.proofs.examples.odd_byte.Goals as goal
 
 pub returns-clause-zeroes : goal.returns-clause-zeroes

@@ -1,4 +1,4 @@
-use Rattle.nbd_laws.proofs.WorkedRequests as worked
+use Rattle.nbd_laws.proofs.worked.WorkedRequestLemmas as worked
 use Rattle.nbd_laws.proofs.examples.odd_requests.Goals as goal
 
 pub returns : goal.returns

@@ -1,4 +1,4 @@
-use Rattle.nbd_laws.proofs.WorkedReads as worked
+use Rattle.nbd_laws.proofs.worked.WorkedReadLemmas as worked
 use Rattle.nbd_laws.proofs.examples.two_reads.Goals as goal
 
 pub returns-clause-yes : goal.returns-clause-yes

@@ -1,4 +1,4 @@
-use Rattle.nbd_laws.proofs.Negotiating.{answers_follow_choices}
+use Rattle.nbd_laws.proofs.runs.NegotiationLemmas.{answers_follow_choices}
 use Rattle.nbd_laws.proofs.laws.answers_follow_choices.Goals as goal
 
 pub returns : goal.returns

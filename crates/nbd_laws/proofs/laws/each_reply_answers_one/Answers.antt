@@ -1,4 +1,4 @@
-use Rattle.nbd_laws.specs.lemmas.Outstanding.{each_reply_answers_one}
+use Rattle.nbd_laws.proofs.requests.OutstandingLemmas.{each_reply_answers_one}
 use Rattle.nbd_laws.proofs.laws.each_reply_answers_one.Goals as goal
 
 pub returns : goal.returns

@@ -1,4 +1,4 @@
-use Rattle.nbd_laws.specs.lemmas.Outstanding.{empty_is_explained}
+use Rattle.nbd_laws.proofs.requests.OutstandingLemmas.{empty_is_explained}
 use Rattle.nbd_laws.proofs.laws.empty_is_explained.Goals as goal
 
 pub returns : goal.returns

@@ -1,4 +1,4 @@
-use Rattle.nbd_laws.proofs.Explaining.{explained_passes, passing_is_explained}
+use Rattle.nbd_laws.proofs.service.ExplainingLemmas.{explained_passes, passing_is_explained}
 use Rattle.nbd_laws.proofs.laws.explained_exactly.Goals as goal
 
 pub returns-clause-passing : goal.returns-clause-passing

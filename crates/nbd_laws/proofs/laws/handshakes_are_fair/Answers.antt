@@ -1,4 +1,4 @@
-use Rattle.nbd_laws.proofs.Negotiating.{handshakes_are_fair}
+use Rattle.nbd_laws.proofs.runs.NegotiationLemmas.{handshakes_are_fair}
 use Rattle.nbd_laws.proofs.laws.handshakes_are_fair.Goals as goal
 
 pub returns : goal.returns

@@ -1,4 +1,4 @@
-use Rattle.nbd_laws.proofs.Moments.{latest_moments, orders_are_faultless}
+use Rattle.nbd_laws.proofs.service.MomentLemmas.{latest_moments, orders_are_faultless}
 use Rattle.nbd_laws.proofs.laws.latest_moments.Goals as goal
 
 pub returns-clause-served : goal.returns-clause-served

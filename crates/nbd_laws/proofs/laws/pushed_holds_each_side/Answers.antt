@@ -1,4 +1,4 @@
-use Rattle.nbd_laws.proofs.Holding.{pushed_holds_each_side}
+use Rattle.nbd_laws.proofs.runs.HoldingLemmas.{pushed_holds_each_side}
 use Rattle.nbd_laws.proofs.laws.pushed_holds_each_side.Goals as goal
 
 pub returns : goal.returns

@@ -1,4 +1,4 @@
-use Rattle.nbd_laws.proofs.Ending.{replies_end_as_they_start}
+use Rattle.nbd_laws.proofs.requests.EndingLemmas.{replies_end_as_they_start}
 use Rattle.nbd_laws.proofs.laws.replies_end_as_they_start.Goals as goal
 
 pub returns : goal.returns

@@ -1,4 +1,4 @@
-use Rattle.nbd_laws.specs.lemmas.Soundness.{reports_are_sound}
+use Rattle.nbd_laws.proofs.requests.SoundnessLemmas.{reports_are_sound}
 use Rattle.nbd_laws.proofs.laws.reports_are_sound.Goals as goal
 
 pub returns : goal.returns

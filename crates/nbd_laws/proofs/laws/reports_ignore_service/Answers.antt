@@ -1,4 +1,4 @@
-use Rattle.nbd_laws.specs.lemmas.Unserved.{reports_ignore_service}
+use Rattle.nbd_laws.proofs.service.ServiceLemmas.{reports_ignore_service}
 use Rattle.nbd_laws.proofs.laws.reports_ignore_service.Goals as goal
 
 pub returns : goal.returns

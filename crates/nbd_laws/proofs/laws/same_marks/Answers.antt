@@ -1,4 +1,4 @@
-use Rattle.nbd_laws.specs.lemmas.Unserved.{same_marks}
+use Rattle.nbd_laws.proofs.service.ServiceLemmas.{same_marks}
 use Rattle.nbd_laws.proofs.laws.same_marks.Goals as goal
 
 pub returns : goal.returns

@@ -1,4 +1,4 @@
-use Rattle.nbd_laws.specs.lemmas.Unserved.{same_reports}
+use Rattle.nbd_laws.proofs.service.ServiceLemmas.{same_reports}
 use Rattle.nbd_laws.proofs.laws.same_reports.Goals as goal
 
 pub returns : goal.returns

@@ -2,7 +2,7 @@ use Rattle.std.proofs.Common.{◌≡◌, refl, true, false}
 use Rattle.std.specs.Str.{IsUtf8, IsValidUpTo, valid_up_to}
 use Rattle.std.specs.Str.Parse.{ParsesUnsigned}
 use Rattle.nbd_capture.specs.Order.{BeginsPlainly}
-use Rattle.nbd_lines.proofs.Decimals.{not_utf8, parsed, plain_as_decimal, utf8_as_decimal, utf8_text}
+use Rattle.nbd_lines.proofs.DecimalLemmas.{not_utf8, parsed, plain_as_decimal, utf8_as_decimal, utf8_text}
 use Rattle.nbd_lines.proofs.fields.number_of.Goals as goal
 
 pub returns-then-not-begins_plainly : goal.returns-then-not-begins_plainly

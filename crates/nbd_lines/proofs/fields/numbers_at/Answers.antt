@@ -1,5 +1,5 @@
 use Rattle.std.proofs.Common.{arith}
-use Rattle.nbd_lines.proofs.Numbers.{all_past, none_ahead, none_past, one_past}
+use Rattle.nbd_lines.proofs.NumberLemmas.{all_past, none_ahead, none_past, one_past}
 use Rattle.nbd_lines.proofs.fields.numbers_at.Goals as goal
 
 pub loop-k-init : goal.loop-k-init
@@ -11,7 +11,7 @@ returns-in_err-number c =
 
 pub loop-k-preserved : goal.loop-k-preserved
 loop-k-preserved c =
-    one_past c.args.fields.now c.args.text.now c.loop-k.k c.loop-k.numbers c.loop-k.rest.now _ c.in_ok-number.number c.in_ok-number.behind.now c.loop-k-test.true (omega arith) c.loop-k.invariant c.in_ok-number.ensures
+    one_past c.args.fields.now c.args.text.now c.loop-k.k c.loop-k.numbers c.loop-k.rest.now _ c.in_ok-number.number c.in_ok-number.after.now c.loop-k-test.true (omega arith) c.loop-k.invariant c.in_ok-number.ensures
 
 pub returns : goal.returns
 returns c = all_past c.args.fields.now c.args.text.now c.loop-k.k c.loop-k.numbers c.loop-k.rest.now (omega arith) c.loop-k.invariant

@@ -1,4 +1,4 @@
-use Rattle.nbd_lines.proofs.Numbers.{Past}
+use Rattle.nbd_lines.proofs.NumberLemmas.{Past}
 use Rattle.nbd_lines.proofs.fields.numbers_at.Given as goal
 
 abbrev pub invariant-loop-k : goal.invariant-loop-k

@@ -1,6 +1,6 @@
 use Rattle.std.proofs.Common.{map}
 use Rattle.nbd_lines.specs.Script.{made_chunk}
-use Rattle.nbd_lines.proofs.MadeLines.{chunks_of_bytes, made_capture}
+use Rattle.nbd_lines.proofs.MadeLineLemmas.{chunks_of_bytes, made_capture}
 use Rattle.nbd_lines.proofs.laws.made_lines_are_a_capture.Goals as goal
 
 pub returns : goal.returns

@@ -1,4 +1,4 @@
-use Rattle.nbd_lines.proofs.MessageLines.{one_message}
+use Rattle.nbd_lines.proofs.MessageLineLemmas.{one_message}
 use Rattle.nbd_lines.proofs.laws.one_message_of_a_line.Goals as goal
 
 pub returns : goal.returns

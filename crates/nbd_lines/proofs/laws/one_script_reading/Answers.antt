@@ -1,6 +1,6 @@
-use Rattle.nbd_capture.specs.Reading.{one_reading}
+use Rattle.nbd_capture.proofs.ReadingLemmas.{one_reading}
 use Rattle.nbd_lines.specs.Script.{IsScriptLine}
-use Rattle.nbd_lines.proofs.ScriptLines.{one_saying}
+use Rattle.nbd_lines.proofs.ScriptLineLemmas.{one_saying}
 use Rattle.nbd_lines.proofs.laws.one_script_reading.Goals as goal
 
 pub returns : goal.returns

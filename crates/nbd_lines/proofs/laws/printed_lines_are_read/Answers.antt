@@ -1,4 +1,4 @@
-use Rattle.nbd_lines.proofs.Printable.{printed}
+use Rattle.nbd_lines.proofs.PrintableLemmas.{printed}
 use Rattle.nbd_lines.proofs.laws.printed_lines_are_read.Goals as goal
 
 pub returns : goal.returns

@@ -1,4 +1,4 @@
-use Rattle.nbd_lines.proofs.Printable.{shown}
+use Rattle.nbd_lines.proofs.PrintableLemmas.{shown}
 use Rattle.nbd_lines.proofs.laws.shown_messages_are_a_script.Goals as goal
 
 pub returns : goal.returns

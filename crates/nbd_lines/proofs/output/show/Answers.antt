@@ -2,9 +2,9 @@ use Rattle.std.proofs.Common.{◌≡◌, ◌++◌, ◌∷◌, [], ap, ◌∙◌}
 use Rattle.std.specs.Io.KnownBytes.{Appends}
 use Rattle.std.proofs.lemmas.Result.{err_from_is_err_and}
 use Rattle.nbd_capture.specs.Lines.{line_feed}
-use Rattle.nbd_capture.specs.Writing.{AppendsFront}
+use Rattle.nbd_capture.specs.Writing.{AppendsPrefix}
 use Rattle.nbd_lines.specs.Script.{shown_line}
-use Rattle.nbd_lines.proofs.WrittenLines.{all_written, broken_line, none_written, one_written, stopped_before}
+use Rattle.nbd_lines.proofs.WrittenLineLemmas.{all_written, broken_line, none_written, one_written, stopped_before}
 use Rattle.nbd_lines.proofs.output.show.Goals as goal
 
 pub loop-message-init : goal.loop-message-init
@@ -27,8 +27,8 @@ pub returns-in_err-write_whole-clause-err : goal.returns-in_err-write_whole-clau
 returns-in_err-write_whole-clause-err g c =
     let p = err_from_is_err_and c.from_residual-in_err-write_whole.result c.from_residual-in_err-write_whole.ensures.1 in
     let text : c.as_slice.result.now ≡ shown_line c.message-item.result = c.as_slice.ensures.value ∙ c.in_ok-extend_from_slice.ensures.items ∙ ap (λ l. l ++ line_feed ∷ []) (rw c.clear.ensures.items at c.in_ok-append_line.ensures.ok) in
-    let front : AppendsFront (g.W.Write.contents c.loop-message.out) (g.W.Write.contents c.write_whole.new.out) (shown_line c.message-item.result) = rw text at c.in_err-write_whole.ensures.err in
-    rw p.1 (broken_line shown_line _ (g.W.Write.contents c.loop-message.out) _ c.args.messages.now c.loop-message.message-index c.message-item.result c.loop-message-test.true c.message-item.is c.loop-message.invariant front)
+    let prefix : AppendsPrefix (g.W.Write.contents c.loop-message.out) (g.W.Write.contents c.write_whole.new.out) (shown_line c.message-item.result) = rw text at c.in_err-write_whole.ensures.err in
+    rw p.1 (broken_line shown_line _ (g.W.Write.contents c.loop-message.out) _ c.args.messages.now c.loop-message.message-index c.message-item.result c.loop-message-test.true c.message-item.is c.loop-message.invariant prefix)
 
 pub loop-message-preserved : goal.loop-message-preserved
 loop-message-preserved g c =

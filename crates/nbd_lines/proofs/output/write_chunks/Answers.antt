@@ -1,10 +1,10 @@
 use Rattle.std.proofs.Common.{◌≡◌, ◌∙◌}
 use Rattle.std.specs.Io.KnownBytes.{Appends}
 use Rattle.std.proofs.lemmas.Result.{err_from_is_err_and}
-use Rattle.nbd_wire.specs.Encoding.{enc}
-use Rattle.nbd_capture.specs.Writing.{AppendsFront}
+use Rattle.nbd_wire.specs.protocol.Encoding.{enc}
+use Rattle.nbd_capture.specs.Writing.{AppendsPrefix}
 use Rattle.nbd_lines.specs.Script.{made_line}
-use Rattle.nbd_lines.proofs.WrittenLines.{all_written, broken_line, each_fits, none_written, one_written, stopped_before}
+use Rattle.nbd_lines.proofs.WrittenLineLemmas.{all_written, broken_line, each_fits, none_written, one_written, stopped_before}
 use Rattle.nbd_lines.proofs.output.write_chunks.Goals as goal
 
 pub loop-message-init : goal.loop-message-init
@@ -25,8 +25,8 @@ pub returns-in_err-write_chunk-clause-err : goal.returns-in_err-write_chunk-clau
 returns-in_err-write_chunk-clause-err g c =
     let p = err_from_is_err_and c.from_residual-in_err-write_chunk.result c.from_residual-in_err-write_chunk.ensures.1 in
     let bytes : c.as_slice.result.now ≡ enc c.message-item.result = c.as_slice.ensures.value ∙ (rw c.clear.ensures.items at c.in_ok-append.ensures.ok) in
-    let front : AppendsFront (g.W.Write.contents c.loop-message.out) (g.W.Write.contents c.write_chunk.new.out) (made_line c.message-item.result) = rw (bytes, c.side_of.ensures) at c.in_err-write_chunk.ensures.err in
-    rw p.1 (broken_line made_line _ (g.W.Write.contents c.loop-message.out) _ c.args.messages.now c.loop-message.message-index c.message-item.result c.loop-message-test.true c.message-item.is c.loop-message.invariant front)
+    let prefix : AppendsPrefix (g.W.Write.contents c.loop-message.out) (g.W.Write.contents c.write_chunk.new.out) (made_line c.message-item.result) = rw (bytes, c.side_of.ensures) at c.in_err-write_chunk.ensures.err in
+    rw p.1 (broken_line made_line _ (g.W.Write.contents c.loop-message.out) _ c.args.messages.now c.loop-message.message-index c.message-item.result c.loop-message-test.true c.message-item.is c.loop-message.invariant prefix)
 
 pub loop-message-preserved : goal.loop-message-preserved
 loop-message-preserved g c =

@@ -1,5 +1,5 @@
 use Rattle.nbd_lines.specs.Script.{made_line}
-use Rattle.nbd_lines.proofs.WrittenLines.{Written}
+use Rattle.nbd_lines.proofs.WrittenLineLemmas.{Written}
 use Rattle.nbd_lines.proofs.output.write_chunks.Given as goal
 
 abbrev pub invariant-loop-message : goal.invariant-loop-message

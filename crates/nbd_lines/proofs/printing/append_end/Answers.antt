@@ -1,7 +1,7 @@
 use Rattle.std.proofs.Common.{◌≡◌, ◌++◌, ◌∙◌}
 use Rattle.hex.specs.Hex.{encode_lower}
 use Rattle.nbd_lines.specs.Line.{payload_words}
-use Rattle.nbd_lines.proofs.Printed.{end_printed}
+use Rattle.nbd_lines.proofs.PrintedLemmas.{end_printed}
 use Rattle.nbd_lines.proofs.printing.append_end.Goals as goal
 
 pub returns-clause-ok : goal.returns-clause-ok

@@ -1,4 +1,4 @@
-use Rattle.nbd_lines.proofs.Printed.{Printing}
+use Rattle.nbd_lines.proofs.PrintedLemmas.{Printing}
 use Rattle.nbd_lines.proofs.printing.append_numbers.Given as goal
 
 abbrev pub invariant-loop-k : goal.invariant-loop-k

@@ -1,7 +1,7 @@
 use Rattle.std.proofs.Common.{◌≡◌, ◌++◌}
 use Rattle.nbd_lines.specs.Line.{end_text, numbers_text}
 use Rattle.nbd_lines.specs.Table.{carried, fields, has_payload, line_form, words}
-use Rattle.nbd_lines.proofs.Printed.{line_printed}
+use Rattle.nbd_lines.proofs.PrintedLemmas.{line_printed}
 use Rattle.nbd_lines.proofs.printing.append_parts.Goals as goal
 
 pub returns-clause-ok : goal.returns-clause-ok

@@ -1,6 +1,6 @@
 use Rattle.std.proofs.Common.{inl, inr, sym, ◌∙◌}
 use Rattle.nbd_lines.specs.Table.{has_payload}
-use Rattle.nbd_lines.proofs.Ends.{empty, nothing_at, payload_at, undecoded}
+use Rattle.nbd_lines.proofs.EndLemmas.{empty, nothing_at, payload_at, undecoded}
 use Rattle.nbd_lines.proofs.reading.end_at.Goals as goal
 
 pub returns-then-not-has_payload : goal.returns-then-not-has_payload

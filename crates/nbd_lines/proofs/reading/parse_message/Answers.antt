@@ -1,9 +1,9 @@
 use Rattle.std.proofs.Common.{◌≡◌, length, take, false, true}
-use Rattle.nbd_wire.specs.Fits.{FitsItsHead}
+use Rattle.nbd_wire.specs.codec.Fits.{FitsItsHead}
 use Rattle.nbd_lines.specs.Line.{IsEnd, IsMessageLine}
-use Rattle.nbd_lines.specs.Reading.{ReadsNumbers}
+use Rattle.nbd_lines.specs.internal.Reading.{ReadsNumbers}
 use Rattle.nbd_lines.specs.Table.{fields, has_payload}
-use Rattle.nbd_lines.proofs.MessageLines.{from_parts, misfit}
+use Rattle.nbd_lines.proofs.MessageLineLemmas.{from_parts, misfit}
 use Rattle.nbd_lines.proofs.reading.parse_message.Goals as goal
 
 pub returns-else-fits : goal.returns-else-fits

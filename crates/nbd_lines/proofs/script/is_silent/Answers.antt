@@ -1,4 +1,4 @@
-use Rattle.nbd_lines.proofs.ScriptLines.{silent_hash, silent_nil, silent_ok}
+use Rattle.nbd_lines.proofs.ScriptLineLemmas.{silent_hash, silent_nil, silent_ok}
 use Rattle.nbd_lines.proofs.script.is_silent.Goals as goal
 
 pub returns-in-empty : goal.returns-in-empty

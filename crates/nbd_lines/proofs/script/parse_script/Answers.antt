@@ -1,11 +1,11 @@
 use Rattle.std.proofs.Common.{◌≡◌, ◌∷◌, ◌++◌, [], ◌+◌, append-nil}
 use Rattle.std.proofs.lemmas.Result.{err_from_is_err_and}
 use Rattle.nbd_capture.specs.Lines.{line_feed, IsUnbroken}
-use Rattle.nbd_capture.specs.Progress.{advance, done, cut_off}
-use Rattle.nbd_capture.specs.Reading.{one_reading}
+use Rattle.nbd_capture.proofs.ProgressLemmas.{advance, done, cut_off}
+use Rattle.nbd_capture.proofs.ReadingLemmas.{one_reading}
 use Rattle.nbd_lines.specs.declared.script.ScriptFault.TheVariants.{Line}
 use Rattle.nbd_lines.specs.Script.{IsScriptLine}
-use Rattle.nbd_lines.proofs.ScriptLines.{one_saying, only_memory, stopped_script}
+use Rattle.nbd_lines.proofs.ScriptLineLemmas.{one_saying, only_memory, stopped_script}
 use Rattle.nbd_lines.proofs.script.parse_script.Goals as goal
 
 pub returns-in_err-line-clause-fault : goal.returns-in_err-line-clause-fault
@@ -19,8 +19,8 @@ returns-in_err-line-clause-fault c =
 pub returns-in_err-message-clause-fault : goal.returns-in_err-message-clause-fault
 returns-in_err-message-clause-fault c =
     let p = err_from_is_err_and c.from_residual-in_err-message.result c.from_residual-in_err-message.ensures.1 in
-    let parts : IsUnbroken c.in_ok-line.line.now × (c.loop-rest.rest.now ≡ c.in_ok-line.line.now ++ line_feed ∷ c.in_ok-line.behind.now) = rw c.in_ok-line.ensures.ok_part at c.first_line.ensures in
-    rw (p.1, p.2) (stopped_script c.args.text.now c.loop-rest.rest.now c.in_ok-line.line.now c.in_ok-line.behind.now c.loop-rest.messages.items c.loop-rest.number c.in_err-message.field-0.0 c.loop-rest.invariant parts.0 parts.1 c.in_err-message.ensures.fault)
+    let parts : IsUnbroken c.in_ok-line.line.now × (c.loop-rest.rest.now ≡ c.in_ok-line.line.now ++ line_feed ∷ c.in_ok-line.after.now) = rw c.in_ok-line.ensures.ok_part at c.first_line.ensures in
+    rw (p.1, p.2) (stopped_script c.args.text.now c.loop-rest.rest.now c.in_ok-line.line.now c.in_ok-line.after.now c.loop-rest.messages.items c.loop-rest.number c.in_err-message.field-0.0 c.loop-rest.invariant parts.0 parts.1 c.in_err-message.ensures.fault)
 
 pub returns-clause-messages : goal.returns-clause-messages
 returns-clause-messages c =
@@ -28,16 +28,16 @@ returns-clause-messages c =
 
 pub loop-rest-preserved : goal.loop-rest-preserved
 loop-rest-preserved c =
-    let parts : IsUnbroken c.in_ok-line.line.now × (c.loop-rest.rest.now ≡ c.in_ok-line.line.now ++ line_feed ∷ c.in_ok-line.behind.now) = rw c.in_ok-line.ensures.ok_part at c.first_line.ensures in
+    let parts : IsUnbroken c.in_ok-line.line.now × (c.loop-rest.rest.now ≡ c.in_ok-line.line.now ++ line_feed ∷ c.in_ok-line.after.now) = rw c.in_ok-line.ensures.ok_part at c.first_line.ensures in
     let form : IsScriptLine c.in_ok-line.line.now [] = rw c.in_default.is at c.in_ok-message.ensures.said in
-    let next = advance IsScriptLine c.args.text.now c.loop-rest.rest.now c.in_ok-line.line.now c.in_ok-line.behind.now c.loop-rest.messages.items [] c.loop-rest.number c.loop-rest.invariant parts.0 parts.1 form in
+    let next = advance IsScriptLine c.args.text.now c.loop-rest.rest.now c.in_ok-line.line.now c.in_ok-line.after.now c.loop-rest.messages.items [] c.loop-rest.number c.loop-rest.invariant parts.0 parts.1 form in
     rw append-nil at next
 
 pub loop-rest-preserved-in_ok-push : goal.loop-rest-preserved-in_ok-push
 loop-rest-preserved-in_ok-push c =
-    let parts : IsUnbroken c.in_ok-line.line.now × (c.loop-rest.rest.now ≡ c.in_ok-line.line.now ++ line_feed ∷ c.in_ok-line.behind.now) = rw c.in_ok-line.ensures.ok_part at c.first_line.ensures in
+    let parts : IsUnbroken c.in_ok-line.line.now × (c.loop-rest.rest.now ≡ c.in_ok-line.line.now ++ line_feed ∷ c.in_ok-line.after.now) = rw c.in_ok-line.ensures.ok_part at c.first_line.ensures in
     let form : IsScriptLine c.in_ok-line.line.now (c.in-Some.message ∷ []) = rw c.in-Some.is at c.in_ok-message.ensures.said in
-    let next = advance IsScriptLine c.args.text.now c.loop-rest.rest.now c.in_ok-line.line.now c.in_ok-line.behind.now c.loop-rest.messages.items (c.in-Some.message ∷ []) c.loop-rest.number c.loop-rest.invariant parts.0 parts.1 form in
+    let next = advance IsScriptLine c.args.text.now c.loop-rest.rest.now c.in_ok-line.line.now c.in_ok-line.after.now c.loop-rest.messages.items (c.in-Some.message ∷ []) c.loop-rest.number c.loop-rest.invariant parts.0 parts.1 form in
     rw c.in_ok-push.ensures.items next
 
 pub returns-in_err-line-clause-only : goal.returns-in_err-line-clause-only

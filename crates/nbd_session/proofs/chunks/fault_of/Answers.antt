@@ -1,13 +1,14 @@
 use Rattle.std.proofs.Common.{◌≡◌, ◌∙◌, ◌+◌, ◌==◌, ◌||◌, not, length, sym, ap, None, true}
 use Rattle.nbd_wire.specs.declared.payloads.Piece.{Piece}
 use Rattle.nbd_wire.specs.declared.chunks.TheConstants as chunks
-use Rattle.nbd_wire.specs.Contents.{piece_of}
-use Rattle.nbd_wire.specs.Requests.{has, has_failed, is_proper, pieces}
-use Rattle.nbd_laws.specs.declared.fault.WireFault.TheVariants.{BadChunk, BadContent}
-use Rattle.nbd_session.specs.Asking.{done_by, finish_by}
-use Rattle.nbd_session.specs.Decisions.{fault_if}
-use Rattle.nbd_session.specs.JudgeTransmission.{fits_read, fits_failure, total}
-use Rattle.nbd_session.proofs.ChunkFaults.{none-chunk, content-chunk, failure-chunk}
+use Rattle.nbd_wire.specs.codec.Contents.{piece_of}
+use Rattle.nbd_wire.specs.protocol.Flags.{has}
+use Rattle.nbd_wire.specs.protocol.Operations.{has_failed, is_proper, pieces}
+use Rattle.nbd_wire.specs.declared.fault.WireFault.TheVariants.{BadChunk, BadContent}
+use Rattle.nbd_session.specs.internal.Asking.{done_by, finish_by}
+use Rattle.nbd_session.specs.internal.Decisions.{fault_if}
+use Rattle.nbd_session.specs.internal.JudgeTransmission.{fits_read, fits_failure, total}
+use Rattle.nbd_session.proofs.judge.ChunkFaultLemmas.{none-chunk, content-chunk, failure-chunk}
 use Rattle.nbd_session.proofs.chunks.fault_of.Goals as goal
 
 pub returns-then-kind-eq-NONE : goal.returns-then-kind-eq-NONE

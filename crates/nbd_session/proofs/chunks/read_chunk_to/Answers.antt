@@ -3,17 +3,17 @@ use Rattle.std.proofs.lemmas.List.{take_all}
 use Rattle.nbd_wire.specs.declared.chunks.TheConstants as chunks
 use Rattle.nbd_wire.specs.declared.heads.transmission.ChunkHead.{ChunkHead}
 use Rattle.nbd_wire.specs.declared.message.Message.TheVariants.{Chunk}
-use Rattle.nbd_wire.specs.Payloads.{number_at}
-use Rattle.nbd_wire.specs.Requests.{Entry, Exporting}
-use Rattle.nbd_wire.specs.States.{with_reply}
-use Rattle.nbd_laws.specs.declared.fault.WireFault.{WireFault}
-use Rattle.nbd_laws.specs.declared.fault.WireFault.TheVariants.{ChunkForbidden}
-use Rattle.nbd_session.specs.Decisions.{fault_if}
-use Rattle.nbd_session.specs.JudgeTransmission.{chunk_fault, chunk_last_fault, chunk_to}
-use Rattle.nbd_session.proofs.Answering.{fails, ends}
+use Rattle.nbd_wire.specs.protocol.Payloads.{number_at}
+use Rattle.nbd_wire.specs.protocol.Operations.{Operation, Exporting}
+use Rattle.nbd_wire.specs.protocol.States.{with_reply}
+use Rattle.nbd_wire.specs.declared.fault.WireFault.{WireFault}
+use Rattle.nbd_wire.specs.declared.fault.WireFault.TheVariants.{ChunkForbidden}
+use Rattle.nbd_session.specs.internal.Decisions.{fault_if}
+use Rattle.nbd_session.specs.internal.JudgeTransmission.{chunk_fault, chunk_last_fault, chunk_to}
+use Rattle.nbd_session.proofs.judge.ReplyLemmas.{fails, ends}
 use Rattle.nbd_session.proofs.chunks.read_chunk_to.Goals as goal
 
-at_head : (export : Exporting) (e : Entry) (head : ChunkHead) (bytes payload : List ℕ) (answer : Option WireFault) → payload ≡ drop 20 bytes →
+at_head : (export : Exporting) (e : Operation) (head : ChunkHead) (bytes payload : List ℕ) (answer : Option WireFault) → payload ≡ drop 20 bytes →
     head ≡ record { flags = number_at 4 2 bytes; kind = number_at 6 2 bytes; cookie = number_at 8 8 bytes; length = number_at 16 4 bytes } →
     answer ≡ chunk_fault (head.kind == chunks.NONE) export e (with_reply e (Chunk head.flags head.kind (number_at 8 8 bytes) payload)) head.flags head.kind payload →
     answer ≡ chunk_last_fault export (Some e) bytes

@@ -1,7 +1,8 @@
 use Rattle.std.proofs.Common.{◌≡◌, ◌+◌, ◌-◌, ◌<◌, length, refl, sym, ◌∙◌, ap, arith, slice_get}
 use Rattle.std.specs.Vec.{vec_len}
-use Rattle.nbd_session.specs.Holdings.{is_of, spans_of}
-use Rattle.nbd_session.proofs.Noting.{is_last_of, last_within, noted_behind, noted_grown}
+use Rattle.nbd_session.specs.internal.Holdings.{is_of}
+use Rattle.nbd_session.specs.Views.{spans_of}
+use Rattle.nbd_session.proofs.pushed.NoteLemmas.{is_last_of, last_within, noted_behind, noted_grown}
 use Rattle.nbd_session.proofs.held.note.Goals as goal
 
 -- src/held.rt:106:9

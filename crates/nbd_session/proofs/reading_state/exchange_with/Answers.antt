@@ -1,6 +1,6 @@
 use Rattle.std.proofs.Common.{rules, ◌∙◌, ap}
 use Rattle.std.specs.List.{slice_get}
-use Rattle.nbd_session.proofs.ShownEntries.{beyond_count, copied_at, within_count}
+use Rattle.nbd_session.proofs.parsing.ShownOperationLemmas.{beyond_count, copied_at, within_count}
 use Rattle.nbd_session.proofs.reading_state.exchange_with.Goals as goal
 
 pub returns-then-place-counted : goal.returns-then-place-counted

@@ -2,8 +2,8 @@ use Rattle.std.proofs.Common.{◌+◌, ◌∙◌, ◌||◌, nat_le, rules}
 use Rattle.std.proofs.lemmas.Iterator.{YieldsList-from_slice}
 use Rattle.std.proofs.lemmas.Iterator.Search.{all_from_yields_List}
 use borrow.Author.Tests.{tests}
-use Rattle.nbd_wire.specs.Requests.{piece_offset, piece_size}
-use Rattle.nbd_session.proofs.ChunkFaults.{all-apart}
+use Rattle.nbd_wire.specs.protocol.Pieces.{piece_offset, piece_size}
+use Rattle.nbd_session.proofs.judge.ChunkFaultLemmas.{all-apart}
 use Rattle.nbd_session.proofs.spans.is_apart_from.Goals as goal
 
 pub returns : goal.returns

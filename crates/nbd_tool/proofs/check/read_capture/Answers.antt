@@ -1,6 +1,6 @@
 use Rattle.std.proofs.Common.{◌≤◌, arith, rules, vec_len}
 use Rattle.nbd_tool.specs.declared.input.TheConstants.{READ_LIMIT}
-use Rattle.nbd_tool.proofs.Sizes.{flat-le}
+use Rattle.nbd_tool.proofs.SizeLemmas.{flat-le}
 use Rattle.nbd_tool.proofs.check.read_capture.Goals as goal
 
 pub returns-clause-small : goal.returns-clause-small

@@ -1,7 +1,7 @@
 use Rattle.std.proofs.Common.{◌<◌, sym, subst, rules, arith, take, length, ap}
 use Rattle.std.specs.Io.KnownBytes.{Consumes}
 use Rattle.std.proofs.KnownBytes.{Consumes-nil, Consumes-trans}
-use Rattle.nbd_tool.proofs.Endings.{all_read, filled}
+use Rattle.nbd_tool.proofs.EndLemmas.{all_read, filled}
 use Rattle.nbd_tool.proofs.input.read_whole.Goals as goal
 
 pub loop-reader-init : goal.loop-reader-init

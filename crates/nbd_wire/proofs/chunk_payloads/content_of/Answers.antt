@@ -1,7 +1,7 @@
 use Rattle.std.proofs.Common.{None, arith, sym, ◌∙◌, ap}
-use Rattle.nbd_wire.specs.Contents.{piece_of}
-use Rattle.nbd_wire.specs.Payloads.{content_of}
-use Rattle.nbd_wire.proofs.ChunkReads.{content-none, content-form}
+use Rattle.nbd_wire.specs.codec.Contents.{piece_of}
+use Rattle.nbd_wire.specs.protocol.Payloads.{content_of}
+use Rattle.nbd_wire.proofs.ChunkReadLemmas.{content-none, content-form}
 use Rattle.nbd_wire.proofs.chunk_payloads.content_of.Goals as goal
 
 pub returns-in_default-clause-same : goal.returns-in_default-clause-same

@@ -1,5 +1,5 @@
 use Rattle.std.proofs.Common.{sym, ◌∙◌}
-use Rattle.nbd_wire.proofs.ChunkReads.{hole-none, hole-whole}
+use Rattle.nbd_wire.proofs.ChunkReadLemmas.{hole-none, hole-whole}
 use Rattle.nbd_wire.proofs.chunk_payloads.hole_of.Goals as goal
 
 pub returns-then-bytes-ne-HOLE_LENGTH : goal.returns-then-bytes-ne-HOLE_LENGTH

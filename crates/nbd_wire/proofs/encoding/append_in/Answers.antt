@@ -1,8 +1,8 @@
 use Rattle.std.proofs.Common.{◌≡◌, ◌++◌, List, ℕ, OnOk, length, arith, subst, ◌∙◌, ap}
 use Rattle.nbd_wire.specs.declared.message.Message.TheVariants.{Choice, Answer, Request, Simple, Chunk}
-use Rattle.nbd_wire.specs.Encoding.{head, tail}
-use Rattle.nbd_wire.specs.Layouts.{answer_bytes, choice_bytes, chunk_bytes}
-use Rattle.nbd_wire.proofs.Encodings.{length-tail, whole}
+use Rattle.nbd_wire.specs.protocol.Encoding.{head, tail}
+use Rattle.nbd_wire.specs.protocol.Layouts.{answer_bytes, choice_bytes, chunk_bytes}
+use Rattle.nbd_wire.proofs.EncodingLemmas.{length-tail, whole}
 use Rattle.nbd_wire.proofs.encoding.append_in.Goals as goal
 
 pub overflow_cast-size_of_tail : goal.overflow_cast-size_of_tail

@@ -1,4 +1,4 @@
-use Rattle.nbd_wire.specs.ListedForm.{is_go-exact}
+use Rattle.nbd_wire.proofs.ListedFormLemmas.{is_go-exact}
 use Rattle.nbd_wire.proofs.laws.is_go_is_exact.Goals as goal
 
 pub returns : goal.returns

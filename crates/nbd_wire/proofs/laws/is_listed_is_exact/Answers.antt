@@ -1,4 +1,4 @@
-use Rattle.nbd_wire.specs.ListedForm.{is_listed-exact}
+use Rattle.nbd_wire.proofs.ListedFormLemmas.{is_listed-exact}
 use Rattle.nbd_wire.proofs.laws.is_listed_is_exact.Goals as goal
 
 pub returns : goal.returns

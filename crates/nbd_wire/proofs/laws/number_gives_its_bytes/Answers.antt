@@ -1,4 +1,4 @@
-use Rattle.nbd_wire.specs.Parse.{bytes_of_number}
+use Rattle.nbd_wire.proofs.NumberLemmas.{bytes_of_number}
 use Rattle.nbd_wire.proofs.laws.number_gives_its_bytes.Goals as goal
 
 pub returns : goal.returns

@@ -1,14 +1,14 @@
 use Rattle.std.proofs.Common.{◌∙◌, ◌++◌, ◌∷◌, [], ap, sym, subst}
-use Rattle.nbd_wire.specs.Rules.{complete}
+use Rattle.nbd_wire.specs.protocol.Rules.{complete}
 use Rattle.nbd_state.specs.declared.state.State.{State}
-use Rattle.nbd_session.specs.Concrete.{concrete}
-use Rattle.nbd_session.specs.Logging.{logged}
-use Rattle.nbd_laws.specs.Machine.{fresh}
+use Rattle.nbd_session.specs.internal.Concrete.{concrete}
+use Rattle.nbd_session.specs.internal.Logging.{logged}
+use Rattle.nbd_laws.specs.internal.Machine.{fresh}
 use Rattle.nbd_state.specs.Shows.{AreKnown, Shows}
-use Rattle.nbd_session.specs.Standing.{pairs_held}
+use Rattle.nbd_session.specs.internal.Standing.{pairs_held}
 use Rattle.nbd_session.specs.declared.held.Held.{Held}
-use Rattle.nbd_session.specs.WholeMessage.{IsDecided, IsWholeFor}
-use Rattle.nbd_session.proofs.Accepting.{accepted_holding, accepted_stands, is_whole_for, pairs_accepted, same_but_message}
+use Rattle.nbd_session.specs.internal.WholeMessage.{IsDecided, IsWholeFor}
+use Rattle.nbd_session.proofs.steps.AcceptLemmas.{accepted_holding, accepted_stands, is_whole_for, pairs_accepted, same_but_message}
 use Rattle.nbd_session.proofs.held.Held.accept.Goals as goal
 
 pub whole_message-requires : goal.whole_message-requires

@@ -1,7 +1,7 @@
 use Rattle.std.proofs.Common.{sym, subst, None}
 use Rattle.nbd_session.specs.Sessions.{IsReported}
-use Rattle.nbd_session.specs.Steps.{recorded}
-use Rattle.nbd_session.proofs.Reporting.{none_in, reported, sound_told}
+use Rattle.nbd_session.specs.Views.{recorded}
+use Rattle.nbd_session.proofs.log.ReportLemmas.{none_in, reported, sound_told}
 use Rattle.nbd_session.proofs.held.Held.finish.Goals as goal
 
 pub transcript-requires : goal.transcript-requires

@@ -1,9 +1,9 @@
 use Rattle.std.proofs.Common.{arith, refl, subst, sym}
-use Rattle.nbd_session.specs.Holdings.{holding_of}
-use Rattle.nbd_session.specs.Standing.{pairs_held}
-use Rattle.nbd_session.specs.Steps.{AddsHeld, IsRefused}
-use Rattle.nbd_session.proofs.Pieces.{added_then, refused_then}
-use Rattle.nbd_session.proofs.Settling.{handed_on}
+use Rattle.nbd_session.specs.internal.Holdings.{holding_of}
+use Rattle.nbd_session.specs.internal.Standing.{pairs_held}
+use Rattle.nbd_session.specs.internal.Steps.{AddsHeld, IsRefused}
+use Rattle.nbd_session.proofs.judge.PieceLemmas.{added_then, refused_then}
+use Rattle.nbd_session.proofs.steps.SettleLemmas.{handed_on}
 use Rattle.nbd_session.proofs.held.Held.push.Goals as goal
 
 -- src/held.rt:99:25

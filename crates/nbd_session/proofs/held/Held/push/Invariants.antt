@@ -1,5 +1,5 @@
 use Rattle.std.proofs.Common.{◌≡◌, ◌+◌, ◌<◌, length}
-use Rattle.nbd_session.specs.Steps.{AddsHeld, Stands}
+use Rattle.nbd_session.specs.internal.Steps.{AddsHeld, Stands}
 use Rattle.nbd_session.proofs.held.Held.push.Given as goal
 
 -- what is held stands, and all but what is left of the piece was taken

@@ -1,8 +1,8 @@
 use Rattle.std.proofs.Common.{◌∙◌, ap, sym, Ok}
-use Rattle.nbd_session.specs.Judge.{decided_counted}
-use Rattle.nbd_session.specs.Readings.{reading_if}
-use Rattle.nbd_session.specs.Steps.{IsShut}
-use Rattle.nbd_session.proofs.Settling.{memory_alone, same_held, settled_more, shut_memory, shut_wire}
+use Rattle.nbd_session.specs.internal.Judge.{decided_counted}
+use Rattle.nbd_session.specs.internal.Readings.{reading_if}
+use Rattle.nbd_session.specs.internal.Steps.{IsShut}
+use Rattle.nbd_session.proofs.steps.SettleLemmas.{memory_alone, same_held, settled_more, shut_memory, shut_wire}
 use Rattle.nbd_session.proofs.held.Held.settle.Goals as goal
 
 pub returns-in_err-accept-in-Ok-Whole-clause-shut : goal.returns-in_err-accept-in-Ok-Whole-clause-shut

@@ -1,8 +1,8 @@
 use Rattle.std.proofs.Common.{◌≤◌, ap, arith, length, drop}
 use Rattle.std.proofs.lemmas.List.{length-take-le}
-use Rattle.nbd_session.specs.Steps.{IsRefused}
-use Rattle.nbd_session.proofs.Pieces.{awaits_some, front_added, is_taken, refused_memory, refused_settling, settled_added, total_fits}
-use Rattle.nbd_session.proofs.Settling.{handed_on, memory_alone}
+use Rattle.nbd_session.specs.internal.Steps.{IsRefused}
+use Rattle.nbd_session.proofs.judge.PieceLemmas.{awaits_some, prefix_added, is_taken, refused_memory, refused_settling, settled_added, total_fits}
+use Rattle.nbd_session.proofs.steps.SettleLemmas.{handed_on, memory_alone}
 use Rattle.nbd_session.proofs.held.Held.step.Goals as goal
 
 pub overflow_sub-missing : goal.overflow_sub-missing
@@ -43,7 +43,7 @@ returns-in_err-settle-clause-refused c =
     let n = c.min-count.ensures in
     handed_on _ c.from_residual-in_err-settle.result c.in_err-settle.field-0.0 (IsRefused c.args.self.now c.settle.new.self c.args.side c.args.left.now) c.from_residual-in_err-settle.ensures.1
     (refused_settling c.args.self.now c.take.new.self c.settle.new.self c.args.side c.args.left.now (drop c.min-count.result c.args.left.now) c.in_err-settle.field-0.0
-    (front_added c.args.self.now c.take.new.self c.args.side c.args.left.now c.min-count.result c.requires.stands (omega (arith, short, same, filled, n)) (omega (arith, n)) c.in_ok-take.ensures.taken)
+    (prefix_added c.args.self.now c.take.new.self c.args.side c.args.left.now c.min-count.result c.requires.stands (omega (arith, short, same, filled, n)) (omega (arith, n)) c.in_ok-take.ensures.taken)
     c.in_err-settle.ensures.same c.in_err-settle.ensures.shut)
 
 pub returns-clause-some : goal.returns-clause-some
@@ -61,5 +61,5 @@ returns-clause-adds c =
     let filled = c.requires.filled in
     let n = c.min-count.ensures in
     settled_added c.args.self.now c.take.new.self c.settle.new.self c.args.side c.args.left.now (drop c.min-count.result c.args.left.now)
-    (front_added c.args.self.now c.take.new.self c.args.side c.args.left.now c.min-count.result c.requires.stands (omega (arith, short, same, filled, n)) (omega (arith, n)) c.in_ok-take.ensures.taken)
+    (prefix_added c.args.self.now c.take.new.self c.args.side c.args.left.now c.min-count.result c.requires.stands (omega (arith, short, same, filled, n)) (omega (arith, n)) c.in_ok-take.ensures.taken)
     c.in_ok-settle.ensures.same

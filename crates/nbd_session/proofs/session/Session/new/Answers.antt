@@ -1,4 +1,4 @@
-use Rattle.nbd_session.proofs.Beginning.{begins}
+use Rattle.nbd_session.proofs.judge.BeginningLemmas.{begins}
 use Rattle.nbd_session.proofs.session.Session.new.Goals as goal
 
 -- src/session.rt:40:5

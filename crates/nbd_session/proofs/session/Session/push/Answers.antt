@@ -1,6 +1,19 @@
-use Rattle.nbd_session.proofs.Beginning.{adds_nothing}
+use Rattle.nbd_session.proofs.judge.BeginningLemmas.{adds_nothing}
+use Rattle.nbd_session.proofs.judge.RefusalLemmas.{refuses, refuses_again, stands_exactly, stands_placeless}
 use Rattle.nbd_session.proofs.session.Session.push.Goals as goal
 
 -- src/session.rt:73:13
-pub returns-in-Some-clause-front : goal.returns-in-Some-clause-front
-returns-in-Some-clause-front c = adds_nothing c.args.self.now c.args.side c.args.piece.now
+pub returns-in-Some-clause-prefix : goal.returns-in-Some-clause-prefix
+returns-in-Some-clause-prefix c = adds_nothing c.args.self.now c.args.side c.args.piece.now
+
+pub returns-in-Some-clause-wire : goal.returns-in-Some-clause-wire
+returns-in-Some-clause-wire c = refuses_again c.self.inside.held c.self.inside.closed c.args.self.now c.in-Some.fault c.self.invariant c.self.view_is c.in-Some.is
+
+pub returns-in-Err-clause-wire : goal.returns-in-Err-clause-wire
+returns-in-Err-clause-wire c = refuses c.push.new.self c.in-Err.fault c.in-Err.ensures.refused.shut
+
+pub returns-clause-complete : goal.returns-clause-complete
+returns-clause-complete c = stands_exactly c.push.new.self c.self.inside.closed c.in_default-push.ensures.stands
+
+pub returns-clause-placeless : goal.returns-clause-placeless
+returns-clause-placeless c = stands_placeless c.push.new.self c.self.inside.closed c.in_default-push.ensures.stands

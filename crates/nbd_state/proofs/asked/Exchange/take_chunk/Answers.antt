@@ -1,7 +1,8 @@
 use Rattle.std.proofs.Common.{ap, sym}
 use Rattle.nbd_wire.specs.declared.message.Message.TheVariants.{Chunk}
-use Rattle.nbd_wire.specs.Requests.{chunk_piece, ends_reply, is_failing, piece_of}
-use Rattle.nbd_state.proofs.Recorded.{weaken}
+use Rattle.nbd_wire.specs.protocol.Pieces.{chunk_piece, piece_of}
+use Rattle.nbd_wire.specs.protocol.Operations.{ends_reply, is_failing}
+use Rattle.nbd_state.proofs.RecordingLemmas.{weaken}
 use Rattle.nbd_state.proofs.asked.Exchange.take_chunk.Goals as goal
 
 pub returns-clause-shown : goal.returns-clause-shown

@@ -1,7 +1,8 @@
 use Rattle.std.proofs.Common.{◌∙◌, ap, refl, sym}
 use Rattle.nbd_wire.specs.declared.message.Message.TheVariants.{Simple}
-use Rattle.nbd_wire.specs.Requests.{ends_reply, is_failing, piece_of, simple_piece}
-use Rattle.nbd_state.proofs.Recorded.{weaken}
+use Rattle.nbd_wire.specs.protocol.Operations.{ends_reply, is_failing}
+use Rattle.nbd_wire.specs.protocol.Pieces.{piece_of, simple_piece}
+use Rattle.nbd_state.proofs.RecordingLemmas.{weaken}
 use Rattle.nbd_state.proofs.asked.Exchange.take_simple.Goals as goal
 
 pub returns-clause-shown : goal.returns-clause-shown

@@ -1,11 +1,11 @@
 use Rattle.std.proofs.Common.{◌∙◌, ap, refl, subst}
 use Rattle.nbd_wire.specs.declared.message.Message.TheVariants.{Answer}
-use Rattle.nbd_wire.specs.Options.{chosen, next_phase}
-use Rattle.nbd_wire.specs.Rules.{MayComplete, cookie_of}
+use Rattle.nbd_wire.specs.protocol.Options.{choice_phase, next_phase}
+use Rattle.nbd_wire.specs.protocol.Rules.{MayComplete, cookie_of}
 use Rattle.nbd_state.specs.Shows.{phase_shown}
-use Rattle.nbd_state.proofs.Completed.{on}
-use Rattle.nbd_state.proofs.NextPhases.{shows_answered, shows_chosen, shows_exported, shows_flags, shows_greeted, shows_same, transmits}
-use Rattle.nbd_state.proofs.Telling.{known_kept}
+use Rattle.nbd_state.proofs.CompletionLemmas.{on}
+use Rattle.nbd_state.proofs.PhaseLemmas.{shows_answered, shows_chosen, shows_exported, shows_flags, shows_greeted, shows_same, transmits}
+use Rattle.nbd_state.proofs.TellingLemmas.{known_kept}
 use Rattle.nbd_state.proofs.state.State.complete.Goals as goal
 
 pub returns-in-Greeting-clause-shown : goal.returns-in-Greeting-clause-shown
@@ -30,7 +30,7 @@ pub returns-in-Choice-clause-shown : goal.returns-in-Choice-clause-shown
 returns-in-Choice-clause-shown c = λ core r s sn ok.
     shows_same core c.args.message.now _ c.in-Choice.is
     (shows_chosen c.args.self.now _ core s c.in-Choice.id c.in-Choice.payload c.chosen-self.result (subst (λ m. MayComplete core core.phase m) c.in-Choice.is ok)
-    (c.chosen-self.ensures ∙ ap (λ p. phase_shown (chosen c.in-Choice.id p)) c.as_slice.ensures) refl)
+    (c.chosen-self.ensures ∙ ap (λ p. phase_shown (choice_phase c.in-Choice.id p)) c.as_slice.ensures) refl)
 
 pub returns-in-Choice-clause-known : goal.returns-in-Choice-clause-known
 returns-in-Choice-clause-known c = λ core log r s ok e h.

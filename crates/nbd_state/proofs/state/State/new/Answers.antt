@@ -1,5 +1,5 @@
 use Rattle.std.proofs.Common.{refl, rules}
-use Rattle.nbd_wire.specs.States.{target}
+use Rattle.nbd_wire.specs.protocol.States.{target}
 use Rattle.nbd_state.proofs.state.State.new.Goals as goal
 
 pub returns : goal.returns

@@ -1,22 +1,23 @@
 use Rattle.std.proofs.Common.{◌≡◌, [], ◌==◌, refl, sym, subst, false, ne_eqb}
-use Rattle.nbd_wire.specs.Rules.{requested}
+use Rattle.nbd_wire.specs.protocol.Rules.{core_with_request}
 use Rattle.nbd_wire.specs.declared.commands.TheConstants as commands
-use Rattle.nbd_state.specs.Showing.{entry_of_head, IsShown, exporting}
+use Rattle.nbd_state.specs.internal.Showing.{operation_of_head}
+use Rattle.nbd_state.specs.Showing.{IsShown, exporting}
 use Rattle.nbd_state.specs.Shows.{Shows}
-use Rattle.nbd_state.proofs.Completed.{added_unanswered, exporting_is, on_all, requested_shows}
+use Rattle.nbd_state.proofs.CompletionLemmas.{added_unanswered, exporting_is, on_all, requested_shows}
 use Rattle.nbd_state.proofs.state.State.request.Goals as goal
 
 pub returns-in_ok-new-in-Transmission-clause-shown : goal.returns-in_ok-new-in-Transmission-clause-shown
 returns-in_ok-new-in-Transmission-clause-shown c = on_all c.add.result (λ items places kept core export s p free.
     let not_disc : (c.args.head.now.command == commands.DISC) ≡ false = ne_eqb c.args.head.now.command commands.DISC c.if-head-eq-DISC.false in
     let same : exporting c.in-Transmission.export ≡ export = exporting_is c.args.self.now core export c.in-Transmission.export s p c.in-Transmission.is in
-    let e = entry_of_head c.args.head.now c.args.payload.now [] in
-    subst (λ b. Shows c.add.new.self (requested b core e)) (sym not_disc)
+    let e = operation_of_head c.args.head.now c.args.payload.now [] in
+    subst (λ b. Shows c.add.new.self (core_with_request b core e)) (sym not_disc)
     (requested_shows c.args.self.now c.add.new.self core export e c.in_ok-new-in-Transmission.field-0 s p refl (free not_disc)
     (subst (λ x. IsShown x e c.in_ok-new-in-Transmission.field-0) same c.in_ok-new-in-Transmission.ensures) items places kept))
     c.add.ensures.items c.add.ensures.places c.add.ensures.kept
 
 pub returns-in_ok-new-in-Transmission-clause-adds : goal.returns-in_ok-new-in-Transmission-clause-adds
 returns-in_ok-new-in-Transmission-clause-adds c = on_all c.add.result (λ items places kept.
-    added_unanswered (exporting c.in-Transmission.export) (entry_of_head c.args.head.now c.args.payload.now []) c.in_ok-new-in-Transmission.field-0 c.args.self.now.exchanges.items c.add.new.self.exchanges.items refl c.in_ok-new-in-Transmission.ensures items)
+    added_unanswered (exporting c.in-Transmission.export) (operation_of_head c.args.head.now c.args.payload.now []) c.in_ok-new-in-Transmission.field-0 c.args.self.now.exchanges.items c.add.new.self.exchanges.items refl c.in_ok-new-in-Transmission.ensures items)
     c.add.ensures.items c.add.ensures.places c.add.ensures.kept

@@ -2,10 +2,10 @@ use Rattle.std.proofs.Common.{◌≡◌, ◌≤◌, ◌∙◌, ap, refl, sym, su
 use Rattle.std.specs.BTreeMap.{get}
 use Rattle.std.specs.Ordering.{nat_cmp}
 use Rattle.nbd_wire.specs.declared.message.Message.TheVariants.{Simple}
-use Rattle.nbd_wire.specs.Requests.{ends_reply}
+use Rattle.nbd_wire.specs.protocol.Operations.{ends_reply}
 use Rattle.nbd_state.specs.declared.state.State.{State}
-use Rattle.nbd_state.proofs.Completed.{lent_at, not_placed, on_one, replied_shows}
-use Rattle.nbd_state.proofs.Telling.{tells_at, tells_none}
+use Rattle.nbd_state.proofs.CompletionLemmas.{lent_at, not_placed, on_one, replied_shows}
+use Rattle.nbd_state.proofs.TellingLemmas.{tells_at, tells_none}
 use Rattle.nbd_state.proofs.state.State.simple.Goals as goal
 
 pub returns-in_default-clause-tells : goal.returns-in_default-clause-tells

@@ -1,8 +1,8 @@
 use Rattle.std.proofs.Common.{◌≡◌, ◌∙◌, ap, subst, length, nat_lt, slice_index_or, true, Some}
-use Rattle.nbd_wire.specs.Report.{asked_at}
+use Rattle.nbd_wire.specs.protocol.Reports.{asked_at}
 use Rattle.nbd_state.specs.declared.asked.Exchange.{Exchange}
 use Rattle.nbd_state.specs.Transcripts.{asked_told}
-use Rattle.nbd_state.proofs.Transcribing.{counted_from_one, told_at}
+use Rattle.nbd_state.proofs.TranscriptLemmas.{counted_from_one, told_at}
 use Rattle.nbd_state.proofs.transcript.Transcript.asked.Goals as goal
 
 -- src/transcript.rt:66:5

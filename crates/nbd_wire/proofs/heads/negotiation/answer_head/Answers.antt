@@ -1,6 +1,6 @@
 use Rattle.std.proofs.Common.{arith, sym, ◌∙◌}
-use Rattle.nbd_wire.specs.Parse.{AreBytes-from_places}
-use Rattle.nbd_wire.proofs.HeadReads.{answer-reads, answer-none}
+use Rattle.nbd_wire.proofs.NumberLemmas.{AreBytes-from_places}
+use Rattle.nbd_wire.proofs.HeadReadLemmas.{answer-reads, answer-none}
 use Rattle.nbd_wire.proofs.heads.negotiation.answer_head.Goals as goal
 use Rattle.nbd_wire.proofs.heads.negotiation.answer_head.Goals.{then-bytes-ne-ANSWER-via-then-bytes-ne-ANSWER, then-bytes-ne-ANSWER-via-else-bytes-ne-ANSWER+then-u64_at-ne-ANSWER_MAGIC}
 

@@ -1,6 +1,6 @@
 use Rattle.std.proofs.Common.{arith, sym, ◌∙◌}
-use Rattle.nbd_wire.specs.Parse.{AreBytes-from_places}
-use Rattle.nbd_wire.proofs.HeadReads.{choice-reads, choice-none}
+use Rattle.nbd_wire.proofs.NumberLemmas.{AreBytes-from_places}
+use Rattle.nbd_wire.proofs.HeadReadLemmas.{choice-reads, choice-none}
 use Rattle.nbd_wire.proofs.heads.negotiation.choice_head.Goals as goal
 use Rattle.nbd_wire.proofs.heads.negotiation.choice_head.Goals.{then-bytes-ne-CHOICE-via-then-bytes-ne-CHOICE, then-bytes-ne-CHOICE-via-else-bytes-ne-CHOICE+then-u64_at-ne-OPTION_MAGIC}
 

@@ -1,6 +1,6 @@
 use Rattle.std.proofs.Common.{arith, sym, ◌∙◌}
-use Rattle.nbd_wire.specs.Parse.{AreBytes-from_places}
-use Rattle.nbd_wire.proofs.HeadReads.{chunk-reads, chunk-none}
+use Rattle.nbd_wire.proofs.NumberLemmas.{AreBytes-from_places}
+use Rattle.nbd_wire.proofs.HeadReadLemmas.{chunk-reads, chunk-none}
 use Rattle.nbd_wire.proofs.heads.transmission.chunk_head.Goals as goal
 use Rattle.nbd_wire.proofs.heads.transmission.chunk_head.Goals.{then-bytes-ne-CHUNK-via-then-bytes-ne-CHUNK, then-bytes-ne-CHUNK-via-else-bytes-ne-CHUNK+then-u32_at-ne-CHUNK_MAGIC}
 

@@ -1,6 +1,6 @@
 use Rattle.std.proofs.Common.{arith, sym, ◌∙◌}
-use Rattle.nbd_wire.specs.Parse.{AreBytes-from_places}
-use Rattle.nbd_wire.proofs.HeadReads.{request-reads, request-none}
+use Rattle.nbd_wire.proofs.NumberLemmas.{AreBytes-from_places}
+use Rattle.nbd_wire.proofs.HeadReadLemmas.{request-reads, request-none}
 use Rattle.nbd_wire.proofs.heads.transmission.request_head.Goals as goal
 use Rattle.nbd_wire.proofs.heads.transmission.request_head.Goals.{then-bytes-ne-REQUEST-via-then-bytes-ne-REQUEST, then-bytes-ne-REQUEST-via-else-bytes-ne-REQUEST+then-u32_at-ne-REQUEST_MAGIC}
 

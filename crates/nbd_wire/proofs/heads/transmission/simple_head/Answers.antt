@@ -1,6 +1,6 @@
 use Rattle.std.proofs.Common.{arith, sym, ◌∙◌}
-use Rattle.nbd_wire.specs.Parse.{AreBytes-from_places}
-use Rattle.nbd_wire.proofs.HeadReads.{simple-reads, simple-none}
+use Rattle.nbd_wire.proofs.NumberLemmas.{AreBytes-from_places}
+use Rattle.nbd_wire.proofs.HeadReadLemmas.{simple-reads, simple-none}
 use Rattle.nbd_wire.proofs.heads.transmission.simple_head.Goals as goal
 use Rattle.nbd_wire.proofs.heads.transmission.simple_head.Goals.{then-bytes-ne-SIMPLE-via-then-bytes-ne-SIMPLE, then-bytes-ne-SIMPLE-via-else-bytes-ne-SIMPLE+then-u32_at-ne-SIMPLE_MAGIC}
 

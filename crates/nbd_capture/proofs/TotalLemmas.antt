@@ -1,0 +1,125 @@
+-- Each line has a form of its grammar, or none.
+use Rattle.std.proofs.Common.{◌≡◌, ◌≢◌, ℕ, ◌^◌, ◌<◌, ◌≤◌, List, [], ◌∷◌, length, slice_index, ◌⊎◌, inl, inr, refl, sym, ap, subst, arith, Result, Ok, Err}
+use Rattle.std.specs.Char.{digit_value}
+use Rattle.std.specs.Str.Parse.{AllDigits, IsNumeral, digits_value}
+use Rattle.std.proofs.lemmas.Bool.{cases_eq, cases_lt}
+use Rattle.hex.specs.Hex.{decode_of}
+use Rattle.nbd_wire.specs.declared.message.Side.{Side}
+use Rattle.nbd_wire.specs.declared.message.Side.TheVariants.{Client, Server}
+use Rattle.nbd_capture.proofs.TotalTextLemmas.{Decided}
+use Rattle.nbd_capture.specs.Capture.{Chunk, IsCaptureLine, hash, letter, space}
+use Rattle.nbd_capture.specs.Capture.IsCaptureLine.{chunk, blank, comment}
+use Rattle.nbd_capture.specs.Order.{BeginsPlainly, IsOrderLine}
+use Rattle.nbd_capture.specs.Order.IsOrderLine.{number}
+use Rattle.nbd_capture.proofs.DigitLemmas.{spelled}
+use Rattle.nbd_capture.proofs.FormLemmas.{forms, undecodable}
+use Rattle.nbd_capture.proofs.NumeralLemmas.{counts}
+
+abbrev Either : Type 0 → Type 0
+Either P = P ⊎ (P → ⊥)
+
+-- ---- capture lines
+
+result_cases : {A E : Type 0} (r : Result A E) → ((x : A) × (r ≡ Ok x)) ⊎ ((e : E) × (r ≡ Err e))
+result_cases (Ok x) = inl (x, refl)
+result_cases (Err e) = inr (e, refl)
+
+abbrev Addressed : Side → List ℕ → Type 0
+Addressed side bytes = (digits : List ℕ) × (bytes ≡ letter side ∷ space ∷ digits)
+
+addressed : (side : Side) (bytes : List ℕ) → Either (Addressed side bytes)
+addressed side [] = inr (λ a. cc a.1)
+addressed side (b ∷ []) = inr (λ a. cc a.1)
+addressed side (b ∷ c ∷ digits) =
+    elim (cases_eq b (letter side)) [
+      | inl same ↦
+          elim (cases_eq c space) [
+            | inl between ↦ inl (digits, cc)
+            | inr other ↦ inr (λ a. other (cc a.1))
+          ]
+      | inr other ↦ inr (λ a. other (cc a.1))
+    ]
+
+sent : (side : Side) (bytes : List ℕ) → Addressed side bytes → Decided IsCaptureLine bytes
+sent side bytes a =
+    elim (result_cases (decode_of a.0)) [
+      | inl good ↦ inl (record { side = side; bytes = good.0 } ∷ [], subst (λ l. IsCaptureLine l (record { side = side; bytes = good.0 } ∷ [])) (sym a.1) (chunk side a.0 good.0 (spelled a.0 good.0 good.1)))
+      | inr bad ↦ inr (undecodable bytes side a.0 bad.0 a.1 bad.1)
+    ]
+
+by_side : (side : Side) (bytes : List ℕ) → (Addressed Client bytes → ⊥) → (Addressed Server bytes → ⊥) → Addressed side bytes → ⊥
+by_side Client bytes c s a = c a
+by_side Server bytes c s a = s a
+
+unsent : (b : ℕ) (bs : List ℕ) → b ≢ hash → (Addressed Client (b ∷ bs) → ⊥) → (Addressed Server (b ∷ bs) → ⊥) → (said : List Chunk) → IsCaptureLine (b ∷ bs) said → ⊥
+unsent b bs other client server said f =
+    elim (forms (b ∷ bs) said f) [
+      | inl silent ↦
+          elim silent.0 [
+            | inl none ↦ cc none
+            | inr remark ↦ other (cc remark.1)
+          ]
+      | inr sends ↦ by_side sends.side (b ∷ bs) client server (sends.digits, sends.whole)
+    ]
+
+pub decide_capture : (bytes : List ℕ) → Decided IsCaptureLine bytes
+decide_capture [] = inl ([], blank)
+decide_capture (b ∷ bs) =
+    elim (cases_eq b hash) [
+      | inl same ↦ inl ([], subst (λ x. IsCaptureLine (x ∷ bs) []) (sym same) (comment bs))
+      | inr other ↦
+          elim (addressed Client (b ∷ bs)) [
+            | inl client ↦ sent Client (b ∷ bs) client
+            | inr no_client ↦
+                elim (addressed Server (b ∷ bs)) [
+                  | inl server ↦ sent Server (b ∷ bs) server
+                  | inr no_server ↦ inr (unsent b bs other no_client no_server)
+                ]
+          ]
+    ]
+
+-- ---- order lines
+
+both : {P Q : Type 0} → Either P → Either Q → Either (P × Q)
+both (inl p) (inl q) = inl (p, q)
+both (inl p) (inr q) = inr (λ h. q h.1)
+both (inr p) q = inr (λ h. p h.0)
+
+less : (m n : ℕ) → Either (m < n)
+less m n =
+    elim (cases_lt m n) [
+      | inl lt ↦ inl lt
+      | inr le ↦ inr (λ h. omega arith)
+    ]
+
+all_digits : (ds : List ℕ) → Either (AllDigits 10 ds)
+all_digits [] = inl tt
+all_digits (d ∷ ds) = both (less (digit_value d) 10) (all_digits ds)
+
+single : (first len : ℕ) → Either (first ≡ 48 → len ≡ 1)
+single first len =
+    elim (cases_eq len 1) [
+      | inl one ↦ inl (λ _. one)
+      | inr more ↦
+          elim (cases_eq first 48) [
+            | inl same ↦ inr (λ h. more (h same))
+            | inr other ↦ inl (λ same. absurd (other same))
+          ]
+    ]
+
+at_most : (m n : ℕ) → Either (m ≤ n)
+at_most m n =
+    elim (cases_lt n m) [
+      | inl lt ↦ inr (λ h. omega arith)
+      | inr le ↦ inl le
+    ]
+
+pub decide_order : (bytes : List ℕ) → Decided IsOrderLine bytes
+decide_order bytes =
+    let numeral : Either (IsNumeral 10 bytes) = both (less 0 (length bytes)) (all_digits bytes) in
+    let first = slice_index bytes 0 in
+    let plain : Either (BeginsPlainly bytes) = both (both (at_most 48 first) (at_most first 57)) (single first (length bytes)) in
+    elim (both (both numeral plain) (less (digits_value 10 bytes) (2 ^ 64))) [
+      | inl all ↦ inl (digits_value 10 bytes ∷ [], number bytes all.0.0 all.0.1 all.1)
+      | inr none ↦ inr (λ said f. let parts = counts bytes said f in none ((parts.numeral, parts.plain), parts.fits))
+    ]

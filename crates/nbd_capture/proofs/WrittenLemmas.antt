@@ -1,0 +1,76 @@
+-- What is written in the forms of the two grammars is read again.
+use Rattle.std.proofs.Common.{◌≡◌, ℕ, suc, ◌+◌, ◌/◌, ◌%◌, ◌^◌, ◌<◌, ◌≤◌, List, [], ◌∷◌, ◌++◌, length, slice_index, sym, ap, ◌∙◌, subst, arith, append_assoc}
+use Rattle.std.specs.Prelude.{flat_map}
+use Rattle.std.specs.List.{AllByRecursion}
+use Rattle.std.specs.Char.{IsAsciiDigit}
+use Rattle.std.specs.Fmt.{decimal}
+use Rattle.std.specs.Str.Parse.{AllDigits, digits_value}
+use Rattle.std.proofs.lemmas.Fmt.{decimal_by_steps, decimal_digit, decimal_is_IsNumeral}
+use Rattle.std.proofs.lemmas.List.{get_or_append_left, length-append}
+use Rattle.std.proofs.lemmas.Str.Parse.{digit_from_value}
+use Rattle.hex.specs.Hex.{IsBytes, encode_lower, encode_with}
+use Rattle.hex.proofs.HexLemmas.{decode_of-encode_lower}
+use Rattle.nbd_wire.specs.declared.message.Side.{Side}
+use Rattle.nbd_wire.specs.declared.message.Side.TheVariants.{Client, Server}
+use Rattle.nbd_capture.specs.Lines.{line_feed, IsUnbroken}
+use Rattle.nbd_capture.specs.Lines.IsText.{empty, line}
+use Rattle.nbd_capture.specs.Capture.{Chunk, IsCaptureText, chunk_line, letter, space}
+use Rattle.nbd_capture.specs.Capture.IsCaptureLine.{chunk}
+use Rattle.nbd_capture.specs.Order.{BeginsPlainly, IsOrderText}
+use Rattle.nbd_capture.specs.Order.IsOrderLine.{number}
+use Rattle.nbd_capture.proofs.DigitLemmas.{lower_below, spelled}
+
+-- no digit is a line feed
+unbroken_digits : (bytes : List ℕ) → IsBytes bytes → IsUnbroken (encode_lower bytes)
+unfolding encode_with
+unbroken_digits [] fits = tt
+unbroken_digits (b ∷ bs) fits =
+    let small : b < 256 = fits 0 in
+    let high = lower_below (b / 16) (omega arith) in
+    let low = lower_below (b % 16) (omega arith) in
+    (omega (arith, high), (omega (arith, low), unbroken_digits bs (λ i. fits (suc i))))
+
+unbroken_line : (side : Side) (bytes : List ℕ) → IsBytes bytes → IsUnbroken (letter side ∷ space ∷ encode_lower bytes)
+unbroken_line Client bytes fits = (omega arith, (omega arith, unbroken_digits bytes fits))
+unbroken_line Server bytes fits = (omega arith, (omega arith, unbroken_digits bytes fits))
+
+pub written_chunks : (chunks : List Chunk) → AllByRecursion (λ c. IsBytes c.bytes) chunks → IsCaptureText (flat_map (λ c. chunk_line c.side c.bytes) chunks) chunks
+written_chunks [] fits = empty
+written_chunks (c ∷ cs) fits =
+    let form = chunk c.side (encode_lower c.bytes) c.bytes (spelled (encode_lower c.bytes) c.bytes (decode_of-encode_lower c.bytes fits.0)) in
+    let all = line (letter c.side ∷ space ∷ encode_lower c.bytes) (c ∷ []) _ cs (unbroken_line c.side c.bytes fits.0) form (written_chunks cs fits.1) in
+    let joined = append_assoc (encode_lower c.bytes) (line_feed ∷ []) (flat_map (λ (d : Chunk). chunk_line d.side d.bytes) cs) in
+    subst (λ t. IsCaptureText t (c ∷ cs)) (ap (λ t. letter c.side ∷ space ∷ t) (sym joined)) all
+
+-- a printed number begins with its first digit
+abbrev Plain : ℕ → List ℕ → Type 0
+Plain n ds = (0 < length ds) × IsAsciiDigit (slice_index ds 0) × (slice_index ds 0 ≡ 48 → n ≡ 0)
+
+plain_more : (n : ℕ) (ds : List ℕ) → 10 ≤ n → Plain (n / 10) ds → Plain n (ds ++ ((48 + n % 10) ∷ []))
+plain_more n ds large p =
+    let first = get_or_append_left ds ((48 + n % 10) ∷ []) 0 0 p.0 in
+    let len = length-append ds ((48 + n % 10) ∷ []) in
+    let some = p.0 in
+    let digit = p.1 in
+    (omega (arith, len, some), omega (arith, first, digit), λ zero. absurd (omega (arith, p.2 (sym first ∙ zero))))
+
+plain : (n : ℕ) → n < 2 ^ 64 → Plain n (decimal n)
+plain n fits = decimal_by_steps Plain (λ m small. (omega arith, omega arith, λ e. omega arith)) plain_more n fits
+
+begins : (n : ℕ) → n < 2 ^ 64 → BeginsPlainly (decimal n)
+begins n fits =
+    let p = plain n fits in
+    (p.1, λ zero. ap (λ m. length (decimal m)) (p.2 zero) ∙ ap length (decimal_digit 0 (omega arith)))
+
+unbroken_numeral : (ds : List ℕ) → AllDigits 10 ds → IsUnbroken ds
+unbroken_numeral [] all = tt
+unbroken_numeral (d ∷ ds) all = let digit = digit_from_value d all.0 in (omega (arith, digit), unbroken_numeral ds all.1)
+
+pub printed_numbers : (numbers : List ℕ) → AllByRecursion (λ n. n < 2 ^ 64) numbers → IsOrderText (flat_map (λ n. decimal n ++ line_feed ∷ []) numbers) numbers
+printed_numbers [] fits = empty
+printed_numbers (n ∷ ns) fits =
+    let numeral = decimal_is_IsNumeral n fits.0 in
+    let form = number (decimal n) numeral.0 (begins n fits.0) (rw numeral.1 fits.0) in
+    let all = line (decimal n) (digits_value 10 (decimal n) ∷ []) _ ns (unbroken_numeral (decimal n) numeral.0.1) form (printed_numbers ns fits.1) in
+    let joined = append_assoc (decimal n) (line_feed ∷ []) (flat_map (λ (m : ℕ). decimal m ++ line_feed ∷ []) ns) in
+    subst (λ t. IsOrderText t (n ∷ ns)) (sym joined) (subst (λ m. IsOrderText (decimal n ++ line_feed ∷ flat_map (λ (m' : ℕ). decimal m' ++ line_feed ∷ []) ns) (m ∷ ns)) numeral.1 all)

@@ -1,0 +1,7 @@
+use Rattle.std.proofs.Common.{arith}
+use Rattle.nbd_export.specs.Kinds.{kind_from}
+use Rattle.nbd_export.proofs.KindLemmas.{kind_at-along}
+use Rattle.nbd_export.proofs.kinds.Kinds.end_of.Goals as goal
+
+pub returns-clause-one : goal.returns-clause-one
+returns-clause-one c = λ x lo hi. kind_at-along (kind_from c.args.self.now.starts) c.args.offset x (λ k l m. c.end_of.ensures.one k l (omega arith)) lo

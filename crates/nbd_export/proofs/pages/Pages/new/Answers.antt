@@ -1,0 +1,10 @@
+use Rattle.std.proofs.Common.{ap, ◌/◌, nat_cmp}
+use Rattle.std.specs.BTreeMap.{is_at}
+use Rattle.std.specs.Map.{lookup}
+use Rattle.std.specs.Option.{option_map}
+use Rattle.nbd_export.specs.declared.pages.TheConstants.{PAGE}
+use Rattle.nbd_export.proofs.PageLemmas.{stored_off}
+use Rattle.nbd_export.proofs.pages.Pages.new.Goals as goal
+
+pub returns : goal.returns
+returns c = λ x. stored_off (record { image = c.args.image; pages = c.new.result }) x (ap (λ l. option_map (λ page. page.value) (lookup (is_at (nat_cmp (x / PAGE))) l)) c.new.ensures.empty)

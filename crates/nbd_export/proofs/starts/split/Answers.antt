@@ -1,0 +1,7 @@
+use Rattle.std.proofs.Common.{sym, ◌∙◌}
+use Rattle.nbd_export.specs.Kinds.{kind_from}
+use Rattle.nbd_export.proofs.KindLemmas.{kind_at-begun}
+use Rattle.nbd_export.proofs.starts.split.Goals as goal
+
+pub returns-then-contains_key-clause-here : goal.returns-then-contains_key-clause-here
+returns-then-contains_key-clause-here c = sym (kind_at-begun (kind_from c.args.starts.now) c.args.at (sym c.contains_key.ensures ∙ c.if-contains_key.true))

@@ -1,0 +1,32 @@
+-- What contents by ranges show: their size, what is known of each byte, and how many ranges they have.
+use Rattle.std.specs.Prelude.{ℕ, Option, Some, None}
+use Rattle.std.specs.BTreeMap.{btree_map_len}
+use Rattle.nbd_export.specs.declared.extents.Extents.{Extents}
+use Rattle.nbd_export.specs.declared.kind.Kind.{Kind}
+use Rattle.nbd_export.specs.declared.kind.Kind.TheVariants.{Unknown, Zeroes, Bytes}
+use Rattle.nbd_export.specs.Pages.{stored_byte}
+use Rattle.nbd_export.specs.RangeKinds.{kind_of}
+use Rattle.nbd_export.specs.Ranges.{AreSameBelow, changed}
+
+-- what a range of this kind says of a byte, which is written down as given: nothing, 0, or that byte
+abbrev pub byte_by_kind : Option Kind → ℕ → Option ℕ
+byte_by_kind (Some Unknown) stored = None
+byte_by_kind (Some Zeroes) stored = Some 0
+byte_by_kind (Some Bytes) stored = Some stored
+byte_by_kind None stored = None
+
+-- the byte at an offset below the size, if it is known
+unfoldable pub byte_of : Extents → ℕ → Option ℕ
+byte_of extents x = byte_by_kind (kind_of extents.kinds x) (stored_byte extents.pages x)
+
+-- how many bytes the export has
+abbrev pub size_of : Extents → ℕ
+size_of extents = extents.kinds.size
+
+-- how many ranges there are; no two neighbours are of one kind
+abbrev pub range_count : Extents → ℕ
+range_count extents = btree_map_len extents.kinds.starts
+
+-- below the size a range has come to these bytes, and the others are as they were
+abbrev pub Becomes : (old new : Extents) (offset len : ℕ) → (ℕ → Option ℕ) → Type 0
+Becomes old new offset len bytes = AreSameBelow (size_of old) (byte_of new) (changed offset len bytes (byte_of old))

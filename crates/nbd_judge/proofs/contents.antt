@@ -1,0 +1,4 @@
+pub mod CompareLemmas
+pub mod EffectLemmas
+pub mod ForwardLemmas
+pub mod StartLemmas

@@ -1,0 +1,137 @@
+-- The least wrong byte of a READ, from its pieces.
+use Rattle.std.proofs.Common.{◌≡◌, ℕ, zero, suc, ◌+◌, ◌-◌, ◌<◌, ◌≤◌, ◌⊎◌, inl, inr, List, [], ◌∷◌, length, refl, sym, ◌∙◌, ap, subst, Option, Some, None, arith, Bool, true, false, nat_le, nat_lt, ◌&&◌, if◌then◌else◌, slice_get, IsTrue, is_some}
+use Rattle.std.proofs.lemmas.Bool.{leb-true, leb-false, le-leb, lt-ltb, ltb-true}
+use Rattle.std.proofs.lemmas.Option.{slice_get_within, slice_get-get_or}
+use Rattle.nbd_wire.specs.declared.commands.TheConstants as commands
+use Rattle.nbd_wire.specs.declared.payloads.Piece.{Piece}
+use Rattle.nbd_wire.specs.declared.payloads.Piece.TheVariants.{Bytes, Hole}
+use Rattle.nbd_wire.specs.protocol.ExportBytes.{IsWrongIn, effect, is_success}
+use Rattle.nbd_wire.specs.protocol.Reports.{Asked}
+use Rattle.nbd_wire.specs.protocol.Pieces.{byte_at, holds, is_in, piece_byte, piece_offset, piece_size}
+use Rattle.nbd_export.specs.Ranges.{DiffersIn, IsLeast, bytes_from, zeroes}
+use Rattle.nbd_laws.specs.Soundness.{AreLaid}
+use Rattle.nbd_judge.specs.internal.Lesser.{lesser_of}
+use Rattle.nbd_judge.specs.internal.Pieces.{AreInside, DiffersInOneOf, DiffersInPiece}
+use Rattle.nbd_judge.specs.internal.Servable.{IsServable}
+use Rattle.nbd_judge.proofs.verdicts.DecisionLemmas.{same_or_not}
+
+pub least_as : (P Q : ℕ → Type 0) (o : Option ℕ) → ((m : ℕ) → P m → Q m) → ((m : ℕ) → Q m → P m) → IsLeast P o → IsLeast Q o
+least_as P Q None to back h = λ n q. h n (back n q)
+least_as P Q (Some n) to back h = (to n h.0, λ m l q. h.1 m l (back m q))
+
+least_lesser : (P Q : ℕ → Type 0) (a b : Option ℕ) → IsLeast P a → IsLeast Q b → IsLeast (λ x. P x ⊎ Q x) (lesser_of a b)
+least_lesser P Q None None p q = λ n e. elim e [ inl x ↦ p n x | inr y ↦ q n y ]
+least_lesser P Q None (Some y) p q = (inr q.0, λ m l e. elim e [ inl u ↦ p m u | inr v ↦ q.1 m l v ])
+least_lesser P Q (Some x) None p q = (inl p.0, λ m l e. elim e [ inl u ↦ p.1 m l u | inr v ↦ q m v ])
+least_lesser P Q (Some x) (Some y) p q = go (nat_le x y) refl
+  where
+    go : (t : Bool) → nat_le x y ≡ t → IsLeast (λ x. P x ⊎ Q x) (Some (if t then x else y))
+    go true h = (let le : x ≤ y = leb-true x y h in (inl p.0, λ m l e. elim e [ inl u ↦ p.1 m l u | inr v ↦ q.1 m (omega arith) v ]))
+    go false h = (let lt : y < x = leb-false x y h in (inr q.0, λ m l e. elim e [ inl u ↦ p.1 m (omega arith) u | inr v ↦ q.1 m l v ]))
+
+-- with one more piece
+pub one_more : (byte : ℕ → Option ℕ) (pieces : List Piece) (n : ℕ) (p : Piece) (a b : Option ℕ) → slice_get pieces n ≡ Some p → IsLeast (DiffersInOneOf byte pieces n) a
+    → IsLeast (DiffersInPiece byte p) b → IsLeast (DiffersInOneOf byte pieces (n + 1)) (lesser_of a b)
+one_more byte pieces n p a b at ha hb =
+    least_as (λ x. DiffersInOneOf byte pieces n x ⊎ DiffersInPiece byte p x) (DiffersInOneOf byte pieces (n + 1)) (lesser_of a b) to back
+    (least_lesser (DiffersInOneOf byte pieces n) (DiffersInPiece byte p) a b ha hb)
+  where
+    to : (m : ℕ) → (DiffersInOneOf byte pieces n m ⊎ DiffersInPiece byte p m) → DiffersInOneOf byte pieces (n + 1) m
+    to m (inl d) = (let l : d.0 < n = d.2 in (d.0, d.1, omega arith, d.3, d.4))
+    to m (inr d) = (n, p, omega arith, at, d)
+
+    back : (m : ℕ) → DiffersInOneOf byte pieces (n + 1) m → DiffersInOneOf byte pieces n m ⊎ DiffersInPiece byte p m
+    back m d = elim (same_or_not d.0 n) [
+      | inl e ↦ (let s : Some d.1 ≡ Some p = sym d.3 ∙ ap (slice_get pieces) e ∙ at in let q : d.1 ≡ p = cc in
+          inr (subst (λ (r : Piece). DiffersInPiece byte r m) q d.4))
+      | inr ne ↦ (let l : d.0 < n + 1 = d.2 in inl (d.0, d.1, omega arith, d.3, d.4))
+    ]
+
+both : (a b : Bool) → (a && b) ≡ true → (a ≡ true) × (b ≡ true)
+both true b e = (refl, e)
+both false b e = absurd (let q : false ≡ true = e in (cc))
+
+pub in_from : (offset len x : ℕ) → offset ≤ x → x < offset + len → IsTrue (is_in offset len x)
+in_from offset len x lo hi = ap (λ b. b && nat_lt x (offset + len)) (le-leb offset x lo) ∙ lt-ltb x (offset + len) hi
+
+pub from_in : (offset len x : ℕ) → IsTrue (is_in offset len x) → (offset ≤ x) × (x < offset + len)
+from_in offset len x h =
+    let b = both (nat_le offset x) (nat_lt x (offset + len)) h in
+    (leb-true offset x b.0, ltb-true x (offset + len) b.1)
+
+-- what the contents say of a piece's range
+byte_there : (offset : ℕ) (bytes : List ℕ) (x : ℕ) → offset ≤ x → x < offset + length bytes → bytes_from offset bytes x ≡ Some (piece_byte (Bytes offset bytes) x)
+byte_there offset bytes x lo hi = slice_get-get_or bytes (x - offset) 0 (omega arith)
+
+pub bytes_difference : (byte : ℕ → Option ℕ) (offset : ℕ) (bytes : List ℕ) (o : Option ℕ) → IsLeast (DiffersIn byte offset (length bytes) (bytes_from offset bytes)) o → IsLeast (DiffersInPiece byte (Bytes offset bytes)) o
+bytes_difference byte offset bytes o h = least_as (DiffersIn byte offset (length bytes) (bytes_from offset bytes)) (DiffersInPiece byte (Bytes offset bytes)) o to back h
+  where
+    to : (x : ℕ) → DiffersIn byte offset (length bytes) (bytes_from offset bytes) x → DiffersInPiece byte (Bytes offset bytes) x
+    to x d = (in_from offset (length bytes) x d.0 d.1, (d.2.0, d.2.1, λ e. d.2.2 (byte_there offset bytes x d.0 d.1 ∙ e)))
+
+    back : (x : ℕ) → DiffersInPiece byte (Bytes offset bytes) x → DiffersIn byte offset (length bytes) (bytes_from offset bytes) x
+    back x d = (let i = from_in offset (length bytes) x d.0 in (i.0, i.1, (d.1.0, d.1.1, λ e. d.1.2 (sym (byte_there offset bytes x i.0 i.1) ∙ e))))
+
+pub hole_difference : (byte : ℕ → Option ℕ) (offset size : ℕ) (o : Option ℕ) → IsLeast (DiffersIn byte offset size zeroes) o → IsLeast (DiffersInPiece byte (Hole offset size)) o
+hole_difference byte offset size o h = least_as (DiffersIn byte offset size zeroes) (DiffersInPiece byte (Hole offset size)) o to back h
+  where
+    to : (x : ℕ) → DiffersIn byte offset size zeroes x → DiffersInPiece byte (Hole offset size) x
+    to x d = (in_from offset size x d.0 d.1, (d.2.0, d.2.1, λ e. d.2.2 e))
+
+    back : (x : ℕ) → DiffersInPiece byte (Hole offset size) x → DiffersIn byte offset size zeroes x
+    back x d = (let i = from_in offset size x d.0 in (i.0, i.1, (d.1.0, d.1.1, λ e. d.1.2 e)))
+
+-- a piece that holds x, where the pieces give a byte there
+holding : (ps : List Piece) (x : ℕ) → IsTrue (is_some (byte_at ps x)) → (i : ℕ) × (p : Piece) × (slice_get ps i ≡ Some p) × IsTrue (holds p x)
+holding [] x h = absurd (let q : false ≡ true = h in (cc))
+holding (p ∷ ps) x h = go (holds p x) refl (λ q. holding ps x q) h
+  where
+    go : (b : Bool) → holds p x ≡ b
+        → (IsTrue (is_some (byte_at ps x)) → (i : ℕ) × (r : Piece) × (slice_get ps i ≡ Some r) × IsTrue (holds r x))
+        → IsTrue (is_some (if b then Some (piece_byte p x) else byte_at ps x))
+        → (i : ℕ) × (r : Piece) × (slice_get (p ∷ ps) i ≡ Some r) × IsTrue (holds r x)
+    go true e ih h = (0, p, refl, e)
+    go false e ih h = (let r = ih h in (suc r.0, r.1, r.2, r.3))
+
+-- the byte of the one piece that holds x
+byte_of : (ps : List Piece) (x : ℕ) → ((i j : ℕ) (p q : Piece) → slice_get ps i ≡ Some p → slice_get ps j ≡ Some q → IsTrue (holds p x) → IsTrue (holds q x) → i ≡ j)
+    → (i : ℕ) (p : Piece) → slice_get ps i ≡ Some p → IsTrue (holds p x) → byte_at ps x ≡ Some (piece_byte p x)
+byte_of [] x apart i p e h = absurd (let q : None ≡ Some p = e in (cc))
+byte_of (q ∷ ps) x apart zero p e h =
+    let s : q ≡ p = cc in
+    ap (λ (r : Piece). if holds r x then Some (piece_byte r x) else byte_at ps x) s ∙ ap (λ b. if b then Some (piece_byte p x) else byte_at ps x) h
+byte_of (q ∷ ps) x apart (suc i) p e h =
+    go (holds q x) refl (byte_of ps x (λ j k a c ea ec ha hc. (let s : suc j ≡ suc k = apart (suc j) (suc k) a c ea ec ha hc in omega arith)) i p e h)
+  where
+    go : (b : Bool) → holds q x ≡ b → byte_at ps x ≡ Some (piece_byte p x) → (if b then Some (piece_byte q x) else byte_at ps x) ≡ Some (piece_byte p x)
+    go true t ih = (let bad : zero ≡ suc i = apart zero (suc i) q p refl e t h in absurd (omega arith))
+    go false t ih = ih
+
+pub pieces_inside : (size : ℕ) (a : Asked) → AreLaid a.offset a.length a.pieces → a.offset + a.length ≤ size → AreInside size a.pieces
+pieces_inside size a laid within i p e =
+    let q : (a.offset ≤ piece_offset p) × (piece_offset p + piece_size p ≤ a.offset + a.length) = laid.inside i p e in
+    let l : piece_offset p + piece_size p ≤ a.offset + a.length = q.1 in
+    omega arith
+
+module _ (size : ℕ) (a : Asked) (byte : ℕ → Option ℕ) (reads : a.command ≡ commands.READ) (well : is_success a.outcome ≡ true) (sound : IsServable size a) where
+  same_byte : (i : ℕ) (p : Piece) (x : ℕ) → slice_get a.pieces i ≡ Some p → IsTrue (holds p x) → byte_at a.pieces x ≡ Some (piece_byte p x)
+  same_byte i p x e h = byte_of a.pieces x (λ j k q r eq er hq hr. sound.laid.apart j k q r x eq er hq hr) i p e h
+
+  to_wrong : (x : ℕ) → DiffersInOneOf byte a.pieces (length a.pieces) x → IsWrongIn (effect a) byte x
+  to_wrong x d =
+      let at : (piece_offset d.1 ≤ x) × (x < piece_offset d.1 + piece_size d.1) = from_in (piece_offset d.1) (piece_size d.1) x d.4.0 in
+      let lo : piece_offset d.1 ≤ x = at.0 in
+      let hi : x < piece_offset d.1 + piece_size d.1 = at.1 in
+      let inside : (a.offset ≤ piece_offset d.1) × (piece_offset d.1 + piece_size d.1 ≤ a.offset + a.length) = sound.laid.inside d.0 d.1 d.3 in
+      let from : a.offset ≤ piece_offset d.1 = inside.0 in
+      let end : piece_offset d.1 + piece_size d.1 ≤ a.offset + a.length = inside.1 in
+      let same : byte_at a.pieces x ≡ Some (piece_byte d.1 x) = same_byte d.0 d.1 x d.3 d.4.0 in
+      (reads, well, in_from a.offset a.length x (omega arith) (omega arith), (d.4.1.0, d.4.1.1, λ e. d.4.1.2 (sym same ∙ e)))
+
+  from_wrong : (x : ℕ) → IsWrongIn (effect a) byte x → DiffersInOneOf byte a.pieces (length a.pieces) x
+  from_wrong x w =
+      let c : (i : ℕ) × (p : Piece) × (slice_get a.pieces i ≡ Some p) × IsTrue (holds p x) = holding a.pieces x (sound.covered reads well x w.2) in
+      (c.0, c.1, slice_get_within a.pieces c.0 c.1 c.2, c.2, (c.3, (w.3.0, w.3.1, λ e. w.3.2 (same_byte c.0 c.1 x c.2 c.3 ∙ e))))
+
+  pub wrong_read : (o : Option ℕ) → IsLeast (DiffersInOneOf byte a.pieces (length a.pieces)) o → IsLeast (IsWrongIn (effect a) byte) o
+  wrong_read o h = least_as (DiffersInOneOf byte a.pieces (length a.pieces)) (IsWrongIn (effect a) byte) o to_wrong from_wrong h

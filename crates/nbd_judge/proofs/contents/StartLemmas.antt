@@ -1,0 +1,95 @@
+-- A verdict depends on the bytes at first only below the export's size.
+use Rattle.std.proofs.Common.{◌≡◌, ℕ, ◌+◌, ◌<◌, ◌≤◌, List, refl, sym, ◌∙◌, ap, arith, Option, Some, None, Result, Ok, Err, IfOk, slice_index}
+use Rattle.nbd_wire.specs.protocol.ExportBytes.{Effect, IsWrong, entries_before, effect, effect_if, effects, last_touch, byte_or_start}
+use Rattle.nbd_wire.specs.protocol.Explains.{FitsImage, Start, Unknown, Zeroes, Image, start_byte}
+use Rattle.nbd_wire.specs.protocol.Reports.{Asked, Report, asked_at}
+use Rattle.nbd_wire.specs.protocol.Operations.{Exporting}
+use Rattle.nbd_export.specs.Ranges.{AreSameBelow}
+use Rattle.nbd_export.specs.Starts as contents
+use Rattle.nbd_export.specs.declared.start.Start as contents_start
+use Rattle.nbd_export.specs.declared.start.Start.TheVariants as contents_starts
+use Rattle.nbd_laws.specs.Soundness.{IsSoundReport}
+use Rattle.nbd_state.specs.Transcripts.{size_and_flags}
+use Rattle.nbd_judge.specs.declared.verdict.Verdict.{Verdict}
+use Rattle.nbd_judge.specs.declared.verdict.Verdict.TheVariants as verdict
+use Rattle.nbd_judge.specs.internal.Beginnings.{image_length}
+use Rattle.nbd_judge.specs.Beginnings.{initial_of}
+use Rattle.nbd_judge.specs.Servable.{size_of}
+use Rattle.nbd_judge.specs.Verdicts.{HasWrongFrom, IsJudged, IsVerdict}
+use Rattle.nbd_judge.proofs.contents.CompareLemmas.{from_in}
+use Rattle.nbd_judge.proofs.orders.MarkLemmas.{first_of}
+use Rattle.nbd_judge.proofs.verdicts.SoundLemmas.{servable}
+
+request_of : (o : Option Asked) (e : Effect) → effect_if o ≡ Some e → (a : Asked) × (o ≡ Some a) × (effect a ≡ e)
+request_of None e h = absurd (let q : None ≡ Some e = h in (cc))
+request_of (Some a) e h = (a, refl, (let q : Some (effect a) ≡ Some e = h in cc))
+
+left_same : (l : Option Effect) (f g : ℕ → Option ℕ) (x : ℕ) → f x ≡ g x → byte_or_start l f x ≡ byte_or_start l g x
+left_same None f g x e = e
+left_same (Some l) f g x e = refl
+
+module _ (r : Report) (sound : IsSoundReport r) (order : List ℕ) (f g : ℕ → Option ℕ) (same : AreSameBelow (size_of r.export) f g) where
+  wrong_same : (k x : ℕ) → IsWrong (effects r) order f k x → IsWrong (effects r) order g k x
+  wrong_same k x w =
+      let a = request_of (asked_at k r.asked) w.0 w.1 in
+      let served = servable r sound k a.0 a.1 in
+      let reads = ap (λ (e : Effect). e.command) a.2 ∙ w.2.0 in
+      let well = ap (λ (e : Effect). e.succeeded) a.2 ∙ w.2.1 in
+      let end : a.0.offset + a.0.length ≤ size_of r.export = served.read_inside reads well in
+      let lies = from_in w.0.offset w.0.length x w.2.2 in
+      let hi : x < w.0.offset + w.0.length = lies.1 in
+      let offset : a.0.offset ≡ w.0.offset = ap (λ (e : Effect). e.offset) a.2 in
+      let len : a.0.length ≡ w.0.length = ap (λ (e : Effect). e.length) a.2 in
+      let inside : x < size_of r.export = omega arith in
+      (w.0, w.1, (w.2.0, w.2.1, w.2.2, (w.2.3.0, sym (left_same (last_touch (effects r) x (entries_before k order)) f g x (same x inside)) ∙ w.2.3.1, w.2.3.2)))
+
+  has_wrong_same : (i : ℕ) → HasWrongFrom r order f i → HasWrongFrom r order g i
+  has_wrong_same i h = (h.0, (h.1.0, wrong_same (slice_index order i) h.1.0 h.1.1))
+
+pub judged_same : (r : Report) → IsSoundReport r → (order : List ℕ) (f g : ℕ → Option ℕ) → AreSameBelow (size_of r.export) f g → (v : Verdict) → IsJudged r order f v → IsJudged r order g v
+judged_same r sound order f g same (verdict.Yes a b c) h =
+    (h.0, (λ k x n w. h.1 k x n (wrong_same r sound order g f (λ y l. sym (same y l)) k x w)), h.2, h.3, h.4)
+judged_same r sound order f g same (verdict.Order e p) h = h
+judged_same r sound order f g same (verdict.Content k x) h = (
+  h.0,
+  (
+    (h.1.0.0, h.1.0.1, first_of {P = HasWrongFrom r order f} {Q = HasWrongFrom r order g} h.1.0.0 (has_wrong_same r sound order f g same) (has_wrong_same r sound order g f (λ y l. sym (same y l))) h.1.0.2),
+    first_of {P = IsWrong (effects r) order f k} {Q = IsWrong (effects r) order g k} x (wrong_same r sound order f g same k) (wrong_same r sound order g f (λ y l. sym (same y l)) k) h.1.1,
+  ),
+)
+judged_same r sound order f g same (verdict.Wire at fault) h = h
+judged_same r sound order f g same (verdict.Image i s) h = h
+
+-- a judgement is the verdict, where the start fits
+fitting : (r : Report) (order : List ℕ) (start : Start) → FitsImage r.export start → (v : Verdict) → IsJudged r order (start_byte start) v → IsVerdict r order start v
+fitting r order start fits (verdict.Yes a b c) h = (fits, h)
+fitting r order start fits (verdict.Order e p) h = (fits, h)
+fitting r order start fits (verdict.Content k x) h = (fits, h)
+fitting r order start fits (verdict.Wire at fault) h = h
+fitting r order start fits (verdict.Image i s) h = absurd h
+
+pub concluded : {E : Type 0} (r : Report) → IsSoundReport r → (order : List ℕ) (f : ℕ → Option ℕ) (start : Start) → FitsImage r.export start → AreSameBelow (size_of r.export) f (start_byte start)
+    → (o : Result Verdict E) → IfOk o (IsJudged r order f) → IfOk o (IsVerdict r order start)
+concluded r sound order f start fits same (Ok v) h = fitting r order start fits v (judged_same r sound order f (start_byte start) same v h)
+concluded r sound order f start fits same (Err e) h = h
+
+-- the export of a transcript that states its size
+pub exporting_of : (o : Option Exporting) (size flags : ℕ) → Some (size, flags) ≡ size_and_flags o → (e : Exporting) × (o ≡ Some e) × (e.size ≡ size)
+exporting_of None size flags h = absurd (let q : Some (size, flags) ≡ None = h in (cc))
+exporting_of (Some e) size flags h = (e, refl, (let q : Some (size, flags) ≡ Some (e.size, e.flags) = h in let p : (size, flags) ≡ (e.size, e.flags) = cc in sym (ap (λ (s : ℕ × ℕ). s.0) p)))
+
+pub no_export : (o : Option Exporting) → None ≡ size_and_flags o → o ≡ None
+no_export None h = refl
+no_export (Some e) h = absurd (let q : None ≡ Some (e.size, e.flags) = h in (cc))
+
+pub image_fits : (o : Option Exporting) (size : ℕ) (start : Start) → size_of o ≡ size → ((n : ℕ) → image_length start ≡ Some n → n ≡ size) → FitsImage o start
+image_fits None size start e h = tt
+image_fits (Some export) size (Image bytes) e h = h _ refl ∙ sym e
+image_fits (Some export) size Unknown e h = tt
+image_fits (Some export) size Zeroes e h = tt
+
+-- the byte at first of the program's start is that of the definitions'
+pub same_start : (start : contents_start.Start) (x : ℕ) → contents.start_byte start x ≡ start_byte (initial_of start) x
+same_start contents_starts.Unknown x = refl
+same_start contents_starts.Zeroes x = refl
+same_start (contents_starts.Image image) x = refl

@@ -1,0 +1,3 @@
+pub mod LateLemmas
+pub mod MarkLemmas
+pub mod NameLemmas

@@ -1,0 +1,41 @@
+-- What a verdict on the report of a run says of the run's bytes.
+use Rattle.std.proofs.Common.{◌≡◌, ℕ, List, sym, ◌∙◌, ap, subst}
+use Rattle.nbd_wire.specs.protocol.Explains.{Start, start_byte}
+use Rattle.nbd_wire.specs.protocol.Marks.{Item, pairs}
+use Rattle.nbd_wire.specs.protocol.Reports.{Report, report}
+use Rattle.nbd_wire.specs.protocol.Rules.{IsRun}
+use Rattle.nbd_wire.specs.protocol.Verdicts.{IsFaultless, Passes, answered_count, improper_count, request_count}
+use Rattle.nbd_laws.specs.Explaining.{ExplainedPasses, IsNo, PassingIsExplained}
+use Rattle.nbd_laws.specs.Moments.{OrdersAreFaultless}
+use Rattle.nbd_laws.specs.Sameness.{SameReports}
+use Rattle.nbd_judge.specs.declared.verdict.Verdict.TheVariants.{Yes, Wire, Image, Order, Content}
+use Rattle.nbd_judge.specs.Conclusions.{VerdictsAnswerRuns}
+use Rattle.nbd_judge.proofs.verdicts.SingleLemmas.{fits_not, has_fault, has_wrong}
+
+module _ (passing : PassingIsExplained) (only : ExplainedPasses) (faultless : OrdersAreFaultless) (same : SameReports) where
+  -- a run that does not pass is not explained
+  no_pass : (items : List Item) (order : List ℕ) (initial : Start) → IsRun items → (Passes (report items) order initial → ⊥) → IsNo (pairs items) order initial
+  no_pass items order initial run fails explained = fails (only items order initial run explained)
+
+  counted : (f : Report → ℕ) (items : List Item) (n : ℕ) → IsRun items → n ≡ f (report items) → (other : List Item) → IsRun other → pairs other ≡ pairs items → f (report other) ≡ n
+  counted f items n run is other run' e = ap f (same other items run' run e) ∙ sym is
+
+  pub answers_runs : VerdictsAnswerRuns
+  answers_runs items order initial (Yes a b c) run v = record {
+    explained = passing items order initial run (record { faultless = v.1.0; fits_image = v.0; reads = v.1.1 });
+    counts = record {
+      requests_are = counted request_count items a run v.1.2;
+      answered_are = counted answered_count items b run v.1.3;
+      improper_are = counted improper_count items c run v.1.4;
+    };
+  }
+  answers_runs items order initial (Order e p) run v = (
+    no_pass items order initial run (λ passes. has_fault (report items) order e p v.1 passes.faultless),
+    λ other run' bytes serves. has_fault (report items) order e p v.1
+        (subst (λ (r : Report). IsFaultless r order) (same other items run' run bytes)
+        (subst (λ (o : List ℕ). IsFaultless (report other) o) serves (faultless other run'))),
+  )
+  answers_runs items order initial (Content k x) run v =
+      no_pass items order initial run (λ passes. has_wrong (report items) order (start_byte initial) k x v.1.1 passes.reads)
+  answers_runs items order initial (Image i s) run v = no_pass items order initial run (λ passes. fits_not (report items).export initial i s passes.fits_image v)
+  answers_runs items order initial (Wire at fault) run v = absurd v

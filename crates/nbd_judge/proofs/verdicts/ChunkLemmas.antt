@@ -1,0 +1,122 @@
+-- Chunks that a session has taken.
+use Rattle.std.proofs.Common.{◌≡◌, ℕ, zero, suc, ◌+◌, ◌<◌, ◌≤◌, List, [], ◌∷◌, ◌++◌, length, refl, sym, ◌∙◌, ap, subst, arith, take, get_or, add-one, length-append, append_assoc, Option, Some, None, Result, Ok, Err, IfOk, IfErr, IsErrAnd}
+use Rattle.std.specs.declared.alloc.Global.{Global}
+use Rattle.std.specs.declared.vec.Vec.{Vec}
+use Rattle.nbd_wire.specs.declared.message.Side.{Side}
+use Rattle.nbd_wire.specs.protocol.Explains.{Start}
+use Rattle.nbd_wire.specs.protocol.Marks.{Item, pairs}
+use Rattle.nbd_wire.specs.protocol.Captures.{Pair, flat, side_pairs}
+use Rattle.nbd_wire.specs.protocol.Reports.{Report}
+use Rattle.nbd_wire.specs.protocol.Rules.{IsRun}
+use Rattle.nbd_session.specs.declared.fault.SessionFault.{SessionFault}
+use Rattle.nbd_session.specs.declared.fault.SessionFault.TheVariants as session
+use Rattle.nbd_session.specs.Sessions.{AddsPrefix, IsAtEnd, IsReported, Recorded, end_by, fault_at_end, fault_of, pairs_of, taken, unfinished}
+use Rattle.nbd_judge.specs.declared.verdict.Verdict.{Verdict}
+use Rattle.nbd_judge.specs.declared.verdict.Verdict.TheVariants.{Yes, Wire, Image, Order, Content}
+use Rattle.nbd_judge.specs.Captures.{HasVerdict, IsChecked, IsFaultOf, chunks_told}
+use Rattle.nbd_judge.specs.internal.Captures.{IsTold}
+use Rattle.nbd_judge.specs.Conclusions.{Answers, IsConclusion, IsReportOf}
+use Rattle.nbd_judge.specs.Verdicts.{IsVerdict}
+
+pub length_sent : (s : Side) (bytes : List ℕ) → length (side_pairs s bytes) ≡ length bytes
+length_sent s [] = refl
+length_sent s (b ∷ bytes) = ap suc (length_sent s bytes)
+
+-- with one more chunk
+prefix_suc : (cs : List (Side × Vec ℕ Global)) (i : ℕ) (c : Side × Vec ℕ Global) → i < length cs → c ≡ get_or cs i c →
+    flat (chunks_told (take (suc i) cs)) ≡ flat (chunks_told (take i cs)) ++ side_pairs c.0 c.1.items
+prefix_suc [] i c w e = absurd (omega arith)
+prefix_suc (d ∷ cs) zero c w e = go d (sym e)
+  where
+    nil : (l : List Pair) → l ++ [] ≡ l
+    nil [] = refl
+    nil (x ∷ l) = ap (λ r. x ∷ r) (nil l)
+
+    go : (d : Side × Vec ℕ Global) → d ≡ c → side_pairs d.0 d.1.items ++ [] ≡ side_pairs c.0 c.1.items
+    go d e = nil (side_pairs d.0 d.1.items) ∙ ap (λ (q : Side × Vec ℕ Global). side_pairs q.0 q.1.items) e
+prefix_suc (d ∷ cs) (suc i) c w e = ap (λ r. side_pairs d.0 d.1.items ++ r) (prefix_suc cs i c (omega arith) e) ∙ sym (append_assoc (side_pairs d.0 d.1.items) (flat (chunks_told (take i cs))) (side_pairs c.0 c.1.items))
+
+pub prefix_more : (cs : List (Side × Vec ℕ Global)) (i : ℕ) (c : Side × Vec ℕ Global) → i < length cs → c ≡ get_or cs i c →
+    flat (chunks_told (take (i + 1) cs)) ≡ flat (chunks_told (take i cs)) ++ side_pairs c.0 c.1.items
+prefix_more cs i c w e = ap (λ n. flat (chunks_told (take n cs))) (add-one i) ∙ prefix_suc cs i c w e
+
+-- no prefix is longer than the whole
+pub prefix_within : (cs : List (Side × Vec ℕ Global)) (i : ℕ) → length (flat (chunks_told (take i cs))) ≤ length (flat (chunks_told cs))
+prefix_within [] zero = omega arith
+prefix_within [] (suc i) = omega arith
+prefix_within (d ∷ cs) zero = omega arith
+prefix_within (d ∷ cs) (suc i) =
+    let ih = prefix_within cs i in
+    let a = length-append (side_pairs d.0 d.1.items) (flat (chunks_told (take i cs))) in
+    let b = length-append (side_pairs d.0 d.1.items) (flat (chunks_told cs)) in
+    omega arith
+
+pub prefix_whole : (cs : List (Side × Vec ℕ Global)) (i : ℕ) → length cs ≤ i → take i cs ≡ cs
+prefix_whole [] zero w = refl
+prefix_whole [] (suc i) w = refl
+prefix_whole (d ∷ cs) zero w = absurd (omega arith)
+prefix_whole (d ∷ cs) (suc i) w = ap (λ r. d ∷ r) (prefix_whole cs i (omega arith))
+
+-- what a finished session states is told of its bytes
+pub told_of : (r : Recorded) (capture : List Pair) (told : Report) → pairs_of r ≡ capture → IsReported r told → IsTold capture told
+told_of r capture told same reported = record {
+  items = reported.items;
+  is_run = reported.is_run;
+  has_pairs = reported.has_pairs ∙ same;
+  told_so = λ others run has. reported.told_so others run (has ∙ sym same);
+}
+
+-- the conclusion from what a session over a capture finished with is the verdict on that capture
+pub checked : (capture : List Pair) (order : List ℕ) (initial : Start) (finished : Result Report SessionFault) (v : Verdict)
+    → IfOk finished (IsTold capture) → IfErr finished (IsFaultOf capture) → IsConclusion finished order initial v
+    → ((items : List Item) → IsRun items → IsReportOf items finished → Answers (pairs items) order initial v) → IsChecked capture order initial v
+checked capture order initial (Err session.Memory) v told within is answers = absurd is
+checked capture order initial (Err (session.Wire at fault)) v told within is answers = subst (IsChecked capture order initial) (sym is) within
+checked capture order initial (Ok r) v told within is answers = go v is (answers told.items told.is_run (told.told_so told.items told.is_run told.has_pairs))
+  where
+    verdict : (v : Verdict) → IsVerdict r order initial v → Answers (pairs told.items) order initial v → HasVerdict capture order initial v
+    verdict v is says = record {
+      items = told.items;
+      is_run = told.is_run;
+      has_pairs = told.has_pairs;
+      is_verdict = λ others run has. subst (λ (q : Report). IsVerdict q order initial v) (sym (told.told_so others run has)) is;
+      answers = subst (λ (ps : List Pair). Answers ps order initial v) told.has_pairs says;
+    }
+
+    go : (v : Verdict) → IsVerdict r order initial v → Answers (pairs told.items) order initial v → IsChecked capture order initial v
+    go (Wire at fault) is says = absurd is
+    go (Yes a b c) is says = verdict (Yes a b c) is says
+    go (Image i s) is says = verdict (Image i s) is says
+    go (Order e f) is says = verdict (Order e f) is says
+    go (Content k x) is says = verdict (Content k x) is says
+
+-- the bytes of one more chunk
+pub grown_by : (cs : List (Side × Vec ℕ Global)) (i : ℕ) (c : Side × Vec ℕ Global) → i < length cs → c ≡ get_or cs i c →
+    length (flat (chunks_told (take (i + 1) cs))) ≡ length (flat (chunks_told (take i cs))) + length c.1.items
+grown_by cs i c w e =
+    let more = ap length (prefix_more cs i c w e) in
+    let grown = length-append (flat (chunks_told (take i cs))) (side_pairs c.0 c.1.items) in
+    let len = length_sent c.0 c.1.items in
+    omega arith
+
+-- the next piece fits, where the whole does
+pub piece_fits : (cs : List (Side × Vec ℕ Global)) (i : ℕ) (c : Side × Vec ℕ Global) → i < length cs → c ≡ get_or cs i c →
+    length (flat (chunks_told (take i cs))) + length c.1.items ≤ length (flat (chunks_told cs))
+piece_fits cs i c w e =
+    let grown = grown_by cs i c w e in
+    let within = prefix_within cs (i + 1) in
+    omega arith
+
+pub finish_told : (r : Recorded) (capture : List Pair) (o : Result Report SessionFault) → pairs_of r ≡ capture → IfOk o (IsReported r) → IfOk o (IsTold capture)
+finish_told r capture (Ok told) same h = told_of r capture told same h
+finish_told r capture (Err fault) same h = h
+
+pub conclusion_checked : {E : Type 0} (capture : List Pair) (order : List ℕ) (initial : Start) (finished : Result Report SessionFault) (o : Result Verdict E)
+    → IfOk finished (IsTold capture) → IfErr finished (IsFaultOf capture) → IfOk o (IsConclusion finished order initial)
+    → IfOk o (λ v. (items : List Item) → IsRun items → IsReportOf items finished → Answers (pairs items) order initial v) → IfOk o (IsChecked capture order initial)
+conclusion_checked capture order initial finished (Ok v) told within is answers = checked capture order initial finished v told within is answers
+conclusion_checked capture order initial finished (Err e) told within is answers = tt
+
+pub handed_on : {T : Type 0} (o : Result T SessionFault) (fault : SessionFault) (P : SessionFault → Type 0) → IsErrAnd o (λ e. e ≡ fault) → P fault → IfErr o P
+handed_on (Ok x) fault P h p = tt
+handed_on (Err e) fault P h p = subst P (sym h) p

@@ -1,0 +1,12 @@
+use Rattle.std.specs.Prelude.{List, ◌≡◌}
+use Rattle.nbd_wire.specs.protocol.Marks.{Item, pairs}
+use Rattle.nbd_wire.specs.protocol.Captures.{Pair}
+use Rattle.nbd_wire.specs.protocol.Reports.{Report, report}
+use Rattle.nbd_wire.specs.protocol.Rules.{IsRun}
+
+-- some run has these bytes, and the report of each such run is this one
+pub record IsTold (capture : List Pair) (told : Report) : Type 0 where
+  pub items : List Item
+  pub is_run : IsRun items
+  pub has_pairs : pairs items ≡ capture
+  pub told_so : (others : List Item) → IsRun others → pairs others ≡ capture → report others ≡ told

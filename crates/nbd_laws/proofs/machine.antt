@@ -1,0 +1,3 @@
+pub mod MachineLemmas
+pub mod MarkLemmas
+pub mod TwinLemmas

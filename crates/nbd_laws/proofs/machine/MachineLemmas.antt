@@ -1,0 +1,191 @@
+use Rattle.std.proofs.Common.{◌≡◌, ℕ, ◌<◌, ◌⊎◌, List, [], ◌∷◌, ◌++◌, refl, sym, ◌∙◌, ap, subst, inl, inr, Ok}
+use Rattle.nbd_wire.specs.declared.message.Side.{Side}
+use Rattle.nbd_wire.specs.declared.message.Side.TheVariants.{Client, Server}
+use Rattle.nbd_wire.specs.declared.message.Message.{Message}
+use Rattle.nbd_wire.specs.protocol.Encoding.{enc}
+use Rattle.nbd_wire.specs.protocol.Sides.{side}
+use Rattle.nbd_wire.specs.protocol.Marks.{Item, Byte, Starts, Completes, Serves}
+use Rattle.nbd_wire.specs.protocol.Captures.{Pair, ArePairs}
+use Rattle.nbd_wire.specs.protocol.States.{Core}
+use Rattle.nbd_wire.specs.protocol.Sendable.{IsSendable}
+use Rattle.nbd_wire.specs.protocol.Rules.{MayStart, MayComplete, complete}
+use Rattle.nbd_laws.specs.internal.Machine.{Both, get, put, IsFilled, Rest, Machine, Reading, old_by, old_of, settle, Judge, grown, on_ok, reads, More, Whole, Bad}
+use Rattle.nbd_laws.specs.Reached.{IsReached, after_message}
+
+pub get-put_same : {A : Type 0} (p : Both A) (s : Side) (a : A) → get (put p s a) s ≡ a
+get-put_same p Client a = refl
+get-put_same p Server a = refl
+
+pub get-put_other : {A : Type 0} (p : Both A) (s t : Side) (a : A) → (s ≡ t → ⊥) → get (put p s a) t ≡ get p t
+get-put_other p Client Client a ne = absurd (ne refl)
+get-put_other p Client Server a ne = refl
+get-put_other p Server Client a ne = refl
+get-put_other p Server Server a ne = absurd (ne refl)
+
+pub put-put : {A : Type 0} (p : Both A) (s : Side) (a b : A) → get p s ≡ b → put (put p s a) s b ≡ p
+put-put p Client a b e = ap (λ x. record { client = x; server = p.server }) (sym e)
+put-put p Server a b e = ap (λ x. record { client = p.client; server = x }) (sym e)
+
+pub same_or_not : (s t : Side) → (s ≡ t) ⊎ (s ≡ t → ⊥)
+same_or_not Client Client = inl refl
+same_or_not Client Server = inr (λ e. (cc))
+same_or_not Server Client = inr (λ e. (cc))
+same_or_not Server Server = inl refl
+
+-- the message that a side is in, with the bytes to come; or bytes that belong to none
+pub data Open : Type 0 where
+  Idle : Open
+  Busy : (message : Message) (left : List ℕ) → Open
+  Loose : Open
+
+abbrev pub IsNotBusy : Open → Type 0
+IsNotBusy Idle = Unit {0}
+IsNotBusy (Busy m left) = ⊥
+IsNotBusy Loose = Unit {0}
+
+-- marked captures, read from the left. Where a byte belongs to no message, P holds
+pub data Walk (P : Type 0) : Both Open → List Item → Type 0 where
+  ended : {o : Both Open} → IsNotBusy (get o Client) → IsNotBusy (get o Server) → Walk P o []
+  serving : {o : Both Open} (k : ℕ) {items : List Item} → Walk P o items → Walk P o (Serves k ∷ items)
+  opening : {o : Both Open} (s : Side) (m : Message) (b : ℕ) (left : List ℕ) {items : List Item} →
+      get o s ≡ Idle → enc m ≡ b ∷ left → IsFilled left → Walk P (put o s (Busy m left)) items → Walk P o (Starts s m ∷ Byte s b ∷ items)
+  middle : {o : Both Open} (s : Side) (m : Message) (b : ℕ) (left : List ℕ) {items : List Item} →
+      get o s ≡ Busy m (b ∷ left) → IsFilled left → Walk P (put o s (Busy m left)) items → Walk P o (Byte s b ∷ items)
+  final : {o : Both Open} (s : Side) (m : Message) (b : ℕ) {items : List Item} →
+      get o s ≡ Busy m (b ∷ []) → Walk P (put o s Idle) items → Walk P o (Byte s b ∷ Completes s m ∷ items)
+  loose : {o : Both Open} (s : Side) (b : ℕ) {items : List Item} →
+      P → IsNotBusy (get o s) → Walk P (put o s Loose) items → Walk P o (Byte s b ∷ items)
+
+-- what the other side's completed messages lead to
+pub data Later : Side → Core → Core → Type 0 where
+  at_once : {s : Side} {c : Core} → Later s c c
+  behind : {s : Side} {c d : Core} (m : Message) → (side m ≡ s → ⊥) → MayComplete c c.phase m → Later s (complete c m) d → Later s c d
+
+pub Later-trans : {s : Side} {c d e : Core} → Later s c d → Later s d e → Later s c e
+Later-trans at_once k = k
+Later-trans (behind m ne ok l) k = behind m ne ok (Later-trans l k)
+
+-- these bytes of a side were judged to go on, one after the other
+pub data Kept (judge : Judge) (s : Side) (old : Core) : Core → List ℕ → Type 0 where
+  begun : (b : ℕ) → b < 256 → IsReached old → Kept judge s old old (b ∷ [])
+  kept : {now next : Core} {bytes : List ℕ} (b : ℕ) → b < 256 → Kept judge s old now bytes → judge old now s bytes ≡ More → Later s now next → IsReached next → Kept judge s old next (bytes ++ b ∷ [])
+
+-- no byte of the next message has come
+abbrev pub ended_by : Rest → Rest
+ended_by rest = record { bytes = []; since = rest.since }
+
+-- the machine that the items lead to
+abbrev pub led : Machine → List Item → Machine
+led machine [] = machine
+led machine (Byte s b ∷ items) = led (record machine { rests = put machine.rests s (grown machine.core (get machine.rests s) b) }) items
+led machine (Starts s m ∷ items) = led machine items
+led machine (Completes s m ∷ items) =
+    led (record { core = complete machine.core m; rests = put machine.rests s (ended_by (get machine.rests s)); messages = machine.messages ++ m ∷ [] }) items
+led machine (Serves k ∷ items) = led machine items
+
+abbrev pub with_byte : Machine → Side → ℕ → Machine
+with_byte machine s b = record machine { rests = put machine.rests s (grown machine.core (get machine.rests s) b) }
+
+abbrev pub IsMoreAt : Judge → Core → Side → Rest → Type 0
+IsMoreAt judge core s rest = (judge rest.since core s rest.bytes ≡ More) × Kept judge s rest.since core rest.bytes
+
+abbrev pub IsMore : Judge → Machine → Side → Type 0
+IsMore judge machine s = IsMoreAt judge machine.core s (get machine.rests s)
+
+-- each byte but the last was judged to go on, or completes its message
+abbrev pub Tracks : Judge → Machine → List Item → Type 0
+Tracks judge machine [] = Unit {0}
+Tracks judge machine (Starts s m ∷ items) = Tracks judge machine items
+Tracks judge machine (Serves k ∷ items) = Tracks judge machine items
+Tracks judge machine (Completes s m ∷ items) = ⊥
+Tracks judge machine (Byte s b ∷ []) = Unit {0}
+Tracks judge machine (Byte s b ∷ Completes t m ∷ items) = (t ≡ s) × Tracks judge (led machine (Byte s b ∷ Completes s m ∷ [])) items
+Tracks judge machine (Byte s b ∷ Byte t c ∷ items) = IsMore judge (with_byte machine s b) s × Tracks judge (with_byte machine s b) (Byte t c ∷ items)
+Tracks judge machine (Byte s b ∷ Starts t m ∷ items) = IsMore judge (with_byte machine s b) s × Tracks judge (with_byte machine s b) items
+Tracks judge machine (Byte s b ∷ Serves k ∷ items) = IsMore judge (with_byte machine s b) s × Tracks judge (with_byte machine s b) items
+
+-- a whole message is one that the rules allow
+pub record IsSoundAt (old now : Core) (s : Side) (bytes : List ℕ) (m : Message) : Type 0 where
+  pub encodes : bytes ≡ enc m
+  pub sided : side m ≡ s
+  pub sendable : IsSendable m
+  pub starts : MayStart old s m
+  pub completes : MayComplete now now.phase m
+
+abbrev pub IsSound : Judge → Type 0
+IsSound judge = (old now : Core) (s : Side) (bytes : List ℕ) (m : Message) → Kept judge s old now bytes → judge old now s bytes ≡ Whole m → IsSoundAt old now s bytes m
+
+-- a message that a run holds is read as it is
+pub record IsExact (judge : Judge) : Type 0 where
+  pub more : (old now then : Core) (s : Side) (m : Message) (bytes left : List ℕ) → Later s old now → Later s now then →
+      side m ≡ s → IsSendable m → MayStart old s m → MayComplete then then.phase m → enc m ≡ bytes ++ left → IsFilled bytes → IsFilled left → Kept judge s old now bytes →
+      judge old now s bytes ≡ More
+  pub whole : (old now : Core) (s : Side) (m : Message) → Later s old now →
+      side m ≡ s → IsSendable m → MayStart old s m → MayComplete now now.phase m → Kept judge s old now (enc m) → judge old now s (enc m) ≡ Whole m
+
+pub old-empty : (core : Core) (rest : Rest) → rest.bytes ≡ [] → old_of core rest ≡ core
+old-empty core rest e = ap (λ bs. old_by bs core rest.since) e
+
+pub old-filled : (core : Core) (rest : Rest) → IsFilled rest.bytes → old_of core rest ≡ rest.since
+old-filled core rest f = go rest.bytes refl f
+  where
+    go : (bs : List ℕ) → rest.bytes ≡ bs → IsFilled bs → old_of core rest ≡ rest.since
+    go [] e f = absurd f
+    go (b ∷ bs) e f = ap (λ bs. old_by bs core rest.since) e
+
+pub IsFilled-snoc : (bs : List ℕ) (b : ℕ) → IsFilled (bs ++ b ∷ [])
+IsFilled-snoc [] b = tt
+IsFilled-snoc (c ∷ cs) b = tt
+
+-- a rest was judged to go on before the other side's last messages
+pub data Held (judge : Judge) (core : Core) (s : Side) (rest : Rest) : Type 0 where
+  none_held : IsReached core → rest.bytes ≡ [] → Held judge core s rest
+  some_held : IsReached core → (now : Core) → IsFilled rest.bytes → Kept judge s rest.since now rest.bytes → judge rest.since now s rest.bytes ≡ More → Later s now core → Held judge core s rest
+
+abbrev pub AreHeld : Judge → Machine → Type 0
+AreHeld judge machine = (s : Side) → Held judge machine.core s (get machine.rests s)
+
+pub reached_of : {judge : Judge} {core : Core} {s : Side} {rest : Rest} → Held judge core s rest → IsReached core
+reached_of (none_held rc e) = rc
+reached_of (some_held rc now f k m l) = rc
+
+pub kept_next : (judge : Judge) (core : Core) (s : Side) (rest : Rest) (b : ℕ) → b < 256 → Held judge core s rest → Kept judge s (grown core rest b).since core (grown core rest b).bytes
+kept_next judge core s rest b lt (none_held rc e) =
+    subst (λ c. Kept judge s c core (rest.bytes ++ b ∷ [])) (sym (old-empty core rest e)) (subst (λ l. Kept judge s core core (l ++ b ∷ [])) (sym e) (begun b lt rc))
+kept_next judge core s rest b lt (some_held rc now f k m l) =
+    subst (λ c. Kept judge s c core (rest.bytes ++ b ∷ [])) (sym (old-filled core rest f)) (kept b lt k m l rc)
+
+held_with : (judge : Judge) (rests : Both Rest) (core next : Core) (s : Side) (rest : Rest) → ((u : Side) → Held judge core u (get rests u)) → Held judge next s rest → ((u : Side) → (s ≡ u → ⊥) → Held judge core u (get rests u) → Held judge next u (get rests u)) → (u : Side) → Held judge next u (get (put rests s rest) u)
+held_with judge rests core next s rest all here other u = go (same_or_not s u)
+  where
+    go : (s ≡ u) ⊎ (s ≡ u → ⊥) → Held judge next u (get (put rests s rest) u)
+    go (inl e) = subst (λ v. Held judge next v (get (put rests s rest) v)) e (subst (λ r. Held judge next s r) (sym (get-put_same rests s rest)) here)
+    go (inr ne) = subst (λ r. Held judge next u r) (sym (get-put_other rests s u rest ne)) (other u ne (all u))
+
+pub held_more : (judge : Judge) (machine : Machine) (s : Side) (b : ℕ) → b < 256 → AreHeld judge machine →
+    judge (grown machine.core (get machine.rests s) b).since machine.core s (grown machine.core (get machine.rests s) b).bytes ≡ More → AreHeld judge (with_byte machine s b)
+held_more judge machine s b lt all m = held_with judge machine.rests machine.core machine.core s (grown machine.core (get machine.rests s) b) all
+    (some_held (reached_of (all s)) machine.core (IsFilled-snoc (get machine.rests s).bytes b) (kept_next judge machine.core s (get machine.rests s) b lt (all s)) m at_once) (λ u ne h. h)
+
+later_held : (judge : Judge) (core : Core) (m : Message) (u : Side) (rest : Rest) → (side m ≡ u → ⊥) → IsSendable m → MayComplete core core.phase m → Held judge core u rest → Held judge (complete core m) u rest
+later_held judge core m u rest ne sn ok (none_held rc e) = none_held (after_message m rc sn ok) e
+later_held judge core m u rest ne sn ok (some_held rc now f k j l) = some_held (after_message m rc sn ok) now f k j (Later-trans l (behind m ne ok at_once))
+
+pub held_whole : (judge : Judge) (machine : Machine) (s : Side) (m : Message) (rest : Rest) → rest.bytes ≡ [] → AreHeld judge machine → side m ≡ s → IsSendable m → MayComplete machine.core machine.core.phase m → (u : Side) → Held judge (complete machine.core m) u (get (put machine.rests s rest) u)
+held_whole judge machine s m rest e all sd sn ok = held_with judge machine.rests machine.core (complete machine.core m) s rest all (none_held (after_message m (reached_of (all s)) sn ok) e)
+    (λ u ne h. later_held judge machine.core m u (get machine.rests u) (λ q. ne (sym sd ∙ q)) sn ok h)
+
+held_on : (judge : Judge) → IsSound judge → (machine mid : Machine) (p : Pair) (ps : List Pair) → p.byte < 256 → AreHeld judge machine → ((next : Machine) → AreHeld judge next → reads judge next ps ≡ Ok mid → AreHeld judge mid) →
+    (r : Reading) → judge (grown machine.core (get machine.rests p.from) p.byte).since machine.core p.from (grown machine.core (get machine.rests p.from) p.byte).bytes ≡ r →
+    on_ok (settle machine p.from (grown machine.core (get machine.rests p.from) p.byte) r) (λ next. reads judge next ps) ≡ Ok mid → AreHeld judge mid
+held_on judge sound machine mid p ps lt held ih More is h = ih _ (held_more judge machine p.from p.byte lt held is) h
+held_on judge sound machine mid p ps lt held ih (Whole m) is h =
+    let ok : IsSoundAt (grown machine.core (get machine.rests p.from) p.byte).since machine.core p.from (grown machine.core (get machine.rests p.from) p.byte).bytes m =
+    sound _ _ _ _ m (kept_next judge machine.core p.from (get machine.rests p.from) p.byte lt (held p.from)) is in
+    ih _ (held_whole judge machine p.from m (record (grown machine.core (get machine.rests p.from) p.byte) { bytes = [] }) refl held ok.sided ok.sendable ok.completes) h
+held_on judge sound machine mid p ps lt held ih (Bad f) is h = absurd (cc)
+
+-- what was read without a fault was judged so
+pub reads_held : (judge : Judge) → IsSound judge → (ps : List Pair) (machine mid : Machine) → ArePairs ps → AreHeld judge machine → reads judge machine ps ≡ Ok mid → AreHeld judge mid
+reads_held judge sound [] machine mid lt held e = let q : machine ≡ mid = cc in subst (AreHeld judge) q held
+reads_held judge sound (p ∷ ps) machine mid lt held e = held_on judge sound machine mid p ps lt.0 held (λ next hd h. reads_held judge sound ps next mid lt.1 hd h) _ refl e

@@ -1,0 +1,173 @@
+-- A run's pairs are read without a fault, and what completes is the run's.
+use Rattle.std.proofs.Common.{◌≡◌, ℕ, suc, zero, ◌<◌, ◌⊎◌, List, [], ◌∷◌, ◌++◌, length, refl, sym, ◌∙◌, ap, subst, inl, inr, Ok, append_assoc, append-nil}
+use Rattle.nbd_wire.specs.declared.message.Side.{Side}
+use Rattle.nbd_wire.specs.declared.message.Message.{Message}
+use Rattle.nbd_wire.specs.protocol.Encoding.{enc}
+use Rattle.nbd_wire.specs.protocol.Sides.{side}
+use Rattle.nbd_wire.specs.protocol.Marks.{Item, Byte, Starts, Completes, Serves, pairs}
+use Rattle.nbd_wire.specs.protocol.Captures.{Pair, ArePairs}
+use Rattle.nbd_wire.specs.protocol.States.{Core}
+use Rattle.nbd_wire.specs.protocol.Sendable.{IsSendable}
+use Rattle.nbd_wire.specs.protocol.Rules.{MayStart, MayComplete, complete, Obeys}
+use Rattle.nbd_wire.specs.protocol.Within.{within}
+use Rattle.nbd_laws.proofs.machine.MachineLemmas.{IsFilled-snoc, old-empty, old-filled, Kept, AreHeld, kept_next, held_more, held_whole, get-put_same, get-put_other, same_or_not, Open, Idle, Busy, Loose, Walk, ended, serving, opening, middle, final, loose, Later, at_once, behind, Later-trans, IsExact}
+use Rattle.nbd_laws.specs.internal.Machine.{Both, get, put, IsFilled, Rest, Machine, Reading, More, Whole, Bad, old_of, settle, Judge, grown, reads, on_ok}
+use Rattle.nbd_laws.proofs.runs.FollowLemmas.{HasEnd, IsSidedOpen, completes_later, each_with, follows}
+use Rattle.nbd_laws.proofs.runs.TraceLemmas.{IsWithin}
+
+-- the machine stands where the run stands
+abbrev pub InStep : Core → Rest → Side → Open → Type 0
+InStep core rest s Idle = rest.bytes ≡ []
+InStep core rest s (Busy m left) = IsWithin rest s m left × Later s rest.since core
+InStep core rest s Loose = ⊥
+
+abbrev pub AreInStep : Machine → Both Open → Type 0
+AreInStep machine o = (s : Side) → InStep machine.core (get machine.rests s) s (get o s)
+
+pub record IsRead (judge : Judge) (machine : Machine) (ps : List Pair) (messages : List Message) : Type 0 where
+  pub end : Machine
+  pub reads_it : reads judge machine ps ≡ Ok end
+  pub messages_are : end.messages ≡ machine.messages ++ messages
+
+pub in_step_sided : (machine : Machine) (o : Both Open) → AreInStep machine o → (u : Side) → IsSidedOpen u (get o u)
+in_step_sided machine o h u = go (get o u) (h u)
+  where
+    go : (x : Open) → InStep machine.core (get machine.rests u) u x → IsSidedOpen u x
+    go Idle i = tt
+    go (Busy m left) i = i.0.sided
+    go Loose i = tt
+
+pub in_step_with : (machine : Machine) (o : Both Open) (s : Side) (rest : Rest) (x : Open) → AreInStep machine o → InStep machine.core rest s x →
+    AreInStep (record machine { rests = put machine.rests s rest }) (put o s x)
+in_step_with machine o s rest x all h u = go (same_or_not s u)
+  where
+    go : (s ≡ u) ⊎ (s ≡ u → ⊥) → InStep machine.core (get (put machine.rests s rest) u) u (get (put o s x) u)
+    go (inl e) = subst (λ v. InStep machine.core (get (put machine.rests s rest) v) v (get (put o s x) v)) e
+        (subst (λ r. InStep machine.core r s (get (put o s x) s)) (sym (get-put_same machine.rests s rest)) (subst (λ y. InStep machine.core rest s y) (sym (get-put_same o s x)) h))
+    go (inr ne) = subst (λ r. InStep machine.core r u (get (put o s x) u)) (sym (get-put_other machine.rests s u rest ne)) (subst (λ y. InStep machine.core (get machine.rests u) u y) (sym (get-put_other o s u x ne)) (all u))
+
+-- a completed message of side s leaves the other side in step
+pub in_step_completed : (machine : Machine) (o : Both Open) (s : Side) (m : Message) (rest : Rest) (ms : List Message) → AreInStep machine o → side m ≡ s → MayComplete machine.core machine.core.phase m → rest.bytes ≡ [] →
+    AreInStep (record { core = complete machine.core m; rests = put machine.rests s rest; messages = ms }) (put o s Idle)
+in_step_completed machine o s m rest ms all sd ok e u = go (same_or_not s u)
+  where
+    moved : (x : Open) → (s ≡ u → ⊥) → InStep machine.core (get machine.rests u) u x → InStep (complete machine.core m) (get machine.rests u) u x
+    moved Idle ne i = i
+    moved (Busy n left) ne i = (i.0, Later-trans i.1 (behind m (λ q. ne (sym sd ∙ q)) ok at_once))
+    moved Loose ne i = i
+
+    go : (s ≡ u) ⊎ (s ≡ u → ⊥) → InStep (complete machine.core m) (get (put machine.rests s rest) u) u (get (put o s Idle) u)
+    go (inl q) = subst (λ v. InStep (complete machine.core m) (get (put machine.rests s rest) v) v (get (put o s Idle) v)) q
+        (subst (λ r. InStep (complete machine.core m) r s (get (put o s Idle) s)) (sym (get-put_same machine.rests s rest)) (subst (λ y. InStep (complete machine.core m) rest s y) (sym (get-put_same o s Idle)) e))
+    go (inr ne) = subst (λ r. InStep (complete machine.core m) r u (get (put o s Idle) u)) (sym (get-put_other machine.rests s u rest ne))
+        (subst (λ y. InStep (complete machine.core m) (get machine.rests u) u y) (sym (get-put_other o s u Idle ne)) (moved (get o u) ne (all u)))
+
+abbrev pub reads_next : (judge : Judge) (machine : Machine) (s : Side) (b : ℕ) (ps : List Pair) (messages : List Message) → Reading → Type 0
+reads_next judge machine s b ps messages More =
+    IsRead judge (record machine { rests = put machine.rests s (grown machine.core (get machine.rests s) b) }) ps messages
+reads_next judge machine s b ps messages (Whole m) =
+    (rest : List Message) × (messages ≡ m ∷ rest)
+    × IsRead judge (record { core = complete machine.core m; rests = put machine.rests s (record { bytes = []; since = old_of machine.core (get machine.rests s) }); messages = machine.messages ++ m ∷ [] }) ps rest
+reads_next judge machine s b ps messages (Bad f) = ⊥
+
+-- a step and what follows it
+read_on : (judge : Judge) (machine : Machine) (s : Side) (b : ℕ) (ps : List Pair) (messages : List Message) (r : Reading) →
+    judge (grown machine.core (get machine.rests s) b).since machine.core s (grown machine.core (get machine.rests s) b).bytes ≡ r →
+    reads_next judge machine s b ps messages r → IsRead judge machine (record { from = s; byte = b } ∷ ps) messages
+read_on judge machine s b ps messages More e h = record {
+  end = h.end;
+  reads_it = ap (λ r. on_ok (settle machine s (grown machine.core (get machine.rests s) b) r) (λ next. reads judge next ps)) e ∙ h.reads_it;
+  messages_are = h.messages_are;
+}
+read_on judge machine s b ps messages (Whole m) e (rest, is, h) = record {
+  end = h.end;
+  reads_it = ap (λ r. on_ok (settle machine s (grown machine.core (get machine.rests s) b) r) (λ next. reads judge next ps)) e ∙ h.reads_it;
+  messages_are = h.messages_are ∙ append_assoc machine.messages (m ∷ []) rest ∙ ap (λ ms. machine.messages ++ ms) (sym is);
+}
+read_on judge machine s b ps messages (Bad f) e h = absurd h
+
+nothing_read : (judge : Judge) (machine : Machine) (messages : List Message) → messages ≡ [] → IsRead judge machine [] messages
+nothing_read judge machine messages e = record { end = machine; reads_it = refl; messages_are = sym (append-nil machine.messages) ∙ ap (λ ms. machine.messages ++ ms) (sym e) }
+
+-- the rest with one more byte
+pub within_opening : (core : Core) (rest : Rest) (s : Side) (m : Message) (b : ℕ) (left : List ℕ) → rest.bytes ≡ [] → enc m ≡ b ∷ left → IsFilled left → side m ≡ s → IsSendable m → MayStart core s m →
+    InStep core (grown core rest b) s (Busy m left)
+within_opening core rest s m b left e f g sd sn ms = (
+  record {
+    filled = IsFilled-snoc rest.bytes b;
+    unfinished = g;
+    encodes = f ∙ ap (λ bs. (bs ++ b ∷ []) ++ left) (sym e);
+    sided = sd;
+    sendable = sn;
+    starts = subst (λ c. MayStart c s m) (sym (old-empty core rest e)) ms;
+  },
+  subst (λ c. Later s c core) (sym (old-empty core rest e)) at_once,
+)
+
+pub within_middle : (core : Core) (rest : Rest) (s : Side) (m : Message) (b : ℕ) (left : List ℕ) → InStep core rest s (Busy m (b ∷ left)) → IsFilled left → InStep core (grown core rest b) s (Busy m left)
+within_middle core rest s m b left i g = (
+  record {
+    filled = IsFilled-snoc rest.bytes b;
+    unfinished = g;
+    encodes = i.0.encodes ∙ sym (append_assoc rest.bytes (b ∷ []) left);
+    sided = i.0.sided;
+    sendable = i.0.sendable;
+    starts = subst (λ c. MayStart c s m) (sym (old-filled core rest i.0.filled)) i.0.starts;
+  },
+  subst (λ c. Later s c core) (sym (old-filled core rest i.0.filled)) i.1,
+)
+
+judged_more : (judge : Judge) → IsExact judge → (core : Core) (rest : Rest) (s : Side) (m : Message) (left : List ℕ) → InStep core rest s (Busy m left) → HasEnd s core m → Kept judge s rest.since core rest.bytes → judge rest.since core s rest.bytes ≡ More
+judged_more judge exact core rest s m left i end k =
+    exact.more rest.since core end.end s m rest.bytes left i.1 end.later i.0.sided i.0.sendable i.0.starts end.completes i.0.encodes i.0.filled i.0.unfinished k
+
+judged_whole : (judge : Judge) → IsExact judge → (core : Core) (rest : Rest) (s : Side) (m : Message) (b : ℕ) → InStep core rest s (Busy m (b ∷ [])) → MayComplete core core.phase m → Kept judge s (old_of core rest) core (rest.bytes ++ b ∷ []) →
+    judge (old_of core rest) core s (rest.bytes ++ b ∷ []) ≡ Whole m
+judged_whole judge exact core rest s m b i ok k =
+    let since_is : old_of core rest ≡ rest.since = old-filled core rest i.0.filled in
+    ap (λ c. judge c core s (rest.bytes ++ b ∷ [])) since_is ∙ ap (λ bs. judge rest.since core s bs) (sym i.0.encodes)
+    ∙ exact.whole rest.since core s m i.1 i.0.sided i.0.sendable i.0.starts ok
+    (subst (λ l. Kept judge s rest.since core l) (sym i.0.encodes) (subst (λ c. Kept judge s c core (rest.bytes ++ b ∷ [])) since_is k))
+
+-- the pairs that a walk begins with are read, with the messages that complete within them
+pub marks : (judge : Judge) → IsExact judge → {o : Both Open} {items : List Item} (w : Walk ⊥ o items) (machine : Machine) (js : List ℕ) →
+    Obeys (record { core = machine.core; served = js }) items → AreInStep machine o → AreHeld judge machine → (ps more : List Pair) → ArePairs ps → pairs items ≡ ps ++ more → IsRead judge machine ps (within (length ps) items)
+marks judge exact (ended c d) machine js ob st hd [] more lt e = nothing_read judge machine _ refl
+marks judge exact (ended c d) machine js ob st hd (p ∷ ps) more lt e = absurd (cc)
+marks judge exact (serving k w) machine js ob st hd ps more lt e = marks judge exact w machine _ ob.1 st hd ps more lt e
+marks judge exact (opening s m b left is f g w) machine js ob st hd [] more lt e = nothing_read judge machine _ refl
+marks judge exact {o} (opening s m b left {items = items} is f g w) machine js ob st hd (p ∷ ps) more lt e =
+    let p_is : record { from = s; byte = b } ≡ p = cc in
+    let b_lt : b < 256 = subst (λ (q : Pair). q.byte < 256) (sym p_is) lt.0 in
+    let e' : pairs items ≡ ps ++ more = cc in
+    let i : InStep machine.core (grown machine.core (get machine.rests s) b) s (Busy m left) =
+    within_opening machine.core (get machine.rests s) s m b left (subst (InStep machine.core (get machine.rests s) s) is (st s)) f g ob.0.0 ob.0.1 ob.0.2 in
+    let end : HasEnd s machine.core m = completes_later w machine.core (follows items (record { core = machine.core; served = js }) ob.1.1) (each_with IsSidedOpen o s (Busy m left) (in_step_sided machine o st) ob.0.0) s m left (get-put_same o s (Busy m left)) in
+    let j : judge (grown machine.core (get machine.rests s) b).since machine.core s (grown machine.core (get machine.rests s) b).bytes ≡ More =
+    judged_more judge exact machine.core (grown machine.core (get machine.rests s) b) s m left i end (kept_next judge machine.core s (get machine.rests s) b b_lt (hd s)) in
+    subst (λ q. IsRead judge machine (q ∷ ps) (within (length ps) items)) p_is
+    (read_on judge machine s b ps _ More j
+    (marks judge exact w _ js ob.1.1 (in_step_with machine o s (grown machine.core (get machine.rests s) b) (Busy m left) st i) (held_more judge machine s b b_lt hd j) ps more lt.1 e'))
+marks judge exact (middle s m b left is g w) machine js ob st hd [] more lt e = nothing_read judge machine _ refl
+marks judge exact {o} (middle s m b left {items = items} is g w) machine js ob st hd (p ∷ ps) more lt e =
+    let p_is : record { from = s; byte = b } ≡ p = cc in
+    let b_lt : b < 256 = subst (λ (q : Pair). q.byte < 256) (sym p_is) lt.0 in
+    let e' : pairs items ≡ ps ++ more = cc in
+    let i0 : InStep machine.core (get machine.rests s) s (Busy m (b ∷ left)) = subst (InStep machine.core (get machine.rests s) s) is (st s) in
+    let i : InStep machine.core (grown machine.core (get machine.rests s) b) s (Busy m left) = within_middle machine.core (get machine.rests s) s m b left i0 g in
+    let end : HasEnd s machine.core m = completes_later w machine.core (follows items (record { core = machine.core; served = js }) ob.1) (each_with IsSidedOpen o s (Busy m left) (in_step_sided machine o st) i0.0.sided) s m left (get-put_same o s (Busy m left)) in
+    let j : judge (grown machine.core (get machine.rests s) b).since machine.core s (grown machine.core (get machine.rests s) b).bytes ≡ More =
+    judged_more judge exact machine.core (grown machine.core (get machine.rests s) b) s m left i end (kept_next judge machine.core s (get machine.rests s) b b_lt (hd s)) in
+    subst (λ q. IsRead judge machine (q ∷ ps) (within (length ps) items)) p_is
+    (read_on judge machine s b ps _ More j
+    (marks judge exact w _ js ob.1 (in_step_with machine o s (grown machine.core (get machine.rests s) b) (Busy m left) st i) (held_more judge machine s b b_lt hd j) ps more lt.1 e'))
+marks judge exact (final s m b is w) machine js ob st hd [] more lt e = nothing_read judge machine _ refl
+marks judge exact {o} (final s m b {items = items} is w) machine js ob st hd (p ∷ ps) more lt e =
+    let p_is : record { from = s; byte = b } ≡ p = cc in
+    let b_lt : b < 256 = subst (λ (q : Pair). q.byte < 256) (sym p_is) lt.0 in
+    let e' : pairs items ≡ ps ++ more = cc in
+    let i0 : InStep machine.core (get machine.rests s) s (Busy m (b ∷ [])) = subst (InStep machine.core (get machine.rests s) s) is (st s) in
+    subst (λ q. IsRead judge machine (q ∷ ps) (m ∷ within (length ps) items)) p_is
+    (read_on judge machine s b ps _ (Whole m) (judged_whole judge exact machine.core (get machine.rests s) s m b i0 ob.1.0 (kept_next judge machine.core s (get machine.rests s) b b_lt (hd s)))
+    (within (length ps) items, refl, marks judge exact w _ js ob.1.1 (in_step_completed machine o s m _ (machine.messages ++ m ∷ []) st i0.0.sided ob.1.0 refl) (held_whole judge machine s m _ refl hd i0.0.sided i0.0.sendable ob.1.0) ps more lt.1 e'))
+marks judge exact (loose s b absent is w) machine js ob st hd ps more lt e = absurd absent

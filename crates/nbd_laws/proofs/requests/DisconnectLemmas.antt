@@ -1,0 +1,86 @@
+-- Nothing of the client comes after a DISC.
+use Rattle.std.proofs.Common.{◌≡◌, ℕ, ◌==◌, List, [], ◌∷◌, ◌++◌, refl, sym, ◌∙◌, subst, Option, Some, None, Bool, true, false}
+use Rattle.nbd_wire.specs.declared.commands.TheConstants as commands
+use Rattle.nbd_wire.specs.declared.message.Side.TheVariants.{Client}
+use Rattle.nbd_wire.specs.declared.message.Message.{Message}
+use Rattle.nbd_wire.specs.declared.message.Message.TheVariants.{Request, Simple, Chunk}
+use Rattle.nbd_wire.specs.protocol.Marks.{Item, Byte, Starts, Completes, Serves}
+use Rattle.nbd_wire.specs.protocol.Operations.{Operation, Exporting}
+use Rattle.nbd_wire.specs.protocol.Rules.{MayAsk, MayComplete, MayStartIn, Obeys, after, request_of_reply, complete, ends_at, reply_to, core_with_request}
+use Rattle.nbd_wire.specs.protocol.States.{Core, Phase, State, Transmission, start}
+use Rattle.nbd_laws.proofs.runs.PrefixLemmas.{InTransmission, asks, gives, phase-complete, replies, transmission_row}
+use Rattle.nbd_laws.proofs.runs.PartLemmas.{obeys_back, obeys_prefix}
+use Rattle.nbd_laws.specs.Service.{DisconnectsAreEmpty, NothingAfterDisconnect}
+
+-- a request completes in transmission alone
+record IsAsked (core : Core) (phase : Phase) (command cookie offset len : ℕ) : Type 0 where
+  export : Exporting
+  phase_is : phase ≡ Transmission export
+  asks_it : MayAsk (command == commands.DISC) core cookie offset len
+
+request_row : (core : Core) (phase : Phase) (flags command cookie offset len : ℕ) (p : List ℕ) → MayComplete core phase (Request flags command cookie offset len p) → IsAsked core phase command cookie offset len
+unfolding MayComplete
+request_row core (Transmission export) flags command cookie offset len p ok = record { export = export; phase_is = refl; asks_it = ok }
+request_row core phase flags command cookie offset len p ok = absurd ok
+
+gone-requested : (b : Bool) (core : Core) (e : Operation) → core.disconnected ≡ true → (core_with_request b core e).disconnected ≡ true
+gone-requested true core e h = refl
+gone-requested false core e h = h
+
+gone-reply_to : (o : Option ℕ) (core : Core) (m : Message) → core.disconnected ≡ true → (reply_to o core m).disconnected ≡ true
+gone-reply_to (Some k) core m h = h
+gone-reply_to None core m h = h
+
+gone-complete : (core : Core) (export : Exporting) (m : Message) → InTransmission core export m → core.disconnected ≡ true → (complete core m).disconnected ≡ true
+unfolding complete
+gone-complete core export m (asks flags command cookie offset len p x) h = gone-requested (command == commands.DISC) core _ h
+gone-complete core export m (replies error cookie p x) h = gone-reply_to (request_of_reply core (Simple error cookie p)) core (Simple error cookie p) h
+gone-complete core export m (gives flags kind cookie p x) h = gone-reply_to (request_of_reply core (Chunk flags kind cookie p)) core (Chunk flags kind cookie p) h
+
+-- in transmission, with the client gone
+record IsGone (core : Core) : Type 0 where
+  export : Exporting
+  phase_is : core.phase ≡ Transmission export
+  gone : core.disconnected ≡ true
+
+stays_gone : (items : List Item) (state : State) → Obeys state items → IsGone state.core → IsGone (ends_at state items).core
+stays_gone [] state ob g = g
+stays_gone (Byte s b ∷ items) state ob g = stays_gone items state ob.1 g
+stays_gone (Starts s m ∷ items) state ob g = stays_gone items state ob.1 g
+stays_gone (Completes s m ∷ items) state ob g =
+    let i : InTransmission state.core g.export m = transmission_row state.core g.export m (subst (λ phase. MayComplete state.core phase m) g.phase_is ob.0) in
+    stays_gone items (after state (Completes s m)) ob.1 (record {
+      export = g.export;
+      phase_is = phase-complete state.core g.export m i ∙ g.phase_is;
+      gone = gone-complete state.core g.export m i g.gone;
+    })
+stays_gone (Serves k ∷ items) state ob g = stays_gone items (after state (Serves k)) ob.1 g
+
+pub disconnects_are_empty : DisconnectsAreEmpty
+disconnects_are_empty prefix back flags cookie offset len p run =
+    let state : State = ends_at start prefix in
+    (request_row state.core state.core.phase flags commands.DISC cookie offset len p
+    (obeys_back start prefix (Completes Client (Request flags commands.DISC cookie offset len p) ∷ back) run.obeys).0).asks_it
+
+gone_behind : (core : Core) (flags cookie offset len : ℕ) (p : List ℕ) → MayComplete core core.phase (Request flags commands.DISC cookie offset len p) → IsGone (complete core (Request flags commands.DISC cookie offset len p))
+unfolding complete
+gone_behind core flags cookie offset len p ok =
+    let r : IsAsked core core.phase commands.DISC cookie offset len = request_row core core.phase flags commands.DISC cookie offset len p ok in
+    record { export = r.export; phase_is = r.phase_is; gone = refl }
+
+not_gone : (core : Core) (m : Message) → IsGone core → MayStartIn core.phase core Client m → ⊥
+unfolding MayStartIn
+not_gone core m g h =
+    let q : MayStartIn (Transmission g.export) core Client m = subst (λ phase. MayStartIn phase core Client m) g.phase_is h in
+    let w : true ≡ false = sym g.gone ∙ q.1 in
+    absurd (cc)
+
+pub nothing_after_disconnect : NothingAfterDisconnect
+nothing_after_disconnect prefix middle back flags cookie offset len p m run =
+    let disc : Message = Request flags commands.DISC cookie offset len p in
+    let state : State = ends_at start prefix in
+    let ob : Obeys state (Completes Client disc ∷ (middle ++ Starts Client m ∷ back)) = obeys_back start prefix (Completes Client disc ∷ (middle ++ Starts Client m ∷ back)) run.obeys in
+    let next : State = after state (Completes Client disc) in
+    let rest : Obeys (ends_at next middle) (Starts Client m ∷ back) = obeys_back next middle (Starts Client m ∷ back) ob.1 in
+    let g : IsGone (ends_at next middle).core = stays_gone middle next (obeys_prefix next middle (Starts Client m ∷ back) ob.1) (gone_behind state.core flags cookie offset len p ob.0) in
+    not_gone (ends_at next middle).core m g rest.0.2

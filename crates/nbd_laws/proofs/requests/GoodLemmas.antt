@@ -1,0 +1,239 @@
+-- What a request keeps as replies to it complete.
+use Rattle.std.proofs.Common.{◌≡◌, ℕ, zero, suc, ◌<◌, ◌≤◌, ◌⊎◌, ◌+◌, ◌==◌, List, [], ◌∷◌, ◌++◌, length, refl, sym, ◌∙◌, ap, subst, inl, inr, Some, None, Bool, true, false, not, ◌&&◌, ◌||◌, if◌then◌else◌, eqb-true, eq-eqb, is_some, arith, IsTrue, append-nil, nat_le, nat_lt, le_refl}
+use Rattle.std.proofs.lemmas.Bool.{leb-true, ltb-true}
+use Rattle.nbd_wire.specs.declared.chunks.TheConstants as chunks
+use Rattle.nbd_wire.specs.declared.command_flags.TheConstants as command_flags
+use Rattle.nbd_wire.specs.declared.commands.TheConstants as commands
+use Rattle.nbd_wire.specs.declared.message.Message.{Message}
+use Rattle.nbd_wire.specs.declared.message.Message.TheVariants.{Request, Simple, Chunk}
+use Rattle.nbd_wire.specs.declared.payloads.Failure.{Failure}
+use Rattle.nbd_wire.specs.declared.payloads.Piece.{Piece}
+use Rattle.nbd_wire.specs.declared.payloads.Piece.TheVariants.{Bytes}
+use Rattle.nbd_wire.specs.protocol.Payloads.{content_of, failure_of, number_at}
+use Rattle.nbd_wire.specs.protocol.Replies.{IsChunk, MayReply, simple_length}
+use Rattle.nbd_wire.specs.protocol.Operations.{Covers, Operation, Exporting, Outcome, Success, Pending, any, ends_reply, has_failed, has_range, is_failing, is_finished, is_proper, outcome, pieces, pieces_of}
+use Rattle.nbd_wire.specs.protocol.Pieces.{byte_at, chunk_piece, holds, is_in, piece_of, piece_offset, piece_size, simple_piece}
+use Rattle.nbd_wire.specs.protocol.Flags.{has}
+use Rattle.nbd_wire.specs.protocol.Operations as requests
+use Rattle.nbd_wire.specs.protocol.Pieces as requests_pieces
+use Rattle.nbd_wire.specs.protocol.Sendable.{IsSendable}
+use Rattle.nbd_wire.specs.protocol.States.{with_reply_at, operation, with_reply}
+use Rattle.nbd_laws.proofs.requests.LaidLemmas.{AreApart, AreInside, apart_snoc, inside_snoc, pieces-snoc}
+use Rattle.nbd_laws.proofs.requests.OutstandingLemmas.{both_true, unfinished}
+
+pub record IsGood (export : Exporting) (e : Operation) : Type 0 where
+  pub carried : e.command ≡ commands.WRITE → length e.payload ≡ e.length
+  pub inside : AreInside e.offset e.length (pieces e)
+  pub apart : AreApart (pieces e)
+  pub reads : (e.command ≡ commands.READ → ⊥) → pieces e ≡ []
+  pub single : IsTrue (is_proper export e) → IsTrue (has e.flags command_flags.DF) → length (pieces e) ≤ 1
+  pub success : outcome e ≡ Success → IsTrue (is_proper export e)
+  pub covered : outcome e ≡ Success → e.command ≡ commands.READ → Covers e (pieces e)
+
+abbrev pub AreGood : Exporting → List Operation → Type 0
+AreGood export [] = Unit {0}
+AreGood export (e ∷ es) = IsGood export e × AreGood export es
+
+pub good_entry : (export : Exporting) (k : ℕ) (es : List Operation) (e : Operation) → AreGood export es → operation k es ≡ Some e → IsGood export e
+good_entry export k [] e t h = absurd (cc)
+good_entry export zero (x ∷ es) e t h = absurd (cc)
+good_entry export (suc zero) (x ∷ es) e t h = let q : x ≡ e = cc in subst (IsGood export) q t.0
+good_entry export (suc (suc k)) (x ∷ es) e t h = good_entry export (suc k) es e t.1 h
+
+pub good_snoc : (export : Exporting) (es : List Operation) (e : Operation) → AreGood export es → IsGood export e → AreGood export (es ++ e ∷ [])
+good_snoc export [] e t h = (h, tt)
+good_snoc export (x ∷ es) e t h = (t.0, good_snoc export es e t.1 h)
+
+pub good_answered : (export : Exporting) (k : ℕ) (m : Message) (es : List Operation) (e : Operation) → AreGood export es → operation k es ≡ Some e → IsGood export (with_reply e m) → AreGood export (with_reply_at k m es)
+good_answered export k m [] e t h r = tt
+good_answered export zero m (x ∷ es) e t h r = t
+good_answered export (suc zero) m (x ∷ es) e t h r = let q : e ≡ x = cc in (subst (λ y. IsGood export (with_reply y m)) q r, t.1)
+good_answered export (suc (suc k)) m (x ∷ es) e t h r = (t.0, good_answered export (suc k) m es e t.1 h r)
+
+-- what a success means
+pub record Succeeds (e : Operation) : Type 0 where
+  finished : is_finished e ≡ true
+  unfailed : has_failed e ≡ false
+
+pub succeeds : (e : Operation) → outcome e ≡ Success → Succeeds e
+succeeds e h = go (is_finished e) (has_failed e) refl refl h
+  where
+    go : (f g : Bool) → is_finished e ≡ f → has_failed e ≡ g → (if f then (if g then requests.Failure else Success) else Pending) ≡ Success → Succeeds e
+    go true true p q h = absurd (cc)
+    go true false p q h = record { finished = p; unfailed = q }
+    go false g p q h = absurd (cc)
+
+pub any-last : (p : Message → Bool) (ms : List Message) (m : Message) → any p ms ≡ false → any p (ms ++ m ∷ []) ≡ true → p m ≡ true
+any-last p [] m f h = go (p m) h
+  where
+    go : (b : Bool) → (b || false) ≡ true → b ≡ true
+    go true h = refl
+    go false h = absurd (cc)
+any-last p (n ∷ ms) m f h = go (p n) f h (any-last p ms m)
+  where
+    go : (b : Bool) → (b || any p ms) ≡ false → (b || any p (ms ++ m ∷ [])) ≡ true → (any p ms ≡ false → any p (ms ++ m ∷ []) ≡ true → p m ≡ true) → p m ≡ true
+    go true f h ih = absurd (cc)
+    go false f h ih = ih f h
+
+pub failure_kind : (kind : ℕ) (bytes : List ℕ) (f : Failure) → failure_of kind bytes ≡ Some f → (kind ≡ chunks.ERROR) ⊎ (kind ≡ chunks.ERROR_OFFSET)
+unfolding failure_of
+failure_kind kind bytes f e =
+    pick (number_at 0 4 bytes == 0) ((kind == chunks.ERROR) && nat_le (6 + number_at 4 2 bytes) (length bytes)) ((kind == chunks.ERROR_OFFSET) && nat_le (14 + number_at 4 2 bytes) (length bytes)) _ _
+    (λ h. eqb-true kind chunks.ERROR (both_true (kind == chunks.ERROR) (nat_le (6 + number_at 4 2 bytes) (length bytes)) h).0)
+    (λ h. eqb-true kind chunks.ERROR_OFFSET (both_true (kind == chunks.ERROR_OFFSET) (nat_le (14 + number_at 4 2 bytes) (length bytes)) h).0) e
+  where
+    pick : (z a b : Bool) (x y : Failure) → (a ≡ true → kind ≡ chunks.ERROR) → (b ≡ true → kind ≡ chunks.ERROR_OFFSET) →
+        (if z then None else if a then Some x else if b then Some y else None) ≡ Some f → (kind ≡ chunks.ERROR) ⊎ (kind ≡ chunks.ERROR_OFFSET)
+    pick true a b x y l r e = absurd (cc)
+    pick false true b x y l r e = inl (l refl)
+    pick false false true x y l r e = inr (r refl)
+    pick false false false x y l r e = absurd (cc)
+
+-- an error chunk has no content, nor has NONE
+pub no_content : (kind : ℕ) (bytes : List ℕ) (f : Failure) → failure_of kind bytes ≡ Some f → content_of kind bytes ≡ None
+unfolding content_of
+no_content kind bytes f e = elim (failure_kind kind bytes f e) [
+  | inl q ↦ subst (λ k. content_of k bytes ≡ None) (sym q) refl
+  | inr q ↦ subst (λ k. content_of k bytes ≡ None) (sym q) refl
+]
+
+pub none_content : (kind : ℕ) (bytes : List ℕ) → kind ≡ chunks.NONE → content_of kind bytes ≡ None
+unfolding content_of
+none_content kind bytes q = subst (λ k. content_of k bytes ≡ None) (sym q) refl
+
+-- the pieces with those of one more reply
+pub pieces-with_reply : (e : Operation) (m : Message) → pieces (with_reply e m) ≡ pieces e ++ piece_of e.offset m
+pieces-with_reply e m = pieces-snoc e.offset e.replies m
+
+pub no_piece : (e : Operation) (flags kind cookie : ℕ) (payload : List ℕ) → content_of kind payload ≡ None → pieces (with_reply e (Chunk flags kind cookie payload)) ≡ pieces e
+unfolding piece_of
+no_piece e flags kind cookie payload q = pieces-with_reply e (Chunk flags kind cookie payload) ∙ ap (λ o. pieces e ++ chunk_piece o) q ∙ append-nil (pieces e)
+
+pub one_piece : (e : Operation) (flags kind cookie : ℕ) (payload : List ℕ) (piece : Piece) → content_of kind payload ≡ Some piece → pieces (with_reply e (Chunk flags kind cookie payload)) ≡ pieces e ++ piece ∷ []
+unfolding piece_of
+one_piece e flags kind cookie payload piece q = pieces-with_reply e (Chunk flags kind cookie payload) ∙ ap (λ o. pieces e ++ chunk_piece o) q
+
+-- what a request with one more reply keeps
+pub record Keeps (export : Exporting) (e : Operation) (ps : List Piece) : Type 0 where
+  inside : AreInside e.offset e.length ps
+  apart : AreApart ps
+  reads : (e.command ≡ commands.READ → ⊥) → ps ≡ []
+  single : IsTrue (is_proper export e) → IsTrue (has e.flags command_flags.DF) → length ps ≤ 1
+
+pub and_both : {a b : Bool} → IsTrue a → IsTrue b → IsTrue (a && b)
+and_both {a} {b} p q = ap (λ x. x && b) p ∙ q
+
+pub kept_chunk : (export : Exporting) (e : Operation) (flags kind cookie : ℕ) (payload : List ℕ) → IsGood export e → IsChunk export e flags kind payload → Keeps export e (pieces (with_reply e (Chunk flags kind cookie payload)))
+kept_chunk export e flags kind cookie payload g h = elim h [
+  | inl q ↦ same (no_piece e flags kind cookie payload (none_content kind payload q.0))
+  | inr r ↦ elim r [
+    | inl (piece, is, fit) ↦ (let s : pieces e ++ piece ∷ [] ≡ pieces (with_reply e (Chunk flags kind cookie payload)) = sym (one_piece e flags kind cookie payload piece is) in
+        subst (Keeps export e) s (record {
+          inside = inside_snoc e.offset e.length (pieces e) piece g.inside fit.1 fit.2;
+          apart = apart_snoc (pieces e) piece g.apart fit.3;
+          reads = λ n. absurd (n fit.0);
+          single = λ p d. subst (λ l. length (l ++ piece ∷ []) ≤ 1) (sym (fit.4 (and_both p d))) (le_refl 1);
+        }))
+    | inr (f, is, x) ↦ same (no_piece e flags kind cookie payload (no_content kind payload f is))
+  ]
+]
+  where
+    same : pieces (with_reply e (Chunk flags kind cookie payload)) ≡ pieces e → Keeps export e (pieces (with_reply e (Chunk flags kind cookie payload)))
+    same s = subst (Keeps export e) (sym s) (record { inside = g.inside; apart = g.apart; reads = g.reads; single = g.single })
+
+-- a chunk
+pub good_chunk : (structured : Bool) (export : Exporting) (e : Operation) (flags kind cookie : ℕ) (payload : List ℕ) → IsGood export e → is_finished e ≡ false → MayReply structured export e (Chunk flags kind cookie payload) →
+    IsGood export (with_reply e (Chunk flags kind cookie payload))
+unfolding MayReply ends_reply is_proper
+good_chunk structured export e flags kind cookie payload g unfinished h =
+    let k : Keeps export e (pieces (with_reply e (Chunk flags kind cookie payload))) = kept_chunk export e flags kind cookie payload g h.1 in
+    record { carried = g.carried; inside = k.inside; apart = k.apart; reads = k.reads; single = k.single; success = λ s. (finish s).0; covered = λ s. (finish s).1 }
+  where
+    finish : outcome (with_reply e (Chunk flags kind cookie payload)) ≡ Success →
+        IsTrue (is_proper export (with_reply e (Chunk flags kind cookie payload))) × (e.command ≡ commands.READ → Covers e (pieces (with_reply e (Chunk flags kind cookie payload))))
+    finish s =
+        let w : Succeeds (with_reply e (Chunk flags kind cookie payload)) = succeeds (with_reply e (Chunk flags kind cookie payload)) s in
+        elim (h.2 (any-last ends_reply e.replies (Chunk flags kind cookie payload) unfinished w.finished)) [
+          | inl f ↦ absurd (let q : true ≡ false = sym f ∙ w.unfailed in (cc))
+          | inr r ↦ r
+        ]
+
+-- a request with one simple reply
+abbrev pub once : Operation → (error cookie : ℕ) (payload : List ℕ) → Operation
+once e error cookie payload = record e { replies = Simple error cookie payload ∷ [] }
+
+pub no_error : (e : Operation) (error cookie : ℕ) (payload : List ℕ) → outcome (once e error cookie payload) ≡ Success → error ≡ 0
+unfolding ends_reply is_failing
+no_error e error cookie payload h = go (error == 0) refl h
+  where
+    go : (z : Bool) → (error == 0) ≡ z → (if not z || false then requests.Failure else Success) ≡ Success → error ≡ 0
+    go true q h = eqb-true error 0 q
+    go false q h = absurd (cc)
+
+pub simple_most : (e : Operation) (error : ℕ) → simple_length e error ≤ e.length
+simple_most e error = go ((e.command == commands.READ) && (error == 0))
+  where
+    go : (b : Bool) → (if b then e.length else 0) ≤ e.length
+    go true = le_refl e.length
+    go false = omega arith
+
+pub simple_none : (e : Operation) (error : ℕ) → (e.command ≡ commands.READ → ⊥) → simple_length e error ≡ 0
+simple_none e error n = go (e.command == commands.READ) refl
+  where
+    go : (b : Bool) → (e.command == commands.READ) ≡ b → (if b && (error == 0) then e.length else 0) ≡ 0
+    go true q = absurd (n (eqb-true e.command commands.READ q))
+    go false q = refl
+
+pub simple_all : (e : Operation) (error : ℕ) → e.command ≡ commands.READ → error ≡ 0 → simple_length e error ≡ e.length
+simple_all e error c z = ap (λ b. if b && (error == 0) then e.length else 0) (eq-eqb e.command commands.READ c) ∙ ap (λ b. if true && b then e.length else 0) (eq-eqb error 0 z)
+
+pub simple_keeps : (export : Exporting) (e : Operation) (payload : List ℕ) → length payload ≤ e.length → ((e.command ≡ commands.READ → ⊥) → length payload ≡ 0) → Keeps export e (simple_piece e.offset payload ++ [])
+simple_keeps export e [] l r = record { inside = tt; apart = tt; reads = λ n. refl; single = λ p d. omega arith }
+simple_keeps export e (b ∷ bytes) l r = record {
+  inside = ((omega arith, omega (arith, l)), tt);
+  apart = ((λ x h. refl), tt);
+  reads = λ n. (let z : length (b ∷ bytes) ≡ 0 = r n in absurd (omega arith));
+  single = λ p d. le_refl 1;
+}
+
+pub simple_covers : (e : Operation) (payload : List ℕ) → length payload ≡ e.length → Covers e (simple_piece e.offset payload ++ [])
+simple_covers e [] l x i =
+    let r : IsTrue (nat_le e.offset x) × IsTrue (nat_lt x (e.offset + e.length)) = both_true (nat_le e.offset x) (nat_lt x (e.offset + e.length)) i in
+    let lo : e.offset ≤ x = leb-true e.offset x r.0 in
+    let hi : x < e.offset + e.length = ltb-true x (e.offset + e.length) r.1 in
+    absurd (omega arith)
+simple_covers e (b ∷ bytes) l x i = go (holds (Bytes e.offset (b ∷ bytes)) x) (ap (λ n. is_in e.offset n x) l ∙ i)
+  where
+    go : (h : Bool) → h ≡ true → IsTrue (is_some (if h then Some (requests_pieces.piece_byte (Bytes e.offset (b ∷ bytes)) x) else None))
+    go true q = refl
+    go false q = absurd (cc)
+
+pub good_simple : (structured : Bool) (export : Exporting) (e : Operation) (error cookie : ℕ) (payload : List ℕ) → IsGood export e → MayReply structured export e (Simple error cookie payload) → IsGood export (with_reply e (Simple error cookie payload))
+unfolding MayReply piece_of is_proper
+good_simple structured export e error cookie payload g h =
+    let k : Keeps export e (simple_piece e.offset payload ++ []) = simple_keeps export e payload
+    (let m : simple_length e error ≤ e.length = simple_most e error in let q : length payload ≡ simple_length e error = h.2 in omega arith)
+    (λ n. h.2 ∙ simple_none e error n) in
+    let good : IsGood export (once e error cookie payload) = record {
+      carried = g.carried;
+      inside = k.inside;
+      apart = k.apart;
+      reads = k.reads;
+      single = k.single;
+      success = λ s. h.3 (no_error e error cookie payload s);
+      covered = λ s c. simple_covers e payload (h.2 ∙ simple_all e error c (no_error e error cookie payload s));
+    } in
+    subst (λ rs. IsGood export (record e { replies = rs ++ Simple error cookie payload ∷ [] })) (sym h.0) good
+
+pub good_new : (export : Exporting) (flags command cookie offset len : ℕ) (payload : List ℕ) → IsSendable (Request flags command cookie offset len payload) →
+    IsGood export (record { flags = flags; command = command; cookie = cookie; offset = offset; length = len; payload = payload; replies = [] })
+unfolding IsSendable
+good_new export flags command cookie offset len payload sn = record {
+  carried = λ c. sn.5 ∙ ap (λ b. if b then len else 0) (eq-eqb command commands.WRITE c);
+  inside = tt;
+  apart = tt;
+  reads = λ n. refl;
+  single = λ p d. omega arith;
+  success = λ s. absurd (cc);
+  covered = λ s. absurd (cc);
+}

@@ -1,0 +1,180 @@
+-- The replies to a request are one simple reply, or chunks of which the last and only the last ends the reply.
+use Rattle.std.proofs.Common.{◌≡◌, ℕ, zero, suc, ◌==◌, ◌||◌, List, [], ◌∷◌, ◌++◌, refl, sym, ◌∙◌, ap, subst, inl, inr, Option, Some, None, Bool, true, false, not, eqb-true}
+use Rattle.nbd_wire.specs.declared.commands.TheConstants as commands
+use Rattle.nbd_wire.specs.declared.message.Message.{Message}
+use Rattle.nbd_wire.specs.declared.message.Message.TheVariants.{Greeting, ClientFlags, Choice, Answer, Exported, Request, Simple, Chunk}
+use Rattle.nbd_wire.specs.protocol.Replies.{MayReply}
+use Rattle.nbd_wire.specs.protocol.Reports.{operations_of}
+use Rattle.nbd_wire.specs.protocol.Operations.{Operation, Exporting, any, ends_reply, is_finished}
+use Rattle.nbd_wire.specs.protocol.Rules.{MayComplete, complete, cookie_of, ends_at, grants_structured, reply_to, core_with_request}
+use Rattle.nbd_wire.specs.protocol.States.{Core, Phase, Greet, Flags, Choosing, Naming, Aborting, Answering, Transmission, with_reply_at, operation, start, target, with_reply}
+use Rattle.nbd_laws.proofs.runs.PrefixLemmas.{InTransmission, asks, gives, replies, transmission_row}
+use Rattle.nbd_laws.specs.Reached.{IsReached, at_start, after_message}
+use Rattle.nbd_laws.proofs.requests.OutstandingLemmas.{IsFound, both_true, find}
+use Rattle.nbd_laws.proofs.runs.ReachLemmas.{run_reaches}
+use Rattle.nbd_laws.proofs.requests.SoundnessLemmas.{InPhase, open_target, sound}
+use Rattle.nbd_laws.specs.Replying.{IsReplyAfter, IsReplyBetween, RepliesAreWhole}
+
+-- each reply fits where it stands
+abbrev AreWhole : Bool → Operation → List Message → Type 0
+AreWhole structured e ms = (prefix back : List Message) (m : Message) → ms ≡ prefix ++ m ∷ back → IsReplyBetween structured e prefix m back
+
+abbrev pub EachIsWhole : Bool → List Operation → Type 0
+EachIsWhole structured [] = Unit {0}
+EachIsWhole structured (e ∷ es) = AreWhole structured e e.replies × EachIsWhole structured es
+
+-- where a list with one more message is cut
+data IsCut (ms : List Message) (last : Message) (prefix back : List Message) (m : Message) : Type 0 where
+  at_last : prefix ≡ ms → m ≡ last → back ≡ [] → IsCut ms last prefix back m
+  before_last : (rest : List Message) → ms ≡ prefix ++ m ∷ rest → IsCut ms last prefix back m
+
+cut_at : (ms : List Message) (last : Message) (prefix back : List Message) (m : Message) → ms ++ last ∷ [] ≡ prefix ++ m ∷ back → IsCut ms last prefix back m
+cut_at [] last [] [] m e = at_last refl (cc) refl
+cut_at [] last [] (x ∷ back) m e = absurd (cc)
+cut_at [] last (x ∷ []) back m e = absurd (cc)
+cut_at [] last (x ∷ y ∷ prefix) back m e = absurd (cc)
+cut_at (n ∷ ms) last [] back m e = (let q : n ≡ m = cc in before_last ms (ap (λ x. x ∷ ms) q))
+cut_at (n ∷ ms) last (x ∷ prefix) back m e = go (cut_at ms last prefix back m (cc))
+  where
+    nx : n ≡ x
+    nx = cc
+
+    go : IsCut ms last prefix back m → IsCut (n ∷ ms) last (x ∷ prefix) back m
+    go (at_last p q r) = at_last (ap (λ l. x ∷ l) p ∙ ap (λ y. y ∷ ms) (sym nx)) q r
+    go (before_last rest p) = before_last rest (ap (λ l. n ∷ l) p ∙ ap (λ y. y ∷ (prefix ++ m ∷ rest)) nx)
+
+-- nothing in an unfinished reply ends it
+ends_in : (prefix : List Message) (m : Message) (back : List Message) → any ends_reply (prefix ++ m ∷ back) ≡ false → ends_reply m ≡ false
+ends_in [] m back h = go (ends_reply m) h
+  where
+    go : (b : Bool) → (b || any ends_reply back) ≡ false → b ≡ false
+    go true h = absurd (cc)
+    go false h = refl
+ends_in (n ∷ prefix) m back h = go (ends_reply n) h (ends_in prefix m back)
+  where
+    go : (b : Bool) → (b || any ends_reply (prefix ++ m ∷ back)) ≡ false → (any ends_reply (prefix ++ m ∷ back) ≡ false → ends_reply m ≡ false) → ends_reply m ≡ false
+    go true h ih = absurd (cc)
+    go false h ih = ih h
+
+-- one more reply
+whole_snoc : (structured : Bool) (e : Operation) (last : Message) → is_finished e ≡ false → AreWhole structured e e.replies → cookie_of last ≡ Some e.cookie → IsReplyAfter structured e e.replies last → AreWhole structured e (e.replies ++ last ∷ [])
+whole_snoc structured e last open_ w c h prefix back m q = go (cut_at e.replies last prefix back m q)
+  where
+    go : IsCut e.replies last prefix back m → IsReplyBetween structured e prefix m back
+    go (at_last p r n) = record {
+      cookie = ap cookie_of r ∙ c;
+      ends = λ u. n;
+      fits = subst (λ ms. IsReplyAfter structured e ms m) (sym p) (subst (IsReplyAfter structured e e.replies) (sym r) h);
+    }
+    go (before_last rest p) =
+        let b : IsReplyBetween structured e prefix m rest = w prefix rest m p in
+        let none : ends_reply m ≡ false = ends_in prefix m rest (subst (λ ms. any ends_reply ms ≡ false) p open_) in
+        record { cookie = b.cookie; ends = λ u. absurd (let x : true ≡ false = sym u ∙ none in (cc)); fits = b.fits }
+
+each_snoc : (structured : Bool) (es : List Operation) (e : Operation) → EachIsWhole structured es → AreWhole structured e e.replies → EachIsWhole structured (es ++ e ∷ [])
+each_snoc structured [] e w h = (h, tt)
+each_snoc structured (x ∷ es) e w h = (w.0, each_snoc structured es e w.1 h)
+
+each_answered : (structured : Bool) (k : ℕ) (m : Message) (es : List Operation) (e : Operation) → EachIsWhole structured es → operation k es ≡ Some e → (AreWhole structured e e.replies → AreWhole structured e (e.replies ++ m ∷ [])) → EachIsWhole structured (with_reply_at k m es)
+each_answered structured k m [] e w h r = tt
+each_answered structured zero m (x ∷ es) e w h r = w
+each_answered structured (suc zero) m (x ∷ es) e w h r =
+    let q : e ≡ x = cc in
+    let r' : AreWhole structured x x.replies → AreWhole structured x (x.replies ++ m ∷ []) = subst (λ (y : Operation). AreWhole structured y y.replies → AreWhole structured y (y.replies ++ m ∷ [])) q r in
+    ((λ prefix back n p. (let b : IsReplyBetween structured x prefix n back = r' w.0 prefix back n p in record { cookie = b.cookie; ends = b.ends; fits = moved structured x m prefix n b.fits })), w.1)
+  where
+    moved : (structured : Bool) (x : Operation) (m : Message) (prefix : List Message) (n : Message) → IsReplyAfter structured x prefix n → IsReplyAfter structured (with_reply x m) prefix n
+    moved structured x m prefix (Simple error cookie payload) h = h
+    moved structured x m prefix (Chunk flags kind cookie payload) h = h
+    moved structured x m prefix (Greeting flags) h = h
+    moved structured x m prefix (ClientFlags flags) h = h
+    moved structured x m prefix (Choice id payload) h = h
+    moved structured x m prefix (Answer option kind payload) h = h
+    moved structured x m prefix (Exported size flags padded) h = h
+    moved structured x m prefix (Request flags command cookie offset len payload) h = h
+each_answered structured (suc (suc k)) m (x ∷ es) e w h r = (w.0, each_answered structured (suc k) m es e w.1 h r)
+
+each_reply_to : (structured : Bool) (core : Core) (m : Message) (o : Option ℕ) (k : ℕ) (e : Operation) → o ≡ Some k → EachIsWhole structured core.entries → operation k core.entries ≡ Some e →
+    (AreWhole structured e e.replies → AreWhole structured e (e.replies ++ m ∷ [])) → EachIsWhole structured (reply_to o core m).entries
+each_reply_to structured core m (Some j) k e q w h r = (let s : k ≡ j = cc in subst (λ j. EachIsWhole structured (with_reply_at j m core.entries)) s (each_answered structured k m core.entries e w h r))
+each_reply_to structured core m None k e q w h r = absurd (cc)
+
+each_requested : (b structured : Bool) (core : Core) (e : Operation) → e.replies ≡ [] → EachIsWhole structured core.entries → EachIsWhole structured (core_with_request b core e).entries
+each_requested true structured core e n w = w
+each_requested false structured core e n w = each_snoc structured core.entries e w (λ prefix back m q. none prefix back m (sym n ∙ q))
+  where
+    none : (prefix back : List Message) (m : Message) → [] ≡ prefix ++ m ∷ back → IsReplyBetween structured e prefix m back
+    none [] back m q = absurd (cc)
+    none (x ∷ prefix) back m q = absurd (cc)
+
+-- the cookie of the request that a reply answers
+found_cookie : (core : Core) (cookie k : ℕ) (e : Operation) → target cookie core.entries ≡ Some k → operation k core.entries ≡ Some e → e.cookie ≡ cookie
+found_cookie core cookie k e t is =
+    let f : IsFound cookie k core.entries = find cookie core.entries k t in
+    let s : f.found ≡ e = (let q : Some f.found ≡ Some e = sym f.numbered ∙ is in cc) in
+    subst (λ (y : Operation). y.cookie ≡ cookie) s (eqb-true f.found.cookie cookie (both_true (f.found.cookie == cookie) (not (is_finished f.found)) f.waits).0)
+
+simple_behind : (structured : Bool) (export : Exporting) (e : Operation) (error cookie : ℕ) (p : List ℕ) → MayReply structured export e (Simple error cookie p) → IsReplyAfter structured e e.replies (Simple error cookie p)
+unfolding MayReply
+simple_behind structured export e error cookie p h = (h.0, h.1)
+
+chunk_behind : (structured : Bool) (export : Exporting) (e : Operation) (flags kind cookie : ℕ) (p : List ℕ) → MayReply structured export e (Chunk flags kind cookie p) → IsReplyAfter structured e e.replies (Chunk flags kind cookie p)
+unfolding MayReply
+chunk_behind structured export e flags kind cookie p h = (
+  h.0,
+  elim h.1 [
+    | inl q ↦ inl q
+    | inr r ↦ elim r [ inl c ↦ inr (inl (c.0, c.1, c.2.0)) | inr f ↦ inr (inr f) ]
+  ],
+)
+
+structured-requested : (b : Bool) (core : Core) (e : Operation) → (core_with_request b core e).structured ≡ core.structured
+structured-requested true core e = refl
+structured-requested false core e = refl
+
+structured-reply_to : (o : Option ℕ) (core : Core) (m : Message) → (reply_to o core m).structured ≡ core.structured
+structured-reply_to (Some k) core m = refl
+structured-reply_to None core m = refl
+
+whole_complete : (core : Core) (export : Exporting) (m : Message) → InTransmission core export m → EachIsWhole core.structured core.entries → EachIsWhole (complete core m).structured (complete core m).entries
+unfolding complete
+whole_complete core export m (asks flags command cookie offset len p h) w =
+    let e : Operation = record { flags = flags; command = command; cookie = cookie; offset = offset; length = len; payload = p; replies = [] } in
+    subst (λ b. EachIsWhole b (core_with_request (command == commands.DISC) core e).entries) (sym (structured-requested (command == commands.DISC) core e)) (each_requested (command == commands.DISC) core.structured core e refl w)
+whole_complete core export m (replies error cookie p (k, e, found, is, h)) w =
+    subst (λ b. EachIsWhole b (reply_to (target cookie core.entries) core (Simple error cookie p)).entries) (sym (structured-reply_to (target cookie core.entries) core (Simple error cookie p)))
+    (each_reply_to core.structured core (Simple error cookie p) (target cookie core.entries) k e found w is
+    (λ x. whole_snoc core.structured e (Simple error cookie p) (open_target core cookie k e found is) x (ap Some (sym (found_cookie core cookie k e found is))) (simple_behind core.structured export e error cookie p h)))
+whole_complete core export m (gives flags kind cookie p (k, e, found, is, h)) w =
+    subst (λ b. EachIsWhole b (reply_to (target cookie core.entries) core (Chunk flags kind cookie p)).entries) (sym (structured-reply_to (target cookie core.entries) core (Chunk flags kind cookie p)))
+    (each_reply_to core.structured core (Chunk flags kind cookie p) (target cookie core.entries) k e found w is
+    (λ x. whole_snoc core.structured e (Chunk flags kind cookie p) (open_target core cookie k e found is) x (ap Some (sym (found_cookie core cookie k e found is))) (chunk_behind core.structured export e flags kind cookie p h)))
+
+abbrev complete_structured : Core → ℕ → ℕ → Bool
+complete_structured core option kind = core.structured || grants_structured option kind
+
+-- in negotiation there is no request
+none_yet : (core : Core) (phase : Phase) (m : Message) → core.phase ≡ phase → MayComplete core phase m → EachIsWhole core.structured core.entries → InPhase phase core.entries → EachIsWhole (complete core m).structured (complete core m).entries
+unfolding MayComplete complete
+none_yet core (Transmission export) m q ok w g = whole_complete core export m (transmission_row core export m ok) w
+none_yet core Greet (Greeting flags) q ok w g = w
+none_yet core Flags (ClientFlags flags) q ok w g = w
+none_yet core Choosing (Choice id p) q ok w g = w
+none_yet core Naming (Exported size flags padded) q ok w g = w
+none_yet core Aborting (Answer option kind p) q ok w g = subst (EachIsWhole (complete_structured core option kind)) (sym g) tt
+none_yet core (Answering asked asked_with info) (Answer option kind p) q ok w g = subst (EachIsWhole (complete_structured core option kind)) (sym g.0) tt
+none_yet core phase m q ok w g = absurd ok
+
+whole : {core : Core} → IsReached core → EachIsWhole core.structured core.entries
+whole at_start = tt
+whole (after_message {c = c} m r sn ok) = none_yet c c.phase m refl ok (whole r) (sound r)
+
+whole_entry : (structured : Bool) (k : ℕ) (es : List Operation) (e : Operation) → EachIsWhole structured es → operation k es ≡ Some e → AreWhole structured e e.replies
+whole_entry structured k [] e w h = absurd (cc)
+whole_entry structured zero (x ∷ es) e w h = absurd (cc)
+whole_entry structured (suc zero) (x ∷ es) e w h = (let q : x ≡ e = cc in subst (λ (y : Operation). AreWhole structured y y.replies) q w.0)
+whole_entry structured (suc (suc k)) (x ∷ es) e w h = whole_entry structured (suc k) es e w.1 h
+
+pub replies_are_whole : RepliesAreWhole
+replies_are_whole items run k e prefix back m is q =
+    whole_entry (ends_at start items).core.structured k (operations_of items) e (whole (run_reaches items run)) is prefix back m q

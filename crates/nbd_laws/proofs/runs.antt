@@ -1,0 +1,17 @@
+pub mod BlockLemmas
+pub mod ClearLemmas
+pub mod FollowLemmas
+pub mod HoldingLemmas
+pub mod NegotiationLemmas
+pub mod OpenByteLemmas
+pub mod PartLemmas
+pub mod PlaceLemmas
+pub mod PlacingLemmas
+pub mod PrefixLemmas
+pub mod ReachLemmas
+pub mod RestLemmas
+pub mod RunByteLemmas
+pub mod RunLemmas
+pub mod SplitLemmas
+pub mod TraceLemmas
+pub mod TrackLemmas

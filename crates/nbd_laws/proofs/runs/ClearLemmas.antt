@@ -1,0 +1,120 @@
+-- In a run no line of the table of faults holds before a byte: its messages are judged to go on until they complete.
+use Rattle.std.proofs.Common.{◌≡◌, ℕ, ◌<◌, List, [], ◌∷◌, ◌++◌, length, refl, sym, ◌∙◌, ap, subst, inl, inr, Option, Some, None, Result, Ok, Err}
+use Rattle.nbd_wire.specs.declared.fault.WireFault.{WireFault}
+use Rattle.nbd_wire.specs.declared.message.Message.{Message}
+use Rattle.nbd_wire.specs.declared.message.Side.{Side}
+use Rattle.nbd_wire.specs.declared.message.Side.TheVariants.{Client, Server}
+use Rattle.nbd_wire.specs.protocol.Encoding.{enc}
+use Rattle.nbd_wire.specs.protocol.Captures.{ArePairs, Pair}
+use Rattle.nbd_wire.specs.protocol.Marks.{Item, Byte, Starts, Completes, Serves, pairs}
+use Rattle.nbd_wire.specs.protocol.Rows.{IsWhole, Row}
+use Rattle.nbd_wire.specs.protocol.Rules.{IsRun, MayComplete, Obeys, complete, ends_at}
+use Rattle.nbd_wire.specs.protocol.Splits.{HoldsAt, IsClear, IsSplit, IsWholeAt, last_or, open_bytes, since_from}
+use Rattle.nbd_wire.specs.protocol.States.{Core, start}
+use Rattle.nbd_wire.specs.protocol.Within.{Begins, within}
+use Rattle.nbd_laws.proofs.machine.MachineLemmas.{AreHeld, Busy, Idle, IsExact, IsMore, IsMoreAt, IsSound, Kept, Loose, Open, Tracks, Walk, ended, final, get-put_same, held_more, held_whole, kept_next, led, loose, middle, opening, reads_held, serving, with_byte}
+use Rattle.nbd_laws.specs.internal.Machine.{Bad, Both, IsFilled, Judge, Machine, More, Reading, Rest, Whole, fresh, get, grown, old_of, on_ok, put, reads, settle, step}
+use Rattle.nbd_laws.proofs.runs.FollowLemmas.{HasEnd, IsSidedOpen, completes_later, each_with, follows}
+use Rattle.nbd_laws.proofs.machine.MarkLemmas.{AreInStep, InStep, IsRead, in_step_completed, in_step_sided, in_step_with, within_middle, within_opening}
+use Rattle.nbd_laws.proofs.runs.RunLemmas.{fresh_canonical, fresh_held, marks_law, walk_of}
+use Rattle.nbd_laws.proofs.runs.TraceLemmas.{IsTrace, led_whole, trace, tracks_more}
+use Rattle.nbd_laws.proofs.runs.PlacingLemmas.{HasNone, IsTelling, at_machine, clear_of, grown_by, last_of_pairs, more_none, split_of, to_held}
+use Rattle.nbd_laws.proofs.runs.PlaceLemmas.{HasLast, are_prefix, are_last as last_byte, last_of, none_last, reads-append}
+
+module _ (judge : Judge) (exact : IsExact judge) where
+  judged_more : (core : Core) (rest : Rest) (s : Side) (m : Message) (left : List ℕ) → InStep core rest s (Busy m left) → HasEnd s core m → Kept judge s rest.since core rest.bytes → judge rest.since core s rest.bytes ≡ More
+  judged_more core rest s m left i end k =
+      exact.more rest.since core end.end s m rest.bytes left i.1 end.later i.0.sided i.0.sendable i.0.starts end.completes i.0.encodes i.0.filled i.0.unfinished k
+
+  more_at : (machine : Machine) (s : Side) (b : ℕ) → judge (grown machine.core (get machine.rests s) b).since machine.core s (grown machine.core (get machine.rests s) b).bytes ≡ More →
+      Kept judge s (grown machine.core (get machine.rests s) b).since machine.core (grown machine.core (get machine.rests s) b).bytes → IsMore judge (with_byte machine s b) s
+  more_at machine s b j k = subst (λ (r : Rest). IsMoreAt judge machine.core s r) (sym (get-put_same machine.rests s (grown machine.core (get machine.rests s) b))) (j, k)
+
+  -- each byte of a run but the last of a message is judged to go on
+  tracks_run : {o : Both Open} {items : List Item} (w : Walk ⊥ o items) (machine : Machine) (js : List ℕ) → Obeys (record { core = machine.core; served = js }) items → AreInStep machine o → AreHeld judge machine → ArePairs (pairs items) → Tracks judge machine items
+  tracks_run (ended c d) machine js ob st hd lt = tt
+  tracks_run (serving k w) machine js ob st hd lt = tracks_run w machine _ ob.1 st hd lt
+  tracks_run {o} (opening s m b left {items = items} is f g w) machine js ob st hd lt =
+      let i : InStep machine.core (grown machine.core (get machine.rests s) b) s (Busy m left) =
+      within_opening machine.core (get machine.rests s) s m b left (subst (InStep machine.core (get machine.rests s) s) is (st s)) f g ob.0.0 ob.0.1 ob.0.2 in
+      let end : HasEnd s machine.core m = completes_later w machine.core (follows items (record { core = machine.core; served = js }) ob.1.1) (each_with IsSidedOpen o s (Busy m left) (in_step_sided machine o st) ob.0.0) s m left (get-put_same o s (Busy m left)) in
+      let k = kept_next judge machine.core s (get machine.rests s) b lt.0 (hd s) in
+      let j = judged_more machine.core (grown machine.core (get machine.rests s) b) s m left i end k in
+      tracks_more judge machine s b items
+      (tracks_run w _ js ob.1.1 (in_step_with machine o s (grown machine.core (get machine.rests s) b) (Busy m left) st i) (held_more judge machine s b lt.0 hd j) lt.1)
+      (λ x xs e. more_at machine s b j k)
+  tracks_run {o} (middle s m b left {items = items} is g w) machine js ob st hd lt =
+      let i0 : InStep machine.core (get machine.rests s) s (Busy m (b ∷ left)) = subst (InStep machine.core (get machine.rests s) s) is (st s) in
+      let i : InStep machine.core (grown machine.core (get machine.rests s) b) s (Busy m left) = within_middle machine.core (get machine.rests s) s m b left i0 g in
+      let end : HasEnd s machine.core m = completes_later w machine.core (follows items (record { core = machine.core; served = js }) ob.1) (each_with IsSidedOpen o s (Busy m left) (in_step_sided machine o st) i0.0.sided) s m left (get-put_same o s (Busy m left)) in
+      let k = kept_next judge machine.core s (get machine.rests s) b lt.0 (hd s) in
+      let j = judged_more machine.core (grown machine.core (get machine.rests s) b) s m left i end k in
+      tracks_more judge machine s b items
+      (tracks_run w _ js ob.1 (in_step_with machine o s (grown machine.core (get machine.rests s) b) (Busy m left) st i) (held_more judge machine s b lt.0 hd j) lt.1)
+      (λ x xs e. more_at machine s b j k)
+  tracks_run {o} (final s m b {items = items} is w) machine js ob st hd lt =
+      let i0 : InStep machine.core (get machine.rests s) s (Busy m (b ∷ [])) = subst (InStep machine.core (get machine.rests s) s) is (st s) in (
+        refl,
+        subst (λ x. Tracks judge x items) (sym (led_whole machine s b m))
+            (tracks_run w _ js ob.1.1 (in_step_completed machine o s m _ (machine.messages ++ m ∷ []) st i0.0.sided ob.1.0 refl) (held_whole judge machine s m _ refl hd i0.0.sided i0.0.sendable ob.1.0) lt.1),
+      )
+  tracks_run (loose s b absent is w) machine js ob st hd lt = absurd absent
+
+  pub run_clear : IsTelling judge → (items : List Item) → IsRun items → ArePairs (pairs items) → IsClear items
+  run_clear low items run lt = clear_of judge low items (tracks_run (walk_of run) fresh [] run.obeys (elim [ Client ↦ refl | Server ↦ refl ]) (fresh_held judge) lt)
+
+-- no line holds of the side whose byte is the last, and its bytes are no whole message
+abbrev pub HasNoneAt : List Item → Type 0
+HasNoneAt items = ((fault : WireFault) → HoldsAt fault items → ⊥) × (IsWholeAt items → ⊥)
+
+module _ (judge : Judge) (sound : IsSound judge) (exact : IsExact judge) (low : IsTelling judge) where
+  -- of the last byte that was read without a fault
+  last_none : (prefix : List Pair) (p : Pair) (end : Machine) → ArePairs (prefix ++ p ∷ []) → reads judge fresh (prefix ++ p ∷ []) ≡ Ok end →
+      HasNone (old_of end.core (get end.rests p.from)) end.core p.from (get end.rests p.from).bytes
+  last_none prefix p end are e = at_mid (reads judge fresh prefix) refl (sym (reads-append judge sound exact low fresh prefix (p ∷ [])) ∙ e)
+    where
+      after_last : (mid : Machine) → reads judge fresh prefix ≡ Ok mid → (r : Reading) → judge (grown_by mid p).since mid.core p.from (grown_by mid p).bytes ≡ r →
+          on_ok (settle mid p.from (grown_by mid p) r) (λ next. Ok next) ≡ Ok end → HasNone (old_of end.core (get end.rests p.from)) end.core p.from (get end.rests p.from).bytes
+      after_last mid m More j q =
+          let is : with_byte mid p.from p.byte ≡ end = cc in
+          let k = kept_next judge mid.core p.from (get mid.rests p.from) p.byte (last_byte prefix p are) (reads_held judge sound prefix fresh mid (are_prefix prefix (p ∷ []) are) (fresh_held judge) m p.from) in
+          subst (λ (x : Machine). HasNone (old_of x.core (get x.rests p.from)) x.core p.from (get x.rests p.from).bytes) is
+          (to_held mid p (λ since now bytes. HasNone since now p.from bytes) (more_none judge low k j))
+      after_last mid m (Whole n) j q =
+          let next : Machine = record { core = complete mid.core n; rests = put mid.rests p.from (record (grown_by mid p) { bytes = [] }); messages = mid.messages ++ n ∷ [] } in
+          let is : next ≡ end = cc in
+          let empty : (get next.rests p.from).bytes ≡ [] = ap (λ (r : Rest). r.bytes) (get-put_same mid.rests p.from (record (grown_by mid p) { bytes = [] })) in
+          subst (λ (x : Machine). HasNone (old_of x.core (get x.rests p.from)) x.core p.from (get x.rests p.from).bytes) is
+          (subst (HasNone (old_of next.core (get next.rests p.from)) next.core p.from) (sym empty) (low.nothing (old_of next.core (get next.rests p.from)) next.core p.from))
+      after_last mid m (Bad f) j q = absurd (cc)
+
+      at_mid : (o : Result Machine WireFault) → reads judge fresh prefix ≡ o → on_ok o (λ next. reads judge next (p ∷ [])) ≡ Ok end → HasNone (old_of end.core (get end.rests p.from)) end.core p.from (get end.rests p.from).bytes
+      at_mid (Err f) m q = absurd (cc)
+      at_mid (Ok mid) m q = after_last mid m (judge (grown_by mid p).since mid.core p.from (grown_by mid p).bytes) refl q
+
+  read_none : (ps : List Pair) (end : Machine) → ArePairs ps → reads judge fresh ps ≡ Ok end → (t : IsTrace judge fresh end start ps) → HasNoneAt t.items
+  read_none [] end are e t = (
+    (λ f h. (let q : None ≡ Some h.s = sym (none_last t.items None t.has_pairs) ∙ h.is_last in cc)),
+    (λ h. (let q : None ≡ Some h.s = sym (none_last t.items None t.has_pairs) ∙ h.is_last in cc)),
+  )
+  read_none (x ∷ ps) end are e t =
+      let l = last_of x ps in
+      let none = last_none l.prefix l.last end (subst ArePairs l.parts are) (sym (ap (reads judge fresh) l.parts) ∙ e) in
+      let at : last_or None t.items ≡ Some l.last.from = last_of_pairs t.items None l.prefix l.last (t.has_pairs ∙ l.parts) in
+      let here : HasNone (old_of (led fresh t.items).core (get (led fresh t.items).rests l.last.from)) (led fresh t.items).core l.last.from (get (led fresh t.items).rests l.last.from).bytes =
+      subst (λ (x : Machine). HasNone (old_of x.core (get x.rests l.last.from)) x.core l.last.from (get x.rests l.last.from).bytes) (sym t.leads) none in (
+        (λ f h. here.0 f (at_machine (λ since now bytes. Row f since now l.last.from bytes) l.last.from t.items
+            (subst (λ u. Row f (since_from u start.core t.items) (ends_at start t.items).core u (open_bytes u t.items)) (same h.s l.last.from t.items h.is_last at) h.row))),
+        (λ h. here.1 (at_machine (λ since now bytes. IsWhole since now l.last.from bytes) l.last.from t.items
+            (subst (λ u. IsWhole (since_from u start.core t.items) (ends_at start t.items).core u (open_bytes u t.items)) (same h.s l.last.from t.items h.is_last at) h.whole))),
+      )
+    where
+      same : (s u : Side) (items : List Item) → last_or None items ≡ Some s → last_or None items ≡ Some u → s ≡ u
+      same s u items a b = let w : Some s ≡ Some u = sym a ∙ b in cc
+
+  -- what a run begins with is a split at which no line holds, nor before any byte
+  pub beginning_clear : (items : List Item) (ps : List Pair) → IsRun items → ArePairs ps → Begins items ps → (split : List Item) × IsSplit split ps (within (length ps) items) × IsClear split × HasNoneAt split
+  beginning_clear items ps run are begins =
+      let r : IsRead judge fresh ps (within (length ps) items) = marks_law judge exact items run ps begins.0 are begins.1 in
+      let t : IsTrace judge fresh r.end start ps = trace judge sound ps fresh r.end [] are (fresh_held judge) fresh_canonical r.reads_it in
+      (t.items, subst (λ ms. IsSplit t.items ps ms) r.messages_are (split_of judge r.end ps are t), clear_of judge low t.items t.tracks, read_none ps r.end are r.reads_it t)

@@ -1,0 +1,195 @@
+-- A run in two parts.
+use Rattle.std.proofs.Common.{◌≡◌, ℕ, ◌⊎◌, ◌+◌, List, [], ◌∷◌, ◌++◌, length, refl, sym, ◌∙◌, ap, subst, inl, inr, append_assoc, append-nil, arith, suc, zero-add}
+use Rattle.nbd_wire.specs.declared.message.Side.{Side}
+use Rattle.nbd_wire.specs.declared.message.Side.TheVariants.{Client, Server}
+use Rattle.nbd_wire.specs.declared.message.Message.{Message}
+use Rattle.nbd_wire.specs.protocol.Encoding.{enc}
+use Rattle.nbd_wire.specs.protocol.Marks.{Item, Byte, Starts, Completes, Serves, service_order}
+use Rattle.nbd_wire.specs.protocol.Rules.{Obeys, after, ends_at}
+use Rattle.nbd_wire.specs.protocol.States.{State, start}
+use Rattle.nbd_laws.specs.internal.Machine.{Both, get, put}
+use Rattle.nbd_laws.proofs.machine.MachineLemmas.{get-put_same, get-put_other, same_or_not, Open, Idle, Busy, Loose, IsNotBusy, Walk, ended, serving, opening, middle, final, loose}
+use Rattle.nbd_laws.proofs.runs.BlockLemmas.{Idles}
+use Rattle.nbd_laws.proofs.runs.RunLemmas.{run_of, walk_of}
+use Rattle.nbd_laws.specs.Prefixes.{CompletionsStandAfterBytes, PrefixesAreRuns, HasNoneOpen, StartsStandBeforeBytes, started_messages}
+use Rattle.nbd_laws.specs.Prefixes as prefixes
+
+pub obeys_prefix : (state : State) (prefix back : List Item) → Obeys state (prefix ++ back) → Obeys state prefix
+obeys_prefix state [] back ob = tt
+obeys_prefix state (item ∷ prefix) back ob = (ob.0, obeys_prefix (after state item) prefix back ob.1)
+
+pub obeys_back : (state : State) (prefix back : List Item) → Obeys state (prefix ++ back) → Obeys (ends_at state prefix) back
+obeys_back state [] back ob = ob
+obeys_back state (item ∷ prefix) back ob = obeys_back (after state item) prefix back ob.1
+
+-- what was served stands in the state
+pub served_in : (state : State) (items : List Item) → (ends_at state items).served ≡ state.served ++ service_order items
+served_in state [] = sym (append-nil state.served)
+served_in state (Byte s b ∷ items) = served_in state items
+served_in state (Starts s m ∷ items) = served_in state items
+served_in state (Completes s m ∷ items) = served_in (after state (Completes s m)) items
+served_in state (Serves k ∷ items) = served_in (after state (Serves k)) items ∙ append_assoc state.served (k ∷ []) (service_order items)
+
+-- how many messages are open
+abbrev opened : Open → ℕ
+opened Idle = 0
+opened (Busy m left) = 1
+opened Loose = 0
+
+-- as many messages end as are open or start
+abbrev IsEven : Both Open → List Item → Type 0
+IsEven o items = (s : Side) → opened (get o s) + length (started_messages s items) ≡ length (prefixes.ended_messages s items)
+
+even_none : {P : Type 0} (o : Both Open) → IsEven o [] → Walk P o []
+even_none o h = ended (idle o.client (h Client)) (idle o.server (h Server))
+  where
+    idle : (x : Open) → opened x + 0 ≡ 0 → IsNotBusy x
+    idle Idle e = tt
+    idle (Busy m left) e = absurd (omega arith)
+    idle Loose e = tt
+
+-- what a mark adds to the count of its side and of the other
+started_same : (s : Side) (m : Message) (items : List Item) → length (started_messages s (Starts s m ∷ items)) ≡ suc (length (started_messages s items))
+started_same Client m items = refl
+started_same Server m items = refl
+
+started_other : (s t : Side) (m : Message) (items : List Item) → (t ≡ s → ⊥) → length (started_messages s (Starts t m ∷ items)) ≡ length (started_messages s items)
+started_other Client Client m items ne = absurd (ne refl)
+started_other Client Server m items ne = refl
+started_other Server Client m items ne = refl
+started_other Server Server m items ne = absurd (ne refl)
+
+ended_same : (s : Side) (m : Message) (items : List Item) → length (prefixes.ended_messages s (Completes s m ∷ items)) ≡ suc (length (prefixes.ended_messages s items))
+ended_same Client m items = refl
+ended_same Server m items = refl
+
+ended_other : (s t : Side) (m : Message) (items : List Item) → (t ≡ s → ⊥) → length (prefixes.ended_messages s (Completes t m ∷ items)) ≡ length (prefixes.ended_messages s items)
+ended_other Client Client m items ne = absurd (ne refl)
+ended_other Client Server m items ne = refl
+ended_other Server Client m items ne = refl
+ended_other Server Server m items ne = absurd (ne refl)
+
+even_with : (o : Both Open) (s : Side) (x : Open) (items items' : List Item) → IsEven o items →
+    (opened (get o s) + length (started_messages s items) ≡ length (prefixes.ended_messages s items) → opened x + length (started_messages s items') ≡ length (prefixes.ended_messages s items')) →
+    ((u : Side) → (s ≡ u → ⊥) → (length (started_messages u items') ≡ length (started_messages u items)) × (length (prefixes.ended_messages u items') ≡ length (prefixes.ended_messages u items))) →
+    IsEven (put o s x) items'
+even_with o s x items items' h here other u = go (same_or_not s u)
+  where
+    go : (s ≡ u) ⊎ (s ≡ u → ⊥) → opened (get (put o s x) u) + length (started_messages u items') ≡ length (prefixes.ended_messages u items')
+    go (inl e) = subst (λ v. opened (get (put o s x) v) + length (started_messages v items') ≡ length (prefixes.ended_messages v items')) e
+        (ap (λ y. opened y + length (started_messages s items')) (get-put_same o s x) ∙ here (h s))
+    go (inr ne) = (let q = other u ne in ap (λ y. opened y + length (started_messages u items')) (get-put_other o s u x ne) ∙ ap (λ n. opened (get o u) + n) q.0 ∙ h u ∙ sym q.1)
+
+even_opening : (o : Both Open) (s : Side) (m : Message) (b : ℕ) (left : List ℕ) (prefix : List Item) → get o s ≡ Idle → IsEven o (Starts s m ∷ Byte s b ∷ prefix) → IsEven (put o s (Busy m left)) prefix
+even_opening o s m b left prefix i h = even_with o s (Busy m left) (Starts s m ∷ Byte s b ∷ prefix) prefix h
+    (λ e. (let z : opened (get o s) ≡ 0 = ap opened i in let q : length (started_messages s (Starts s m ∷ Byte s b ∷ prefix)) ≡ suc (length (started_messages s prefix)) = started_same s m (Byte s b ∷ prefix) in omega arith))
+    (λ u ne. (sym (started_other u s m (Byte s b ∷ prefix) ne), refl))
+
+even_middle : (o : Both Open) (s : Side) (m : Message) (b : ℕ) (left : List ℕ) (prefix : List Item) → get o s ≡ Busy m (b ∷ left) → IsEven o (Byte s b ∷ prefix) → IsEven (put o s (Busy m left)) prefix
+even_middle o s m b left prefix i h = even_with o s (Busy m left) (Byte s b ∷ prefix) prefix h
+    (λ e. (let z : opened (get o s) ≡ 1 = ap opened i in omega arith)) (λ u ne. (refl, refl))
+
+even_final : (o : Both Open) (s : Side) (m : Message) (b : ℕ) (prefix : List Item) → get o s ≡ Busy m (b ∷ []) → IsEven o (Byte s b ∷ Completes s m ∷ prefix) → IsEven (put o s Idle) prefix
+even_final o s m b prefix i h = even_with o s Idle (Byte s b ∷ Completes s m ∷ prefix) prefix h
+    (λ e. (let z : opened (get o s) ≡ 1 = ap opened i in let q : length (prefixes.ended_messages s (Byte s b ∷ Completes s m ∷ prefix)) ≡ suc (length (prefixes.ended_messages s prefix)) = ended_same s m prefix in omega arith))
+    (λ u ne. (refl, sym (ended_other u s m prefix ne)))
+
+-- a walk, up to a moment at which no message is open
+cut_walk : {o : Both Open} {items : List Item} → Walk ⊥ o items → (prefix back : List Item) → items ≡ prefix ++ back → IsEven o prefix → Walk ⊥ o prefix
+cut_walk {o} w [] back e h = even_none o h
+cut_walk (ended c d) (x ∷ prefix) back e h = absurd (cc)
+cut_walk {o} (serving k {items = items} w) (x ∷ prefix) back e h =
+    let q : Serves k ≡ x = cc in
+    let r : items ≡ prefix ++ back = cc in
+    subst (λ y. Walk ⊥ o (y ∷ prefix)) q (serving k (cut_walk w prefix back r (subst (λ y. IsEven o (y ∷ prefix)) (sym q) h)))
+cut_walk {o} (opening s m b left i f g w) (x ∷ []) back e h =
+    let q : Starts s m ≡ x = cc in
+    let h' : IsEven o (Starts s m ∷ []) = subst (λ y. IsEven o (y ∷ [])) (sym q) h in
+    let n : length (started_messages s (Starts s m ∷ [])) ≡ 1 = started_same s m [] in
+    let z : opened (get o s) + length (started_messages s (Starts s m ∷ [])) ≡ 0 = h' s in
+    absurd (omega arith)
+cut_walk {o} (opening s m b left {items = items} i f g w) (x ∷ y ∷ prefix) back e h =
+    let q : Starts s m ≡ x = cc in
+    let p : Byte s b ≡ y = cc in
+    let r : items ≡ prefix ++ back = cc in
+    let h' : IsEven o (Starts s m ∷ Byte s b ∷ prefix) = subst (λ z. IsEven o (z ∷ Byte s b ∷ prefix)) (sym q) (subst (λ z. IsEven o (x ∷ z ∷ prefix)) (sym p) h) in
+    subst (λ z. Walk ⊥ o (x ∷ z ∷ prefix)) p (subst (λ z. Walk ⊥ o (z ∷ Byte s b ∷ prefix)) q
+    (opening s m b left i f g (cut_walk w prefix back r (even_opening o s m b left prefix i h'))))
+cut_walk {o} (middle s m b left {items = items} i f w) (x ∷ prefix) back e h =
+    let q : Byte s b ≡ x = cc in
+    let r : items ≡ prefix ++ back = cc in
+    subst (λ y. Walk ⊥ o (y ∷ prefix)) q (middle s m b left i f (cut_walk w prefix back r (even_middle o s m b left prefix i (subst (λ y. IsEven o (y ∷ prefix)) (sym q) h))))
+cut_walk {o} (final s m b i w) (x ∷ []) back e h =
+    let q : Byte s b ≡ x = cc in
+    let h' : IsEven o (Byte s b ∷ []) = subst (λ y. IsEven o (y ∷ [])) (sym q) h in
+    let n : opened (get o s) ≡ 1 = ap opened i in
+    let z : opened (get o s) + 0 ≡ 0 = h' s in
+    absurd (omega arith)
+cut_walk {o} (final s m b {items = items} i w) (x ∷ y ∷ prefix) back e h =
+    let q : Byte s b ≡ x = cc in
+    let p : Completes s m ≡ y = cc in
+    let r : items ≡ prefix ++ back = cc in
+    let h' : IsEven o (Byte s b ∷ Completes s m ∷ prefix) = subst (λ z. IsEven o (z ∷ Completes s m ∷ prefix)) (sym q) (subst (λ z. IsEven o (x ∷ z ∷ prefix)) (sym p) h) in
+    subst (λ z. Walk ⊥ o (x ∷ z ∷ prefix)) p (subst (λ z. Walk ⊥ o (z ∷ Completes s m ∷ prefix)) q
+    (final s m b i (cut_walk w prefix back r (even_final o s m b prefix i h'))))
+cut_walk (loose s b p i w) (x ∷ prefix) back e h = absurd p
+
+pub prefixes_are_runs : PrefixesAreRuns
+prefixes_are_runs prefix back run none =
+    run_of (λ p. p) (cut_walk (walk_of run) prefix back refl even) (obeys_prefix start prefix back run.obeys)
+  where
+    even : IsEven Idles prefix
+    even Client = zero-add (length (started_messages Client prefix)) ∙ ap length (none Client)
+    even Server = zero-add (length (started_messages Server prefix)) ∙ ap length (none Server)
+
+-- what stands after the start of a message
+start_at : {o : Both Open} {items : List Item} → Walk ⊥ o items → (prefix back : List Item) (s : Side) (m : Message) → items ≡ prefix ++ Starts s m ∷ back →
+    (b : ℕ) × (left : List ℕ) × (rest : List Item) × (back ≡ Byte s b ∷ rest) × (enc m ≡ b ∷ left)
+start_at (ended c d) [] back s m e = absurd (cc)
+start_at (ended c d) (x ∷ prefix) back s m e = absurd (cc)
+start_at (serving k w) [] back s m e = absurd (cc)
+start_at (serving k w) (x ∷ prefix) back s m e = start_at w prefix back s m (cc)
+start_at (opening t n b left {items = items} i f g w) [] back s m e =
+    let q : t ≡ s = cc in
+    let p : n ≡ m = cc in
+    let r : Byte t b ∷ items ≡ back = cc in
+    (b, left, items, sym r ∙ ap (λ u. Byte u b ∷ items) q, ap enc (sym p) ∙ f)
+start_at (opening t n b left i f g w) (x ∷ []) back s m e = absurd (cc)
+start_at (opening t n b left i f g w) (x ∷ y ∷ prefix) back s m e = start_at w prefix back s m (cc)
+start_at (middle t n b left i f w) [] back s m e = absurd (cc)
+start_at (middle t n b left i f w) (x ∷ prefix) back s m e = start_at w prefix back s m (cc)
+start_at (final t n b i w) [] back s m e = absurd (cc)
+start_at (final t n b i w) (x ∷ []) back s m e = absurd (cc)
+start_at (final t n b i w) (x ∷ y ∷ prefix) back s m e = start_at w prefix back s m (cc)
+start_at (loose t b p i w) prefix back s m e = absurd p
+
+pub starts_stand_before_bytes : StartsStandBeforeBytes
+starts_stand_before_bytes prefix back s m run = start_at (walk_of run) prefix back s m refl
+
+-- what stands before the completion of a message
+abbrev EndsWithByte : Side → List Item → Type 0
+EndsWithByte s prefix = (first : List Item) × (b : ℕ) × (prefix ≡ first ++ Byte s b ∷ [])
+
+behind : (s : Side) (x : Item) (prefix : List Item) → EndsWithByte s prefix → EndsWithByte s (x ∷ prefix)
+behind s x prefix e = (x ∷ e.0, e.1, ap (λ l. x ∷ l) e.2)
+
+completion_at : {o : Both Open} {items : List Item} → Walk ⊥ o items → (prefix back : List Item) (s : Side) (m : Message) → items ≡ prefix ++ Completes s m ∷ back → EndsWithByte s prefix
+completion_at (ended c d) [] back s m e = absurd (cc)
+completion_at (ended c d) (x ∷ prefix) back s m e = absurd (cc)
+completion_at (serving k w) [] back s m e = absurd (cc)
+completion_at (serving k w) (x ∷ prefix) back s m e = behind s x prefix (completion_at w prefix back s m (cc))
+completion_at (opening t n b left i f g w) [] back s m e = absurd (cc)
+completion_at (opening t n b left i f g w) (x ∷ []) back s m e = absurd (cc)
+completion_at (opening t n b left i f g w) (x ∷ y ∷ prefix) back s m e = behind s x (y ∷ prefix) (behind s y prefix (completion_at w prefix back s m (cc)))
+completion_at (middle t n b left i f w) [] back s m e = absurd (cc)
+completion_at (middle t n b left i f w) (x ∷ prefix) back s m e = behind s x prefix (completion_at w prefix back s m (cc))
+completion_at (final t n b i w) [] back s m e = absurd (cc)
+completion_at (final t n b i w) (x ∷ []) back s m e =
+    let q : Byte t b ≡ x = cc in
+    let p : t ≡ s = cc in
+    ([], b, ap (λ y. y ∷ []) (sym q ∙ ap (λ u. Byte u b) p))
+completion_at (final t n b i w) (x ∷ y ∷ prefix) back s m e = behind s x (y ∷ prefix) (behind s y prefix (completion_at w prefix back s m (cc)))
+completion_at (loose t b p i w) prefix back s m e = absurd p
+
+pub completions_stand_after_bytes : CompletionsStandAfterBytes
+completions_stand_after_bytes prefix back s m run = completion_at (walk_of run) prefix back s m refl

@@ -1,0 +1,116 @@
+-- The laws over runs.
+use Rattle.std.proofs.Common.{◌≡◌, ℕ, List, [], ◌∷◌, ◌++◌, length, refl, sym, ◌∙◌, ap, subst, inr, Ok, Err, arith}
+use Rattle.nbd_wire.specs.declared.message.Side.{Side}
+use Rattle.nbd_wire.specs.declared.message.Side.TheVariants.{Client, Server}
+use Rattle.nbd_wire.specs.protocol.Marks.{Item, Byte, Starts, Completes, Serves, pairs, completed_messages, service_order, IsMarkedBut}
+use Rattle.nbd_wire.specs.protocol.Captures.{Pair, ArePairs}
+use Rattle.nbd_wire.specs.protocol.States.{Core, start}
+use Rattle.nbd_wire.specs.protocol.Rules.{IsRun, IsRunBut, Obeys, complete, ends_at}
+use Rattle.nbd_wire.specs.protocol.Reports.{operations_of, known}
+use Rattle.nbd_laws.proofs.service.EntryLemmas.{HasNoFault}
+use Rattle.nbd_wire.specs.declared.fault.WireFault.{WireFault}
+use Rattle.nbd_laws.specs.internal.Machine.{fresh, Both, get, IsFilled, Rest, Machine, Judge, reads}
+use Rattle.nbd_laws.specs.Reached.{at_start}
+use Rattle.nbd_laws.proofs.machine.MachineLemmas.{AreHeld, none_held, Walk, Open, Idle, Busy, Loose, IsSound, IsExact}
+use Rattle.nbd_laws.proofs.runs.TraceLemmas.{trace, IsTrace, IsCanonical, IsStray, Guess, not_empty}
+use Rattle.nbd_laws.proofs.machine.MarkLemmas.{marks, IsRead}
+use Rattle.nbd_wire.specs.protocol.Within.{within}
+use Rattle.nbd_laws.proofs.runs.BlockLemmas.{marked, walked, Idles}
+use Rattle.nbd_laws.proofs.service.LatestLemmas.{placed, walk_placed, served_placed, pairs_placed, core_end, Fits, obeys_placed}
+
+pub core_end-ends_at : (core : Core) (js : List ℕ) (items : List Item) → core_end core items ≡ (ends_at (record { core = core; served = js }) items).core
+core_end-ends_at core js [] = refl
+core_end-ends_at core js (Byte s b ∷ items) = core_end-ends_at core js items
+core_end-ends_at core js (Starts s m ∷ items) = core_end-ends_at core js items
+core_end-ends_at core js (Completes s m ∷ items) = core_end-ends_at (complete core m) js items
+core_end-ends_at core js (Serves k ∷ items) = core_end-ends_at core _ items
+
+empty : (bs : List ℕ) → (IsFilled bs → ⊥) → bs ≡ []
+empty [] h = refl
+empty (b ∷ bs) h = absurd (h tt)
+
+-- a walk without stray bytes from nothing that obeys the rules is a run
+pub run_of : {P : Type 0} {items : List Item} → (P → ⊥) → Walk P Idles items → Obeys start items → IsRun items
+run_of {P} {items} no_stray w ob =
+    let m : (client : List ℕ) × (server : List ℕ) × IsMarkedBut items client server × (IsFilled client → P) × (IsFilled server → P) = marked w in
+    record {
+      marked = subst (λ c. IsMarkedBut items c []) (empty m.0 (λ f. no_stray (m.3 f))) (subst (λ s. IsMarkedBut items m.0 s) (empty m.1 (λ f. no_stray (m.4 f))) m.2);
+      obeys = ob;
+    }
+
+pub walk_of : {items : List Item} → IsRun items → Walk ⊥ Idles items
+walk_of {items} run = walked items [] [] (λ f. f) (λ f. f) run.marked
+
+pub latest : (items : List Item) (order : List ℕ) → IsRun items → HasNoFault (length (operations_of items)) (known items) order →
+    (items' : List Item) × IsRun items' × (pairs items' ≡ pairs items) × (service_order items' ≡ order)
+latest items order run fit =
+    let fits : Fits (known items) (length (operations_of items)) start.core [] order items = record {
+      once = fit.once;
+      apart = λ k h. absurd h;
+      in_time = fit.in_time;
+      known = λ k. inr refl;
+      all = λ k n p h e. inr (fit.all k n p h e);
+      named = fit.named;
+      end = ap (λ (c : Core). length c.entries) (core_end-ends_at start.core [] items);
+    } in (
+      placed start.core order items,
+      run_of (λ x. x) (walk_placed (walk_of run) start.core order) (obeys_placed (known items) (length (operations_of items)) items start.core [] [] order run.obeys fits),
+      pairs_placed start.core order items,
+      served_placed start.core order items,
+    )
+
+pub fresh_held : (judge : Judge) → AreHeld judge fresh
+fresh_held judge = elim [ Client ↦ none_held at_start refl | Server ↦ none_held at_start refl ]
+
+-- the run's messages within a list that its pairs begin with are those that the machine reads
+pub marks_law : (judge : Judge) → IsExact judge → (items : List Item) → IsRun items → (ps more : List Pair) → ArePairs ps → pairs items ≡ ps ++ more → IsRead judge fresh ps (within (length ps) items)
+marks_law judge exact items run ps more lt e =
+    marks judge exact (walk_of run) fresh [] run.obeys (elim [ Client ↦ refl | Server ↦ refl ]) (fresh_held judge) ps more lt e
+
+pub idle_at : (s : Side) (end : Rest) (o : Open) → Guess (record { bytes = []; since = start.core }) end s o → o ≡ Idle
+idle_at s end Idle g = refl
+idle_at s end (Busy m left) g = absurd g.filled
+idle_at s end Loose g = absurd g.0
+
+pub both_idle : (o : Both Open) → get o Client ≡ Idle → get o Server ≡ Idle → o ≡ Idles
+both_idle o c s = λ i. record { client = c i; server = s i }
+
+pub fresh_canonical : IsCanonical start
+fresh_canonical = record { all = λ k p h. absurd (omega arith); only = λ k h. absurd h }
+
+-- what the machine reads to its end is a run with exactly these pairs and messages
+pub run_law : (judge : Judge) → IsSound judge → (ps : List Pair) (end : Machine) → ArePairs ps → reads judge fresh ps ≡ Ok end → ((s : Side) → (get end.rests s).bytes ≡ []) →
+    (items : List Item) × IsRun items × (pairs items ≡ ps) × (completed_messages items ≡ end.messages)
+run_law judge sound ps end lt e none =
+    let t : IsTrace judge fresh end start ps = trace judge sound ps fresh end [] lt (fresh_held judge) fresh_canonical e in
+    let idle : t.open_ ≡ Idles = both_idle t.open_ (idle_at Client (get end.rests Client) (get t.open_ Client) (t.guess Client)) (idle_at Server (get end.rests Server) (get t.open_ Server) (t.guess Server)) in
+    (t.items, run_of (λ p. not_empty (get end.rests p.0).bytes p.1 (none p.0)) (subst (λ o. Walk (IsStray end) o t.items) idle t.walk) t.obeys, t.has_pairs, t.messages)
+
+-- what the machine reads without a fault is a run with exactly these pairs and messages, but for loose bytes of a side
+-- that is within a message
+pub run_but_law : (judge : Judge) → IsSound judge → (ps : List Pair) (end : Machine) → ArePairs ps → reads judge fresh ps ≡ Ok end →
+    (items : List Item) × (client : List ℕ) × (server : List ℕ) × IsRunBut items client server × (pairs items ≡ ps) × (completed_messages items ≡ end.messages)
+    × (IsFilled client → IsStray end) × (IsFilled server → IsStray end)
+run_but_law judge sound ps end lt e =
+    let t : IsTrace judge fresh end start ps = trace judge sound ps fresh end [] lt (fresh_held judge) fresh_canonical e in
+    let idle : t.open_ ≡ Idles = both_idle t.open_ (idle_at Client (get end.rests Client) (get t.open_ Client) (t.guess Client)) (idle_at Server (get end.rests Server) (get t.open_ Server) (t.guess Server)) in
+    let m : (client : List ℕ) × (server : List ℕ) × IsMarkedBut t.items client server × (IsFilled client → IsStray end) × (IsFilled server → IsStray end) =
+    marked (subst (λ o. Walk (IsStray end) o t.items) idle t.walk) in
+    (t.items, m.0, m.1, record { marked = m.2; obeys = t.obeys }, t.has_pairs, t.messages, m.3, m.4)
+
+-- no run's pairs begin with a list that the machine refuses
+pub no_run : (judge : Judge) → IsExact judge → (items : List Item) → IsRun items → (ps more : List Pair) → ArePairs ps → pairs items ≡ ps ++ more → (fault : WireFault) → reads judge fresh ps ≡ Err fault → ⊥
+no_run judge exact items run ps more lt e fault refused =
+    let r : IsRead judge fresh ps (within (length ps) items) = marks_law judge exact items run ps more lt e in
+    let q : Ok r.end ≡ Err fault = sym r.reads_it ∙ refused in
+    cc
+
+-- two runs that begin with the same pairs complete the same messages within them
+pub same_messages : (judge : Judge) → IsExact judge → (items items' : List Item) → IsRun items → IsRun items' → (ps more more' : List Pair) → ArePairs ps → pairs items ≡ ps ++ more → pairs items' ≡ ps ++ more' →
+    within (length ps) items ≡ within (length ps) items'
+same_messages judge exact items items' run run' ps more more' lt e e' =
+    let r : IsRead judge fresh ps (within (length ps) items) = marks_law judge exact items run ps more lt e in
+    let r' : IsRead judge fresh ps (within (length ps) items') = marks_law judge exact items' run' ps more' lt e' in
+    let q : Ok r.end ≡ Ok r'.end = sym r.reads_it ∙ r'.reads_it in
+    let m : r.end ≡ r'.end = cc in
+    sym r.messages_are ∙ ap (λ (x : Machine). x.messages) m ∙ r'.messages_are

@@ -1,0 +1,377 @@
+-- What a machine read is a run with exactly the pairs that it read.
+use Rattle.std.proofs.Common.{◌≡◌, ℕ, suc, zero, ◌+◌, ◌<◌, ◌≤◌, ◌⊎◌, List, [], ◌∷◌, ◌++◌, length, refl, sym, ◌∙◌, ap, subst, inl, inr, Ok, Option, Some, None, append_assoc, append-nil, arith, true, false, Bool, not, ◌==◌, ◌&&◌, if◌then◌else◌, length-append, add-one, le_refl, eq-or-lt_of_le}
+use Rattle.nbd_wire.specs.declared.message.Side.{Side}
+use Rattle.nbd_wire.specs.declared.message.Side.TheVariants.{Client, Server}
+use Rattle.nbd_wire.specs.declared.message.Message.{Message}
+use Rattle.nbd_wire.specs.declared.message.Message.TheVariants.{Greeting, ClientFlags, Choice, Answer, Exported, Request, Simple, Chunk}
+use Rattle.nbd_wire.specs.protocol.Encoding.{enc, head}
+use Rattle.nbd_wire.specs.protocol.Sides.{side}
+use Rattle.nbd_wire.specs.protocol.Marks.{Item, Byte, Starts, Completes, Serves, pairs, completed_messages}
+use Rattle.nbd_wire.specs.protocol.Captures.{Pair, ArePairs}
+use Rattle.nbd_wire.specs.protocol.Operations.{Operation, is_finished}
+use Rattle.nbd_wire.specs.protocol.States.{Core, State, Names, target, target_from, with_reply_at}
+use Rattle.nbd_wire.specs.protocol.Sendable.{IsSendable}
+use Rattle.nbd_wire.specs.protocol.Rules.{MayStart, complete, reply_to, core_with_request, Obeys, request_of_reply, IsServedFor}
+use Rattle.nbd_laws.proofs.machine.MachineLemmas.{old-empty, old-filled, IsFilled-snoc, IsMoreAt, AreHeld, kept_next, held_more, held_whole, led, ended_by, with_byte, IsMore, Tracks, get-put_same, get-put_other, put-put, same_or_not, Open, Idle, Busy, Loose, IsNotBusy, Walk, ended, serving, opening, middle, final, loose, IsSoundAt, IsSound}
+use Rattle.nbd_laws.specs.internal.Machine.{Both, get, put, IsFilled, Rest, Machine, Reading, More, Whole, Bad, settle, Judge, grown, reads, on_ok}
+
+-- each request that has completed was served, and no other
+pub record IsCanonical (state : State) : Type 0 where
+  pub all : (k : ℕ) → 0 < k → k ≤ length state.core.entries → Names state.served k
+  pub only : (k : ℕ) → Names state.served k → k ≤ length state.core.entries
+
+pub Names-push : (js : List ℕ) (k : ℕ) → Names (js ++ k ∷ []) k
+Names-push [] k = inl refl
+Names-push (j ∷ js) k = inr (Names-push js k)
+
+pub Names-left : (js ks : List ℕ) (k : ℕ) → Names js k → Names (js ++ ks) k
+Names-left (j ∷ js) ks k = elim [ inl e ↦ inl e | inr h ↦ inr (Names-left js ks k h) ]
+Names-left [] ks k = λ h. absurd h
+
+pub Names-push_cases : (js : List ℕ) (j k : ℕ) → Names (js ++ j ∷ []) k → Names js k ⊎ (j ≡ k)
+Names-push_cases [] j k = elim [ inl e ↦ inr e | inr h ↦ absurd h ]
+Names-push_cases (i ∷ js) j k = elim [ inl e ↦ inl (inl e) | inr h ↦ elim (Names-push_cases js j k h) [ inl n ↦ inl (inr n) | inr e ↦ inr e ] ]
+
+pub length-answered : (k : ℕ) (m : Message) (es : List Operation) → length (with_reply_at k m es) ≡ length es
+length-answered k m [] = refl
+length-answered zero m (e ∷ es) = refl
+length-answered (suc zero) m (e ∷ es) = refl
+length-answered (suc (suc k)) m (e ∷ es) = ap suc (length-answered (suc k) m es)
+
+length-reply_to : (o : Option ℕ) (core : Core) (m : Message) → length (reply_to o core m).entries ≡ length core.entries
+length-reply_to (Some k) core m = length-answered k m core.entries
+length-reply_to None core m = refl
+
+length-requested : (b : Bool) (core : Core) (e : Operation) → (length (core_with_request b core e).entries ≡ length core.entries) ⊎ (length (core_with_request b core e).entries ≡ suc (length core.entries))
+length-requested true core e = inl refl
+length-requested false core e = inr (length-append core.entries (e ∷ []) ∙ add-one (length core.entries))
+
+-- a completed message adds at most one request
+pub length-complete : (core : Core) (m : Message) → (length (complete core m).entries ≡ length core.entries) ⊎ (length (complete core m).entries ≡ suc (length core.entries))
+unfolding complete
+length-complete core (Greeting flags) = inl refl
+length-complete core (ClientFlags flags) = inl refl
+length-complete core (Choice id payload) = inl refl
+length-complete core (Answer option kind payload) = inl refl
+length-complete core (Exported size flags padded) = inl refl
+length-complete core (Request flags command cookie offset len payload) = length-requested _ core _
+length-complete core (Simple error cookie payload) = inl (length-reply_to (request_of_reply core (Simple error cookie payload)) core (Simple error cookie payload))
+length-complete core (Chunk flags kind cookie payload) = inl (length-reply_to (request_of_reply core (Chunk flags kind cookie payload)) core (Chunk flags kind cookie payload))
+
+target_from-within : (n cookie : ℕ) (es : List Operation) (k : ℕ) → target_from n cookie es ≡ Some k → (0 < k) × (k ≤ n + length es)
+target_from-within n cookie [] k e = absurd (cc)
+target_from-within n cookie (x ∷ es) k e = go ((x.cookie == cookie) && not (is_finished x)) e (λ h. target_from-within (suc n) cookie es k h)
+  where
+    go : (b : Bool) → (if b then Some (suc n) else target_from (suc n) cookie es) ≡ Some k → (target_from (suc n) cookie es ≡ Some k → (0 < k) × (k ≤ suc n + length es)) → (0 < k) × (k ≤ n + suc (length es))
+    go true h ih = let q : suc n ≡ k = cc in omega arith
+    go false h ih = let q : (0 < k) × (k ≤ suc n + length es) = ih h in omega arith
+
+target-within : (cookie : ℕ) (es : List Operation) (k : ℕ) → target cookie es ≡ Some k → (0 < k) × (k ≤ length es)
+unfolding target
+target-within cookie es k e = let q : (0 < k) × (k ≤ 0 + length es) = target_from-within 0 cookie es k e in omega arith
+
+pub answered_by-within : (core : Core) (m : Message) (k : ℕ) → request_of_reply core m ≡ Some k → (0 < k) × (k ≤ length core.entries)
+answered_by-within core (Simple error cookie payload) k e = target-within cookie core.entries k e
+answered_by-within core (Chunk flags kind cookie payload) k e = target-within cookie core.entries k e
+answered_by-within core (Greeting flags) k e = absurd (cc)
+answered_by-within core (ClientFlags flags) k e = absurd (cc)
+answered_by-within core (Choice id payload) k e = absurd (cc)
+answered_by-within core (Answer option kind payload) k e = absurd (cc)
+answered_by-within core (Exported size flags padded) k e = absurd (cc)
+answered_by-within core (Request flags command cookie offset len payload) k e = absurd (cc)
+
+canonical_serves : (state : State) → IsCanonical state → (s : Side) (m : Message) → IsServedFor state s m
+canonical_serves state c Client m = tt
+canonical_serves state c Server m = λ k e. let w : (0 < k) × (k ≤ length state.core.entries) = answered_by-within state.core m k e in c.all k w.0 w.1
+
+-- the placing of a request's service: directly after its completion
+abbrev pub IsGrown : Core → Core → Type 0
+IsGrown old new = (length new.entries ≡ length old.entries) ⊎ (length new.entries ≡ suc (length old.entries))
+
+abbrev pub service : (old new : Core) → IsGrown old new → List Item
+service old new (inl e) = []
+service old new (inr e) = Serves (length new.entries) ∷ []
+
+abbrev pub serviced : (old new : Core) → IsGrown old new → List ℕ → List ℕ
+serviced old new (inl e) js = js
+serviced old new (inr e) js = js ++ length new.entries ∷ []
+
+canonical_serviced : (old new : Core) (g : IsGrown old new) (js : List ℕ) → IsCanonical (record { core = old; served = js }) →
+    IsCanonical (record { core = new; served = serviced old new g js })
+canonical_serviced old new (inl e) js c = record {
+  all = λ k p h. c.all k p (omega arith);
+  only = λ k n. let h : k ≤ length old.entries = c.only k n in omega arith;
+}
+canonical_serviced old new (inr e) js c = record {
+  all = λ k p h. elim (eq-or-lt_of_le h) [ inl q ↦ subst (λ n. Names (js ++ length new.entries ∷ []) n) (sym q) (Names-push js (length new.entries)) | inr l ↦ Names-left js (length new.entries ∷ []) k (c.all k p (omega arith)) ];
+  only = λ k n. elim (Names-push_cases js (length new.entries) k n) [ inl m ↦ (let h : k ≤ length old.entries = c.only k m in omega arith) | inr q ↦ omega arith ];
+}
+
+obeys_service : (old new : Core) (g : IsGrown old new) (js : List ℕ) (items : List Item) → IsCanonical (record { core = old; served = js }) →
+    Obeys (record { core = new; served = serviced old new g js }) items → Obeys (record { core = new; served = js }) (service old new g ++ items)
+obeys_service old new (inl e) js items c h = h
+obeys_service old new (inr e) js items c h = ((omega arith, le_refl (length new.entries), λ n. let q : length new.entries ≤ length old.entries = c.only (length new.entries) n in omega arith), h)
+
+walk_service : {P : Type 0} (old new : Core) (g : IsGrown old new) (o : Both Open) (items : List Item) → Walk P o items → Walk P o (service old new g ++ items)
+walk_service old new (inl e) o items w = w
+walk_service old new (inr e) o items w = serving (length new.entries) w
+
+pairs_service : (old new : Core) (g : IsGrown old new) (items : List Item) → pairs (service old new g ++ items) ≡ pairs items
+pairs_service old new (inl e) items = refl
+pairs_service old new (inr e) items = refl
+
+completed_service : (old new : Core) (g : IsGrown old new) (items : List Item) → completed_messages (service old new g ++ items) ≡ completed_messages items
+completed_service old new (inl e) items = refl
+completed_service old new (inr e) items = refl
+
+-- what a side's guess says of its rest, and of its rest at the end
+pub record IsWithin (rest : Rest) (s : Side) (m : Message) (left : List ℕ) : Type 0 where
+  pub filled : IsFilled rest.bytes
+  pub unfinished : IsFilled left
+  pub encodes : enc m ≡ rest.bytes ++ left
+  pub sided : side m ≡ s
+  pub sendable : IsSendable m
+  pub starts : MayStart rest.since s m
+
+abbrev pub Guess : Rest → Rest → Side → Open → Type 0
+Guess rest end s Idle = rest.bytes ≡ []
+Guess rest end s (Busy m left) = IsWithin rest s m left
+Guess rest end s Loose = IsFilled rest.bytes × IsFilled end.bytes
+
+-- a byte stands after the last completed message of its side
+abbrev pub IsStray : Machine → Type 0
+IsStray end = (s : Side) × IsFilled (get end.rests s).bytes
+
+-- a marked continuation from a machine to a machine
+pub record IsTrace (judge : Judge) (machine end : Machine) (state : State) (ps : List Pair) : Type 0 where
+  pub items : List Item
+  pub open_ : Both Open
+  pub walk : Walk (IsStray end) open_ items
+  pub guess : (s : Side) → Guess (get machine.rests s) (get end.rests s) s (get open_ s)
+  pub has_pairs : pairs items ≡ ps
+  pub obeys : Obeys state items
+  pub messages : machine.messages ++ completed_messages items ≡ end.messages
+  pub tracks : Tracks judge machine items
+  pub leads : led machine items ≡ end
+
+pub guess_at_end : (rest : Rest) (s : Side) → (o : Open) × Guess rest rest s o × IsNotBusy o
+guess_at_end rest s = go rest.bytes refl
+  where
+    go : (bs : List ℕ) → rest.bytes ≡ bs → (o : Open) × Guess rest rest s o × IsNotBusy o
+    go [] e = (Idle, e, tt)
+    go (b ∷ bs) e = (Loose, (subst IsFilled (sym e) tt, subst IsFilled (sym e) tt), tt)
+
+abbrev pub at_end : (judge : Judge) (machine : Machine) (state : State) → IsTrace judge machine machine state []
+at_end judge machine state =
+    let c = guess_at_end machine.rests.client Client in
+    let s = guess_at_end machine.rests.server Server in
+    record {
+      items = [];
+      open_ = record { client = c.0; server = s.0 };
+      walk = ended c.2 s.2;
+      guess = elim [ Client ↦ c.1 | Server ↦ s.1 ];
+      has_pairs = refl;
+      obeys = tt;
+      messages = append-nil machine.messages;
+      tracks = tt;
+      leads = refl;
+    }
+
+pub not_empty : (bs : List ℕ) → IsFilled bs → bs ≡ [] → ⊥
+not_empty [] f e = f
+not_empty (c ∷ cs) f e = (cc)
+
+-- no message is one byte
+pub enc-long : (m : Message) (b : ℕ) → enc m ≡ b ∷ [] → ⊥
+unfolding enc head
+enc-long (Greeting flags) b e = (cc)
+enc-long (ClientFlags flags) b e = (cc)
+enc-long (Choice id payload) b e = (cc)
+enc-long (Answer option kind payload) b e = (cc)
+enc-long (Exported size flags padded) b e = (cc)
+enc-long (Request flags command cookie offset len payload) b e = (cc)
+enc-long (Simple error cookie payload) b e = (cc)
+enc-long (Chunk flags kind cookie payload) b e = (cc)
+
+-- a new guess for one side
+guess_with : (olds ends : Both Rest) (opens : Both Open) (s : Side) (rest : Rest) (o : Open) →
+    ((u : Side) → Guess (get (put olds s rest) u) (get ends u) u (get opens u)) → Guess (get olds s) (get ends s) s o →
+    (u : Side) → Guess (get olds u) (get ends u) u (get (put opens s o) u)
+guess_with olds ends opens s rest o all here u = go (same_or_not s u)
+  where
+    go : (s ≡ u) ⊎ (s ≡ u → ⊥) → Guess (get olds u) (get ends u) u (get (put opens s o) u)
+    go (inl e) = subst (λ v. Guess (get olds v) (get ends v) v (get (put opens s o) v)) e (subst (λ x. Guess (get olds s) (get ends s) s x) (sym (get-put_same opens s o)) here)
+    go (inr ne) = subst (λ x. Guess (get olds u) (get ends u) u x) (sym (get-put_other opens s u o ne)) (subst (λ r. Guess r (get ends u) u (get opens u)) (get-put_other olds s u rest ne) (all u))
+
+put-again : {A : Type 0} (p : Both A) (s : Side) (a c : A) → put (put p s a) s c ≡ put p s c
+put-again p Client a c = refl
+put-again p Server a c = refl
+
+pub led_whole : (machine : Machine) (s : Side) (b : ℕ) (m : Message) → led machine (Byte s b ∷ Completes s m ∷ [])
+    ≡ record { core = complete machine.core m; rests = put machine.rests s (record (grown machine.core (get machine.rests s) b) { bytes = [] }); messages = machine.messages ++ m ∷ [] }
+led_whole machine s b m =
+    ap (λ (r : Both Rest). let x : Machine = record { core = complete machine.core m; rests = r; messages = machine.messages ++ m ∷ [] } in x)
+    (ap (λ (r : Rest). put (put machine.rests s (grown machine.core (get machine.rests s) b)) s (ended_by r)) (get-put_same machine.rests s (grown machine.core (get machine.rests s) b))
+    ∙ put-again machine.rests s _ _)
+
+led_service : (old new : Core) (g : IsGrown old new) (machine : Machine) (items : List Item) → led machine (service old new g ++ items) ≡ led machine items
+led_service old new (inl e) machine items = refl
+led_service old new (inr e) machine items = refl
+
+tracks_service : (judge : Judge) (old new : Core) (g : IsGrown old new) (machine : Machine) (items : List Item) → Tracks judge machine items → Tracks judge machine (service old new g ++ items)
+tracks_service judge old new (inl e) machine items h = h
+tracks_service judge old new (inr e) machine items h = h
+
+pub tracks_more : (judge : Judge) (machine : Machine) (s : Side) (b : ℕ) (items : List Item) → Tracks judge (with_byte machine s b) items → ((x : Item) (xs : List Item) → items ≡ x ∷ xs → IsMore judge (with_byte machine s b) s) → Tracks judge machine (Byte s b ∷ items)
+tracks_more judge machine s b [] h more = tt
+tracks_more judge machine s b (Byte t c ∷ items) h more = (more (Byte t c) items refl, h)
+tracks_more judge machine s b (Starts t m ∷ items) h more = (more (Starts t m) items refl, h)
+tracks_more judge machine s b (Serves k ∷ items) h more = (more (Serves k) items refl, h)
+tracks_more judge machine s b (Completes t m ∷ items) h more = absurd h
+
+module _ (judge : Judge) (machine end : Machine) (js : List ℕ) (canonical : IsCanonical (record { core = machine.core; served = js })) (s : Side) (b : ℕ) (ps : List Pair) where
+  abbrev rest_of : Rest
+  rest_of = get machine.rests s
+
+  abbrev more_of : Rest
+  more_of = grown machine.core rest_of b
+
+  abbrev Goal : Type 0
+  Goal = IsTrace judge machine end (record { core = machine.core; served = js }) (record { from = s; byte = b } ∷ ps)
+
+  -- the byte goes on with its message, or with bytes of none
+  pub more_step : (t : IsTrace judge (record machine { rests = put machine.rests s more_of }) end (record { core = machine.core; served = js }) ps) →
+      ((x : Item) (xs : List Item) → t.items ≡ x ∷ xs → IsMoreAt judge machine.core s more_of) → Goal
+  more_step t judged = go (get t.open_ s) refl (subst (λ r. Guess r (get end.rests s) s (get t.open_ s)) (get-put_same machine.rests s more_of) (t.guess s))
+    where
+      others : (o : Open) → Guess rest_of (get end.rests s) s o → (u : Side) → Guess (get machine.rests u) (get end.rests u) u (get (put t.open_ s o) u)
+      others o g = guess_with machine.rests end.rests t.open_ s more_of o t.guess g
+
+      walk_on : (o p : Open) → get t.open_ s ≡ p → Walk (IsStray end) (put (put t.open_ s o) s p) t.items
+      walk_on o p is = subst (λ w. Walk (IsStray end) w t.items) (sym (put-put t.open_ s o p is)) t.walk
+
+      tracks_on : Tracks judge machine (Byte s b ∷ t.items)
+      tracks_on = tracks_more judge machine s b t.items t.tracks
+          (λ x xs e. subst (λ (r : Rest). IsMoreAt judge machine.core s r) (sym (get-put_same machine.rests s more_of)) (judged x xs e))
+
+      busy : (m : Message) (left : List ℕ) (bs : List ℕ) → rest_of.bytes ≡ bs → get t.open_ s ≡ Busy m left → IsWithin more_of s m left → Goal
+      busy m left [] e is g = record {
+        items = Starts s m ∷ Byte s b ∷ t.items;
+        open_ = put t.open_ s Idle;
+        walk = opening s m b left (get-put_same t.open_ s Idle) (g.encodes ∙ ap (λ bs. (bs ++ b ∷ []) ++ left) e) g.unfinished (walk_on Idle (Busy m left) is);
+        guess = others Idle e;
+        has_pairs = ap (λ q. record { from = s; byte = b } ∷ q) t.has_pairs;
+        obeys = ((g.sided, g.sendable, subst (λ c. MayStart c s m) (old-empty machine.core rest_of e) g.starts, canonical_serves _ canonical s m), (tt, t.obeys));
+        messages = t.messages;
+        tracks = tracks_on;
+        leads = t.leads;
+      }
+      busy m left (c ∷ cs) e is g =
+          let f : IsFilled rest_of.bytes = subst IsFilled (sym e) tt in
+          record {
+            items = Byte s b ∷ t.items;
+            open_ = put t.open_ s (Busy m (b ∷ left));
+            walk = middle s m b left (get-put_same t.open_ s (Busy m (b ∷ left))) g.unfinished (walk_on (Busy m (b ∷ left)) (Busy m left) is);
+            guess = others (Busy m (b ∷ left)) (record {
+              filled = f;
+              unfinished = tt;
+              encodes = g.encodes ∙ append_assoc rest_of.bytes (b ∷ []) left;
+              sided = g.sided;
+              sendable = g.sendable;
+              starts = subst (λ c. MayStart c s m) (old-filled machine.core rest_of f) g.starts;
+            });
+            has_pairs = ap (λ q. record { from = s; byte = b } ∷ q) t.has_pairs;
+            obeys = (tt, t.obeys);
+            messages = t.messages;
+            tracks = tracks_on;
+            leads = t.leads;
+          }
+
+      stray : IsStray end → (o : Open) → IsNotBusy o → Guess rest_of (get end.rests s) s o → get t.open_ s ≡ Loose → Goal
+      stray p o n g is = record {
+        items = Byte s b ∷ t.items;
+        open_ = put t.open_ s o;
+        walk = loose s b p (subst IsNotBusy (sym (get-put_same t.open_ s o)) n) (walk_on o Loose is);
+        guess = others o g;
+        has_pairs = ap (λ q. record { from = s; byte = b } ∷ q) t.has_pairs;
+        obeys = (tt, t.obeys);
+        messages = t.messages;
+        tracks = tracks_on;
+        leads = t.leads;
+      }
+
+      loosened : (bs : List ℕ) → rest_of.bytes ≡ bs → IsFilled (get end.rests s).bytes → get t.open_ s ≡ Loose → Goal
+      loosened [] e f is = stray (s, f) Idle tt e is
+      loosened (c ∷ cs) e f is = stray (s, f) Loose tt (subst IsFilled (sym e) tt, f) is
+
+      go : (o : Open) → get t.open_ s ≡ o → Guess more_of (get end.rests s) s o → Goal
+      go Idle is g = absurd (not_empty (rest_of.bytes ++ b ∷ []) (IsFilled-snoc rest_of.bytes b) g)
+      go (Busy m left) is g = busy m left rest_of.bytes refl is g
+      go Loose is g = loosened rest_of.bytes refl g.1 is
+
+  -- the byte completes its message
+  whole_step : (m : Message) (grow : IsGrown machine.core (complete machine.core m)) → IsSoundAt more_of.since machine.core s more_of.bytes m →
+      IsTrace judge (record { core = complete machine.core m; rests = put machine.rests s (record more_of { bytes = [] }); messages = machine.messages ++ m ∷ [] }) end
+      (record { core = complete machine.core m; served = serviced machine.core (complete machine.core m) grow js }) ps → Goal
+  whole_step m grow sound t = go (get t.open_ s) refl (subst (λ r. Guess r (get end.rests s) s (get t.open_ s)) (get-put_same machine.rests s (record more_of { bytes = [] })) (t.guess s))
+    where
+      filled : (bs : List ℕ) → rest_of.bytes ≡ bs → IsFilled bs
+      filled [] e = absurd (enc-long m b (sym sound.encodes ∙ ap (λ bs. bs ++ b ∷ []) e))
+      filled (c ∷ cs) e = tt
+
+      go : (o : Open) → get t.open_ s ≡ o → Guess (record more_of { bytes = [] }) (get end.rests s) s o → Goal
+      go Idle is g =
+          let f : IsFilled rest_of.bytes = filled rest_of.bytes refl in
+          record {
+            items = Byte s b ∷ Completes s m ∷ (service machine.core (complete machine.core m) grow ++ t.items);
+            open_ = put t.open_ s (Busy m (b ∷ []));
+            walk = final s m b (get-put_same t.open_ s (Busy m (b ∷ [])))
+                (walk_service machine.core (complete machine.core m) grow _ t.items (subst (λ w. Walk (IsStray end) w t.items) (sym (put-put t.open_ s (Busy m (b ∷ [])) Idle is)) t.walk));
+            guess = guess_with machine.rests end.rests t.open_ s (record more_of { bytes = [] }) (Busy m (b ∷ [])) t.guess (record {
+              filled = f;
+              unfinished = tt;
+              encodes = sym sound.encodes;
+              sided = sound.sided;
+              sendable = sound.sendable;
+              starts = subst (λ c. MayStart c s m) (old-filled machine.core rest_of f) sound.starts;
+            });
+            has_pairs = ap (λ q. record { from = s; byte = b } ∷ q) (pairs_service machine.core (complete machine.core m) grow t.items ∙ t.has_pairs);
+            obeys = (tt, (sound.completes, obeys_service machine.core (complete machine.core m) grow js t.items canonical t.obeys));
+            messages = ap (λ ms. machine.messages ++ m ∷ ms) (completed_service machine.core (complete machine.core m) grow t.items)
+                ∙ sym (append_assoc machine.messages (m ∷ []) (completed_messages t.items)) ∙ t.messages;
+            tracks = (refl, subst (λ x. Tracks judge x (service machine.core (complete machine.core m) grow ++ t.items)) (sym (led_whole machine s b m)) (tracks_service judge machine.core (complete machine.core m) grow _ t.items t.tracks));
+            leads = ap (λ x. led x (service machine.core (complete machine.core m) grow ++ t.items)) (led_whole machine s b m) ∙ led_service machine.core (complete machine.core m) grow _ t.items ∙ t.leads;
+          }
+      go (Busy n left) is g = absurd g.filled
+      go Loose is g = absurd g.0
+
+trace_by : (judge : Judge) → IsSound judge → (machine mid end : Machine) (js : List ℕ) → AreHeld judge machine → IsCanonical (record { core = machine.core; served = js }) → (p : Pair) (ps qs : List Pair) → p.byte < 256 →
+    ((next : Machine) (js' : List ℕ) → AreHeld judge next → IsCanonical (record { core = next.core; served = js' }) → reads judge next ps ≡ Ok mid → IsTrace judge next end (record { core = next.core; served = js' }) (ps ++ qs)) →
+    (r : Reading) → judge (grown machine.core (get machine.rests p.from) p.byte).since machine.core p.from (grown machine.core (get machine.rests p.from) p.byte).bytes ≡ r →
+    on_ok (settle machine p.from (grown machine.core (get machine.rests p.from) p.byte) r) (λ next. reads judge next ps) ≡ Ok mid →
+    IsTrace judge machine end (record { core = machine.core; served = js }) (p ∷ ps ++ qs)
+trace_by judge sound machine mid end js held canonical p ps qs lt ih More is h = more_step judge machine end js canonical p.from p.byte (ps ++ qs) (ih _ js (held_more judge machine p.from p.byte lt held is) canonical h) (λ x xs e. (is, kept_next judge machine.core p.from (get machine.rests p.from) p.byte lt (held p.from)))
+trace_by judge sound machine mid end js held canonical p ps qs lt ih (Whole m) is h =
+    let grow : IsGrown machine.core (complete machine.core m) = length-complete machine.core m in
+    let ok : IsSoundAt (grown machine.core (get machine.rests p.from) p.byte).since machine.core p.from (grown machine.core (get machine.rests p.from) p.byte).bytes m =
+    sound _ _ _ _ m (kept_next judge machine.core p.from (get machine.rests p.from) p.byte lt (held p.from)) is in
+    whole_step judge machine end js canonical p.from p.byte (ps ++ qs) m grow ok
+    (ih _ _ (held_whole judge machine p.from m (record (grown machine.core (get machine.rests p.from) p.byte) { bytes = [] }) refl held ok.sided ok.sendable ok.completes) (canonical_serviced machine.core (complete machine.core m) grow js canonical) h)
+trace_by judge sound machine mid end js held canonical p ps qs lt ih (Bad f) is h = absurd (cc)
+
+-- what was read without a fault is a run, but for the rests, and what comes then
+pub trace_then : (judge : Judge) → IsSound judge → (ps qs : List Pair) (machine mid end : Machine) (js : List ℕ) → ArePairs ps → AreHeld judge machine → IsCanonical (record { core = machine.core; served = js }) →
+    reads judge machine ps ≡ Ok mid →
+    ((js' : List ℕ) → AreHeld judge mid → IsCanonical (record { core = mid.core; served = js' }) → IsTrace judge mid end (record { core = mid.core; served = js' }) qs) →
+    IsTrace judge machine end (record { core = machine.core; served = js }) (ps ++ qs)
+trace_then judge sound [] qs machine mid end js lt held canonical e go_on =
+    let q : mid ≡ machine = cc in
+    subst (λ (x : Machine). (js' : List ℕ) → AreHeld judge x → IsCanonical (record { core = x.core; served = js' }) → IsTrace judge x end (record { core = x.core; served = js' }) qs) q go_on js held canonical
+trace_then judge sound (p ∷ ps) qs machine mid end js lt held canonical e go_on =
+    trace_by judge sound machine mid end js held canonical p ps qs lt.0 (λ next js' hd c h. trace_then judge sound ps qs next mid end js' lt.1 hd c h go_on) _ refl e
+
+pub trace : (judge : Judge) → IsSound judge → (ps : List Pair) (machine end : Machine) (js : List ℕ) → ArePairs ps → AreHeld judge machine → IsCanonical (record { core = machine.core; served = js }) →
+    reads judge machine ps ≡ Ok end → IsTrace judge machine end (record { core = machine.core; served = js }) ps
+trace judge sound ps machine end js lt held canonical e =
+    subst (λ l. IsTrace judge machine end (record { core = machine.core; served = js }) l) (append-nil ps)
+    (trace_then judge sound ps [] machine end end js lt held canonical e (λ js' hd c. at_end judge end (record { core = end.core; served = js' })))

@@ -1,0 +1,11 @@
+pub mod DecidingLemmas
+pub mod DecidingReadLemmas
+pub mod DecidingReplyLemmas
+pub mod DecidingRunLemmas
+pub mod IndexLemmas
+pub mod SessionLemmas
+pub mod WorkedChunkLemmas
+pub mod WorkedOptionLemmas
+pub mod WorkedReadLemmas
+pub mod WorkedRefusalLemmas
+pub mod WorkedRequestLemmas

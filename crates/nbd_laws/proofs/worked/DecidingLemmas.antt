@@ -1,0 +1,269 @@
+-- Tests that decide the rules of negotiation by computing, and what a message needs to start.
+use Rattle.std.proofs.Common.{◌≡◌, ℕ, zero, suc, ◌+◌, ◌<◌, ◌≤◌, ◌^◌, ◌⊎◌, ◌==◌, ◌&&◌, ◌||◌, not, nat_le, nat_lt, List, [], ◌∷◌, length, refl, ap, subst, inl, inr, Option, Some, None, Bool, true, false, if◌then◌else◌, IsTrue, is_some, eqb-true, arith}
+use Rattle.std.proofs.lemmas.Bool.{eqb-false, leb-true, ltb-true}
+use Rattle.nbd_wire.specs.declared.answers.TheConstants as answers
+use Rattle.nbd_wire.specs.declared.commands.TheConstants as commands
+use Rattle.nbd_wire.specs.declared.limits.TheConstants.{EXPORT_SIZE}
+use Rattle.nbd_wire.specs.declared.options.TheConstants as options
+use Rattle.nbd_wire.specs.declared.transmission.TheConstants as transmission
+use Rattle.nbd_wire.specs.declared.message.Side.{Side}
+use Rattle.nbd_wire.specs.declared.message.Side.TheVariants.{Client, Server}
+use Rattle.nbd_wire.specs.declared.message.Message.{Message}
+use Rattle.nbd_wire.specs.declared.message.Message.TheVariants.{Greeting, ClientFlags, Choice, Answer, Exported, Request, Simple, Chunk}
+use Rattle.nbd_wire.specs.declared.payloads.Info.{Info}
+use Rattle.nbd_wire.specs.declared.payloads.Info.TheVariants.{Export, BlockSize, Other}
+use Rattle.nbd_wire.specs.protocol.Encoding.{AreBytes}
+use Rattle.nbd_wire.specs.protocol.Options.{IsInfo, MayAcknowledge, MayAnswer, is_error, is_proper_option, turn}
+use Rattle.nbd_wire.specs.protocol.Payloads.{info_of, is_listed}
+use Rattle.nbd_wire.specs.protocol.Operations.{Exporting}
+use Rattle.nbd_wire.specs.protocol.Flags.{has}
+use Rattle.nbd_wire.specs.protocol.Pieces.{is_in}
+use Rattle.nbd_wire.specs.protocol.Rules.{IsServedFor, MayStartIn, request_of_reply, is_request}
+use Rattle.nbd_wire.specs.protocol.Sendable.{IsPayload, IsSendable}
+use Rattle.nbd_wire.specs.protocol.Sides.{same_side}
+use Rattle.nbd_wire.specs.protocol.States.{Core, Names, Phase, State, Greet, Flags, Choosing, Naming, Aborting, Answering, Ended, Transmission}
+
+-- both tests pass
+pub both : (a b : Bool) → IsTrue (a && b) → IsTrue a × IsTrue b
+both true true e = (refl, refl)
+both true false e = absurd (cc)
+both false b e = absurd (cc)
+
+-- the second test passes where the first does
+pub then_too : (a b : Bool) → IsTrue (not a || b) → IsTrue a → IsTrue b
+then_too true b e h = e
+then_too false b e h = absurd (cc)
+
+-- one of two tests passes
+pub one : (a b : Bool) → IsTrue (a || b) → IsTrue a ⊎ IsTrue b
+one true b e = inl refl
+one false b e = inr e
+
+pub was_false : (b : Bool) → IsTrue (not b) → b ≡ false
+was_false true e = absurd (cc)
+was_false false e = refl
+
+abbrev pub equal_bools : Bool → Bool → Bool
+equal_bools true b = b
+equal_bools false b = not b
+
+pub are_equal : (a b : Bool) → IsTrue (equal_bools a b) → a ≡ b
+are_equal true true e = refl
+are_equal true false e = absurd (cc)
+are_equal false true e = absurd (cc)
+are_equal false false e = refl
+
+abbrev pub is_empty : {A : Type 0} → List A → Bool
+is_empty [] = true
+is_empty (x ∷ xs) = false
+
+pub empty : {A : Type 0} (xs : List A) → IsTrue (is_empty xs) → xs ≡ []
+empty [] e = refl
+empty (x ∷ xs) e = absurd (cc)
+
+pub same_sides : (s t : Side) → IsTrue (same_side s t) → s ≡ t
+same_sides Client Client e = refl
+same_sides Server Server e = refl
+same_sides Client Server e = absurd (cc)
+same_sides Server Client e = absurd (cc)
+
+-- n offsets from this one on pass the test
+abbrev pub all_in : ℕ → ℕ → (ℕ → Bool) → Bool
+all_in offset zero p = true
+all_in offset (suc n) p = p offset && all_in (suc offset) n p
+
+pub in_range : (offset n x : ℕ) → IsTrue (is_in offset n x) → (offset ≤ x) × (x < offset + n)
+in_range offset n x h = (let b = both (nat_le offset x) (nat_lt x (offset + n)) h in (leb-true offset x b.0, ltb-true x (offset + n) b.1))
+
+pub all_at : (offset n : ℕ) (p : ℕ → Bool) → IsTrue (all_in offset n p) → (x : ℕ) → offset ≤ x → x < offset + n → IsTrue (p x)
+all_at offset zero p h x l u = absurd (omega arith)
+all_at offset (suc n) p h x l u = go (offset == x) refl (both (p offset) (all_in (suc offset) n p) h) (λ r l. all_at (suc offset) n p r x l (omega arith))
+  where
+    go : (b : Bool) → (offset == x) ≡ b → IsTrue (p offset) × IsTrue (all_in (suc offset) n p) → (IsTrue (all_in (suc offset) n p) → suc offset ≤ x → IsTrue (p x)) → IsTrue (p x)
+    go true e r ih = subst (λ y. IsTrue (p y)) (eqb-true offset x e) r.0
+    go false e r ih = ih r.1 (let ne = eqb-false offset x e in omega arith)
+
+abbrev pub are_bytes : List ℕ → Bool
+are_bytes [] = true
+are_bytes (b ∷ bs) = nat_lt b 256 && are_bytes bs
+
+pub bytes_are : (bs : List ℕ) → IsTrue (are_bytes bs) → AreBytes bs
+bytes_are [] e = tt
+bytes_are (b ∷ bs) e = (let h = both (nat_lt b 256) (are_bytes bs) e in (ltb-true b 256 h.0, bytes_are bs h.1))
+
+abbrev pub is_payload : List ℕ → Bool
+is_payload payload = nat_lt (length payload) (2 ^ 32) && are_bytes payload
+
+pub payload_is : (payload : List ℕ) → IsTrue (is_payload payload) → IsPayload payload
+payload_is payload e = (let h = both (nat_lt (length payload) (2 ^ 32)) (are_bytes payload) e in (ltb-true (length payload) (2 ^ 32) h.0, bytes_are payload h.1))
+
+abbrev pub is_sendable : Message → Bool
+is_sendable (Greeting flags) = nat_lt flags (2 ^ 16)
+is_sendable (ClientFlags flags) = nat_lt flags (2 ^ 32)
+is_sendable (Choice id payload) = nat_lt id (2 ^ 32) && is_payload payload
+is_sendable (Answer option kind payload) = nat_lt option (2 ^ 32) && (nat_lt kind (2 ^ 32) && is_payload payload)
+is_sendable (Exported size flags padded) = nat_lt size (2 ^ 64) && nat_lt flags (2 ^ 16)
+is_sendable (Request flags command cookie offset len payload) =
+    nat_lt flags (2 ^ 16) && (nat_lt command (2 ^ 16) && (nat_lt cookie (2 ^ 64) && (nat_lt offset (2 ^ 64) && (nat_lt len (2 ^ 32)
+    && ((length payload == (if command == commands.WRITE then len else 0)) && are_bytes payload)))))
+is_sendable (Simple error cookie payload) = nat_lt error (2 ^ 32) && (nat_lt cookie (2 ^ 64) && is_payload payload)
+is_sendable (Chunk flags kind cookie payload) = nat_lt flags (2 ^ 16) && (nat_lt kind (2 ^ 16) && (nat_lt cookie (2 ^ 64) && is_payload payload))
+
+pub sendable : (m : Message) → IsTrue (is_sendable m) → IsSendable m
+unfolding IsSendable
+sendable (Greeting flags) e = ltb-true flags (2 ^ 16) e
+sendable (ClientFlags flags) e = ltb-true flags (2 ^ 32) e
+sendable (Choice id payload) e = (let h = both _ _ e in (ltb-true id (2 ^ 32) h.0, payload_is payload h.1))
+sendable (Answer option kind payload) e = (let h = both _ _ e in let g = both _ _ h.1 in (ltb-true option (2 ^ 32) h.0, ltb-true kind (2 ^ 32) g.0, payload_is payload g.1))
+sendable (Exported size flags padded) e = (let h = both _ _ e in (ltb-true size (2 ^ 64) h.0, ltb-true flags (2 ^ 16) h.1))
+sendable (Request flags command cookie offset len payload) e =
+    let a = both (nat_lt flags (2 ^ 16)) _ e in
+    let b = both (nat_lt command (2 ^ 16)) _ a.1 in
+    let c = both (nat_lt cookie (2 ^ 64)) _ b.1 in
+    let d = both (nat_lt offset (2 ^ 64)) _ c.1 in
+    let f = both (nat_lt len (2 ^ 32)) _ d.1 in
+    let g = both (length payload == (if command == commands.WRITE then len else 0)) (are_bytes payload) f.1 in (
+      ltb-true flags (2 ^ 16) a.0,
+      ltb-true command (2 ^ 16) b.0,
+      ltb-true cookie (2 ^ 64) c.0,
+      ltb-true offset (2 ^ 64) d.0,
+      ltb-true len (2 ^ 32) f.0,
+      eqb-true (length payload) (if command == commands.WRITE then len else 0) g.0,
+      bytes_are payload g.1,
+    )
+sendable (Simple error cookie payload) e =
+    let a = both (nat_lt error (2 ^ 32)) _ e in
+    let b = both (nat_lt cookie (2 ^ 64)) _ a.1 in
+    (ltb-true error (2 ^ 32) a.0, ltb-true cookie (2 ^ 64) b.0, payload_is payload b.1)
+sendable (Chunk flags kind cookie payload) e =
+    let a = both (nat_lt flags (2 ^ 16)) _ e in
+    let b = both (nat_lt kind (2 ^ 16)) _ a.1 in
+    let c = both (nat_lt cookie (2 ^ 64)) _ b.1 in
+    (ltb-true flags (2 ^ 16) a.0, ltb-true kind (2 ^ 16) b.0, ltb-true cookie (2 ^ 64) c.0, payload_is payload c.1)
+
+abbrev pub is_turn : Option Side → Side → Bool
+is_turn (Some t) s = same_side t s
+is_turn None s = false
+
+pub turn_is : (t : Option Side) (s : Side) → IsTrue (is_turn t s) → t ≡ Some s
+turn_is (Some t) s e = ap Some (same_sides t s e)
+turn_is None s e = absurd (cc)
+
+abbrev pub may_start_in : Phase → Core → Side → Message → Bool
+may_start_in (Transmission export) core Client m = is_request m && not core.disconnected
+may_start_in (Transmission export) core Server m = is_some (request_of_reply core m)
+may_start_in phase core s m = is_turn (turn phase) s
+
+pub starts_in : (phase : Phase) (core : Core) (s : Side) (m : Message) → IsTrue (may_start_in phase core s m) → MayStartIn phase core s m
+unfolding MayStartIn
+starts_in (Transmission export) core Client m e = (let h = both (is_request m) (not core.disconnected) e in (h.0, was_false core.disconnected h.1))
+starts_in (Transmission export) core Server m e = e
+starts_in Greet core s m e = turn_is (turn Greet) s e
+starts_in Flags core s m e = turn_is (turn Flags) s e
+starts_in Choosing core s m e = turn_is (turn Choosing) s e
+starts_in Naming core s m e = turn_is (turn Naming) s e
+starts_in Aborting core s m e = turn_is (turn Aborting) s e
+starts_in (Answering option payload info) core s m e = turn_is (turn (Answering option payload info)) s e
+starts_in Ended core s m e = turn_is (turn Ended) s e
+
+abbrev pub names : List ℕ → ℕ → Bool
+names [] k = false
+names (j ∷ js) k = (j == k) || names js k
+
+pub named : (js : List ℕ) (k : ℕ) → IsTrue (names js k) → Names js k
+named [] k e = absurd (cc)
+named (j ∷ js) k e = elim (one (j == k) (names js k) e) [ inl h ↦ inl (eqb-true j k h) | inr h ↦ inr (named js k h) ]
+
+abbrev pub is_unnamed : List ℕ → ℕ → Bool
+is_unnamed [] k = true
+is_unnamed (j ∷ js) k = not (j == k) && is_unnamed js k
+
+pub unnamed : (js : List ℕ) (k : ℕ) → IsTrue (is_unnamed js k) → Names js k → ⊥
+unnamed [] k e n = n
+unnamed (j ∷ js) k e n =
+    let h = both (not (j == k)) (is_unnamed js k) e in
+    elim n [ inl q ↦ eqb-false j k (was_false (j == k) h.0) q | inr m ↦ unnamed js k h.1 m ]
+
+abbrev pub served_for : List ℕ → Option ℕ → Bool
+served_for js (Some k) = names js k
+served_for js None = true
+
+abbrev pub is_served_for : State → Side → Message → Bool
+is_served_for state Client m = true
+is_served_for state Server m = served_for state.served (request_of_reply state.core m)
+
+pub serves : (state : State) (s : Side) (m : Message) → IsTrue (is_served_for state s m) → IsServedFor state s m
+serves state Client m e = tt
+serves state Server m e = λ k q. go (request_of_reply state.core m) k q e
+  where
+    go : (o : Option ℕ) (k : ℕ) → o ≡ Some k → IsTrue (served_for state.served o) → Names state.served k
+    go (Some j) k q e = (let h : j ≡ k = cc in subst (Names state.served) h (named state.served j e))
+    go None k q e = absurd (cc)
+
+abbrev pub is_info : Option Info → Bool
+is_info (Some (Export size flags)) = has flags transmission.HAS_FLAGS
+is_info (Some (BlockSize least preferred most)) = true
+is_info (Some (Other kind)) = true
+is_info None = false
+
+pub info_is : (payload : List ℕ) → IsTrue (is_info (info_of payload)) → IsInfo payload
+info_is payload e = go (info_of payload) refl e
+  where
+    go : (o : Option Info) → info_of payload ≡ o → IsTrue (is_info o) → IsInfo payload
+    go (Some (Export size flags)) q e = (Export size flags, q, λ size' flags' h. (let f : flags ≡ flags' = cc in subst (λ f. IsTrue (has f transmission.HAS_FLAGS)) f e))
+    go (Some (BlockSize least preferred most)) q e = (BlockSize least preferred most, q, λ size flags h. absurd (cc))
+    go (Some (Other kind)) q e = (Other kind, q, λ size flags h. absurd (cc))
+    go None q e = absurd (cc)
+
+abbrev pub fits_limit : Option Exporting → Bool
+fits_limit (Some export) = nat_le export.size EXPORT_SIZE
+fits_limit None = false
+
+abbrev pub may_acknowledge : ℕ → Option Exporting → Bool
+may_acknowledge option info =
+    (option == options.LIST) || ((option == options.STRUCTURED_REPLY) || (((option == options.INFO) && is_some info) || ((option == options.GO) && fits_limit info)))
+
+pub acknowledges : (option : ℕ) (info : Option Exporting) → IsTrue (may_acknowledge option info) → MayAcknowledge option info
+acknowledges option info e = elim (one (option == options.LIST) _ e) [
+  | inl h ↦ inl (eqb-true option options.LIST h)
+  | inr e ↦ elim (one (option == options.STRUCTURED_REPLY) _ e) [
+    | inl h ↦ inr (inl (eqb-true option options.STRUCTURED_REPLY h))
+    | inr e ↦ elim (one ((option == options.INFO) && is_some info) _ e) [
+      | inl h ↦ (let b = both (option == options.INFO) (is_some info) h in inr (inr (inl (eqb-true option options.INFO b.0, b.1))))
+      | inr h ↦ (let b = both (option == options.GO) (fits_limit info) h in inr (inr (inr (eqb-true option options.GO b.0, fit info b.1))))
+    ]
+  ]
+]
+  where
+    fit : (o : Option Exporting) → IsTrue (fits_limit o) → (export : Exporting) × (o ≡ Some export) × (export.size ≤ EXPORT_SIZE)
+    fit (Some export) e = (export, refl, leb-true export.size EXPORT_SIZE e)
+    fit None e = absurd (cc)
+
+abbrev pub may_answer : (option : ℕ) (payload : List ℕ) (info : Option Exporting) (kind : ℕ) (answer : List ℕ) → Bool
+may_answer option payload info kind answer =
+    is_error kind
+    || (is_proper_option option payload
+    && (((kind == answers.ACK) && (is_empty answer && may_acknowledge option info))
+    || (((kind == answers.SERVER) && ((option == options.LIST) && is_listed answer))
+    || ((kind == answers.INFO) && (((option == options.INFO) || (option == options.GO)) && is_info (info_of answer))))))
+
+pub answers_it : (option : ℕ) (payload : List ℕ) (info : Option Exporting) (kind : ℕ) (answer : List ℕ) → IsTrue (may_answer option payload info kind answer) → MayAnswer option payload info kind answer
+answers_it option payload info kind answer e = elim (one (is_error kind) _ e) [
+  | inl h ↦ inl h
+  | inr e ↦ (let p = both (is_proper_option option payload) _ e in
+      elim (one ((kind == answers.ACK) && (is_empty answer && may_acknowledge option info)) _ p.1) [
+        | inl h ↦ (let a = both (kind == answers.ACK) _ h in let b = both (is_empty answer) _ a.1 in
+            inr (inl (p.0, eqb-true kind answers.ACK a.0, empty answer b.0, acknowledges option info b.1)))
+        | inr e ↦ elim (one ((kind == answers.SERVER) && ((option == options.LIST) && is_listed answer)) _ e) [
+          | inl h ↦ (let a = both (kind == answers.SERVER) _ h in let b = both (option == options.LIST) _ a.1 in
+              inr (inr (inl (p.0, eqb-true kind answers.SERVER a.0, eqb-true option options.LIST b.0, b.1))))
+          | inr h ↦ (let a = both (kind == answers.INFO) _ h in let b = both ((option == options.INFO) || (option == options.GO)) _ a.1 in
+              inr (inr (inr (
+                p.0,
+                eqb-true kind answers.INFO a.0,
+                elim (one (option == options.INFO) (option == options.GO) b.0) [ inl q ↦ inl (eqb-true option options.INFO q) | inr q ↦ inr (eqb-true option options.GO q) ],
+                info_is answer b.1,
+              ))))
+        ]
+      ])
+]

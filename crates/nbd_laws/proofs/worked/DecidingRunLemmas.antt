@@ -1,0 +1,147 @@
+-- Tests that decide by computing whether items are a run.
+use Rattle.std.proofs.Common.{◌≡◌, ℕ, ◌+◌, ◌==◌, ◌&&◌, ◌||◌, not, nat_le, nat_lt, List, [], ◌∷◌, ◌++◌, length, inl, inr, Bool, true, false, IsTrue, is_none, eqb-true, flat_map}
+use Rattle.std.proofs.lemmas.Bool.{leb-true, ltb-true}
+use Rattle.nbd_wire.specs.declared.answers.TheConstants as answers
+use Rattle.nbd_wire.specs.declared.commands.TheConstants as commands
+use Rattle.nbd_wire.specs.declared.handshake.TheConstants as handshake
+use Rattle.nbd_wire.specs.declared.limits.TheConstants.{EXPORT_SIZE}
+use Rattle.nbd_wire.specs.declared.options.TheConstants as options
+use Rattle.nbd_wire.specs.declared.transmission.TheConstants as transmission
+use Rattle.nbd_wire.specs.declared.message.Side.{Side}
+use Rattle.nbd_wire.specs.declared.message.Side.TheVariants.{Client, Server}
+use Rattle.nbd_wire.specs.declared.message.Message.{Message}
+use Rattle.nbd_wire.specs.declared.message.Message.TheVariants.{Greeting, ClientFlags, Choice, Answer, Exported, Request, Simple, Chunk}
+use Rattle.nbd_wire.specs.protocol.Marks.{Item, Byte, Starts, Completes, Serves, IsTight, MayFollow, block, of_side}
+use Rattle.nbd_wire.specs.protocol.Options.{is_error}
+use Rattle.nbd_wire.specs.protocol.Flags.{has, has_only}
+use Rattle.nbd_wire.specs.protocol.Rules.{Allows, IsRun, MayAsk, MayComplete, Obeys, after}
+use Rattle.nbd_wire.specs.protocol.Sides.{same_side, side}
+use Rattle.nbd_laws.specs.Prefixes.{ended_messages}
+use Rattle.nbd_wire.specs.protocol.States.{Core, Phase, State, Greet, Flags, Choosing, Naming, Aborting, Answering, Transmission, start, target}
+use Rattle.nbd_laws.proofs.worked.DecidingLemmas.{answers_it, are_equal, both, empty, equal_bools, is_empty, is_sendable, is_served_for, is_unnamed, may_answer, may_start_in, one, same_sides, sendable, serves, starts_in, then_too, unnamed}
+use Rattle.nbd_laws.proofs.worked.DecidingReplyLemmas.{answers_one, answers_target, none_is}
+
+abbrev pub may_ask : Bool → Core → (cookie offset len : ℕ) → Bool
+may_ask true core cookie offset len = (offset == 0) && (len == 0)
+may_ask false core cookie offset len = is_none (target cookie core.entries)
+
+pub asks : (b : Bool) (core : Core) (cookie offset len : ℕ) → IsTrue (may_ask b core cookie offset len) → MayAsk b core cookie offset len
+asks true core cookie offset len h = (let a = both (offset == 0) (len == 0) h in (eqb-true offset 0 a.0, eqb-true len 0 a.1))
+asks false core cookie offset len h = none_is (target cookie core.entries) h
+
+abbrev pub may_complete : Core → Phase → Message → Bool
+may_complete core Greet (Greeting flags) = has flags handshake.FIXED_NEWSTYLE
+may_complete core Flags (ClientFlags flags) =
+    has flags handshake.C_FIXED_NEWSTYLE && (has_only flags (handshake.C_FIXED_NEWSTYLE + handshake.C_NO_ZEROES)
+    && (not (has flags handshake.C_NO_ZEROES) || has core.offered handshake.NO_ZEROES))
+may_complete core Choosing (Choice id payload) = true
+may_complete core Naming (Exported size flags padded) =
+    has flags transmission.HAS_FLAGS && (equal_bools padded (not (has core.client_flags handshake.C_NO_ZEROES)) && nat_le size EXPORT_SIZE)
+may_complete core Aborting (Answer option kind payload) =
+    (option == options.ABORT) && (is_error kind || ((kind == answers.ACK) && is_empty payload))
+may_complete core (Answering asked asked_with info) (Answer option kind payload) = (option == asked) && may_answer asked asked_with info kind payload
+may_complete core (Transmission export) (Request flags command cookie offset len payload) = may_ask (command == commands.DISC) core cookie offset len
+may_complete core (Transmission export) (Simple error cookie payload) = answers_target core export (Simple error cookie payload) (target cookie core.entries)
+may_complete core (Transmission export) (Chunk flags kind cookie payload) = answers_target core export (Chunk flags kind cookie payload) (target cookie core.entries)
+may_complete core phase m = false
+
+pub completes : (core : Core) (phase : Phase) (m : Message) → IsTrue (may_complete core phase m) → MayComplete core phase m
+unfolding MayComplete
+completes core Greet (Greeting flags) h = h
+completes core Flags (ClientFlags flags) h =
+    let a = both (has flags handshake.C_FIXED_NEWSTYLE) _ h in
+    let b = both (has_only flags (handshake.C_FIXED_NEWSTYLE + handshake.C_NO_ZEROES)) _ a.1 in
+    (a.0, b.0, λ q. then_too (has flags handshake.C_NO_ZEROES) (has core.offered handshake.NO_ZEROES) b.1 q)
+completes core Choosing (Choice id payload) h = tt
+completes core Naming (Exported size flags padded) h =
+    let a = both (has flags transmission.HAS_FLAGS) _ h in
+    let b = both (equal_bools padded (not (has core.client_flags handshake.C_NO_ZEROES))) (nat_le size EXPORT_SIZE) a.1 in
+    (a.0, are_equal padded (not (has core.client_flags handshake.C_NO_ZEROES)) b.0, leb-true size EXPORT_SIZE b.1)
+completes core Aborting (Answer option kind payload) h =
+    let a = both (option == options.ABORT) _ h in (
+      eqb-true option options.ABORT a.0,
+      elim (one (is_error kind) _ a.1) [
+        | inl q ↦ inl q
+        | inr q ↦ (let b = both (kind == answers.ACK) (is_empty payload) q in inr (eqb-true kind answers.ACK b.0, empty payload b.1))
+      ],
+    )
+completes core (Answering asked asked_with info) (Answer option kind payload) h =
+    let a = both (option == asked) _ h in
+    (eqb-true option asked a.0, answers_it asked asked_with info kind payload a.1)
+completes core (Transmission export) (Request flags command cookie offset len payload) h = asks (command == commands.DISC) core cookie offset len h
+completes core (Transmission export) (Simple error cookie payload) h = answers_one core export cookie (Simple error cookie payload) h
+completes core (Transmission export) (Chunk flags kind cookie payload) h = answers_one core export cookie (Chunk flags kind cookie payload) h
+completes core phase m h = absurd (cc)
+
+abbrev pub allows : State → Item → Bool
+allows state (Byte s b) = true
+allows state (Starts s m) = same_side (side m) s && (is_sendable m && (may_start_in state.core.phase state.core s m && is_served_for state s m))
+allows state (Completes s m) = may_complete state.core state.core.phase m
+allows state (Serves k) = nat_lt 0 k && (nat_le k (length state.core.entries) && is_unnamed state.served k)
+
+pub allowed : (state : State) (item : Item) → IsTrue (allows state item) → Allows state item
+allowed state (Byte s b) h = tt
+allowed state (Starts s m) h =
+    let a = both (same_side (side m) s) _ h in
+    let b = both (is_sendable m) _ a.1 in
+    let c = both (may_start_in state.core.phase state.core s m) (is_served_for state s m) b.1 in
+    (same_sides (side m) s a.0, sendable m b.0, starts_in state.core.phase state.core s m c.0, serves state s m c.1)
+allowed state (Completes s m) h = completes state.core state.core.phase m h
+allowed state (Serves k) h =
+    let a = both (nat_lt 0 k) _ h in
+    let b = both (nat_le k (length state.core.entries)) (is_unnamed state.served k) a.1 in
+    (ltb-true 0 k a.0, leb-true k (length state.core.entries) b.0, unnamed state.served k b.1)
+
+-- each item passes the test where it stands
+abbrev pub obeys : State → List Item → Bool
+obeys state [] = true
+obeys state (item ∷ items) = allows state item && obeys (after state item) items
+
+pub obeyed : (items : List Item) (state : State) → IsTrue (obeys state items) → Obeys state items
+obeyed [] state h = tt
+obeyed (item ∷ items) state h = (let a = both (allows state item) (obeys (after state item) items) h in (allowed state item a.0, obeyed items (after state item) a.1))
+
+abbrev pub is_byte_of : Side → Item → Bool
+is_byte_of s (Byte t b) = same_side s t
+is_byte_of s item = false
+
+abbrev pub may_follow : Item → Item → Bool
+may_follow (Starts s m) next = is_byte_of s next
+may_follow (Byte s b) (Completes t m) = same_side s t
+may_follow (Completes s m) (Completes t n) = false
+may_follow (Serves k) (Completes t m) = false
+may_follow item next = true
+
+pub follows_it : (item next : Item) → IsTrue (may_follow item next) → MayFollow item next
+follows_it (Starts s m) (Byte t b) h = same_sides s t h
+follows_it (Starts s m) (Starts t n) h = absurd (cc)
+follows_it (Starts s m) (Completes t n) h = absurd (cc)
+follows_it (Starts s m) (Serves k) h = absurd (cc)
+follows_it (Byte s b) (Completes t m) h = same_sides s t h
+follows_it (Completes s m) (Completes t n) h = absurd (cc)
+follows_it (Serves k) (Completes t m) h = absurd (cc)
+follows_it (Byte s b) next h = tt
+follows_it (Completes s m) next h = tt
+follows_it (Serves k) next h = tt
+
+abbrev pub is_tight : List Item → Bool
+is_tight [] = true
+is_tight (item ∷ []) = true
+is_tight (item ∷ next ∷ items) = may_follow item next && is_tight (next ∷ items)
+
+pub tight : (items : List Item) → IsTrue (is_tight items) → IsTight items
+tight [] h = tt
+tight (item ∷ []) h = tt
+tight (item ∷ next ∷ items) h = (let a = both (may_follow item next) (is_tight (next ∷ items)) h in (follows_it item next a.0, tight (next ∷ items) a.1))
+
+-- items that pass the tests are a run
+pub is_run : (items : List Item) → of_side Client items ≡ flat_map (block Client) (ended_messages Client items) ++ [] → of_side Server items ≡ flat_map (block Server) (ended_messages Server items) ++ [] →
+    IsTrue (is_tight items) → IsTrue (obeys start items) → IsRun items
+is_run items c s t o = record {
+  marked = record {
+    client_side = record { messages = ended_messages Client items; blocks = c };
+    server_side = record { messages = ended_messages Server items; blocks = s };
+    tight = tight items t;
+  };
+  obeys = obeyed items start o;
+}

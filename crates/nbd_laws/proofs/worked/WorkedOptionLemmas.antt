@@ -1,0 +1,151 @@
+-- Explicit runs of negotiation: each is checked by computing.
+use Rattle.std.proofs.Common.{◌+◌, List, [], ◌∷◌, ◌++◌, refl, true, false}
+use Rattle.byteorder.specs.Endian.{big_bytes}
+use Rattle.nbd_wire.specs.declared.answers.TheConstants as answers
+use Rattle.nbd_wire.specs.declared.options.TheConstants as options
+use Rattle.nbd_wire.specs.declared.message.Message.TheVariants.{Greeting, ClientFlags, Choice, Answer, Exported}
+use Rattle.nbd_wire.specs.protocol.Encoding.{enc, head, tail}
+use Rattle.nbd_wire.specs.protocol.ExportBytes.{effects}
+use Rattle.nbd_wire.specs.protocol.Explains.{Zeroes, start_byte}
+use Rattle.nbd_wire.specs.protocol.Marks.{Item, Serves}
+use Rattle.nbd_wire.specs.protocol.Captures.{flat}
+use Rattle.nbd_wire.specs.protocol.Options.{is_proper_option, next_phase}
+use Rattle.nbd_wire.specs.protocol.Payloads.{content_of, failure_of, info_of, is_go, is_listed}
+use Rattle.nbd_wire.specs.protocol.Reports.{report}
+use Rattle.nbd_wire.specs.protocol.Operations.{ends_reply, is_failing, is_proper}
+use Rattle.nbd_wire.specs.protocol.Flags.{has, has_only}
+use Rattle.nbd_wire.specs.protocol.Pieces.{piece_of}
+use Rattle.nbd_wire.specs.protocol.Rules.{IsRun, complete}
+use Rattle.nbd_wire.specs.protocol.States.{target}
+use Rattle.nbd_laws.specs.captures.Options as captures
+use Rattle.nbd_laws.specs.Explaining.{IsYes}
+use Rattle.nbd_laws.proofs.worked.DecidingReadLemmas.{none_wrong}
+use Rattle.nbd_laws.proofs.worked.DecidingRunLemmas.{is_run}
+use Rattle.nbd_laws.proofs.service.ExplainingLemmas.{counts_of}
+use Rattle.nbd_laws.proofs.worked.SessionLemmas.{gives, gone, greeted, read, sends}
+
+padded_export_items : List Item
+padded_export_items = sends (Greeting 3 ∷ ClientFlags 1 ∷ Choice options.EXPORT_NAME (100 ∷ 105 ∷ 115 ∷ 107 ∷ []) ∷ Exported 8 109 true ∷ read 1 0 1 ∷ []) ++ Serves 1 ∷ sends (gives 1 (0 ∷ []) ∷ [])
+
+padded_export_run : IsRun padded_export_items
+unfolding padded_export_items enc head tail complete next_phase target has has_only is_proper is_proper_option info_of is_listed is_go content_of failure_of ends_reply is_failing piece_of report
+padded_export_run = is_run padded_export_items refl refl refl refl
+
+pub padded_export : IsYes (flat captures.padded_export) (1 ∷ []) Zeroes 1 1 0
+unfolding padded_export_items enc head tail complete next_phase target has has_only is_proper is_proper_option info_of is_listed is_go content_of failure_of ends_reply is_failing piece_of report
+padded_export = record {
+  explained = record {
+    items = padded_export_items;
+    is_run = padded_export_run;
+    has_pairs = refl;
+    has_order = refl;
+    fits_image = tt;
+    reads = none_wrong (effects (report padded_export_items)) (1 ∷ []) (start_byte Zeroes) (1 ∷ []) refl;
+  };
+  counts = counts_of padded_export_items (flat captures.padded_export) 1 1 0 padded_export_run refl refl refl refl;
+}
+
+bare_export_items : List Item
+bare_export_items = sends (Greeting 3 ∷ ClientFlags 3 ∷ Choice options.EXPORT_NAME (100 ∷ 105 ∷ 115 ∷ 107 ∷ []) ∷ Exported 8 109 false ∷ read 1 0 1 ∷ []) ++ Serves 1 ∷ sends (gives 1 (0 ∷ []) ∷ [])
+
+bare_export_run : IsRun bare_export_items
+unfolding bare_export_items enc head tail complete next_phase target has has_only is_proper is_proper_option info_of is_listed is_go content_of failure_of ends_reply is_failing piece_of report
+bare_export_run = is_run bare_export_items refl refl refl refl
+
+pub bare_export : IsYes (flat captures.bare_export) (1 ∷ []) Zeroes 1 1 0
+unfolding bare_export_items enc head tail complete next_phase target has has_only is_proper is_proper_option info_of is_listed is_go content_of failure_of ends_reply is_failing piece_of report
+bare_export = record {
+  explained = record {
+    items = bare_export_items;
+    is_run = bare_export_run;
+    has_pairs = refl;
+    has_order = refl;
+    fits_image = tt;
+    reads = none_wrong (effects (report bare_export_items)) (1 ∷ []) (start_byte Zeroes) (1 ∷ []) refl;
+  };
+  counts = counts_of bare_export_items (flat captures.bare_export) 1 1 0 bare_export_run refl refl refl refl;
+}
+
+refused_tls_items : List Item
+refused_tls_items = sends (greeted ++ Choice options.STARTTLS [] ∷ Answer options.STARTTLS (answers.ERROR + 1) [] ∷ [] ++ gone)
+
+refused_tls_run : IsRun refused_tls_items
+unfolding refused_tls_items enc head tail complete next_phase target has has_only is_proper is_proper_option info_of is_listed is_go content_of failure_of ends_reply is_failing piece_of report
+refused_tls_run = is_run refused_tls_items refl refl refl refl
+
+pub refused_tls : IsYes (flat captures.refused_tls) [] Zeroes 0 0 0
+unfolding refused_tls_items enc head tail complete next_phase target has has_only is_proper is_proper_option info_of is_listed is_go content_of failure_of ends_reply is_failing piece_of report
+refused_tls = record {
+  explained = record {
+    items = refused_tls_items;
+    is_run = refused_tls_run;
+    has_pairs = refl;
+    has_order = refl;
+    fits_image = tt;
+    reads = none_wrong (effects (report refused_tls_items)) [] (start_byte Zeroes) [] refl;
+  };
+  counts = counts_of refused_tls_items (flat captures.refused_tls) 0 0 0 refused_tls_run refl refl refl refl;
+}
+
+aborted_items : List Item
+aborted_items = sends (greeted ++ Choice options.ABORT [] ∷ Answer options.ABORT answers.ACK [] ∷ [])
+
+aborted_run : IsRun aborted_items
+unfolding aborted_items enc head tail complete next_phase target has has_only is_proper is_proper_option info_of is_listed is_go content_of failure_of ends_reply is_failing piece_of report
+aborted_run = is_run aborted_items refl refl refl refl
+
+pub aborted : IsYes (flat captures.aborted) [] Zeroes 0 0 0
+unfolding aborted_items enc head tail complete next_phase target has has_only is_proper is_proper_option info_of is_listed is_go content_of failure_of ends_reply is_failing piece_of report
+aborted = record {
+  explained = record {
+    items = aborted_items;
+    is_run = aborted_run;
+    has_pairs = refl;
+    has_order = refl;
+    fits_image = tt;
+    reads = none_wrong (effects (report aborted_items)) [] (start_byte Zeroes) [] refl;
+  };
+  counts = counts_of aborted_items (flat captures.aborted) 0 0 0 aborted_run refl refl refl refl;
+}
+
+listed_items : List Item
+listed_items = sends (greeted ++ Choice options.LIST [] ∷ Answer options.LIST answers.SERVER (big_bytes 4 1 ++ 97 ∷ []) ∷ Answer options.LIST answers.ACK [] ∷ [])
+
+listed_run : IsRun listed_items
+unfolding listed_items enc head tail complete next_phase target has has_only is_proper is_proper_option info_of is_listed is_go content_of failure_of ends_reply is_failing piece_of report
+listed_run = is_run listed_items refl refl refl refl
+
+pub listed : IsYes (flat captures.listed) [] Zeroes 0 0 0
+unfolding listed_items enc head tail complete next_phase target has has_only is_proper is_proper_option info_of is_listed is_go content_of failure_of ends_reply is_failing piece_of report
+listed = record {
+  explained = record {
+    items = listed_items;
+    is_run = listed_run;
+    has_pairs = refl;
+    has_order = refl;
+    fits_image = tt;
+    reads = none_wrong (effects (report listed_items)) [] (start_byte Zeroes) [] refl;
+  };
+  counts = counts_of listed_items (flat captures.listed) 0 0 0 listed_run refl refl refl refl;
+}
+
+unnamed_items : List Item
+unnamed_items = sends (greeted ++ Choice options.EXPORT_NAME (100 ∷ 105 ∷ 115 ∷ 107 ∷ []) ∷ [])
+
+unnamed_run : IsRun unnamed_items
+unfolding unnamed_items enc head tail complete next_phase target has has_only is_proper is_proper_option info_of is_listed is_go content_of failure_of ends_reply is_failing piece_of report
+unnamed_run = is_run unnamed_items refl refl refl refl
+
+pub unnamed : IsYes (flat captures.unnamed) [] Zeroes 0 0 0
+unfolding unnamed_items enc head tail complete next_phase target has has_only is_proper is_proper_option info_of is_listed is_go content_of failure_of ends_reply is_failing piece_of report
+unnamed = record {
+  explained = record {
+    items = unnamed_items;
+    is_run = unnamed_run;
+    has_pairs = refl;
+    has_order = refl;
+    fits_image = tt;
+    reads = none_wrong (effects (report unnamed_items)) [] (start_byte Zeroes) [] refl;
+  };
+  counts = counts_of unnamed_items (flat captures.unnamed) 0 0 0 unnamed_run refl refl refl refl;
+}

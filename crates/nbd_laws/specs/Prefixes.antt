@@ -1,0 +1,50 @@
+-- What the prefix of a run or of a message's bytes may be.
+use Rattle.std.specs.Prelude.{◌≡◌, ℕ, List, [], ◌∷◌, ◌++◌, if◌then◌else◌}
+use Rattle.nbd_wire.specs.declared.message.Side.{Side}
+use Rattle.nbd_wire.specs.declared.message.Message.{Message}
+use Rattle.nbd_wire.specs.protocol.Encoding.{enc}
+use Rattle.nbd_wire.specs.protocol.Marks.{Item, Byte, Starts, Completes, Serves}
+use Rattle.nbd_wire.specs.protocol.Rules.{IsRun, MayComplete}
+use Rattle.nbd_wire.specs.protocol.Sendable.{IsSendable}
+use Rattle.nbd_wire.specs.protocol.Sides.{side, same_side}
+use Rattle.nbd_wire.specs.protocol.States.{Core}
+
+-- of two messages of one side that may complete in one state, neither's bytes are a proper prefix of the other's, and
+-- equal bytes are of one message
+abbrev pub NoProperPrefix : Type 0
+NoProperPrefix = (core : Core) (m n : Message) (rest : List ℕ) → side m ≡ side n → IsSendable m → IsSendable n →
+    MayComplete core core.phase m → MayComplete core core.phase n → enc m ≡ enc n ++ rest → (m ≡ n) × (rest ≡ [])
+
+-- the messages of a side that have started, in order
+abbrev pub started_messages : Side → List Item → List Message
+started_messages s [] = []
+started_messages s (Starts t m ∷ items) = if same_side s t then m ∷ started_messages s items else started_messages s items
+started_messages s (Byte t b ∷ items) = started_messages s items
+started_messages s (Completes t m ∷ items) = started_messages s items
+started_messages s (Serves k ∷ items) = started_messages s items
+
+-- the messages of a side that have completed, in order
+abbrev pub ended_messages : Side → List Item → List Message
+ended_messages s [] = []
+ended_messages s (Completes t m ∷ items) = if same_side s t then m ∷ ended_messages s items else ended_messages s items
+ended_messages s (Byte t b ∷ items) = ended_messages s items
+ended_messages s (Starts t m ∷ items) = ended_messages s items
+ended_messages s (Serves k ∷ items) = ended_messages s items
+
+-- each message that has started has completed
+abbrev pub HasNoneOpen : List Item → Type 0
+HasNoneOpen items = (s : Side) → started_messages s items ≡ ended_messages s items
+
+-- a prefix of a run at which no message is open is a run
+abbrev pub PrefixesAreRuns : Type 0
+PrefixesAreRuns = (prefix back : List Item) → IsRun (prefix ++ back) → HasNoneOpen prefix → IsRun prefix
+
+-- a message starts directly before its first byte
+abbrev pub StartsStandBeforeBytes : Type 0
+StartsStandBeforeBytes = (prefix back : List Item) (s : Side) (m : Message) → IsRun (prefix ++ Starts s m ∷ back) →
+    (b : ℕ) × (left : List ℕ) × (rest : List Item) × (back ≡ Byte s b ∷ rest) × (enc m ≡ b ∷ left)
+
+-- a message completes directly after a byte of its side
+abbrev pub CompletionsStandAfterBytes : Type 0
+CompletionsStandAfterBytes = (prefix back : List Item) (s : Side) (m : Message) → IsRun (prefix ++ Completes s m ∷ back) →
+    (first : List Item) × (b : ℕ) × (prefix ≡ first ++ Byte s b ∷ [])

@@ -1,0 +1,10 @@
+-- The states that a session can be in.
+use Rattle.nbd_wire.specs.declared.message.Message.{Message}
+use Rattle.nbd_wire.specs.protocol.Rules.{MayComplete, complete}
+use Rattle.nbd_wire.specs.protocol.Sendable.{IsSendable}
+use Rattle.nbd_wire.specs.protocol.States.{Core, start}
+
+-- what completed messages lead to
+pub data IsReached : Core → Type 0 where
+  at_start : IsReached start.core
+  after_message : {c : Core} (m : Message) → IsReached c → IsSendable m → MayComplete c c.phase m → IsReached (complete c m)

@@ -1,0 +1,5 @@
+pub mod Chunks
+pub mod Openings
+pub mod Options
+pub mod Reads
+pub mod Requests

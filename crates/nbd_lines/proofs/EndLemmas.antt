@@ -1,0 +1,40 @@
+-- Ends of lines, next to what `hex` says of its calls.
+use Rattle.std.proofs.Common.{◌≡◌, ℕ, Bool, true, false, List, [], ◌∷◌, ◌++◌, Ok, Err, length, refl, sym, ap, ◌∙◌, subst, arith}
+use Rattle.std.specs.Prelude.{◌==◌}
+use Rattle.std.proofs.lemmas.Bool.{eqb-true}
+use Rattle.std.proofs.lemmas.List.{append_cancel_left}
+use Rattle.hex.specs.Hex.{decode_of}
+use Rattle.hex.specs.declared.error.FromHexError.{FromHexError}
+use Rattle.nbd_capture.proofs.DigitLemmas.{decodes, spelled}
+use Rattle.nbd_lines.specs.Line.{IsEnd, payload_words}
+use Rattle.nbd_lines.specs.Line.IsEnd.{nothing, payload}
+use Rattle.nbd_lines.proofs.MessageLineLemmas.{Carries, EndsSo, ends_so}
+
+pub nothing_at : (p : Bool) (bytes end : List ℕ) → p ≡ false → bytes ≡ [] → end ≡ [] → IsEnd p bytes end
+nothing_at p bytes end e b n = rw (e, b, n) nothing
+
+ends_at : (p q : Bool) (bytes end : List ℕ) → p ≡ q → IsEnd p bytes end → EndsSo q bytes end
+ends_at p q bytes end e i = ends_so q bytes end (subst (λ r. IsEnd r bytes end) e i)
+
+pub not_nothing : (p : Bool) (end : List ℕ) → p ≡ false → (end ≡ [] → ⊥) → (bytes : List ℕ) → IsEnd p bytes end → ⊥
+unfolding EndsSo
+not_nothing p end e some bytes i = some (ends_at p false bytes end e i).1
+
+pub payload_at : (p : Bool) (digits bytes end : List ℕ) → p ≡ true → end ≡ payload_words ++ digits → decode_of digits ≡ Ok bytes → IsEnd p bytes end
+payload_at p digits bytes end e w d = rw (e, w) (payload digits bytes (spelled digits bytes d))
+
+pub no_payload : (p : Bool) (end : List ℕ) → p ≡ true → ((digits : List ℕ) → end ≡ payload_words ++ digits → ⊥) → (bytes : List ℕ) → IsEnd p bytes end → ⊥
+unfolding EndsSo
+no_payload p end e none bytes i = let c : Carries bytes end = ends_at p true bytes end e i in none c.digits c.whole
+
+pub undecoded : (p : Bool) (digits end : List ℕ) (fault : FromHexError) → p ≡ true → end ≡ payload_words ++ digits → decode_of digits ≡ Err fault → (bytes : List ℕ) → IsEnd p bytes end → ⊥
+unfolding EndsSo
+undecoded p digits end fault e w bad bytes i =
+    let c : Carries bytes end = ends_at p true bytes end e i in
+    let same : c.digits ≡ digits = append_cancel_left payload_words c.digits digits (sym c.whole ∙ w) in
+    let good : decode_of digits ≡ Ok bytes = ap decode_of (sym same) ∙ decodes c.digits bytes c.spelled in
+    cc
+
+pub empty : (xs : List ℕ) → true ≡ (length xs == 0) → xs ≡ []
+empty [] e = refl
+empty (x ∷ xs) e = let n = eqb-true (length (x ∷ xs)) 0 (sym e) in absurd (omega arith)

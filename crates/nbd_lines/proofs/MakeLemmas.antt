@@ -1,0 +1,18 @@
+-- What `make` answers: that a script's messages fit, and what stands written after a fault.
+use Rattle.std.proofs.Common.{ℕ, inl, inr, List, ◌++◌, sym, subst}
+use Rattle.std.specs.List.{AllByRecursion}
+use Rattle.nbd_wire.specs.declared.message.Message.{Message}
+use Rattle.nbd_wire.specs.codec.Fits.{FitsItsHead}
+use Rattle.nbd_capture.specs.Lines.IsText.{empty, line}
+use Rattle.nbd_lines.specs.Script.{IsScript}
+use Rattle.nbd_lines.proofs.ScriptLineLemmas.{forms}
+
+-- each message of a script fits its head
+pub all_fit : (text : List ℕ) (messages : List Message) → IsScript text messages → AllByRecursion FitsItsHead messages
+all_fit _ _ empty = tt
+all_fit _ _ (line bytes said rest messages u f r) =
+    let more = all_fit rest messages r in
+    elim (forms bytes said f) [
+      | inl silent ↦ subst (λ l. AllByRecursion FitsItsHead (l ++ messages)) (sym silent.1) more
+      | inr tells ↦ subst (λ l. AllByRecursion FitsItsHead (l ++ messages)) (sym tells.all) (tells.fits, more)
+    ]

@@ -1,0 +1,196 @@
+-- Message lines: a line stands for one message at most.
+use Rattle.std.proofs.Common.{◌≡◌, ℕ, zero, suc, ◌^◌, ◌<◌, Bool, true, false, List, [], ◌++◌, drop, get_or, refl, sym, ap, ◌∙◌, subst, arith, Ok, nat_eq}
+use Rattle.std.specs.Prelude.{◌==◌, if◌then◌else◌}
+use Rattle.std.specs.List.{AllByRecursion}
+use Rattle.std.proofs.lemmas.List.{append_cancel_left}
+use Rattle.hex.specs.Hex.{decode_of}
+use Rattle.nbd_wire.specs.declared.message.Message.{Message}
+use Rattle.nbd_wire.specs.declared.message.Message.TheVariants as messages
+use Rattle.nbd_wire.specs.codec.Fits.{FitsItsHead}
+use Rattle.nbd_capture.specs.Capture.{AreDigits}
+use Rattle.nbd_capture.proofs.DigitLemmas.{decodes}
+use Rattle.nbd_lines.specs.declared.forms.Field.{Field}
+use Rattle.nbd_lines.specs.declared.forms.Form.{Form}
+use Rattle.nbd_lines.specs.declared.forms.Form.TheVariants.{Greeting, ClientFlags, Choice, Answer, Exported, Request, Simple, Chunk}
+use Rattle.nbd_lines.specs.Line.{IsEnd, IsMessageLine, numbers_text, payload_words}
+use Rattle.nbd_lines.specs.Line.IsEnd.{nothing, payload}
+use Rattle.nbd_lines.specs.internal.Reading.{BeginsNumbers, EndsWord, ReadsNumbers}
+use Rattle.nbd_lines.specs.Table.{carried, fields, has_payload, line_form, numbers, words}
+use Rattle.nbd_lines.proofs.NumberLemmas.{one_list}
+
+-- the first and the third letter of a line state its form
+unfoldable pub form_by : List ℕ → Form
+form_by text =
+    if get_or text 0 0 == 67
+    then (if get_or text 2 0 == 99 then ClientFlags else (if get_or text 2 0 == 111 then Choice else Request))
+    else (if get_or text 2 0 == 103 then Greeting else (if get_or text 2 0 == 97 then Answer else (if get_or text 2 0 == 101 then Exported else (if get_or text 2 0 == 115 then Simple else Chunk))))
+
+pub form_by-words : (f : Form) (rest : List ℕ) → form_by (words f ++ rest) ≡ f
+unfolding form_by
+form_by-words Greeting rest = refl
+form_by-words ClientFlags rest = refl
+form_by-words Choice rest = refl
+form_by-words Answer rest = refl
+form_by-words Exported rest = refl
+form_by-words Request rest = refl
+form_by-words Simple rest = refl
+form_by-words Chunk rest = refl
+
+-- a line begins with the words of one form
+pub one_form : (f g : Form) (x y : List ℕ) → words f ++ x ≡ words g ++ y → (f ≡ g) × (x ≡ y)
+one_form f g x y e =
+    let same : f ≡ g = sym (form_by-words f x) ∙ ap form_by e ∙ form_by-words g y in
+    (same, append_cancel_left (words f) x y (e ∙ ap (λ h. words h ++ y) (sym same)))
+
+pub end_ends : (p : Bool) (bytes end : List ℕ) → IsEnd p bytes end → EndsWord end
+end_ends _ _ _ nothing = tt
+end_ends _ _ _ (payload digits bytes d) = refl
+
+-- an end, taken apart
+pub record Carries (bytes end : List ℕ) : Type 0 where
+  pub digits : List ℕ
+  pub spelled : AreDigits digits bytes
+  pub whole : end ≡ payload_words ++ digits
+
+unfoldable pub EndsSo : Bool → List ℕ → List ℕ → Type 0
+EndsSo true bytes end = Carries bytes end
+EndsSo false bytes end = (bytes ≡ []) × (end ≡ [])
+
+pub ends_so : (p : Bool) (bytes end : List ℕ) → IsEnd p bytes end → EndsSo p bytes end
+unfolding EndsSo
+ends_so _ _ _ nothing = (refl, refl)
+ends_so _ _ _ (payload digits bytes d) = record { digits = digits; spelled = d; whole = refl }
+
+same_bytes : (digits other a b : List ℕ) → digits ≡ other → AreDigits digits a → AreDigits other b → a ≡ b
+same_bytes digits other a b e da db =
+    let first = decodes digits a da in
+    let second = decodes other b db in
+    let both : decode_of digits ≡ Ok b = ap decode_of e ∙ second in
+    cc
+
+same_end : (p : Bool) (a b end : List ℕ) → EndsSo p a end → EndsSo p b end → a ≡ b
+unfolding EndsSo
+same_end true a b end x y = same_bytes x.digits y.digits a b (append_cancel_left payload_words x.digits y.digits (sym x.whole ∙ y.whole)) x.spelled y.spelled
+same_end false a b end x y = x.0 ∙ sym y.0
+
+-- an end spells one payload
+pub one_payload : (p : Bool) (a b end : List ℕ) → IsEnd p a end → IsEnd p b end → a ≡ b
+one_payload p a b end x y = same_end p a b end (ends_so p a end x) (ends_so p b end y)
+
+-- the numbers of a list, from its beginning
+abbrev pub nth : ℕ → List ℕ → ℕ
+nth zero ns = get_or ns 0 0
+nth (suc k) ns = nth k (drop 1 ns)
+
+-- the message of a form with these numbers and this payload
+unfoldable pub built : Form → List ℕ → List ℕ → Message
+built Greeting ns bytes = messages.Greeting (nth 0 ns)
+built ClientFlags ns bytes = messages.ClientFlags (nth 0 ns)
+built Choice ns bytes = messages.Choice (nth 0 ns) bytes
+built Answer ns bytes = messages.Answer (nth 0 ns) (nth 1 ns) bytes
+built Exported ns bytes = messages.Exported (nth 0 ns) (nth 1 ns) (nat_eq (nth 2 ns) 1)
+built Request ns bytes = messages.Request (nth 0 ns) (nth 1 ns) (nth 2 ns) (nth 3 ns) (nth 4 ns) bytes
+built Simple ns bytes = messages.Simple (nth 0 ns) (nth 1 ns) bytes
+built Chunk ns bytes = messages.Chunk (nth 0 ns) (nth 1 ns) (nth 2 ns) bytes
+
+built-parts : (m : Message) → built (line_form m) (numbers m) (carried m) ≡ m
+unfolding built
+built-parts (messages.Greeting flags) = refl
+built-parts (messages.ClientFlags flags) = refl
+built-parts (messages.Choice id bytes) = refl
+built-parts (messages.Answer option kind bytes) = refl
+built-parts (messages.Exported size flags true) = refl
+built-parts (messages.Exported size flags false) = refl
+built-parts (messages.Request flags command cookie offset len bytes) = refl
+built-parts (messages.Simple error cookie bytes) = refl
+built-parts (messages.Chunk flags kind cookie bytes) = refl
+
+-- messages are their parts
+pub same_message : (a b : Message) → line_form a ≡ line_form b → numbers a ≡ numbers b → carried a ≡ carried b → a ≡ b
+same_message a b f n p =
+    let left = built-parts a in
+    let right = built-parts b in
+    let parts : built (line_form a) (numbers a) (carried a) ≡ built (line_form b) (numbers b) (carried b) = cc in
+    sym left ∙ parts ∙ right
+
+pub fields_small : (f : Form) → AllByRecursion (λ (g : Field). g.most < 2 ^ 64) (fields f)
+fields_small Greeting = (omega arith, tt)
+fields_small ClientFlags = (omega arith, tt)
+fields_small Choice = (omega arith, tt)
+fields_small Answer = (omega arith, (omega arith, tt))
+fields_small Exported = (omega arith, (omega arith, (omega arith, tt)))
+fields_small Request = (omega arith, (omega arith, (omega arith, (omega arith, (omega arith, tt)))))
+fields_small Simple = (omega arith, (omega arith, tt))
+fields_small Chunk = (omega arith, (omega arith, (omega arith, tt)))
+
+-- a line as its parts: a form, its numbers and its payload
+pub record Spells (line : List ℕ) (f : Form) (ns bytes : List ℕ) : Type 0 where
+  pub end : List ℕ
+  pub begins : BeginsNumbers (fields f) ns (numbers_text (fields f) ns ++ end) end
+  pub is_end : IsEnd (has_payload f) bytes end
+  pub whole : line ≡ words f ++ (numbers_text (fields f) ns ++ end)
+
+spells : (line : List ℕ) (m : Message) (f : Form) → line_form m ≡ f → IsMessageLine line m → Spells line f (numbers m) (carried m)
+spells line m f e h =
+    let own : Spells line (line_form m) (numbers m) (carried m) = record {
+      end = h.end;
+      begins = record { within = h.within; whole = refl };
+      is_end = h.is_end;
+      whole = h.whole;
+    } in
+    subst (λ g. Spells line g (numbers m) (carried m)) e own
+
+-- a line that begins with the words of a form is of this form
+spells_rest : (line rest : List ℕ) (f : Form) (m : Message) → line ≡ words f ++ rest → IsMessageLine line m → Spells line f (numbers m) (carried m)
+spells_rest line rest f m e h =
+    let same = one_form f (line_form m) rest _ (sym e ∙ h.whole) in
+    spells line m f (sym same.0) h
+
+rest_of : (line rest : List ℕ) (f : Form) (ns bytes : List ℕ) (e : line ≡ words f ++ rest) (s : Spells line f ns bytes) → BeginsNumbers (fields f) ns rest s.end
+rest_of line rest f ns bytes e s = record { within = s.begins.within; whole = append_cancel_left (words f) rest _ (sym e ∙ s.whole) }
+
+pub no_form : (line : List ℕ) → ((f : Form) (rest : List ℕ) → line ≡ words f ++ rest → ⊥) → (m : Message) → IsMessageLine line m → ⊥
+no_form line none m h = none (line_form m) _ h.whole
+
+pub no_numbers : (line rest : List ℕ) (f : Form) → line ≡ words f ++ rest
+    → ((ns behind : List ℕ) → EndsWord behind → BeginsNumbers (fields f) ns rest behind → ⊥) → (m : Message) → IsMessageLine line m → ⊥
+no_numbers line rest f e none m h =
+    let s = spells_rest line rest f m e h in
+    none (numbers m) s.end (end_ends (has_payload f) (carried m) s.end s.is_end) (rest_of line rest f (numbers m) (carried m) e s)
+
+pub no_end : (line rest end : List ℕ) (f : Form) (ns : List ℕ) → line ≡ words f ++ rest → ReadsNumbers (fields f) ns rest end
+    → ((bytes : List ℕ) → IsEnd (has_payload f) bytes end → ⊥) → (m : Message) → IsMessageLine line m → ⊥
+no_end line rest end f ns e reads none m h =
+    let s = spells_rest line rest f m e h in
+    let same = reads.only (numbers m) s.end (end_ends (has_payload f) (carried m) s.end s.is_end) (rest_of line rest f (numbers m) (carried m) e s) in
+    none (carried m) (subst (IsEnd (has_payload f) (carried m)) same.1 s.is_end)
+
+-- the message of the parts that were read has the line
+pub from_parts : (line rest end : List ℕ) (f : Form) (ns bytes : List ℕ) (m : Message) → line ≡ words f ++ rest → ReadsNumbers (fields f) ns rest end
+    → IsEnd (has_payload f) bytes end → line_form m ≡ f → numbers m ≡ ns → carried m ≡ bytes → IsMessageLine line m
+from_parts line rest end f ns bytes m e reads is_end ef en ec =
+    let s : Spells line f ns bytes = record {
+      end = end;
+      begins = record { within = reads.begins.within; whole = refl };
+      is_end = is_end;
+      whole = e ∙ ap (λ l. words f ++ l) reads.begins.whole;
+    } in
+    let own : Spells line (line_form m) (numbers m) (carried m) = rw (ef, en, ec) s in
+    record { end = own.end; within = own.begins.within; is_end = own.is_end; whole = own.whole }
+
+-- a line stands for one message
+pub one_message : (line : List ℕ) (a b : Message) → IsMessageLine line a → IsMessageLine line b → a ≡ b
+one_message line a b x y =
+    let f = line_form a in
+    let s = spells line a f refl x in
+    let t = spells_rest line _ f b s.whole y in
+    let left = rest_of line _ f (numbers a) (carried a) s.whole s in
+    let right = rest_of line _ f (numbers b) (carried b) s.whole t in
+    let form : line_form a ≡ line_form b = (one_form f (line_form b) _ _ (sym s.whole ∙ y.whole)).0 in
+    let same = one_list (fields f) (fields_small f) (numbers a) (numbers b) _ s.end t.end
+    (end_ends (has_payload f) (carried a) s.end s.is_end) (end_ends (has_payload f) (carried b) t.end t.is_end) left right in
+    let end : IsEnd (has_payload f) (carried b) s.end = subst (IsEnd (has_payload f) (carried b)) (sym same.1) t.is_end in
+    same_message a b form same.0 (one_payload (has_payload f) (carried a) (carried b) s.end s.is_end end)
+
+pub misfit : (line : List ℕ) (a : Message) → IsMessageLine line a → (FitsItsHead a → ⊥) → (b : Message) → IsMessageLine line b → FitsItsHead b → ⊥
+misfit line a x unfit b y fit = unfit (subst FitsItsHead (one_message line b a y x) fit)

@@ -1,0 +1,133 @@
+-- What a chunk and the end of its reply are refused for, by the sizes of pieces.
+use Rattle.std.proofs.Common.{◌≡◌, ◌⊎◌, ℕ, ◌+◌, ◌≤◌, ◌==◌, if◌then◌else◌, eqb-true, List, [], ◌∷◌, ◌++◌, length, min, refl, sym, ◌∙◌, ap, arith, Bool, true, false, not, ◌&&◌, ◌||◌, nat_le, Option, Some, None, fold, subst, inl, inr, add_assoc, zero-add}
+use Rattle.std.specs.List.{list_all}
+use Rattle.nbd_wire.specs.declared.chunks.TheConstants as chunks
+use Rattle.nbd_wire.specs.declared.message.Message.{Message}
+use Rattle.nbd_wire.specs.declared.message.Message.TheVariants.{Chunk}
+use Rattle.nbd_wire.specs.declared.payloads.Failure.{Failure}
+use Rattle.nbd_wire.specs.declared.payloads.Piece.{Piece}
+use Rattle.nbd_wire.specs.protocol.Payloads.{content_of, failure_of, number_at}
+use Rattle.nbd_wire.specs.protocol.Operations.{Operation, Exporting, has_failed, is_error_chunk, is_failing, is_proper, pieces}
+use Rattle.nbd_wire.specs.protocol.Flags.{has}
+use Rattle.nbd_wire.specs.protocol.Pieces.{piece_of, piece_offset, piece_size, chunk_piece}
+use Rattle.nbd_wire.specs.protocol.States.{with_reply}
+use Rattle.nbd_wire.specs.declared.fault.WireFault.{WireFault}
+use Rattle.nbd_wire.specs.declared.fault.WireFault.TheVariants.{BadChunk, BadContent}
+use Rattle.nbd_session.specs.declared.spans.Span.{Span}
+use Rattle.nbd_session.specs.internal.Asking.{done_by, finish_by, span_of}
+use Rattle.nbd_session.specs.internal.Decisions.{fault_if}
+use Rattle.nbd_session.specs.internal.JudgeTransmission.{chunk_fault, content_fault, done_fault, finish_fault, fits_failure, fits_read, is_apart, is_apart_from, total}
+use Rattle.nbd_state.proofs.ReplyLemmas.{any-snoc, or-false, proper-same}
+use Rattle.nbd_session.proofs.judge.BoolLemmas.{and_true}
+use Rattle.nbd_laws.proofs.requests.LaidLemmas.{pieces-snoc}
+use Rattle.nbd_session.proofs.pushed.TidyLemmas.{failure_kind, no_content, none_content}
+
+-- a sum that stops at a limit
+pub fold-total : (limit n : ℕ) (ps : List Piece) → n ≤ limit → fold (λ sum p. min (sum + piece_size p) limit) n ps ≡ min (n + total ps) limit
+fold-total limit n [] h = omega arith
+fold-total limit n (p ∷ ps) h =
+    let rest : fold (λ sum p. min (sum + piece_size p) limit) (min (n + piece_size p) limit) ps ≡ min (min (n + piece_size p) limit + total ps) limit = fold-total limit (min (n + piece_size p) limit) ps (omega arith) in
+    omega (arith, rest)
+
+-- side by side with each
+pub all-apart : (piece : Piece) (span : Span) (ps : List Piece) → span_of piece ≡ span →
+    list_all (λ p. nat_le (span.offset + span.size) (piece_offset p) || nat_le (piece_offset p + piece_size p) span.offset) ps ≡ is_apart_from piece ps
+all-apart piece span ps e = subst (λ s. list_all (λ p. nat_le (s.offset + s.size) (piece_offset p) || nat_le (piece_offset p + piece_size p) s.offset) ps ≡ is_apart_from piece ps) e (go ps)
+  where
+    go : (ps : List Piece) → list_all (λ p. nat_le (piece_offset piece + piece_size piece) (piece_offset p) || nat_le (piece_offset p + piece_size p) (piece_offset piece)) ps ≡ is_apart_from piece ps
+    go [] = refl
+    go (p ∷ ps) = ap (λ b. is_apart piece p && b) (go ps)
+
+total-append : (ps qs : List Piece) → total (ps ++ qs) ≡ total ps + total qs
+total-append [] qs = sym (zero-add (total qs))
+total-append (p ∷ ps) qs = ap (λ n. piece_size p + n) (total-append ps qs) ∙ sym (add_assoc (piece_size p) (total ps) (total qs))
+
+finish-by : (export : Exporting) (e : Operation) (failed : Bool) (ps : List Piece) → finish_fault export e failed ps ≡ finish_by e.command e.length (is_proper export e) failed (total ps)
+finish-by export e true ps = refl
+finish-by export e false ps = refl
+
+total-more : (e : Operation) (flags kind cookie : ℕ) (payload : List ℕ) (o : Option Piece) → content_of kind payload ≡ o → total (pieces (with_reply e (Chunk flags kind cookie payload))) ≡ total (pieces e) + total (chunk_piece o)
+unfolding piece_of
+total-more e flags kind cookie payload o q =
+    ap total (pieces-snoc e.offset e.replies (Chunk flags kind cookie payload))
+    ∙ total-append (pieces e) (chunk_piece (content_of kind payload))
+    ∙ ap (λ o. total (pieces e) + total (chunk_piece o)) q
+
+failed-more : (e : Operation) (flags kind cookie : ℕ) (payload : List ℕ) → has_failed (with_reply e (Chunk flags kind cookie payload)) ≡ (has_failed e || is_error_chunk kind)
+unfolding is_failing
+failed-more e flags kind cookie payload = any-snoc is_failing e.replies (Chunk flags kind cookie payload)
+
+-- the end of a reply after one more chunk without an error
+done-more : (export : Exporting) (e : Operation) (flags kind cookie : ℕ) (payload : List ℕ) (o : Option Piece) → content_of kind payload ≡ o → is_error_chunk kind ≡ false → (done : Bool) →
+    done_fault done export (with_reply e (Chunk flags kind cookie payload)) ≡ done_by done (finish_by e.command e.length (is_proper export e) (has_failed e) (total (pieces e) + total (chunk_piece o)))
+done-more export e flags kind cookie payload o q k false = refl
+done-more export e flags kind cookie payload o q k true =
+    let m : Message = Chunk flags kind cookie payload in
+    let w : Operation = with_reply e m in
+    finish-by export w (has_failed w) (pieces w)
+    ∙ ap (λ p. finish_by e.command e.length p (has_failed w) (total (pieces w))) (proper-same export e m)
+    ∙ ap (λ f. finish_by e.command e.length (is_proper export e) f (total (pieces w))) (failed-more e flags kind cookie payload ∙ ap (λ b. has_failed e || b) k ∙ or-false (has_failed e))
+    ∙ ap (finish_by e.command e.length (is_proper export e) (has_failed e)) (total-more e flags kind cookie payload o q)
+
+-- a chunk of type NONE
+pub none-chunk : (export : Exporting) (e : Operation) (flags kind cookie : ℕ) (payload : List ℕ) → kind ≡ chunks.NONE →
+    chunk_fault (kind == chunks.NONE) export e (with_reply e (Chunk flags kind cookie payload)) flags kind payload
+    ≡ fault_if (not (length payload == 0) || not (has flags chunks.DONE)) BadChunk (done_by (has flags chunks.DONE) (finish_by e.command e.length (is_proper export e) (has_failed e) (total (pieces e))))
+none-chunk export e flags kind cookie payload k =
+    subst (λ k. chunk_fault (k == chunks.NONE) export e (with_reply e (Chunk flags k cookie payload)) flags k payload
+    ≡ fault_if (not (length payload == 0) || not (has flags chunks.DONE)) BadChunk (done_by (has flags chunks.DONE) (finish_by e.command e.length (is_proper export e) (has_failed e) (total (pieces e))))) (sym k)
+    (ap (fault_if (not (length payload == 0) || not (has flags chunks.DONE)) BadChunk)
+    (done-more export e flags chunks.NONE cookie payload None (none_content payload) refl (has flags chunks.DONE)
+    ∙ ap (λ n. done_by (has flags chunks.DONE) (finish_by e.command e.length (is_proper export e) (has_failed e) n)) (omega arith)))
+
+content_kind : (kind : ℕ) (payload : List ℕ) (piece : Piece) → content_of kind payload ≡ Some piece → (kind ≡ chunks.OFFSET_DATA) ⊎ (kind ≡ chunks.OFFSET_HOLE)
+unfolding content_of
+content_kind kind payload piece e = pick (kind == 1) (nat_le 9 (length payload)) ((kind == 2) && ((length payload == 12) && not (number_at 8 4 payload == 0))) _ _
+    (λ h. eqb-true kind 1 h) (λ h. eqb-true kind 2 (and_true _ _ h).0) e
+  where
+    pick : (a c b : Bool) (x y : Piece) → (a ≡ true → kind ≡ 1) → (b ≡ true → kind ≡ 2) → (if a then (if c then Some x else None) else if b then Some y else None) ≡ Some piece → (kind ≡ 1) ⊎ (kind ≡ 2)
+    pick true c b x y l r e = inl (l refl)
+    pick false c true x y l r e = inr (r refl)
+    pick false c false x y l r e = absurd (cc)
+
+plain_kind : (kind : ℕ) → (kind ≡ chunks.OFFSET_DATA) ⊎ (kind ≡ chunks.OFFSET_HOLE) → ((kind == chunks.NONE) ≡ false) × (is_error_chunk kind ≡ false)
+plain_kind kind (inl q) = subst (λ k. ((k == chunks.NONE) ≡ false) × (is_error_chunk k ≡ false)) (sym q) (refl, refl)
+plain_kind kind (inr q) = subst (λ k. ((k == chunks.NONE) ≡ false) × (is_error_chunk k ≡ false)) (sym q) (refl, refl)
+
+error_kind : (kind : ℕ) → (kind ≡ chunks.ERROR) ⊎ (kind ≡ chunks.ERROR_OFFSET) → ((kind == chunks.NONE) ≡ false) × (is_error_chunk kind ≡ true)
+error_kind kind (inl q) = subst (λ k. ((k == chunks.NONE) ≡ false) × (is_error_chunk k ≡ true)) (sym q) (refl, refl)
+error_kind kind (inr q) = subst (λ k. ((k == chunks.NONE) ≡ false) × (is_error_chunk k ≡ true)) (sym q) (refl, refl)
+
+-- a content chunk
+pub content-chunk : (export : Exporting) (e : Operation) (flags kind cookie : ℕ) (payload : List ℕ) (piece : Piece) → content_of kind payload ≡ Some piece →
+    chunk_fault (kind == chunks.NONE) export e (with_reply e (Chunk flags kind cookie payload)) flags kind payload
+    ≡ fault_if (not (fits_read export e piece)) BadContent (done_by (has flags chunks.DONE) (finish_by e.command e.length (is_proper export e) (has_failed e) (total (pieces e) + piece_size piece)))
+content-chunk export e flags kind cookie payload piece q =
+    let k : ((kind == chunks.NONE) ≡ false) × (is_error_chunk kind ≡ false) = plain_kind kind (content_kind kind payload piece q) in
+    let w : Operation = with_reply e (Chunk flags kind cookie payload) in
+    let next : Option WireFault = done_fault (has flags chunks.DONE) export w in
+    ap (λ b. chunk_fault b export e w flags kind payload) k.0
+    ∙ ap (λ o. content_fault export e o (failure_of kind payload) next) q
+    ∙ ap (fault_if (not (fits_read export e piece)) BadContent)
+    (done-more export e flags kind cookie payload (Some piece) q k.1 (has flags chunks.DONE)
+    ∙ ap (λ n. done_by (has flags chunks.DONE) (finish_by e.command e.length (is_proper export e) (has_failed e) (total (pieces e) + n))) (omega arith))
+
+-- an error chunk
+pub failure-chunk : (export : Exporting) (e : Operation) (flags kind cookie : ℕ) (payload : List ℕ) (failure : Failure) → failure_of kind payload ≡ Some failure →
+    chunk_fault (kind == chunks.NONE) export e (with_reply e (Chunk flags kind cookie payload)) flags kind payload ≡ fault_if (not (fits_failure e failure.offset)) BadContent None
+failure-chunk export e flags kind cookie payload failure q =
+    let k : ((kind == chunks.NONE) ≡ false) × (is_error_chunk kind ≡ true) = error_kind kind (failure_kind kind payload failure q) in
+    let w : Operation = with_reply e (Chunk flags kind cookie payload) in
+    let next : Option WireFault = done_fault (has flags chunks.DONE) export w in
+    ap (λ b. chunk_fault b export e w flags kind payload) k.0
+    ∙ ap (λ o. content_fault export e o (failure_of kind payload) next) (no_content kind payload failure q)
+    ∙ ap (λ o. content_fault export e None o next) q
+    ∙ ap (fault_if (not (fits_failure e failure.offset)) BadContent) (done (has flags chunks.DONE) (failed-more e flags kind cookie payload ∙ ap (λ b. has_failed e || b) k.1 ∙ or-true (has_failed e)))
+  where
+    or-true : (b : Bool) → (b || true) ≡ true
+    or-true true = refl
+    or-true false = refl
+
+    done : (d : Bool) → has_failed (with_reply e (Chunk flags kind cookie payload)) ≡ true → done_fault d export (with_reply e (Chunk flags kind cookie payload)) ≡ None
+    done false h = refl
+    done true h = let w : Operation = with_reply e (Chunk flags kind cookie payload) in ap (λ b. finish_fault export w b (pieces w)) h

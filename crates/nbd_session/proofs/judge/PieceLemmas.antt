@@ -1,0 +1,196 @@
+-- A piece of a side's bytes: how far it is taken at once, and what it adds.
+use Rattle.std.proofs.Common.{◌≡◌, ℕ, zero, suc, ◌+◌, ◌<◌, ◌≤◌, List, [], ◌∷◌, ◌++◌, length, refl, sym, ◌∙◌, ap, subst, arith, append_assoc, append-nil, length-append, take, drop, slice_index_or, Fits, w8}
+use Rattle.std.proofs.lemmas.List.{length-map, length-take-le, take-append-drop}
+use Rattle.nbd_wire.specs.declared.message.Message.{Message}
+use Rattle.nbd_wire.specs.declared.message.Side.{Side}
+use Rattle.nbd_wire.specs.declared.message.Side.TheVariants.{Client, Server}
+use Rattle.nbd_wire.specs.protocol.Encoding.{AreBytes}
+use Rattle.nbd_wire.specs.protocol.Captures.{Pair, side_pairs}
+use Rattle.nbd_wire.specs.Pushed.{Span, bytes_of, mixture}
+use Rattle.nbd_session.specs.declared.fault.SessionFault.{SessionFault}
+use Rattle.nbd_session.specs.declared.fault.SessionFault.TheVariants.{Memory}
+use Rattle.nbd_session.specs.declared.held.Held.{Held}
+use Rattle.nbd_session.specs.internal.Holdings.{holding_of}
+use Rattle.nbd_session.specs.Views.{spans_of}
+use Rattle.nbd_session.specs.internal.Judge.{awaited}
+use Rattle.nbd_laws.specs.internal.Machine.{IsFilled, Machine, fresh, get, old_of}
+use Rattle.nbd_session.specs.Sessions.{Adds}
+use Rattle.nbd_session.specs.internal.Concrete.{concrete}
+use Rattle.nbd_session.specs.internal.Logging.{logged}
+use Rattle.nbd_state.specs.Shows.{AreKnown, Shows}
+use Rattle.nbd_session.specs.internal.Standing.{AreSpansOf, IsReadTo, pairs_held, rest_of, span_total, with_taken}
+use Rattle.nbd_session.specs.internal.Steps.{AddsHeld, HoldsRun, IsRefused, IsSame, IsShut, IsTaken, Stands}
+use Rattle.nbd_session.proofs.judge.AwaitedLemmas.{held_short}
+use Rattle.nbd_state.proofs.PlacedLemmas.{shown_length}
+use Rattle.nbd_session.proofs.pushed.OpenByteLemmas.{read_is_run_but}
+use Rattle.nbd_session.proofs.pushed.PushLemmas.{first_fits, left_spans, sent-append}
+use Rattle.nbd_session.proofs.steps.StepLemmas.{held_of, pairs-taken}
+
+-- the spans' bytes are those of both sides
+pub length-mixed : (spans : List Span) (client server : List ℕ) → AreSpansOf spans client server → length (mixture spans client server) ≡ span_total Client spans + span_total Server spans
+length-mixed [] client server h = refl
+length-mixed (span ∷ spans) client server h = go span.from span.length h (length-mixed spans)
+  where
+    go : (t : Side) (n : ℕ) → AreSpansOf (record { from = t; length = n } ∷ spans) client server → ((c v : List ℕ) → AreSpansOf spans c v → length (mixture spans c v) ≡ span_total Client spans + span_total Server spans) →
+        length (mixture (record { from = t; length = n } ∷ spans) client server) ≡ span_total Client (record { from = t; length = n } ∷ spans) + span_total Server (record { from = t; length = n } ∷ spans)
+    go Client n h ih =
+        let first : length (side_pairs Client (take n client)) ≡ n = length-map (take n client) (λ b. record { from = Client; byte = b }) ∙ length-take-le n client (first_fits Client Client n spans client server h refl) in
+        let others : length (mixture spans (drop n client) server) ≡ span_total Client spans + span_total Server spans = ih (drop n client) server (left_spans Client n spans client server h) in
+        let all = length-append (side_pairs Client (take n client)) (mixture spans (drop n client) server) in
+        omega (arith, first, others, all)
+    go Server n h ih =
+        let first : length (side_pairs Server (take n server)) ≡ n = length-map (take n server) (λ b. record { from = Server; byte = b }) ∙ length-take-le n server (first_fits Server Server n spans client server h refl) in
+        let others : length (mixture spans client (drop n server)) ≡ span_total Client spans + span_total Server spans = ih client (drop n server) (left_spans Server n spans client server h) in
+        let all = length-append (side_pairs Server (take n server)) (mixture spans client (drop n server)) in
+        omega (arith, first, others, all)
+
+side_total : (s : Side) (spans : List Span) → span_total s spans ≤ span_total Client spans + span_total Server spans
+side_total Client spans = omega arith
+side_total Server spans = omega arith
+
+pub total_fits : (held : Held) (s : Side) → Stands held → span_total s (spans_of held.stretches.items) ≤ held.taken
+total_fits held s st =
+    let one : span_total s (spans_of held.stretches.items) ≤ span_total Client (spans_of held.stretches.items) + span_total Server (spans_of held.stretches.items) = side_total s (spans_of held.stretches.items) in
+    let all : length (pairs_held (holding_of held)) ≡ span_total Client (spans_of held.stretches.items) + span_total Server (spans_of held.stretches.items) =
+    length-mixed (spans_of held.stretches.items) (bytes_of Client held.messages.items ++ held.client.items) (bytes_of Server held.messages.items ++ held.server.items) st.read_to.are_spans in
+    omega (arith, one, all, st.taken_is)
+
+pub awaits_some : (held : Held) (s : Side) (n : ℕ) → Stands held → ((machine : Machine) → IsReadTo (holding_of held) machine → Shows held.state machine.core → n ≡ awaited (old_of machine.core (get machine.rests s)) machine.core s (rest_of (holding_of held) s)) →
+    length (rest_of (holding_of held) s) < n
+awaits_some held s n st is =
+    let short = (held_short (held_of (holding_of held) st.machine st.read_to s)).short in
+    let same : length (get st.machine.rests s).bytes ≡ length (rest_of (holding_of held) s) = ap length (st.read_to.rests_are s) in
+    let n_is : n ≡ awaited (old_of st.machine.core (get st.machine.rests s)) st.machine.core s (get st.machine.rests s).bytes =
+    is st.machine st.read_to st.shows ∙ sym (ap (awaited (old_of st.machine.core (get st.machine.rests s)) st.machine.core s) (st.read_to.rests_are s)) in
+    omega (arith, short, same, n_is)
+
+are_bytes : (bytes : List ℕ) → ((i : ℕ) → Fits w8 (slice_index_or bytes i 0)) → AreBytes bytes
+are_bytes [] fits = tt
+are_bytes (b ∷ bytes) fits = ((fits 0).fits, are_bytes bytes (λ i. fits (suc i)))
+
+bytes_prefix : (n : ℕ) (bytes : List ℕ) → AreBytes bytes → AreBytes (take n bytes)
+bytes_prefix zero bytes are = tt
+bytes_prefix (suc n) [] are = tt
+bytes_prefix (suc n) (b ∷ bytes) are = (are.0, bytes_prefix n bytes are.1)
+
+prefix_filled : (n : ℕ) (bytes : List ℕ) → 0 < n → n ≤ length bytes → IsFilled (take n bytes)
+prefix_filled zero bytes l m = absurd (omega (arith, l))
+prefix_filled (suc n) [] l m = absurd (omega (arith, m))
+prefix_filled (suc n) (b ∷ bytes) l m = tt
+
+pub length-sent : (s : Side) (bytes : List ℕ) → length (side_pairs s bytes) ≡ length bytes
+length-sent s bytes = length-map bytes (λ b. record { from = s; byte = b })
+
+-- the prefix of a piece was taken
+module _ (held taken : Held) (s : Side) (left : List ℕ) (count : ℕ) (st : Stands held) (some : 0 < count) (within : count ≤ length left)
+    (holding_is : holding_of taken ≡ with_taken (holding_of held) s (take count left) (length held.state.exchanges.items)) where
+  counts : holding_of taken ≡ with_taken (holding_of held) s (take count left) (length st.machine.core.entries)
+  counts = holding_is ∙ ap (with_taken (holding_of held) s (take count left)) (sym (shown_length _ st.machine.core.entries held.state.exchanges.items st.shows.are_shown))
+
+  pub pairs_added : pairs_held (holding_of taken) ≡ pairs_held (holding_of held) ++ side_pairs s (take count left)
+  pairs_added = ap pairs_held counts ∙ pairs-taken (holding_of held) s (take count left) (length st.machine.core.entries) st.read_to.are_spans
+
+  pub taken_counts : taken.taken ≡ held.taken + length (take count left) → taken.taken ≡ length (pairs_held (holding_of taken))
+  taken_counts e =
+      let n : length (pairs_held (holding_of taken)) ≡ length (pairs_held (holding_of held)) + length (take count left) =
+      ap length pairs_added ∙ length-append (pairs_held (holding_of held)) (side_pairs s (take count left)) ∙ ap (λ k. length (pairs_held (holding_of held)) + k) (length-sent s (take count left)) in
+      omega (arith, e, n, st.taken_is)
+
+  pub is_taken : taken.state ≡ held.state → taken.taken ≡ held.taken + length (take count left) → ((i : ℕ) → Fits w8 (slice_index_or left i 0)) →
+      (n : ℕ) → ((machine : Machine) → IsReadTo (holding_of held) machine → Shows held.state machine.core → n ≡ awaited (old_of machine.core (get machine.rests s)) machine.core s (rest_of (holding_of held) s)) →
+      length (rest_of (holding_of held) s) + count ≤ n → IsTaken taken s
+  is_taken state_is e fits n is up =
+      let same : length (get st.machine.rests s).bytes ≡ length (rest_of (holding_of held) s) = ap length (st.read_to.rests_are s) in
+      let n_is : n ≡ awaited (old_of st.machine.core (get st.machine.rests s)) st.machine.core s (get st.machine.rests s).bytes =
+      is st.machine st.read_to st.shows ∙ sym (ap (awaited (old_of st.machine.core (get st.machine.rests s)) st.machine.core s) (st.read_to.rests_are s)) in
+      let len : length (take count left) ≡ count = length-take-le count left within in
+      record {
+        before = holding_of held;
+        machine = st.machine;
+        read_to = st.read_to;
+        more = take count left;
+        filled = prefix_filled count left some within;
+        are_bytes = bytes_prefix count left (are_bytes left fits);
+        up_to = omega (arith, up, n_is, same, len, length-append (get st.machine.rests s).bytes (take count left));
+        holding_is = counts;
+        shows = subst (λ state. Shows state st.machine.core) (sym state_is) st.shows;
+        known = subst (λ state. AreKnown (logged concrete fresh (pairs_held (holding_of held))) state.exchanges.items) (sym state_is) st.known;
+        taken_is = taken_counts e;
+      }
+
+  pub prefix_added : AddsHeld held taken s left (drop count left)
+  prefix_added = record {
+    prefix = take count left;
+    more = [];
+    parts = take-append-drop count left;
+    has_pairs = pairs_added;
+    has_messages = ap (λ h. h.messages) holding_is ∙ messages_kept s ∙ sym (append-nil held.messages.items);
+  }
+    where
+      messages_kept : (u : Side) → (with_taken (holding_of held) u (take count left) (length held.state.exchanges.items)).messages ≡ held.messages.items
+      messages_kept u = refl
+
+-- a piece and what came of its rest
+pub added_then : (a b c : List Pair) (m n o : List Message) (s : Side) (piece left later : List ℕ) → Adds a b m n s piece left → Adds b c n o s left later → Adds a c m o s piece later
+added_then a b c m n o s piece left later x y = record {
+  prefix = x.prefix ++ y.prefix;
+  more = x.more ++ y.more;
+  parts = append_assoc x.prefix y.prefix later ∙ ap (λ l. x.prefix ++ l) y.parts ∙ x.parts;
+  has_pairs = y.has_pairs ∙ ap (λ ps. ps ++ side_pairs s y.prefix) x.has_pairs ∙ append_assoc a (side_pairs s x.prefix) (side_pairs s y.prefix) ∙ ap (λ ps. a ++ ps) (sym (sent-append s x.prefix y.prefix));
+  has_messages = y.has_messages ∙ ap (λ ms. ms ++ y.more) x.has_messages ∙ append_assoc m x.more y.more;
+}
+
+-- no byte and perhaps messages
+same_left : (a b : List Pair) (m n : List Message) (s : Side) (left : List ℕ) → Adds a b m n s [] [] → Adds a b m n s left left
+same_left a b m n s left x = record {
+  prefix = [];
+  more = x.more;
+  parts = refl;
+  has_pairs = x.has_pairs ∙ ap (λ l. a ++ side_pairs s l) (empty x.prefix x.parts);
+  has_messages = x.has_messages;
+}
+  where
+    empty : (prefix : List ℕ) → prefix ++ [] ≡ [] → prefix ≡ []
+    empty [] e = refl
+    empty (b ∷ bytes) e = absurd (cc)
+
+pub settled_added : (held taken new : Held) (s : Side) (piece left : List ℕ) → AddsHeld held taken s piece left → IsSame taken new → AddsHeld held new s piece left
+settled_added held taken new s piece left x same =
+    added_then (pairs_held (holding_of held)) (pairs_held (holding_of taken)) (pairs_held (holding_of new)) held.messages.items taken.messages.items new.messages.items s piece left left x
+    (same_left (pairs_held (holding_of taken)) (pairs_held (holding_of new)) taken.messages.items new.messages.items s left (same.adds s))
+
+-- what stands is of a run
+pub standing_run : (held : Held) → Stands held → HoldsRun (holding_of held)
+standing_run held st =
+    let r = read_is_run_but (pairs_held (holding_of held)) st.machine held.messages.items held.client.items held.server.items st.read_to.are_pairs st.read_to.reads_it
+    st.read_to.messages_are (st.read_to.rests_are Client) (st.read_to.rests_are Server) in
+    record { items = r.0; is_run = r.1; has_pairs = r.2; has_messages = r.3 }
+
+-- memory ran out before a byte was taken
+pub refused_memory : (held new : Held) (s : Side) (piece : List ℕ) → Stands held → holding_of new ≡ holding_of held → new.taken ≡ held.taken → IsRefused held new s piece Memory
+refused_memory held new s piece st holding same = record {
+  left = piece;
+  adds = record {
+    prefix = [];
+    more = [];
+    parts = refl;
+    has_pairs = ap pairs_held holding ∙ sym (append-nil (pairs_held (holding_of held)));
+    has_messages = ap (λ h. h.messages) holding ∙ sym (append-nil held.messages.items);
+  };
+  shut = record {
+    run = subst HoldsRun (sym holding) (standing_run held st);
+    taken_is = same ∙ st.taken_is ∙ sym (ap (λ h. length (pairs_held h)) holding);
+    cause = tt;
+  };
+}
+
+pub refused_settling : (held taken new : Held) (s : Side) (piece left : List ℕ) (fault : SessionFault) → AddsHeld held taken s piece left → IsSame taken new → IsShut new fault → IsRefused held new s piece fault
+refused_settling held taken new s piece left fault x same shut = record { left = left; adds = settled_added held taken new s piece left x same; shut = shut }
+
+-- a refusal after a prefix that was taken
+pub refused_then : (held mid new : Held) (s : Side) (piece left : List ℕ) (fault : SessionFault) → AddsHeld held mid s piece left → IsRefused mid new s left fault → IsRefused held new s piece fault
+refused_then held mid new s piece left fault x r = record {
+  left = r.left;
+  adds = added_then (pairs_held (holding_of held)) (pairs_held (holding_of mid)) (pairs_held (holding_of new)) held.messages.items mid.messages.items new.messages.items s piece left r.left x r.adds;
+  shut = r.shut;
+}

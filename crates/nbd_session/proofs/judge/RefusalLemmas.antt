@@ -1,0 +1,289 @@
+-- What a refusal says of the runs with a session's bytes.
+use Rattle.std.proofs.Common.{◌≡◌, ℕ, ◌+◌, ◌<◌, ◌≤◌, List, [], ◌∷◌, ◌++◌, length, refl, sym, ◌∙◌, ap, subst, arith, append_assoc, append-nil, length-append, inl, inr, Option, Some, None, Result, Ok, Err, IfErr}
+use Rattle.std.proofs.lemmas.List.{append_cancel_left}
+use Rattle.nbd_wire.specs.declared.message.Side.TheVariants.{Client, Server}
+use Rattle.nbd_wire.specs.declared.message.Side.{Side}
+use Rattle.nbd_wire.specs.declared.message.Message.{Message}
+use Rattle.nbd_wire.specs.protocol.Marks.{Item, Byte, Starts, Completes, Serves, completed_messages, pairs}
+use Rattle.nbd_wire.specs.protocol.Captures.{Pair, ArePairs, side_pairs}
+use Rattle.nbd_wire.specs.Pushed.{bytes_of}
+use Rattle.nbd_wire.specs.protocol.Rules.{IsRun}
+use Rattle.nbd_wire.specs.protocol.Within.{Begins, BeginsNoRun, CompletesExactly, IsOfNoRun, within}
+use Rattle.nbd_wire.specs.declared.fault.WireFault.{WireFault}
+use Rattle.nbd_wire.specs.declared.fault.WireFault.TheVariants.{Unfinished}
+use Rattle.nbd_laws.proofs.machine.MachineLemmas.{AreHeld}
+use Rattle.nbd_laws.specs.internal.Machine.{Bad, IsFilled, Machine, More, Reading, Rest, Whole, fresh, get, grown, old_of, on_ok, reads, settle, step}
+use Rattle.nbd_laws.proofs.machine.MarkLemmas.{IsRead}
+use Rattle.nbd_laws.proofs.runs.RunLemmas.{marks_law, no_run}
+use Rattle.nbd_session.specs.declared.fault.SessionFault.{SessionFault}
+use Rattle.nbd_session.specs.declared.fault.SessionFault.TheVariants.{Memory, Wire}
+use Rattle.nbd_session.specs.declared.held.Held.{Held}
+use Rattle.nbd_session.specs.internal.Concrete.{concrete}
+use Rattle.nbd_session.specs.internal.Holdings.{holding_of}
+use Rattle.nbd_session.specs.internal.Judge.{awaited}
+use Rattle.nbd_wire.specs.protocol.Splits.{IsPlace}
+use Rattle.nbd_laws.proofs.runs.PlacingLemmas.{place_law}
+use Rattle.nbd_laws.proofs.runs.PlaceLemmas.{read_no_place}
+use Rattle.nbd_session.proofs.rows.RowJudgeLemmas.{telling}
+use Rattle.nbd_session.specs.Refusals.{EndsIn, HasNoPlace, IsComplete, IsOpenEnd, IsRefusal, IsWireFault, Refuses}
+use Rattle.nbd_session.specs.Sessions.{HasRun, Recorded, fault_at_end, fault_of, pairs_of, taken, unfinished}
+use Rattle.nbd_session.specs.internal.Standing.{Holding, IsReadTo, pairs_held, with_taken}
+use Rattle.nbd_session.specs.internal.Steps.{IsKept, IsShut, Stands}
+use Rattle.nbd_session.specs.Views.{recorded}
+use Rattle.nbd_session.specs.internal.Stopped.{IsStopped}
+use Rattle.nbd_session.proofs.judge.AwaitedLemmas.{reads_below}
+use Rattle.nbd_session.proofs.judge.BlockLemmas.{extended, reads-append, with_rest}
+use Rattle.nbd_session.proofs.judge.ExactLemmas.{exact, none_refused}
+use Rattle.nbd_laws.specs.Holding.{bytes_from}
+use Rattle.nbd_laws.proofs.runs.RunByteLemmas.{AreBytesOf, run_bytes}
+use Rattle.nbd_session.proofs.pushed.OpenByteLemmas.{fresh_bytes}
+use Rattle.nbd_session.proofs.pushed.PushLemmas.{sent-append}
+use Rattle.nbd_session.proofs.judge.SoundLemmas.{sound}
+use Rattle.nbd_session.proofs.steps.StepLemmas.{held_of, pairs-taken}
+
+-- the last of some bytes, and those before it
+record HasLast (bytes : List ℕ) : Type 0 where
+  before : List ℕ
+  last : ℕ
+  parts : bytes ≡ before ++ last ∷ []
+
+last_of : (b : ℕ) (bytes : List ℕ) → HasLast (b ∷ bytes)
+last_of b [] = record { before = []; last = b; parts = refl }
+last_of b (c ∷ bytes) = let h : HasLast (c ∷ bytes) = last_of c bytes in record { before = b ∷ h.before; last = h.last; parts = ap (λ l. b ∷ l) h.parts }
+
+some_last : (bytes : List ℕ) → IsFilled bytes → HasLast bytes
+some_last [] f = absurd f
+some_last (b ∷ bytes) f = last_of b bytes
+
+-- what the machine makes of bytes that go on
+record GoesTo (machine : Machine) (s : Side) (bytes : List ℕ) : Type 0 where
+  next : Machine
+  reads_it : reads concrete machine (side_pairs s bytes) ≡ Ok next
+  messages_are : next.messages ≡ machine.messages
+
+goes_to : (machine : Machine) (s : Side) (bytes : List ℕ) → AreHeld concrete machine →
+    length ((get machine.rests s).bytes ++ bytes) < awaited (old_of machine.core (get machine.rests s)) machine.core s (get machine.rests s).bytes → GoesTo machine s bytes
+goes_to machine s [] held l = record { next = machine; reads_it = refl; messages_are = refl }
+goes_to machine s (b ∷ bytes) held l = record {
+  next = with_rest machine s (extended machine.core (get machine.rests s) (b ∷ bytes));
+  reads_it = reads_below machine s (b ∷ bytes) held tt l;
+  messages_are = refl;
+}
+
+step_of : (r : Result Machine WireFault) (fault : WireFault) → on_ok r (λ next. Ok next) ≡ Err fault → r ≡ Err fault
+step_of (Ok next) fault e = absurd (cc)
+step_of (Err other) fault e = e
+
+-- bytes of a side that were taken and refused
+module _ (h : Holding) (machine : Machine) (r : IsReadTo h machine) (s : Side) (more : List ℕ) (entries : ℕ) (filled : IsFilled more)
+    (are_pairs : ArePairs (pairs_held (with_taken h s more entries)))
+    (up_to : length ((get machine.rests s).bytes ++ more) ≤ awaited (old_of machine.core (get machine.rests s)) machine.core s (get machine.rests s).bytes) where
+  pub stopped : (fault : WireFault) → reads concrete fresh (pairs_held (with_taken h s more entries)) ≡ Err fault → IsStopped (with_taken h s more entries) fault
+  stopped fault e =
+      let l : HasLast more = some_last more filled in
+      let last : Pair = record { from = s; byte = l.last } in
+      let longer : length ((get machine.rests s).bytes ++ more) ≡ length ((get machine.rests s).bytes ++ l.before) + 1 =
+      ap (λ bs. length ((get machine.rests s).bytes ++ bs)) l.parts ∙ ap length (sym (append_assoc (get machine.rests s).bytes l.before (l.last ∷ []))) ∙ length-append ((get machine.rests s).bytes ++ l.before) (l.last ∷ []) in
+      let g : GoesTo machine s l.before = goes_to machine s l.before (held_of h machine r) (omega (arith, longer, up_to)) in
+      let prefix : List Pair = pairs_held h ++ side_pairs s l.before in
+      let parts : pairs_held (with_taken h s more entries) ≡ prefix ++ last ∷ [] =
+      pairs-taken h s more entries r.are_spans
+      ∙ ap (λ bs. pairs_held h ++ side_pairs s bs) l.parts
+      ∙ ap (λ ps. pairs_held h ++ ps) (sent-append s l.before (l.last ∷ []))
+      ∙ sym (append_assoc (pairs_held h) (side_pairs s l.before) (last ∷ [])) in
+      let prefix_is : reads concrete fresh prefix ≡ Ok g.next =
+      reads-append concrete fresh (pairs_held h) (side_pairs s l.before) ∙ ap (λ o. on_ok o (λ next. reads concrete next (side_pairs s l.before))) r.reads_it ∙ g.reads_it in
+      let refused : on_ok (step concrete g.next last.from last.byte) (λ next. Ok next) ≡ Err fault =
+      sym (ap (λ o. on_ok o (λ next. reads concrete next (last ∷ []))) prefix_is)
+      ∙ sym (reads-append concrete fresh prefix (last ∷ []))
+      ∙ ap (reads concrete fresh) (sym parts)
+      ∙ e in
+      record {
+        are_pairs = are_pairs;
+        prefix = prefix;
+        last = last;
+        parts = parts;
+        machine = g.next;
+        reads_it = prefix_is;
+        messages_are = g.messages_are ∙ r.messages_are;
+        refused = step_of (step concrete g.next last.from last.byte) fault refused;
+      }
+
+-- what was read without a fault holds every message of each run that begins so
+pub completes_exactly : (ps : List Pair) (end : Machine) (messages : List Message) → ArePairs ps → reads concrete fresh ps ≡ Ok end → end.messages ≡ messages → CompletesExactly ps messages
+completes_exactly ps end messages lt e are items run begins =
+    let r : IsRead concrete fresh ps (within (length ps) items) = marks_law concrete exact items run ps begins.0 lt begins.1 in
+    let q : Ok r.end ≡ Ok end = sym r.reads_it ∙ e in
+    let same : r.end ≡ end = cc in
+    sym r.messages_are ∙ ap (λ (x : Machine). x.messages) same ∙ are
+
+are_prefix : (ps qs : List Pair) → ArePairs (ps ++ qs) → ArePairs ps
+are_prefix [] qs a = tt
+are_prefix (p ∷ ps) qs a = (a.0, are_prefix ps qs a.1)
+
+-- all but the last
+but_last : (ps qs : List Pair) (p q : Pair) → ps ++ p ∷ [] ≡ qs ++ q ∷ [] → ps ≡ qs
+but_last [] [] p q e = refl
+but_last [] (x ∷ []) p q e = absurd (cc)
+but_last [] (x ∷ y ∷ qs) p q e = absurd (cc)
+but_last (x ∷ []) [] p q e = absurd (cc)
+but_last (x ∷ y ∷ ps) [] p q e = absurd (cc)
+but_last (x ∷ ps) (y ∷ qs) p q e =
+    let same : x ≡ y = cc in
+    let rest : ps ++ p ∷ [] ≡ qs ++ q ∷ [] = cc in
+    ap (λ z. z ∷ ps) same ∙ ap (λ l. y ∷ l) (but_last ps qs p q rest)
+
+pub stopped_reads : (h : Holding) (fault : WireFault) (st : IsStopped h fault) → reads concrete fresh (pairs_held h) ≡ Err fault
+stopped_reads h fault st =
+    ap (reads concrete fresh) st.parts
+    ∙ reads-append concrete fresh st.prefix (st.last ∷ [])
+    ∙ ap (λ o. on_ok o (λ next. reads concrete next (st.last ∷ []))) st.reads_it
+    ∙ ap (λ o. on_ok o (λ next. Ok next)) st.refused
+
+bad_of : (machine : Machine) (s : Side) (rest : Rest) (r : Reading) (fault : WireFault) → settle machine s rest r ≡ Err fault → r ≡ Bad fault
+bad_of machine s rest More fault e = absurd (cc)
+bad_of machine s rest (Whole m) fault e = absurd (cc)
+bad_of machine s rest (Bad f) fault e = let q : f ≡ fault = cc in ap Bad q
+
+last_byte : (ps : List Pair) (p : Pair) → ArePairs (ps ++ p ∷ []) → p.byte < 256
+last_byte [] p a = a.0
+last_byte (q ∷ ps) p a = last_byte ps p a.1
+
+-- where a session was stopped is the place
+stopped_place : (h : Holding) (fault : WireFault) → IsStopped h fault → IsPlace (pairs_held h) h.messages fault
+stopped_place h fault st =
+    let are : ArePairs (st.prefix ++ st.last ∷ []) = subst ArePairs st.parts st.are_pairs in
+    subst (λ ps. IsPlace ps h.messages fault) (sym st.parts)
+    (subst (λ ms. IsPlace (st.prefix ++ st.last ∷ []) ms fault) st.messages_are
+    (place_law concrete sound telling st.prefix st.machine st.last (are_prefix st.prefix (st.last ∷ []) are) (last_byte st.prefix st.last are) st.reads_it fault
+    (bad_of st.machine st.last.from (grown st.machine.core (get st.machine.rests st.last.from) st.last.byte) _ fault st.refused)))
+
+-- no prefix of what was read without a fault has a place
+placeless : (ps : List Pair) (end : Machine) → reads concrete fresh ps ≡ Ok end → HasNoPlace ps
+placeless ps end e prefix rest messages fault parts place = read_no_place concrete sound exact telling prefix rest end (ap (reads concrete fresh) parts ∙ e) messages fault place
+
+-- a session that was stopped was refused
+pub refusal : (h : Holding) (fault : WireFault) → IsStopped h fault → IsRefusal (pairs_held h) h.messages fault
+refusal h fault st = record {
+  place = stopped_place h fault st;
+  none = λ items run begins. none_refused items run (pairs_held h) begins.0 st.are_pairs begins.1 fault (stopped_reads h fault st);
+  before = λ prefix last parts.
+      (let same : st.prefix ≡ prefix = but_last st.prefix prefix st.last last (sym st.parts ∙ parts) in
+      subst (λ ps. CompletesExactly ps h.messages) same
+      (completes_exactly st.prefix st.machine h.messages (are_prefix st.prefix (st.last ∷ []) (subst ArePairs st.parts st.are_pairs)) st.reads_it st.messages_are));
+}
+
+-- a session that answers a fault was refused
+pub refuses : (held : Held) (fault : SessionFault) → IsShut held fault → Refuses (recorded held (Some fault)) fault
+refuses held Memory shut = tt
+refuses held (Wire at fault) shut = refusal (holding_of held) fault shut.cause.1
+
+-- the messages of a session under way are all that complete within its bytes
+pub stands_exactly : (held : Held) (closed : Option SessionFault) → Stands held → CompletesExactly (pairs_of (recorded held closed)) held.messages.items
+stands_exactly held closed st = completes_exactly (pairs_held (holding_of held)) st.machine held.messages.items st.read_to.are_pairs st.read_to.reads_it st.read_to.messages_are
+
+pub stands_placeless : (held : Held) (closed : Option SessionFault) → Stands held → HasNoPlace (pairs_of (recorded held closed))
+stands_placeless held closed st = placeless (pairs_held (holding_of held)) st.machine st.read_to.reads_it
+
+within_all : (items : List Item) → within (length (pairs items)) items ≡ completed_messages items
+within_all [] = refl
+within_all (Byte s b ∷ items) = within_all items
+within_all (Starts s m ∷ items) = within_all items
+within_all (Completes s m ∷ items) = ap (λ l. m ∷ l) (within_all items)
+within_all (Serves k ∷ items) = within_all items
+
+-- a run with exactly the bytes of a session leaves no byte after its messages
+none_behind : (held : Held) → Stands held → (items : List Item) → IsRun items → pairs items ≡ pairs_held (holding_of held) → (held.client.items ≡ []) × (held.server.items ≡ [])
+none_behind held st items run has =
+    let ps : List Pair = pairs_held (holding_of held) in
+    let all : within (length ps) items ≡ held.messages.items = stands_exactly held None st items run ([], has ∙ sym (append-nil ps)) in
+    let are : completed_messages items ≡ held.messages.items = sym (within_all items) ∙ ap (λ n. within n items) (ap length has) ∙ all in
+    let of_run : AreBytesOf items [] [] = run_bytes items [] [] run in
+    (left Client held.client.items (st.read_to.rests_are Client) are of_run.of_client, left Server held.server.items (st.read_to.rests_are Server) are of_run.of_server)
+  where
+    left : (s : Side) (rest : List ℕ) → (get st.machine.rests s).bytes ≡ rest → completed_messages items ≡ held.messages.items → bytes_from s (pairs items) ≡ bytes_of s (completed_messages items) ++ [] → rest ≡ []
+    left s rest is are e =
+        append_cancel_left (bytes_of s held.messages.items) rest []
+        (ap (λ l. bytes_of s held.messages.items ++ l) (sym is)
+        ∙ ap (λ ms. bytes_of s ms ++ (get st.machine.rests s).bytes) (sym st.read_to.messages_are)
+        ∙ sym (fresh_bytes concrete sound s (pairs_held (holding_of held)) st.machine st.read_to.are_pairs st.read_to.reads_it)
+        ∙ ap (bytes_from s) (sym has)
+        ∙ e
+        ∙ ap (λ ms. bytes_of s ms ++ []) are)
+
+unfinished_end : (held : Held) → Stands held → (client server : List ℕ) → held.client.items ≡ client → held.server.items ≡ server → (at : ℕ) (fault : SessionFault) →
+    at ≡ length (pairs_held (holding_of held)) → unfinished client server at ≡ Some fault → EndsIn (recorded held None) fault
+unfinished_end held st client server c s at Memory n e = absurd (no_memory client server e)
+  where
+    no_memory : (client server : List ℕ) → unfinished client server at ≡ Some Memory → ⊥
+    no_memory [] [] e = (cc)
+    no_memory (b ∷ client) server e = (cc)
+    no_memory [] (b ∷ server) e = (cc)
+unfinished_end held st [] [] c s at (Wire place fault) n e = absurd (let q : None ≡ Some (Wire place fault) = e in cc)
+unfinished_end held st (b ∷ client) server c s at (Wire place fault) n e =
+    let f : Unfinished ≡ fault = cc in
+    let p : at ≡ place = cc in
+    inr (sym f, sym p ∙ n, record { placeless = stands_placeless held None st; none = λ items run has. absurd (let q : b ∷ client ≡ [] = sym c ∙ (none_behind held st items run has).0 in cc); all = stands_exactly held None st })
+unfinished_end held st [] (b ∷ server) c s at (Wire place fault) n e =
+    let f : Unfinished ≡ fault = cc in
+    let p : at ≡ place = cc in
+    inr (sym f, sym p ∙ n, record { placeless = stands_placeless held None st; none = λ items run has. absurd (let q : b ∷ server ≡ [] = sym s ∙ (none_behind held st items run has).1 in cc); all = stands_exactly held None st })
+
+-- why a session ends in a fault
+pub ends_in : (held : Held) (closed : Option SessionFault) → IsKept held closed → (fault : SessionFault) → fault_at_end (recorded held closed) ≡ Some fault → EndsIn (recorded held closed) fault
+ends_in held None st fault e = unfinished_end held st held.client.items held.server.items refl refl (taken (recorded held None)) fault refl e
+ends_in held (Some Memory) shut fault e = subst (EndsIn (recorded held (Some Memory))) (let q : Memory ≡ fault = cc in q) tt
+ends_in held (Some (Wire at fault)) shut other e =
+    subst (EndsIn (recorded held (Some (Wire at fault)))) (let q : Wire at fault ≡ other = cc in q)
+    (inl (record {
+      prefix = pairs_held (holding_of held);
+      rest = [];
+      parts = append-nil (pairs_held (holding_of held));
+      at_is = shut.cause.0 ∙ shut.taken_is;
+      refusal = refusal (holding_of held) fault shut.cause.1;
+    }))
+
+-- a session that is closed ends in the fault that closed it
+pub closed_end : (held : Held) (closed : Option SessionFault) (r : Recorded) (fault : SessionFault) → IsKept held closed → recorded held closed ≡ r → closed ≡ Some fault → EndsIn r fault
+closed_end held closed r fault kept same is =
+    subst (λ x. EndsIn x fault) (ap (recorded held) (sym is) ∙ same) (ends_in held (Some fault) (subst (IsKept held) is kept) fault refl)
+
+-- any other ends where a message is open
+pub open_end : {A : Type 0} (held : Held) (closed : Option SessionFault) (r : Recorded) (result : Result A SessionFault) → IsKept held closed → recorded held closed ≡ r → closed ≡ None →
+    fault_of result ≡ fault_at_end (recorded held None) → IfErr result (EndsIn r)
+open_end held closed r (Ok a) kept same is e = tt
+open_end held closed r (Err fault) kept same is e =
+    subst (λ x. EndsIn x fault) (ap (recorded held) (sym is) ∙ same) (ends_in held None (subst (IsKept held) is kept) fault (sym e))
+
+-- a closed session refuses again
+pub refuses_again : (held : Held) (closed : Option SessionFault) (r : Recorded) (fault : SessionFault) → IsKept held closed → recorded held closed ≡ r → closed ≡ Some fault → Refuses r fault
+refuses_again held closed r fault kept same is =
+    subst (λ x. Refuses x fault) (ap (recorded held) (sym is) ∙ same) (refuses held fault (subst (IsKept held) is kept))
+
+pub is_complete : (held : Held) (closed : Option SessionFault) (r : Recorded) → IsKept held closed → recorded held closed ≡ r → IsComplete r
+is_complete held closed r kept same = subst IsComplete same (go closed kept)
+  where
+    go : (closed : Option SessionFault) → IsKept held closed → IsComplete (recorded held closed)
+    go None st = (stands_exactly held None st, stands_placeless held None st)
+    go (Some fault) shut = refuses held fault shut
+
+-- a capture with a wire fault has no run
+pub no_run_of : (capture : List Pair) (messages : List Message) (at : ℕ) (fault : WireFault) → IsWireFault capture messages at fault → IsOfNoRun capture
+no_run_of capture messages at fault (inl r) items run has = r.refusal.none items run (r.rest, has ∙ sym r.parts)
+no_run_of capture messages at fault (inr r) items run has = r.2.none items run has
+
+-- where bytes stand after the messages of a run, and these are all that complete, no run has exactly the bytes
+pub open_end_of : (ps : List Pair) (messages : List Message) (client server : List ℕ) → HasRun ps messages client server → CompletesExactly ps messages → HasNoPlace ps → ((client ≡ []) × (server ≡ []) → ⊥) → IsOpenEnd ps messages
+open_end_of ps messages client server has all clear some = record { placeless = clear; none = none; all = all }
+  where
+    none : IsOfNoRun ps
+    none items run is =
+        let are : completed_messages items ≡ messages = sym (within_all items) ∙ ap (λ n. within n items) (ap length is) ∙ all items run ([], is ∙ sym (append-nil ps)) in
+        let here : AreBytesOf items [] [] = run_bytes items [] [] run in
+        let there : AreBytesOf has.items client server = run_bytes has.items client server has.is_run in
+        some (left Client client are here.of_client there.of_client, left Server server are here.of_server there.of_server)
+      where
+        left : (s : Side) (rest : List ℕ) → completed_messages items ≡ messages → bytes_from s (pairs items) ≡ bytes_of s (completed_messages items) ++ [] → bytes_from s (pairs has.items) ≡ bytes_of s (completed_messages has.items) ++ rest → rest ≡ []
+        left s rest are here there =
+            append_cancel_left (bytes_of s messages) rest []
+            (ap (λ ms. bytes_of s ms ++ rest) (sym has.has_messages) ∙ sym there ∙ ap (bytes_from s) (has.has_pairs ∙ sym is) ∙ here ∙ ap (λ ms. bytes_of s ms ++ []) are)

@@ -1,0 +1,7 @@
+pub mod CountLemmas
+pub mod FoldLemmas
+pub mod KnownLemmas
+pub mod LogKnownLemmas
+pub mod LogLemmas
+pub mod LogStepLemmas
+pub mod ReportLemmas

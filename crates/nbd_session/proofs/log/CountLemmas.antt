@@ -1,0 +1,96 @@
+-- The request that a reply answers, by how many requests had completed when the reply started.
+use Rattle.std.proofs.Common.{◌≡◌, ℕ, suc, ◌+◌, ◌<◌, ◌≤◌, List, [], ◌∷◌, ◌++◌, length, refl, sym, ◌∙◌, ap, subst, inl, inr, Option, Some, None, Bool, true, false, if◌then◌else◌, arith, append-nil}
+use Rattle.std.proofs.lemmas.Bool.{le-leb, lt-leb}
+use Rattle.nbd_wire.specs.declared.message.Side.{Side}
+use Rattle.nbd_wire.specs.declared.message.Side.TheVariants.{Client, Server}
+use Rattle.nbd_wire.specs.protocol.Operations.{Operation, Exporting}
+use Rattle.nbd_wire.specs.protocol.States.{Core, Phase, Greet, Flags, Choosing, Naming, Aborting, Answering, Ended, Transmission, is_awaiting, target, target_from}
+use Rattle.nbd_session.specs.internal.Decisions.{awaited_by}
+use Rattle.nbd_session.specs.internal.Judge.{awaited, awaited_counted, decided, decided_counted, decided_with}
+use Rattle.nbd_session.specs.internal.JudgeTransmission.{operation_counted, operation_if, operation_of, within}
+use Rattle.nbd_session.specs.internal.Concrete.{concrete}
+use Rattle.nbd_laws.proofs.machine.MachineLemmas.{Held, Kept, Later, Later-trans, none_held, old-empty, old-filled, some_held}
+use Rattle.nbd_laws.specs.internal.Machine.{More, Rest, old_of}
+use Rattle.nbd_session.proofs.judge.PhaseLemmas.{IsAppended, Later-appended, Later-turn}
+use Rattle.nbd_session.proofs.judge.SoundLemmas.{kept_later, opened}
+
+above : (n cookie : ℕ) (es : List Operation) (j : ℕ) → target_from n cookie es ≡ Some j → n < j
+above n cookie [] j h = absurd (cc)
+above n cookie (e ∷ es) j h = go (is_awaiting cookie e) h (above (suc n) cookie es j)
+  where
+    go : (b : Bool) → (if b then Some (suc n) else target_from (suc n) cookie es) ≡ Some j → (target_from (suc n) cookie es ≡ Some j → suc n < j) → n < j
+    go true h ih = let q : suc n ≡ j = cc in omega (arith, q)
+    go false h ih = let l : suc n < j = ih h in omega (arith, l)
+
+within_some : (count k : ℕ) → k ≤ count → within count (Some k) ≡ Some k
+within_some count k l = ap (λ (b : Bool). if b then Some k else None) (le-leb k count l)
+
+within_none : (count : ℕ) (o : Option ℕ) → ((k : ℕ) → o ≡ Some k → count < k) → within count o ≡ None
+within_none count None h = refl
+within_none count (Some k) h = ap (λ (b : Bool). if b then Some k else None) (lt-leb k count (h k refl))
+
+prefix_from : (n cookie : ℕ) (es more : List Operation) (count : ℕ) → count ≡ n + length es → target_from n cookie es ≡ within count (target_from n cookie (es ++ more))
+prefix_from n cookie [] more count c = sym (within_none count (target_from n cookie more) (λ k e. (let l : n < k = above n cookie more k e in omega (arith, l, c))))
+prefix_from n cookie (e ∷ es) more count c = go (is_awaiting cookie e) (prefix_from (suc n) cookie es more count (omega (arith, c)))
+  where
+    go : (b : Bool) → target_from (suc n) cookie es ≡ within count (target_from (suc n) cookie (es ++ more)) →
+        (if b then Some (suc n) else target_from (suc n) cookie es) ≡ within count (if b then Some (suc n) else target_from (suc n) cookie (es ++ more))
+    go true ih = sym (within_some count (suc n) (omega (arith, c)))
+    go false ih = ih
+
+-- the outstanding request with a cookie, of the first requests only
+pub target_prefix : (cookie : ℕ) (es more : List Operation) → target cookie es ≡ within (length es) (target cookie (es ++ more))
+unfolding target
+target_prefix cookie es more = prefix_from 0 cookie es more (length es) (omega arith)
+
+-- where requests were only added, the count states the request that a cookie named before
+pub entry_is_counted : (old now : Core) → IsAppended old now → (cookie : ℕ) → operation_of old now cookie ≡ operation_counted (length old.entries) now cookie
+entry_is_counted old now a cookie =
+    ap (λ o. operation_if o now.entries) (target_prefix cookie old.entries a.more ∙ ap (λ es. within (length old.entries) (target cookie es)) (sym a.entries_are))
+
+-- the decisions of a server's bytes are those by the count; no other decision looks at it
+pub decided_is_counted : (phase : Phase) (old now : Core) (s : Side) (bytes : List ℕ) → ((export : Exporting) → phase ≡ Transmission export → s ≡ Server → IsAppended old now) →
+    decided phase old now s bytes ≡ decided_with phase (operation_counted (length old.entries) now) now s bytes
+decided_is_counted (Transmission export) old now Server bytes h = ap (λ to. decided_with (Transmission export) to now Server bytes) (λ i cookie. entry_is_counted old now (h export refl refl) cookie i)
+decided_is_counted (Transmission export) old now Client bytes h = refl
+decided_is_counted Greet old now Server bytes h = refl
+decided_is_counted Greet old now Client bytes h = refl
+decided_is_counted Flags old now Server bytes h = refl
+decided_is_counted Flags old now Client bytes h = refl
+decided_is_counted Choosing old now Server bytes h = refl
+decided_is_counted Choosing old now Client bytes h = refl
+decided_is_counted Naming old now Server bytes h = refl
+decided_is_counted Naming old now Client bytes h = refl
+decided_is_counted Aborting old now Server bytes h = refl
+decided_is_counted Aborting old now Client bytes h = refl
+decided_is_counted (Answering option given info) old now Server bytes h = refl
+decided_is_counted (Answering option given info) old now Client bytes h = refl
+decided_is_counted Ended old now Server bytes h = refl
+decided_is_counted Ended old now Client bytes h = refl
+
+none_added : (core : Core) → IsAppended core core
+none_added core = record { more = []; entries_are = sym (append-nil core.entries); structured_is = refl }
+
+-- since a server's first byte requests were only added
+kept_appended : {old now next : Core} {bytes : List ℕ} → Kept concrete Server old now bytes → concrete old now Server bytes ≡ More → Later Server now next → IsAppended old next
+kept_appended {old} {now} {next} k m l =
+    let later : Later Server old next = Later-trans (kept_later k) l in
+    elim (opened More k m (λ q. (cc))) [
+      | inl t ↦ subst (IsAppended old) (Later-turn later t) (none_added old)
+      | inr (export, t) ↦ Later-appended later export t
+    ]
+
+pub held_appended : {core : Core} {rest : Rest} → Held concrete core Server rest → IsAppended (old_of core rest) core
+held_appended {core} {rest} (none_held r e) = subst (λ c. IsAppended c core) (sym (old-empty core rest e)) (none_added core)
+held_appended {core} {rest} (some_held r now f k m l) = subst (λ c. IsAppended c core) (sym (old-filled core rest f)) (kept_appended k m l)
+
+-- how many requests had completed before the first byte of a rest
+abbrev pub count_of : Core → Rest → ℕ
+count_of core rest = length (old_of core rest).entries
+
+-- what is decided of a machine's rest, by the count
+pub held_counted : {core : Core} {s : Side} {rest : Rest} → Held concrete core s rest → (bytes : List ℕ) → decided core.phase (old_of core rest) core s bytes ≡ decided_counted (count_of core rest) core s bytes
+held_counted {core} {s} {rest} h bytes = decided_is_counted core.phase (old_of core rest) core s bytes (λ export t q. held_appended (subst (λ u. Held concrete core u rest) q h))
+
+pub awaited_held : {core : Core} {s : Side} {rest : Rest} → Held concrete core s rest → (bytes : List ℕ) → awaited (old_of core rest) core s bytes ≡ awaited_counted (count_of core rest) core s bytes
+awaited_held h bytes = ap (λ o. awaited_by o bytes) (held_counted h bytes)

@@ -1,0 +1,4 @@
+pub mod LeadingLemmas
+pub mod ShownOperationLemmas
+pub mod WholeForLemmas
+pub mod WholeMessageLemmas

@@ -1,0 +1,5 @@
+pub mod NoteLemmas
+pub mod OpenByteLemmas
+pub mod PushLemmas
+pub mod StretchLemmas
+pub mod TidyLemmas

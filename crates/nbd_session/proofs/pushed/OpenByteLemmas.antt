@@ -1,0 +1,253 @@
+-- The bytes that belong to no completed message are the rests, and more of them may come.
+use Rattle.std.proofs.Common.{◌≡◌, ℕ, List, [], ◌∷◌, ◌++◌, map, flat_map, refl, sym, ◌∙◌, ap, subst, Ok, Bool, true, false, if◌then◌else◌, append_assoc, append-nil}
+use Rattle.std.proofs.lemmas.List.{append_cancel_left, map-append}
+use Rattle.nbd_wire.specs.declared.message.Side.{Side}
+use Rattle.nbd_wire.specs.declared.message.Side.TheVariants.{Client, Server}
+use Rattle.nbd_wire.specs.declared.message.Message.{Message}
+use Rattle.nbd_wire.specs.protocol.Encoding.{enc}
+use Rattle.nbd_wire.specs.protocol.Marks.{Item, Byte, Starts, Completes, Serves, IsSided, IsTight, MayFollow, block, completed_messages, of_side, pairs}
+use Rattle.nbd_wire.specs.protocol.Captures.{Pair, ArePairs, side_pairs}
+use Rattle.nbd_wire.specs.Pushed.{bytes_of}
+use Rattle.nbd_wire.specs.protocol.Rules.{IsRunBut, Obeys, after, complete}
+use Rattle.nbd_wire.specs.protocol.Sides.{side, same_side}
+use Rattle.nbd_wire.specs.protocol.States.{Core, State, start}
+use Rattle.nbd_session.specs.internal.Concrete.{concrete}
+use Rattle.nbd_laws.proofs.machine.MachineLemmas.{AreHeld, Busy, Idle, IsSound, IsSoundAt, Loose, Open, Walk, ended, final, held_more, held_whole, kept_next, loose, middle, opening, serving, with_byte}
+use Rattle.nbd_laws.specs.internal.Machine.{Bad, Both, Judge, Machine, More, Reading, Rest, Whole, fresh, get, grown, on_ok, put, reads, settle}
+use Rattle.nbd_laws.proofs.runs.BlockLemmas.{IsCalm, byte_other, byte_same, walked}
+use Rattle.nbd_laws.proofs.runs.FollowLemmas.{Follows, IsSidedOpen, each_with, follows}
+use Rattle.nbd_session.specs.internal.Standing.{with_more}
+use Rattle.nbd_laws.specs.Holding.{bytes_from}
+use Rattle.nbd_laws.proofs.runs.RunLemmas.{fresh_held, run_but_law}
+use Rattle.nbd_laws.proofs.runs.RunByteLemmas.{AreBytesOf, byte_from, bytes_from-cons, run_bytes}
+use Rattle.nbd_session.proofs.judge.SoundLemmas.{sound}
+
+-- what a machine holds of a side's bytes
+abbrev pub held_bytes : Side → Machine → List ℕ
+held_bytes s machine = bytes_of s machine.messages ++ (get machine.rests s).bytes
+
+bytes_of-snoc : (s : Side) (messages : List Message) (m : Message) → bytes_of s (messages ++ m ∷ []) ≡ bytes_of s messages ++ (if same_side s (side m) then enc m else [])
+bytes_of-snoc s [] m = one (same_side s (side m))
+  where
+    one : (b : Bool) → (if b then enc m ++ [] else []) ≡ (if b then enc m else [])
+    one true = append-nil (enc m)
+    one false = refl
+bytes_of-snoc s (n ∷ messages) m = go (same_side s (side n)) (bytes_of-snoc s messages m)
+  where
+    go : (b : Bool) → bytes_of s (messages ++ m ∷ []) ≡ bytes_of s messages ++ (if same_side s (side m) then enc m else []) →
+        (if b then enc n ++ bytes_of s (messages ++ m ∷ []) else bytes_of s (messages ++ m ∷ [])) ≡ (if b then enc n ++ bytes_of s messages else bytes_of s messages) ++ (if same_side s (side m) then enc m else [])
+    go true ih = ap (λ l. enc n ++ l) ih ∙ sym (append_assoc (enc n) (bytes_of s messages) (if same_side s (side m) then enc m else []))
+    go false ih = ih
+
+bytes_more : (s t : Side) (b : ℕ) (machine : Machine) → held_bytes s (record machine { rests = put machine.rests t (grown machine.core (get machine.rests t) b) }) ≡ held_bytes s machine ++ byte_from s t b
+bytes_more Client Client b machine = sym (append_assoc (bytes_of Client machine.messages) machine.rests.client.bytes (b ∷ []))
+bytes_more Client Server b machine = sym (append-nil (held_bytes Client machine))
+bytes_more Server Client b machine = sym (append-nil (held_bytes Server machine))
+bytes_more Server Server b machine = sym (append_assoc (bytes_of Server machine.messages) machine.rests.server.bytes (b ∷ []))
+
+abbrev emptied : Machine → Side → ℕ → Message → Machine
+emptied machine t b m = record { core = complete machine.core m; rests = put machine.rests t (record (grown machine.core (get machine.rests t) b) { bytes = [] }); messages = machine.messages ++ m ∷ [] }
+
+bytes_whole : (s t : Side) (b : ℕ) (m : Message) (machine : Machine) → side m ≡ t → (grown machine.core (get machine.rests t) b).bytes ≡ enc m → held_bytes s (emptied machine t b m) ≡ held_bytes s machine ++ byte_from s t b
+bytes_whole s t b m machine sd e =
+    ap (λ l. l ++ (get (emptied machine t b m).rests s).bytes) (bytes_of-snoc s machine.messages m ∙ ap (λ u. bytes_of s machine.messages ++ (if same_side s u then enc m else [])) sd)
+    ∙ go s t e
+  where
+    go : (s t : Side) → (grown machine.core (get machine.rests t) b).bytes ≡ enc m →
+        (bytes_of s machine.messages ++ (if same_side s t then enc m else [])) ++ (get (emptied machine t b m).rests s).bytes ≡ held_bytes s machine ++ byte_from s t b
+    go Client Client e = append-nil (bytes_of Client machine.messages ++ enc m) ∙ ap (λ l. bytes_of Client machine.messages ++ l) (sym e) ∙ sym (append_assoc (bytes_of Client machine.messages) machine.rests.client.bytes (b ∷ []))
+    go Server Server e = append-nil (bytes_of Server machine.messages ++ enc m) ∙ ap (λ l. bytes_of Server machine.messages ++ l) (sym e) ∙ sym (append_assoc (bytes_of Server machine.messages) machine.rests.server.bytes (b ∷ []))
+    go Client Server e = ap (λ l. l ++ machine.rests.client.bytes) (append-nil (bytes_of Client machine.messages)) ∙ sym (append-nil (held_bytes Client machine))
+    go Server Client e = ap (λ l. l ++ machine.rests.server.bytes) (append-nil (bytes_of Server machine.messages)) ∙ sym (append-nil (held_bytes Server machine))
+
+-- the machine holds what it read
+pub reads_bytes : (judge : Judge) → IsSound judge → (s : Side) (ps : List Pair) (machine end : Machine) → ArePairs ps → AreHeld judge machine → reads judge machine ps ≡ Ok end →
+    held_bytes s machine ++ bytes_from s ps ≡ held_bytes s end
+reads_bytes judge sd s [] machine end lt held e = let q : machine ≡ end = cc in append-nil (held_bytes s machine) ∙ ap (held_bytes s) q
+reads_bytes judge sd s (p ∷ ps) machine end lt held e = go (judge rest.since machine.core p.from rest.bytes) refl (λ next hd h. reads_bytes judge sd s ps next end lt.1 hd h) e
+  where
+    rest : Rest
+    rest = grown machine.core (get machine.rests p.from) p.byte
+
+    joined : (next : Machine) → held_bytes s next ≡ held_bytes s machine ++ byte_from s p.from p.byte → held_bytes s next ++ bytes_from s ps ≡ held_bytes s end → held_bytes s machine ++ bytes_from s (p ∷ ps) ≡ held_bytes s end
+    joined next is ih =
+        ap (λ l. held_bytes s machine ++ l) (bytes_from-cons s p ps) ∙ sym (append_assoc (held_bytes s machine) (byte_from s p.from p.byte) (bytes_from s ps)) ∙ ap (λ l. l ++ bytes_from s ps) (sym is) ∙ ih
+
+    go : (r : Reading) → judge rest.since machine.core p.from rest.bytes ≡ r → ((next : Machine) → AreHeld judge next → reads judge next ps ≡ Ok end → held_bytes s next ++ bytes_from s ps ≡ held_bytes s end) →
+        on_ok (settle machine p.from rest r) (λ next. reads judge next ps) ≡ Ok end → held_bytes s machine ++ bytes_from s (p ∷ ps) ≡ held_bytes s end
+    go More is ih e = joined (with_byte machine p.from p.byte) (bytes_more s p.from p.byte machine) (ih (with_byte machine p.from p.byte) (held_more judge machine p.from p.byte lt.0 held is) e)
+    go (Whole m) is ih e =
+        let ok : IsSoundAt rest.since machine.core p.from rest.bytes m = sd rest.since machine.core p.from rest.bytes m (kept_next judge machine.core p.from (get machine.rests p.from) p.byte lt.0 (held p.from)) is in
+        joined (emptied machine p.from p.byte m) (bytes_whole s p.from p.byte m machine ok.sided ok.encodes)
+        (ih (emptied machine p.from p.byte m) (held_whole judge machine p.from m (record rest { bytes = [] }) refl held ok.sided ok.sendable ok.completes) e)
+    go (Bad fault) is ih e = absurd (cc)
+
+-- from nothing
+pub fresh_bytes : (judge : Judge) → IsSound judge → (s : Side) (ps : List Pair) (end : Machine) → ArePairs ps → reads judge fresh ps ≡ Ok end → bytes_from s ps ≡ held_bytes s end
+fresh_bytes judge sd Client ps end lt e = reads_bytes judge sd Client ps fresh end lt (fresh_held judge) e
+fresh_bytes judge sd Server ps end lt e = reads_bytes judge sd Server ps fresh end lt (fresh_held judge) e
+
+-- the loose bytes of a run with these pairs and messages
+loose_is : (s : Side) (items : List Item) (ps : List Pair) (messages : List Message) (rest bytes : List ℕ) → pairs items ≡ ps → completed_messages items ≡ messages →
+    bytes_from s (pairs items) ≡ bytes_of s (completed_messages items) ++ rest → bytes_from s ps ≡ bytes_of s messages ++ bytes → rest ≡ bytes
+loose_is s items ps messages rest bytes p c e f =
+    append_cancel_left (bytes_of s messages) rest bytes (ap (λ ms. bytes_of s ms ++ rest) (sym c) ∙ sym e ∙ ap (bytes_from s) p ∙ f)
+
+-- what a machine read is a run with exactly these pairs and messages, and its rests are the bytes of no message
+pub run_but_of : (judge : Judge) → IsSound judge → (ps : List Pair) (end : Machine) → ArePairs ps → reads judge fresh ps ≡ Ok end →
+    (items : List Item) × IsRunBut items end.rests.client.bytes end.rests.server.bytes × (pairs items ≡ ps) × (completed_messages items ≡ end.messages)
+run_but_of judge sd ps end lt e =
+    let r = run_but_law judge sd ps end lt e in
+    let b : AreBytesOf r.0 r.1 r.2 = run_bytes r.0 r.1 r.2 r.3 in
+    let c : r.1 ≡ end.rests.client.bytes = loose_is Client r.0 ps end.messages r.1 end.rests.client.bytes r.4 r.5 b.of_client (fresh_bytes judge sd Client ps end lt e) in
+    let d : r.2 ≡ end.rests.server.bytes = loose_is Server r.0 ps end.messages r.2 end.rests.server.bytes r.4 r.5 b.of_server (fresh_bytes judge sd Server ps end lt e) in
+    (r.0, subst (λ x. IsRunBut r.0 x end.rests.server.bytes) c (subst (λ y. IsRunBut r.0 r.1 y) d r.3), r.4, r.5)
+
+-- with the project's own judge, and the rests by other names
+pub read_is_run_but : (ps : List Pair) (end : Machine) (messages : List Message) (client server : List ℕ) → ArePairs ps → reads concrete fresh ps ≡ Ok end →
+    end.messages ≡ messages → end.rests.client.bytes ≡ client → end.rests.server.bytes ≡ server →
+    (items : List Item) × IsRunBut items client server × (pairs items ≡ ps) × (completed_messages items ≡ messages)
+read_is_run_but ps end messages client server lt e m c d =
+    let r = run_but_of concrete sound ps end lt e in
+    (r.0, subst (λ x. IsRunBut r.0 x server) c (subst (λ y. IsRunBut r.0 end.rests.client.bytes y) d r.1), r.2, r.3 ∙ m)
+
+abbrev pub bytes_items : Side → List ℕ → List Item
+bytes_items s bs = map (λ b. Byte s b) bs
+
+of_side-append : (s : Side) (xs ys : List Item) → of_side s (xs ++ ys) ≡ of_side s xs ++ of_side s ys
+of_side-append s [] ys = refl
+of_side-append s (Byte t x ∷ xs) ys = go (same_side s t) (of_side-append s xs ys)
+  where
+    go : (b : Bool) → of_side s (xs ++ ys) ≡ of_side s xs ++ of_side s ys →
+        (if b then Byte t x ∷ of_side s (xs ++ ys) else of_side s (xs ++ ys)) ≡ (if b then Byte t x ∷ of_side s xs else of_side s xs) ++ of_side s ys
+    go true ih = ap (λ l. Byte t x ∷ l) ih
+    go false ih = ih
+of_side-append s (Starts t m ∷ xs) ys = go (same_side s t) (of_side-append s xs ys)
+  where
+    go : (b : Bool) → of_side s (xs ++ ys) ≡ of_side s xs ++ of_side s ys →
+        (if b then Starts t m ∷ of_side s (xs ++ ys) else of_side s (xs ++ ys)) ≡ (if b then Starts t m ∷ of_side s xs else of_side s xs) ++ of_side s ys
+    go true ih = ap (λ l. Starts t m ∷ l) ih
+    go false ih = ih
+of_side-append s (Completes t m ∷ xs) ys = go (same_side s t) (of_side-append s xs ys)
+  where
+    go : (b : Bool) → of_side s (xs ++ ys) ≡ of_side s xs ++ of_side s ys →
+        (if b then Completes t m ∷ of_side s (xs ++ ys) else of_side s (xs ++ ys)) ≡ (if b then Completes t m ∷ of_side s xs else of_side s xs) ++ of_side s ys
+    go true ih = ap (λ l. Completes t m ∷ l) ih
+    go false ih = ih
+of_side-append s (Serves k ∷ xs) ys = of_side-append s xs ys
+
+of_side_same : (s : Side) (bs : List ℕ) → of_side s (bytes_items s bs) ≡ bytes_items s bs
+of_side_same s [] = refl
+of_side_same s (b ∷ bs) = byte_same s b (bytes_items s bs) ∙ ap (λ l. Byte s b ∷ l) (of_side_same s bs)
+
+of_side_other : (s t : Side) (bs : List ℕ) → (t ≡ s → ⊥) → of_side s (bytes_items t bs) ≡ []
+of_side_other s t [] ne = refl
+of_side_other s t (b ∷ bs) ne = byte_other s t b (bytes_items t bs) ne ∙ of_side_other s t bs ne
+
+-- a side with more bytes at its end
+sided_more : (s : Side) (items : List Item) (rest more : List ℕ) → IsSided s items rest → IsSided s (items ++ bytes_items s more) (rest ++ more)
+sided_more s items rest more d = record {
+  messages = d.messages;
+  blocks = of_side-append s items (bytes_items s more)
+      ∙ ap (λ l. of_side s items ++ l) (of_side_same s more)
+      ∙ ap (λ l. l ++ bytes_items s more) d.blocks
+      ∙ append_assoc (flat_map (block s) d.messages) (bytes_items s rest) (bytes_items s more)
+      ∙ ap (λ l. flat_map (block s) d.messages ++ l) (sym (map-append (λ b. Byte s b) rest more));
+}
+
+sided_still : (s t : Side) (items : List Item) (rest more : List ℕ) → (t ≡ s → ⊥) → IsSided s items rest → IsSided s (items ++ bytes_items t more) rest
+sided_still s t items rest more ne d = record {
+  messages = d.messages;
+  blocks = of_side-append s items (bytes_items t more) ∙ ap (λ l. of_side s items ++ l) (of_side_other s t more ne) ∙ append-nil (of_side s items) ∙ d.blocks;
+}
+
+sided_with : (t s : Side) (items : List Item) (rest more : List ℕ) → IsSided s items rest → IsSided s (items ++ bytes_items t more) (with_more t s more rest)
+sided_with Client Client items rest more d = sided_more Client items rest more d
+sided_with Client Server items rest more d = sided_still Server Client items rest more (λ q. (cc)) d
+sided_with Server Client items rest more d = sided_still Client Server items rest more (λ q. (cc)) d
+sided_with Server Server items rest more d = sided_more Server items rest more d
+
+byte_after : (x : Item) (s : Side) (b : ℕ) → IsCalm x → MayFollow x (Byte s b)
+byte_after (Byte t c) s b k = tt
+byte_after (Starts t m) s b k = absurd k
+byte_after (Completes t m) s b k = tt
+byte_after (Serves j) s b k = tt
+
+starts_after : (x : Item) (s : Side) (m : Message) → IsCalm x → MayFollow x (Starts s m)
+starts_after (Byte t c) s m k = tt
+starts_after (Starts t n) s m k = absurd k
+starts_after (Completes t n) s m k = tt
+starts_after (Serves j) s m k = tt
+
+serves_after : (x : Item) (i : ℕ) → IsCalm x → MayFollow x (Serves i)
+serves_after (Byte t c) i k = tt
+serves_after (Starts t n) i k = absurd k
+serves_after (Completes t n) i k = tt
+serves_after (Serves j) i k = tt
+
+bytes_tight : (x : Item) (s : Side) (bs : List ℕ) → IsCalm x → IsTight (x ∷ bytes_items s bs)
+bytes_tight x s [] k = tt
+bytes_tight x s (b ∷ bs) k = (byte_after x s b k, bytes_tight (Byte s b) s bs tt)
+
+-- a walk does not end with a start: bytes may stand after it
+tight_more : {P : Type 0} {o : Both Open} {items : List Item} → Walk P o items → (x : Item) → IsCalm x → (s : Side) (bs : List ℕ) → IsTight (x ∷ (items ++ bytes_items s bs))
+tight_more (ended c d) x k s bs = bytes_tight x s bs k
+tight_more (serving j w) x k s bs = (serves_after x j k, tight_more w (Serves j) tt s bs)
+tight_more (opening t m b left i e f w) x k s bs = (starts_after x t m k, (refl, tight_more w (Byte t b) tt s bs))
+tight_more (middle t m b left i f w) x k s bs = (byte_after x t b k, tight_more w (Byte t b) tt s bs)
+tight_more (final t m b i w) x k s bs = (byte_after x t b k, (refl, tight_more w (Completes t m) tt s bs))
+tight_more (loose t b p i w) x k s bs = (byte_after x t b k, tight_more w (Byte t b) tt s bs)
+
+tight_tail : (x : Item) (items : List Item) → IsTight (x ∷ items) → IsTight items
+tight_tail x [] h = tt
+tight_tail x (y ∷ items) h = h.1
+
+obeys_bytes : (state : State) (s : Side) (bs : List ℕ) → Obeys state (bytes_items s bs)
+obeys_bytes state s [] = tt
+obeys_bytes state s (b ∷ bs) = (tt, obeys_bytes state s bs)
+
+obeys_more : (items : List Item) (state : State) (s : Side) (bs : List ℕ) → Obeys state items → Obeys state (items ++ bytes_items s bs)
+obeys_more [] state s bs ob = obeys_bytes state s bs
+obeys_more (item ∷ items) state s bs ob = (ob.0, obeys_more items (after state item) s bs ob.1)
+
+pairs_bytes : (s : Side) (bs : List ℕ) → pairs (bytes_items s bs) ≡ side_pairs s bs
+pairs_bytes s [] = refl
+pairs_bytes s (b ∷ bs) = ap (λ l. record { from = s; byte = b } ∷ l) (pairs_bytes s bs)
+
+pub pairs_more : (items : List Item) (s : Side) (bs : List ℕ) → pairs (items ++ bytes_items s bs) ≡ pairs items ++ side_pairs s bs
+pairs_more [] s bs = pairs_bytes s bs
+pairs_more (Byte t b ∷ items) s bs = ap (λ l. record { from = t; byte = b } ∷ l) (pairs_more items s bs)
+pairs_more (Starts t m ∷ items) s bs = pairs_more items s bs
+pairs_more (Completes t m ∷ items) s bs = pairs_more items s bs
+pairs_more (Serves k ∷ items) s bs = pairs_more items s bs
+
+completed_bytes : (s : Side) (bs : List ℕ) → completed_messages (bytes_items s bs) ≡ []
+completed_bytes s [] = refl
+completed_bytes s (b ∷ bs) = completed_bytes s bs
+
+pub completed_more : (items : List Item) (s : Side) (bs : List ℕ) → completed_messages (items ++ bytes_items s bs) ≡ completed_messages items
+completed_more [] s bs = completed_bytes s bs
+completed_more (Byte t b ∷ items) s bs = completed_more items s bs
+completed_more (Starts t m ∷ items) s bs = completed_more items s bs
+completed_more (Completes t m ∷ items) s bs = ap (λ l. m ∷ l) (completed_more items s bs)
+completed_more (Serves k ∷ items) s bs = completed_more items s bs
+
+-- bytes of a side may come at the end of a run but for loose bytes: they stand after that side's
+pub run_but_more : (items : List Item) (client server : List ℕ) (s : Side) (more : List ℕ) → IsRunBut items client server →
+    IsRunBut (items ++ bytes_items s more) (with_more s Client more client) (with_more s Server more server)
+run_but_more items client server s more run = record {
+  marked = record {
+    client_side = sided_with s Client items client more run.marked.client_side;
+    server_side = sided_with s Server items server more run.marked.server_side;
+    tight = tight_tail (Serves 0) (items ++ bytes_items s more) (tight_more (walked {P = Unit {0}} items client server (λ f. tt) (λ f. tt) run.marked) (Serves 0) tt s more);
+  };
+  obeys = obeys_more items start s more run.obeys;
+}
+
+-- what a machine read, and more bytes of a side, is a run but for the rests with these bytes
+pub more_is_run_but : (ps : List Pair) (end : Machine) (messages : List Message) (client server : List ℕ) (s : Side) (more : List ℕ) → ArePairs ps → reads concrete fresh ps ≡ Ok end →
+    end.messages ≡ messages → end.rests.client.bytes ≡ client → end.rests.server.bytes ≡ server →
+    (items : List Item) × IsRunBut items (with_more s Client more client) (with_more s Server more server) × (pairs items ≡ ps ++ side_pairs s more) × (completed_messages items ≡ messages)
+more_is_run_but ps end messages client server s more lt e m c d =
+    let r = read_is_run_but ps end messages client server lt e m c d in
+    (r.0 ++ bytes_items s more, run_but_more r.0 client server s more r.1, pairs_more r.0 s more ∙ ap (λ l. l ++ side_pairs s more) r.2, completed_more r.0 s more ∙ r.3)

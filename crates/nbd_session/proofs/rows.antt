@@ -1,0 +1,8 @@
+pub mod MarkLemmas
+pub mod RowChunkLemmas
+pub mod RowJudgeLemmas
+pub mod RowLemmas
+pub mod RowReplyLemmas
+pub mod RowRequestLemmas
+pub mod RowStartLemmas
+pub mod WorkedLemmas

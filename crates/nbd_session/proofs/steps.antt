@@ -1,0 +1,5 @@
+pub mod AcceptLemmas
+pub mod AwaitedHeldLemmas
+pub mod SettleLemmas
+pub mod StepLemmas
+pub mod TakeLemmas

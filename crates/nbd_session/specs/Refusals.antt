@@ -1,0 +1,62 @@
+-- What a session's fault says of the bytes that it was given and of its messages.
+use Rattle.std.specs.Prelude.{◌≡◌, ◌⊎◌, ◌∷◌, ◌++◌, ℕ, List, [], Option, Some, None, length}
+use Rattle.nbd_wire.specs.declared.message.Message.{Message}
+use Rattle.nbd_wire.specs.protocol.Captures.{Pair}
+use Rattle.nbd_wire.specs.protocol.Splits.{IsPlace}
+use Rattle.nbd_wire.specs.protocol.Within.{BeginsNoRun, CompletesExactly, IsOfNoRun}
+use Rattle.nbd_wire.specs.declared.fault.WireFault.{WireFault}
+use Rattle.nbd_wire.specs.declared.fault.WireFault.TheVariants.{Unfinished}
+use Rattle.nbd_session.specs.declared.fault.SessionFault.{SessionFault}
+use Rattle.nbd_session.specs.declared.fault.SessionFault.TheVariants.{Memory, Wire}
+use Rattle.nbd_session.specs.Sessions.{Recorded, pairs_of}
+
+-- a fault at the last of these bytes, which is the place that the rules name, with these messages: no run begins with them, and
+-- before the last one exactly these messages complete in each run that begins so
+pub record IsRefusal (ps : List Pair) (messages : List Message) (fault : WireFault) : Type 0 where
+  pub place : IsPlace ps messages fault
+  pub none : BeginsNoRun ps
+  pub before : (prefix : List Pair) (last : Pair) → ps ≡ prefix ++ last ∷ [] → CompletesExactly prefix messages
+
+-- no prefix of these bytes has a place
+abbrev pub HasNoPlace : List Pair → Type 0
+HasNoPlace ps = (prefix rest : List Pair) (messages : List Message) (fault : WireFault) → prefix ++ rest ≡ ps → IsPlace prefix messages fault → ⊥
+
+-- an end within a message: no prefix of these bytes has a place, no run has exactly these bytes, and these messages complete in
+-- each run that begins with them
+pub record IsOpenEnd (ps : List Pair) (messages : List Message) : Type 0 where
+  pub placeless : HasNoPlace ps
+  pub none : IsOfNoRun ps
+  pub all : CompletesExactly ps messages
+
+-- a capture is refused at the last byte of a prefix of it
+pub record IsRefusedAt (capture : List Pair) (messages : List Message) (at : ℕ) (fault : WireFault) : Type 0 where
+  pub prefix : List Pair
+  pub rest : List Pair
+  pub parts : prefix ++ rest ≡ capture
+  pub at_is : at ≡ length prefix
+  pub refusal : IsRefusal prefix messages fault
+
+-- the fault of a capture, and the messages that completed before it: at a byte, or at the end of all
+abbrev pub IsWireFault : (capture : List Pair) (messages : List Message) (at : ℕ) (fault : WireFault) → Type 0
+IsWireFault capture messages at fault =
+    IsRefusedAt capture messages at fault ⊎ (fault ≡ Unfinished) × (at ≡ length capture) × IsOpenEnd capture messages
+
+-- a session that answers this fault was refused at the last byte that it took; of out of memory nothing is said
+abbrev pub Refuses : Recorded → SessionFault → Type 0
+Refuses r (Wire at fault) = IsRefusal (pairs_of r) r.messages fault
+Refuses r Memory = Unit {0}
+
+-- a session that ends in this fault
+abbrev pub EndsIn : Recorded → SessionFault → Type 0
+EndsIn r (Wire at fault) = IsWireFault (pairs_of r) r.messages at fault
+EndsIn r Memory = Unit {0}
+
+-- the messages of a session under way are all that complete within its bytes, no prefix of which has a place; one that is closed
+-- was refused
+abbrev pub IsCompleteBy : Option SessionFault → Recorded → Type 0
+IsCompleteBy None r = CompletesExactly (pairs_of r) r.messages × HasNoPlace (pairs_of r)
+IsCompleteBy (Some fault) r = Refuses r fault
+
+-- the same of a session, by the fault that closed it
+abbrev pub IsComplete : Recorded → Type 0
+IsComplete r = IsCompleteBy r.closed r

@@ -1,0 +1,14 @@
+pub mod Asking
+pub mod Concrete
+pub mod Decisions
+pub mod Holdings
+pub mod Judge
+pub mod JudgeNegotiation
+pub mod JudgeTransmission
+pub mod Leading
+pub mod Logging
+pub mod Readings
+pub mod Standing
+pub mod Steps
+pub mod Stopped
+pub mod WholeMessage

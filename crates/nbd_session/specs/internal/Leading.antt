@@ -1,0 +1,66 @@
+-- What a side's bytes state once they are as long as a head.
+use Rattle.std.specs.Prelude.{ℕ, ◌≡◌, ◌≤◌, List, Bool, true, false, ◌==◌, ◌&&◌, Option, Some, None, Result, Ok, Err, length, if◌then◌else◌}
+use Rattle.nbd_wire.specs.declared.magics.TheConstants.{GREETING_MAGIC, OPTION_MAGIC, ANSWER_MAGIC, REQUEST_MAGIC, SIMPLE_MAGIC, CHUNK_MAGIC}
+use Rattle.nbd_wire.specs.declared.heads.negotiation.ChoiceHead.{ChoiceHead}
+use Rattle.nbd_wire.specs.declared.heads.negotiation.AnswerHead.{AnswerHead}
+use Rattle.nbd_wire.specs.declared.heads.transmission.RequestHead.{RequestHead}
+use Rattle.nbd_wire.specs.declared.heads.transmission.SimpleHead.{SimpleHead}
+use Rattle.nbd_wire.specs.declared.heads.transmission.ChunkHead.{ChunkHead}
+use Rattle.nbd_wire.specs.protocol.Payloads.{number_at}
+use Rattle.nbd_wire.specs.declared.fault.WireFault.{WireFault}
+use Rattle.nbd_session.specs.declared.reading.Reading.{Reading}
+use Rattle.nbd_session.specs.declared.reading.Reading.TheVariants.{Await, Whole}
+
+-- this value where the condition holds
+abbrev pub some_if : {A : Type 0} → Bool → A → Option A
+some_if true value = Some value
+some_if false value = None
+
+-- the fault, or this value where there is none
+abbrev pub unless_fault : {A : Type 0} → Option WireFault → A → Result A WireFault
+unless_fault (Some fault) value = Err fault
+unless_fault None value = Ok value
+
+-- bytes of a message that has this many, and no fault at its last byte
+abbrev pub of_length : (whole : ℕ) → List ℕ → Reading
+of_length whole bytes = if length bytes == whole then Whole else Await whole
+
+-- a greeting's flags (proto.md, "Newstyle negotiation")
+abbrev pub greeting_flags_of : List ℕ → Option ℕ
+greeting_flags_of bytes = some_if ((number_at 0 8 bytes == GREETING_MAGIC) && (number_at 8 8 bytes == OPTION_MAGIC)) (number_at 16 2 bytes)
+
+-- an option's head (proto.md, "Newstyle negotiation")
+abbrev pub choice_head_of : List ℕ → Option ChoiceHead
+choice_head_of bytes = some_if (number_at 0 8 bytes == OPTION_MAGIC) (record { id = number_at 8 4 bytes; length = number_at 12 4 bytes })
+
+-- the fields of an answer's head (proto.md, "Fixed newstyle negotiation")
+abbrev pub answer_fields_of : List ℕ → AnswerHead
+answer_fields_of bytes = record { option = number_at 8 4 bytes; kind = number_at 12 4 bytes; length = number_at 16 4 bytes }
+
+abbrev pub answer_head_of : List ℕ → Option AnswerHead
+answer_head_of bytes = some_if (number_at 0 8 bytes == ANSWER_MAGIC) (answer_fields_of bytes)
+
+-- a request's head (proto.md, "Request message")
+abbrev pub request_head_of : List ℕ → Option RequestHead
+request_head_of bytes =
+    some_if (number_at 0 4 bytes == REQUEST_MAGIC) (record { flags = number_at 4 2 bytes; command = number_at 6 2 bytes; cookie = number_at 8 8 bytes; offset = number_at 16 8 bytes; length = number_at 24 4 bytes })
+
+-- a simple reply's head (proto.md, "Simple reply message")
+abbrev pub simple_head_of : List ℕ → Option SimpleHead
+simple_head_of bytes = some_if (number_at 0 4 bytes == SIMPLE_MAGIC) (record { error = number_at 4 4 bytes; cookie = number_at 8 8 bytes })
+
+-- a chunk's head (proto.md, "Structured reply chunk message")
+abbrev pub chunk_head_of : List ℕ → Option ChunkHead
+chunk_head_of bytes =
+    some_if (number_at 0 4 bytes == CHUNK_MAGIC) (record { flags = number_at 4 2 bytes; kind = number_at 6 2 bytes; cookie = number_at 8 8 bytes; length = number_at 16 4 bytes })
+
+-- bytes that are as long as a head, and begin with the number of this width that the head begins with
+pub record HasHead (size width magic : ℕ) (bytes : List ℕ) : Type 0 where
+  pub long : size ≤ length bytes
+  pub magic_is : number_at 0 width bytes ≡ magic
+
+-- bytes that are as long as a greeting, and begin with its two numbers
+pub record HasGreeting (bytes : List ℕ) : Type 0 where
+  pub long : 18 ≤ length bytes
+  pub first_is : number_at 0 8 bytes ≡ GREETING_MAGIC
+  pub second_is : number_at 8 8 bytes ≡ OPTION_MAGIC

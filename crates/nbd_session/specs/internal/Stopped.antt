@@ -1,0 +1,17 @@
+-- A session that a wire fault closed: what the machine had read, and the byte that it refused.
+use Rattle.std.specs.Prelude.{◌≡◌, ◌∷◌, ◌++◌, List, [], Ok, Err}
+use Rattle.nbd_wire.specs.protocol.Captures.{Pair, ArePairs}
+use Rattle.nbd_wire.specs.declared.fault.WireFault.{WireFault}
+use Rattle.nbd_laws.specs.internal.Machine.{Machine, fresh, reads, step}
+use Rattle.nbd_session.specs.internal.Concrete.{concrete}
+use Rattle.nbd_session.specs.internal.Standing.{Holding, pairs_held}
+
+pub record IsStopped (h : Holding) (fault : WireFault) : Type 0 where
+  pub are_pairs : ArePairs (pairs_held h)
+  pub prefix : List Pair
+  pub last : Pair
+  pub parts : pairs_held h ≡ prefix ++ last ∷ []
+  pub machine : Machine
+  pub reads_it : reads concrete fresh prefix ≡ Ok machine
+  pub messages_are : machine.messages ≡ h.messages
+  pub refused : step concrete machine last.from last.byte ≡ Err fault

@@ -1,0 +1,169 @@
+-- What a state shows once a message has completed.
+use Rattle.std.proofs.Common.{◌≡◌, ℕ, zero, suc, ◌≤◌, ◌⊎◌, ◌==◌, ◌&&◌, List, [], ◌∷◌, ◌++◌, length, refl, sym, ◌∙◌, ap, subst, Option, Some, None, Bool, true, false, if◌then◌else◌, arith, slice_get, slice_set, Result, Ok, Err, IfOk, OnOk, MutBor, inl, inr, not, is_some}
+use Rattle.std.proofs.lemmas.Option.{slice_get_read, slice_get_past}
+use Rattle.std.specs.BTreeMap.{get}
+use Rattle.std.specs.List.{IsItemAtMut}
+use Rattle.std.specs.Ordering.{nat_cmp}
+use Rattle.nbd_wire.specs.declared.message.Message.{Message}
+use Rattle.nbd_wire.specs.protocol.Reports.{export_in}
+use Rattle.nbd_wire.specs.protocol.Operations.{Operation, Exporting, ends_reply, is_finished}
+use Rattle.nbd_wire.specs.protocol.Rules.{cookie_of, core_with_reply, reply_to, target_of}
+use Rattle.nbd_wire.specs.protocol.States as definitions
+use Rattle.nbd_wire.specs.protocol.States.{Core, Transmission, with_reply_at, operation, target, with_reply}
+use Rattle.nbd_state.specs.declared.asked.Exchange.{Exchange}
+use Rattle.nbd_state.specs.declared.state.Export.{Export}
+use Rattle.nbd_state.specs.declared.state.Phase.TheVariants as shown
+use Rattle.nbd_state.specs.declared.state.State.{State}
+use Rattle.nbd_state.specs.internal.Completing.{AddsUnanswered}
+use Rattle.nbd_state.specs.Showing.{is_none_yet, IsShown, exporting}
+use Rattle.nbd_laws.specs.Reached.{IsReached}
+use Rattle.nbd_state.specs.Shows.{AreShown, Shows, export_shown, phase_shown, place_of}
+use Rattle.nbd_state.proofs.PlacedLemmas.{IsPlaced, are_shown_in, placed, shown_length}
+use Rattle.nbd_laws.proofs.requests.SoundnessLemmas.{open_target}
+use Rattle.nbd_state.proofs.TargetLemmas.{distinct_reached, target_replied, target_requested}
+
+shown_snoc : (export : Exporting) (es : List Operation) (xs : List Exchange) (e : Operation) (x : Exchange) → AreShown (Some export) es xs → IsShown export e x → AreShown (Some export) (es ++ e ∷ []) (xs ++ x ∷ [])
+shown_snoc export [] [] e x s h = (h, tt)
+shown_snoc export [] (y ∷ xs) e x s h = absurd s
+shown_snoc export (d ∷ es) [] e x s h = absurd s
+shown_snoc export (d ∷ es) (y ∷ xs) e x s h = (s.0, shown_snoc export es xs e x s.1 h)
+
+shown_answered : (export : Exporting) (k : ℕ) (m : Message) (es : List Operation) (xs : List Exchange) (e : Operation) (y : Exchange) → AreShown (Some export) es xs → operation (suc k) es ≡ Some e → IsShown export (with_reply e m) y →
+    AreShown (Some export) (with_reply_at (suc k) m es) (slice_set xs k y)
+shown_answered export k m [] xs e y s i h = absurd (cc)
+shown_answered export k m (d ∷ es) [] e y s i h = absurd s
+shown_answered export zero m (d ∷ es) (x ∷ xs) e y s i h = (let q : e ≡ d = cc in (subst (λ z. IsShown export (with_reply z m) y) q h, s.1))
+shown_answered export (suc k) m (d ∷ es) (x ∷ xs) e y s i h = (s.0, shown_answered export k m es xs e y s.1 i h)
+
+-- before transmission there are none
+none_shown : (o p : Option Exporting) (es : List Operation) (xs : List Exchange) → o ≡ None → AreShown o es xs → AreShown p es xs
+none_shown o p [] [] n s = tt
+none_shown o p [] (x ∷ xs) n s = absurd (let h : length {A = Operation} [] ≡ length (x ∷ xs) = shown_length o [] (x ∷ xs) s in omega arith)
+none_shown o p (e ∷ es) [] n s = absurd (let h : length (e ∷ es) ≡ length {A = Exchange} [] = shown_length o (e ∷ es) [] s in omega arith)
+none_shown (Some export) p (e ∷ es) (x ∷ xs) n s = absurd (cc)
+none_shown None p (e ∷ es) (x ∷ xs) n s = absurd s
+
+place_if : (b : Bool) (t : Option ℕ) → (if b then None else place_of t) ≡ place_of (if b then None else t)
+place_if true t = refl
+place_if false t = refl
+
+place_if_last : (b : Bool) (n j : ℕ) (t : Option ℕ) → n ≡ j → (if b then Some n else place_of t) ≡ place_of (if b then Some (suc j) else t)
+place_if_last true n j t e = ap Some (omega (arith, e))
+place_if_last false n j t e = refl
+
+-- a message of the negotiation changes the phase and what it says of the handshake
+pub negotiated : (old new : State) (core next : Core) → Shows old core → export_in core.phase ≡ None → next.entries ≡ core.entries → new.exchanges ≡ old.exchanges → new.outstanding ≡ old.outstanding →
+    new.phase ≡ phase_shown next.phase → new.offered ≡ next.offered → new.client_flags ≡ next.client_flags → new.structured ≡ next.structured → new.disconnected ≡ next.disconnected → Shows new next
+negotiated old new core next s n entries exchanges outstanding phase offered client_flags structured disconnected = record {
+  phase_is = phase;
+  offered_is = offered;
+  client_flags_are = client_flags;
+  structured_is = structured;
+  disconnected_is = disconnected;
+  are_shown = subst (λ es. AreShown (export_in next.phase) es new.exchanges.items) (sym entries)
+      (subst (λ v. AreShown (export_in next.phase) core.entries v.items) (sym exchanges) (none_shown (export_in core.phase) (export_in next.phase) core.entries old.exchanges.items n s.are_shown));
+  places = λ cookie. ap (λ o. get nat_cmp o cookie) outstanding ∙ s.places cookie ∙ ap (λ es. place_of (target cookie es)) (sym entries);
+}
+
+-- one more request
+pub requested_shows : (old new : State) (core : Core) (export : Exporting) (e : Operation) (x : Exchange) → Shows old core → core.phase ≡ Transmission export → e.replies ≡ [] → target e.cookie core.entries ≡ None → IsShown export e x →
+    new.exchanges.items ≡ old.exchanges.items ++ x ∷ [] → ((q : ℕ) → get nat_cmp new.outstanding q ≡ (if e.cookie == q then Some (length old.exchanges.items) else get nat_cmp old.outstanding q)) →
+    new ≡ record old { exchanges = new.exchanges; outstanding = new.outstanding } → Shows new (record core { entries = core.entries ++ e ∷ [] })
+requested_shows old new core export e x s p r t h items places kept = record {
+  phase_is = ap (λ (z : State). z.phase) kept ∙ s.phase_is;
+  offered_is = ap (λ (z : State). z.offered) kept ∙ s.offered_is;
+  client_flags_are = ap (λ (z : State). z.client_flags) kept ∙ s.client_flags_are;
+  structured_is = ap (λ (z : State). z.structured) kept ∙ s.structured_is;
+  disconnected_is = ap (λ (z : State). z.disconnected) kept ∙ s.disconnected_is;
+  are_shown = subst (λ (q : definitions.Phase). AreShown (export_in q) (core.entries ++ e ∷ []) new.exchanges.items) (sym p)
+      (subst (λ xs. AreShown (Some export) (core.entries ++ e ∷ []) xs) (sym items) (shown_snoc export core.entries old.exchanges.items e x (are_shown_in old core export s p) h));
+  places = λ q. places q ∙ ap (λ o. if e.cookie == q then Some (length old.exchanges.items) else o) (s.places q)
+      ∙ place_if_last (e.cookie == q) (length old.exchanges.items) (length core.entries) (target q core.entries) (sym (shown_length (export_in core.phase) core.entries old.exchanges.items s.are_shown))
+      ∙ ap place_of (sym (target_requested q core.entries e r t));
+}
+
+-- one more reply to the request with this cookie
+pub replied_shows : (old mid new : State) (core : Core) (export : Exporting) (cookie place : ℕ) (m : Message) (x y : Exchange) → IsReached core → Shows old core → core.phase ≡ Transmission export → cookie_of m ≡ Some cookie →
+    get nat_cmp old.outstanding cookie ≡ Some place → slice_get old.exchanges.items place ≡ Some x → ((e : Operation) → IsShown export e x → is_finished e ≡ false → IsShown export (with_reply e m) y) →
+    mid ≡ record old { outstanding = mid.outstanding } → ((q : ℕ) → get nat_cmp mid.outstanding q ≡ (if ends_reply m && (cookie == q) then None else get nat_cmp old.outstanding q)) →
+    new ≡ record mid { exchanges = new.exchanges } → new.exchanges.items ≡ slice_set old.exchanges.items place y → Shows new (core_with_reply core m)
+replied_shows old mid new core export cookie place m x y r s p c g i step kept left made items = subst (λ t. Shows new (reply_to t core m)) (sym named) shows
+  where
+    a : IsPlaced core export cookie place old.exchanges.items
+    a = placed old core export cookie place s p g
+
+    named : target_of (cookie_of m) core.entries ≡ Some (suc place)
+    named = ap (λ o. target_of o core.entries) c ∙ a.found
+
+    same : a.x ≡ x
+    same = let q : Some a.x ≡ Some x = sym a.stands ∙ i in cc
+
+    shown : IsShown export (with_reply a.e m) y
+    shown = step a.e (subst (λ z. IsShown export a.e z) same a.shown) (open_target core cookie (suc place) a.e a.found a.numbered)
+
+    shows : Shows new (record core { entries = with_reply_at (suc place) m core.entries })
+    shows = record {
+      phase_is = ap (λ (z : State). z.phase) made ∙ ap (λ (z : State). z.phase) kept ∙ s.phase_is;
+      offered_is = ap (λ (z : State). z.offered) made ∙ ap (λ (z : State). z.offered) kept ∙ s.offered_is;
+      client_flags_are = ap (λ (z : State). z.client_flags) made ∙ ap (λ (z : State). z.client_flags) kept ∙ s.client_flags_are;
+      structured_is = ap (λ (z : State). z.structured) made ∙ ap (λ (z : State). z.structured) kept ∙ s.structured_is;
+      disconnected_is = ap (λ (z : State). z.disconnected) made ∙ ap (λ (z : State). z.disconnected) kept ∙ s.disconnected_is;
+      are_shown = subst (λ (q : definitions.Phase). AreShown (export_in q) (with_reply_at (suc place) m core.entries) new.exchanges.items) (sym p)
+          (subst (λ xs. AreShown (Some export) (with_reply_at (suc place) m core.entries) xs) (sym items)
+          (shown_answered export place m core.entries old.exchanges.items a.e y (are_shown_in old core export s p) a.numbered shown));
+      places = λ q. ap (λ (z : State). get nat_cmp z.outstanding q) made ∙ left q ∙ ap (λ o. if ends_reply m && (cookie == q) then None else o) (s.places q)
+          ∙ place_if (ends_reply m && (cookie == q)) (target q core.entries)
+          ∙ ap place_of (sym (target_replied q cookie (suc place) m core.entries (distinct_reached r) a.found));
+    }
+
+-- no outstanding request has a place that no exchange has
+pub not_placed : (old : State) (core : Core) (export : Exporting) (cookie place : ℕ) → Shows old core → core.phase ≡ Transmission export → get nat_cmp old.outstanding cookie ≡ Some place → length old.exchanges.items ≤ place → ⊥
+not_placed old core export cookie place s p g l =
+    let a = placed old core export cookie place s p g in
+    let w : Some a.x ≡ None = sym a.stands ∙ slice_get_past old.exchanges.items place l in cc
+
+-- what `get_mut` lends stands in the list
+pub lent_at : (xs : List Exchange) (i : ℕ) (r : MutBor Exchange) → IsItemAtMut xs i (Some r) → slice_get xs i ≡ Some r.now
+lent_at xs i r h = slice_get_read xs (length xs) i r.now refl h.3.0 h.1
+
+-- what follows where two and three facts hold of an Ok
+pub on_two : {A E : Type 0} {P Q : A → Type 0} {C : Type 0} (r : Result A E) → ((x : A) → P x → Q x → C) → IfOk r P → IfOk r Q → OnOk r C
+on_two (Ok x) f p q = f x p q
+on_two (Err y) f p q = tt
+
+pub on_one : {A E : Type 0} {P : A → Type 0} {C : Type 0} (r : Result A E) → ((x : A) → P x → C) → IfOk r P → OnOk r C
+on_one (Ok x) f p = f x p
+on_one (Err y) f p = tt
+
+pub on_all : {A E : Type 0} {P Q R : Type 0} {C : Type 0} (r : Result A E) → (P → Q → R → C) → OnOk r P → OnOk r Q → OnOk r R → OnOk r C
+on_all (Ok x) f p q s = f p q s
+on_all (Err y) f p q s = tt
+
+pub on : {A E : Type 0} {P C : Type 0} (r : Result A E) → (P → C) → OnOk r P → OnOk r C
+on (Ok x) f p = f p
+on (Err y) f p = tt
+
+-- the export that the state has is the one that it shows
+pub exporting_is : (state : State) (core : Core) (export : Exporting) (x : Export) → Shows state core → core.phase ≡ Transmission export → state.phase ≡ shown.Transmission x → exporting x ≡ export
+exporting_is state core export x s p q =
+    let w : shown.Transmission x ≡ shown.Transmission (export_shown export) = sym q ∙ s.phase_is ∙ ap phase_shown p in
+    let v : x ≡ export_shown export = cc in
+    ap exporting v
+
+-- what is known of a request with no reply
+none_known : (o : Option ℕ) → is_some o ≡ false → o ≡ None
+none_known (Some n) e = absurd (cc)
+none_known None e = refl
+
+at_end : (xs : List Exchange) (x y : Exchange) (place : ℕ) → slice_get (xs ++ x ∷ []) place ≡ Some y → (slice_get xs place ≡ Some y) ⊎ (length xs ≤ place) × (y ≡ x)
+at_end [] x y zero q = inr (omega arith, (cc))
+at_end [] x y (suc place) q = absurd (cc)
+at_end (z ∷ xs) x y zero q = inl q
+at_end (z ∷ xs) x y (suc place) q = elim (at_end xs x y place q) [ inl a ↦ inl a | inr b ↦ inr (let l : length xs ≤ place = b.0 in (omega (arith, l), b.1)) ]
+
+pub added_unanswered : (export : Exporting) (e : Operation) (x : Exchange) (old new : List Exchange) → e.replies ≡ [] → IsShown export e x → new ≡ old ++ x ∷ [] → AddsUnanswered old new
+added_unanswered export e x old new r s is place y q =
+    elim (at_end old x y place (subst (λ xs. slice_get xs place ≡ Some y) is q)) [
+      | inl a ↦ inl a
+      | inr b ↦ inr (b.0, ap (λ (z : Exchange). z.asked.known_at) b.1 ∙ none_known x.asked.known_at (s.replied ∙ ap (λ ms. not (is_none_yet ms)) r))
+    ]

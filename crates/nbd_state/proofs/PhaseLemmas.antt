@@ -1,0 +1,222 @@
+-- What a state shows once a message of the negotiation has completed.
+use Rattle.std.proofs.Common.{◌≡◌, ℕ, ◌||◌, ◌==◌, List, refl, sym, ◌∙◌, ap, subst, Option, Some, None, Bool}
+use Rattle.nbd_wire.specs.declared.commands.TheConstants as commands
+use Rattle.nbd_wire.specs.declared.message.Message.{Message}
+use Rattle.nbd_wire.specs.declared.message.Message.TheVariants.{Greeting, ClientFlags, Choice, Answer, Exported, Request, Simple, Chunk}
+use Rattle.nbd_wire.specs.protocol.Options.{reply_phase, choice_phase, is_proper_option, next_phase}
+use Rattle.nbd_wire.specs.protocol.Reports.{export_in}
+use Rattle.nbd_wire.specs.protocol.Operations.{Exporting}
+use Rattle.nbd_wire.specs.protocol.Rules.{MayAsk, MayComplete, complete, grants_structured}
+use Rattle.nbd_wire.specs.protocol.States.{Core, Phase, Greet, Flags, Choosing, Naming, Aborting, Answering, Ended, Transmission}
+use Rattle.nbd_state.specs.declared.state.Chosen.{Chosen}
+use Rattle.nbd_state.specs.declared.state.Phase as states
+use Rattle.nbd_state.specs.declared.state.Phase.TheVariants as shown
+use Rattle.nbd_state.specs.declared.state.State.{State}
+use Rattle.nbd_state.specs.Shows.{Shows, export_shown_if, phase_shown}
+use Rattle.nbd_state.proofs.CompletionLemmas.{negotiated}
+
+-- after an answer
+pub behind_abort : (p : Phase) (option kind : ℕ) (payload : List ℕ) → shown.Aborting ≡ phase_shown p → shown.Ended ≡ phase_shown (next_phase p (Answer option kind payload))
+unfolding next_phase
+behind_abort Greet option kind payload e = absurd (cc)
+behind_abort Flags option kind payload e = absurd (cc)
+behind_abort Choosing option kind payload e = absurd (cc)
+behind_abort Naming option kind payload e = absurd (cc)
+behind_abort Aborting option kind payload e = refl
+behind_abort (Answering asked given info) option kind payload e = absurd (cc)
+behind_abort Ended option kind payload e = absurd (cc)
+behind_abort (Transmission export) option kind payload e = absurd (cc)
+
+pub behind_option : (c : Chosen) (p : Phase) (option kind : ℕ) (payload : List ℕ) (r : states.Phase) → shown.Answering c ≡ phase_shown p →
+    ((given : List ℕ) (info : Option Exporting) → c.proper ≡ is_proper_option c.option given → c.info ≡ export_shown_if info → r ≡ phase_shown (reply_phase c.option given info kind payload)) →
+    r ≡ phase_shown (next_phase p (Answer option kind payload))
+unfolding next_phase
+behind_option c Greet option kind payload r e f = absurd (cc)
+behind_option c Flags option kind payload r e f = absurd (cc)
+behind_option c Choosing option kind payload r e f = absurd (cc)
+behind_option c Naming option kind payload r e f = absurd (cc)
+behind_option c Aborting option kind payload r e f = absurd (cc)
+behind_option c (Answering asked given info) option kind payload r e f =
+    let s : c ≡ record { option = asked; proper = is_proper_option asked given; info = export_shown_if info } = cc in
+    f given info (ap (λ (x : Chosen). x.proper) s ∙ ap (λ o. is_proper_option o given) (sym (ap (λ (x : Chosen). x.option) s))) (ap (λ (x : Chosen). x.info) s)
+    ∙ ap (λ o. phase_shown (reply_phase o given info kind payload)) (ap (λ (x : Chosen). x.option) s)
+behind_option c Ended option kind payload r e f = absurd (cc)
+behind_option c (Transmission export) option kind payload r e f = absurd (cc)
+
+pub behind_none : (x : states.Phase) (p : Phase) (option kind : ℕ) (payload : List ℕ) → (x ≡ shown.Aborting → ⊥) → ((c : Chosen) → x ≡ shown.Answering c → ⊥) → x ≡ phase_shown p → x ≡ phase_shown (next_phase p (Answer option kind payload))
+unfolding next_phase
+behind_none x Greet option kind payload na nb e = e
+behind_none x Flags option kind payload na nb e = e
+behind_none x Choosing option kind payload na nb e = e
+behind_none x Naming option kind payload na nb e = e
+behind_none x Aborting option kind payload na nb e = absurd (na e)
+behind_none x (Answering asked given info) option kind payload na nb e = absurd (nb _ e)
+behind_none x Ended option kind payload na nb e = e
+behind_none x (Transmission export) option kind payload na nb e = e
+
+-- where a message may complete
+greets : (core : Core) (p : Phase) (flags : ℕ) → MayComplete core p (Greeting flags) → (export_in p ≡ None) × (shown.Flags ≡ phase_shown (next_phase p (Greeting flags)))
+unfolding MayComplete next_phase
+greets core Greet flags ok = (refl, refl)
+greets core Flags flags ok = absurd ok
+greets core Choosing flags ok = absurd ok
+greets core Naming flags ok = absurd ok
+greets core Aborting flags ok = absurd ok
+greets core (Answering asked given info) flags ok = absurd ok
+greets core Ended flags ok = absurd ok
+greets core (Transmission export) flags ok = absurd ok
+
+flags_in : (core : Core) (p : Phase) (flags : ℕ) → MayComplete core p (ClientFlags flags) → (export_in p ≡ None) × (shown.Choosing ≡ phase_shown (next_phase p (ClientFlags flags)))
+unfolding MayComplete next_phase
+flags_in core Greet flags ok = absurd ok
+flags_in core Flags flags ok = (refl, refl)
+flags_in core Choosing flags ok = absurd ok
+flags_in core Naming flags ok = absurd ok
+flags_in core Aborting flags ok = absurd ok
+flags_in core (Answering asked given info) flags ok = absurd ok
+flags_in core Ended flags ok = absurd ok
+flags_in core (Transmission export) flags ok = absurd ok
+
+chooses : (core : Core) (p : Phase) (id : ℕ) (payload : List ℕ) → MayComplete core p (Choice id payload) → (export_in p ≡ None) × (phase_shown (choice_phase id payload) ≡ phase_shown (next_phase p (Choice id payload)))
+unfolding MayComplete next_phase
+chooses core Greet id payload ok = absurd ok
+chooses core Flags id payload ok = absurd ok
+chooses core Choosing id payload ok = (refl, refl)
+chooses core Naming id payload ok = absurd ok
+chooses core Aborting id payload ok = absurd ok
+chooses core (Answering asked given info) id payload ok = absurd ok
+chooses core Ended id payload ok = absurd ok
+chooses core (Transmission export) id payload ok = absurd ok
+
+answers : (core : Core) (p : Phase) (option kind : ℕ) (payload : List ℕ) → MayComplete core p (Answer option kind payload) → export_in p ≡ None
+unfolding MayComplete
+answers core Greet option kind payload ok = absurd ok
+answers core Flags option kind payload ok = absurd ok
+answers core Choosing option kind payload ok = absurd ok
+answers core Naming option kind payload ok = absurd ok
+answers core Aborting option kind payload ok = refl
+answers core (Answering asked given info) option kind payload ok = refl
+answers core Ended option kind payload ok = absurd ok
+answers core (Transmission export) option kind payload ok = absurd ok
+
+exports : (core : Core) (p : Phase) (size flags : ℕ) (padded : Bool) → MayComplete core p (Exported size flags padded) →
+    (export_in p ≡ None) × (shown.Transmission (record { size = size; flags = flags }) ≡ phase_shown (next_phase p (Exported size flags padded)))
+unfolding MayComplete next_phase
+exports core Greet size flags padded ok = absurd ok
+exports core Flags size flags padded ok = absurd ok
+exports core Choosing size flags padded ok = absurd ok
+exports core Naming size flags padded ok = (refl, refl)
+exports core Aborting size flags padded ok = absurd ok
+exports core (Answering asked given info) size flags padded ok = absurd ok
+exports core Ended size flags padded ok = absurd ok
+exports core (Transmission export) size flags padded ok = absurd ok
+
+pub asked_in : (core : Core) (p : Phase) (flags command cookie offset len : ℕ) (payload : List ℕ) → MayComplete core p (Request flags command cookie offset len payload) →
+    (export : Exporting) × (p ≡ Transmission export) × MayAsk (command == commands.DISC) core cookie offset len
+unfolding MayComplete
+asked_in core Greet flags command cookie offset len payload ok = absurd ok
+asked_in core Flags flags command cookie offset len payload ok = absurd ok
+asked_in core Choosing flags command cookie offset len payload ok = absurd ok
+asked_in core Naming flags command cookie offset len payload ok = absurd ok
+asked_in core Aborting flags command cookie offset len payload ok = absurd ok
+asked_in core (Answering asked given info) flags command cookie offset len payload ok = absurd ok
+asked_in core Ended flags command cookie offset len payload ok = absurd ok
+asked_in core (Transmission export) flags command cookie offset len payload ok = (export, refl, ok)
+
+pub simple_in : (core : Core) (p : Phase) (error cookie : ℕ) (payload : List ℕ) → MayComplete core p (Simple error cookie payload) → (export : Exporting) × (p ≡ Transmission export)
+unfolding MayComplete
+simple_in core Greet error cookie payload ok = absurd ok
+simple_in core Flags error cookie payload ok = absurd ok
+simple_in core Choosing error cookie payload ok = absurd ok
+simple_in core Naming error cookie payload ok = absurd ok
+simple_in core Aborting error cookie payload ok = absurd ok
+simple_in core (Answering asked given info) error cookie payload ok = absurd ok
+simple_in core Ended error cookie payload ok = absurd ok
+simple_in core (Transmission export) error cookie payload ok = (export, refl)
+
+pub chunk_in : (core : Core) (p : Phase) (flags kind cookie : ℕ) (payload : List ℕ) → MayComplete core p (Chunk flags kind cookie payload) → (export : Exporting) × (p ≡ Transmission export)
+unfolding MayComplete
+chunk_in core Greet flags kind cookie payload ok = absurd ok
+chunk_in core Flags flags kind cookie payload ok = absurd ok
+chunk_in core Choosing flags kind cookie payload ok = absurd ok
+chunk_in core Naming flags kind cookie payload ok = absurd ok
+chunk_in core Aborting flags kind cookie payload ok = absurd ok
+chunk_in core (Answering asked given info) flags kind cookie payload ok = absurd ok
+chunk_in core Ended flags kind cookie payload ok = absurd ok
+chunk_in core (Transmission export) flags kind cookie payload ok = (export, refl)
+
+module _ (old new : State) (core : Core) (s : Shows old core) where
+  pub shows_greeted : (flags : ℕ) → MayComplete core core.phase (Greeting flags) → new ≡ record old { phase = shown.Flags; offered = flags } → Shows new (complete core (Greeting flags))
+  unfolding complete
+  shows_greeted flags ok made =
+      let r = greets core core.phase flags ok in
+      negotiated old new core (complete core (Greeting flags)) s r.0 refl (ap (λ (z : State). z.exchanges) made) (ap (λ (z : State). z.outstanding) made)
+      (ap (λ (z : State). z.phase) made ∙ r.1) (ap (λ (z : State). z.offered) made) (ap (λ (z : State). z.client_flags) made ∙ s.client_flags_are)
+      (ap (λ (z : State). z.structured) made ∙ s.structured_is) (ap (λ (z : State). z.disconnected) made ∙ s.disconnected_is)
+
+  pub shows_flags : (flags : ℕ) → MayComplete core core.phase (ClientFlags flags) → new ≡ record old { phase = shown.Choosing; client_flags = flags } → Shows new (complete core (ClientFlags flags))
+  unfolding complete
+  shows_flags flags ok made =
+      let r = flags_in core core.phase flags ok in
+      negotiated old new core (complete core (ClientFlags flags)) s r.0 refl (ap (λ (z : State). z.exchanges) made) (ap (λ (z : State). z.outstanding) made)
+      (ap (λ (z : State). z.phase) made ∙ r.1) (ap (λ (z : State). z.offered) made ∙ s.offered_is) (ap (λ (z : State). z.client_flags) made)
+      (ap (λ (z : State). z.structured) made ∙ s.structured_is) (ap (λ (z : State). z.disconnected) made ∙ s.disconnected_is)
+
+  pub shows_chosen : (id : ℕ) (payload : List ℕ) (phase : states.Phase) → MayComplete core core.phase (Choice id payload) → phase ≡ phase_shown (choice_phase id payload) → new ≡ record old { phase = phase } → Shows new (complete core (Choice id payload))
+  unfolding complete
+  shows_chosen id payload phase ok is made =
+      let r = chooses core core.phase id payload ok in
+      negotiated old new core (complete core (Choice id payload)) s r.0 refl (ap (λ (z : State). z.exchanges) made) (ap (λ (z : State). z.outstanding) made)
+      (ap (λ (z : State). z.phase) made ∙ is ∙ r.1) (ap (λ (z : State). z.offered) made ∙ s.offered_is) (ap (λ (z : State). z.client_flags) made ∙ s.client_flags_are)
+      (ap (λ (z : State). z.structured) made ∙ s.structured_is) (ap (λ (z : State). z.disconnected) made ∙ s.disconnected_is)
+
+  pub shows_answered : (option kind : ℕ) (payload : List ℕ) (phase : states.Phase) (grants : Bool) → MayComplete core core.phase (Answer option kind payload) →
+      phase ≡ phase_shown (next_phase core.phase (Answer option kind payload)) → grants ≡ grants_structured option kind → new ≡ record old { phase = phase; structured = old.structured || grants } → Shows new (complete core (Answer option kind payload))
+  unfolding complete
+  shows_answered option kind payload phase grants ok is granted made =
+      negotiated old new core (complete core (Answer option kind payload)) s (answers core core.phase option kind payload ok) refl (ap (λ (z : State). z.exchanges) made) (ap (λ (z : State). z.outstanding) made)
+      (ap (λ (z : State). z.phase) made ∙ is) (ap (λ (z : State). z.offered) made ∙ s.offered_is) (ap (λ (z : State). z.client_flags) made ∙ s.client_flags_are)
+      (ap (λ (z : State). z.structured) made ∙ ap (λ b. b || grants) s.structured_is ∙ ap (λ b. core.structured || b) granted) (ap (λ (z : State). z.disconnected) made ∙ s.disconnected_is)
+
+  pub shows_exported : (size flags : ℕ) (padded : Bool) (phase : states.Phase) → MayComplete core core.phase (Exported size flags padded) → phase ≡ shown.Transmission (record { size = size; flags = flags }) → new ≡ record old { phase = phase } → Shows new (complete core (Exported size flags padded))
+  unfolding complete
+  shows_exported size flags padded phase ok is made =
+      let r = exports core core.phase size flags padded ok in
+      negotiated old new core (complete core (Exported size flags padded)) s r.0 refl (ap (λ (z : State). z.exchanges) made) (ap (λ (z : State). z.outstanding) made)
+      (ap (λ (z : State). z.phase) made ∙ is ∙ r.1) (ap (λ (z : State). z.offered) made ∙ s.offered_is) (ap (λ (z : State). z.client_flags) made ∙ s.client_flags_are)
+      (ap (λ (z : State). z.structured) made ∙ s.structured_is) (ap (λ (z : State). z.disconnected) made ∙ s.disconnected_is)
+
+-- what is said of the message that was matched
+pub shows_same : {new : State} (core : Core) (m n : Message) → m ≡ n → Shows new (complete core n) → Shows new (complete core m)
+shows_same {new} core m n e s = subst (λ x. Shows new (complete core x)) (sym e) s
+
+-- a message of no other kind completes in transmission
+pub transmits : (core : Core) (p : Phase) (m : Message) → MayComplete core p m → ((flags : ℕ) → m ≡ Greeting flags → ⊥) → ((flags : ℕ) → m ≡ ClientFlags flags → ⊥) → ((id : ℕ) (payload : List ℕ) → m ≡ Choice id payload → ⊥) →
+    ((option kind : ℕ) (payload : List ℕ) → m ≡ Answer option kind payload → ⊥) → ((size flags : ℕ) (padded : Bool) → m ≡ Exported size flags padded → ⊥) → (export : Exporting) × (p ≡ Transmission export)
+transmits core p (Greeting flags) ok g f c a e = absurd (g flags refl)
+transmits core p (ClientFlags flags) ok g f c a e = absurd (f flags refl)
+transmits core p (Choice id payload) ok g f c a e = absurd (c id payload refl)
+transmits core p (Answer option kind payload) ok g f c a e = absurd (a option kind payload refl)
+transmits core p (Exported size flags padded) ok g f c a e = absurd (e size flags padded refl)
+transmits core p (Request flags command cookie offset len payload) ok g f c a e = (let r = asked_in core p flags command cookie offset len payload ok in (r.0, r.1))
+transmits core p (Simple error cookie payload) ok g f c a e = simple_in core p error cookie payload ok
+transmits core p (Chunk flags kind cookie payload) ok g f c a e = chunk_in core p flags kind cookie payload ok
+
+-- in transmission none of another kind does
+pub no_other : (core : Core) (p : Phase) (export : Exporting) (m : Message) → p ≡ Transmission export → MayComplete core p m → ((flags command cookie offset len : ℕ) (payload : List ℕ) → m ≡ Request flags command cookie offset len payload → ⊥) →
+    ((error cookie : ℕ) (payload : List ℕ) → m ≡ Simple error cookie payload → ⊥) → ((flags kind cookie : ℕ) (payload : List ℕ) → m ≡ Chunk flags kind cookie payload → ⊥) → ⊥
+no_other core p export m e ok r s c = go m ok r s c
+  where
+    none : export_in p ≡ None → ⊥
+    none h = let w : Some export ≡ None = sym (ap export_in e) ∙ h in cc
+
+    go : (m : Message) → MayComplete core p m → ((flags command cookie offset len : ℕ) (payload : List ℕ) → m ≡ Request flags command cookie offset len payload → ⊥) →
+        ((error cookie : ℕ) (payload : List ℕ) → m ≡ Simple error cookie payload → ⊥) → ((flags kind cookie : ℕ) (payload : List ℕ) → m ≡ Chunk flags kind cookie payload → ⊥) → ⊥
+    go (Greeting flags) ok r s c = none (greets core p flags ok).0
+    go (ClientFlags flags) ok r s c = none (flags_in core p flags ok).0
+    go (Choice id payload) ok r s c = none (chooses core p id payload ok).0
+    go (Answer option kind payload) ok r s c = none (answers core p option kind payload ok)
+    go (Exported size flags padded) ok r s c = none (exports core p size flags padded ok).0
+    go (Request flags command cookie offset len payload) ok r s c = r flags command cookie offset len payload refl
+    go (Simple error cookie payload) ok r s c = s error cookie payload refl
+    go (Chunk flags kind cookie payload) ok r s c = c flags kind cookie payload refl

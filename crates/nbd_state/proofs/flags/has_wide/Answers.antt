@@ -1,7 +1,0 @@
-use Rattle.std.proofs.Common.{refl}
-use Rattle.nbd_wire.specs.Requests.{has}
-use Rattle.nbd_state.proofs.flags.has_wide.Goals as goal
-
-pub returns : goal.returns
-unfolding has
-returns c = refl

@@ -1,0 +1,132 @@
+-- What is shown of a session that is over.
+use Rattle.std.proofs.Common.{◌≡◌, inl, inr, ℕ, List, [], ◌∷◌, ◌++◌, length, Bool, refl, sym, ◌∙◌, ap, subst, append-nil, Option, Some, None, IfSome, Result, Ok, Err, IfOk, IfErr, IsErrAnd, OnOk, Vec}
+use Rattle.std.specs.Io.KnownBytes.{Appends, Keeps}
+use Rattle.std.proofs.KnownBytes.{Appends-trans}
+use Rattle.std.specs.declared.alloc.Global.{Global}
+use Rattle.nbd_wire.specs.declared.message.Side.{Side}
+use Rattle.nbd_wire.specs.protocol.Captures.{Pair, flat}
+use Rattle.nbd_capture.specs.Capture.{IsCaptureText, chunks_of}
+use Rattle.nbd_capture.specs.Writing.{AppendsPrefix}
+use Rattle.nbd_capture.proofs.WriterLemmas.{prefix_then, then_prefix}
+use Rattle.nbd_wire.specs.declared.fault.WireFault.{WireFault}
+use Rattle.nbd_wire.specs.declared.fault.WireFault.TheVariants.{Unfinished}
+use Rattle.nbd_session.specs.declared.fault.SessionFault.{SessionFault}
+use Rattle.nbd_session.specs.declared.fault.SessionFault.TheVariants as session
+use Rattle.nbd_wire.specs.protocol.Within.{CompletesExactly}
+use Rattle.nbd_session.specs.Refusals.{HasNoPlace, IsComplete, IsCompleteBy, IsOpenEnd, IsWireFault}
+use Rattle.nbd_session.proofs.judge.RefusalLemmas.{no_run_of, open_end_of}
+use Rattle.nbd_session.specs.Sessions.{HasRun, IsOfRun, Recorded, end_by, fault_at_end, pairs_of, taken, unfinished}
+use Rattle.nbd_judge.specs.Captures.{chunks_told}
+use Rattle.nbd_lines.specs.Script.{message_lines}
+use Rattle.nbd_tool.specs.declared.fault.RunFault.{RunFault}
+use Rattle.nbd_tool.specs.declared.fault.RunFault.TheVariants as faults
+use Rattle.nbd_lines.specs.declared.output.OutputFault.{OutputFault}
+use Rattle.nbd_lines.specs.declared.output.OutputFault.TheVariants as output
+use Rattle.nbd_tool.specs.Faults.{of_output}
+use Rattle.nbd_tool.specs.Runs.{flat_of}
+use Rattle.nbd_tool.specs.internal.Ends.{IsOver, IsWireAt, LeavesLast, is_accepted, last_line}
+use Rattle.nbd_tool.specs.Shown.{IsOutput, Leads, LeavesShown, WritesAll, WritesSome, WritesMessages}
+use Rattle.nbd_tool.specs.Shown.IsOutput.{accepted, refused}
+use Rattle.nbd_tool.proofs.JudgedLemmas.{pairs_told}
+
+-- the messages of a session that is over are those of a prefix of the capture
+pub leads : (capture : List Pair) (r : Recorded) → IsOver capture r → IsOfRun r → Leads capture (pairs_of r) r.messages
+leads capture r over run = record { rest = over.left; client = r.client; server = r.server; parts = over.parts; run = run }
+
+-- what a session shows that ends in this way
+abbrev EndsAs : List Pair → Recorded → Option SessionFault → Type 0
+EndsAs capture r ended = IsOutput capture (is_accepted ended) (message_lines r.messages ++ last_line ended)
+
+refused_at : (capture : List Pair) (r : Recorded) (at : ℕ) (fault : WireFault) → IsOver capture r → IsOfRun r → at ≡ taken r → IsWireFault capture r.messages at fault → EndsAs capture r (Some (session.Wire at fault))
+refused_at capture r at fault over run e why =
+    subst (λ n. EndsAs capture r (Some (session.Wire n fault))) (sym e)
+    (refused (pairs_of r) r.messages fault (leads capture r over run) (subst (λ n. IsWireFault capture r.messages n fault) e why) (no_run_of capture r.messages at fault why))
+
+-- all was taken of an open session's capture
+took_all : (capture : List Pair) (r : Recorded) → IsOver capture r → r.closed ≡ None → pairs_of r ≡ capture
+took_all capture r over unclosed = sym (append-nil (pairs_of r)) ∙ ap (λ ps. pairs_of r ++ ps) (sym (over.all unclosed)) ∙ over.parts
+
+unfinished_at : (capture : List Pair) (r : Recorded) (client server : List ℕ) → IsOver capture r → IsOfRun r → r.closed ≡ None → HasRun (pairs_of r) r.messages client server →
+    CompletesExactly (pairs_of r) r.messages × HasNoPlace (pairs_of r) → ((client ≡ []) × (server ≡ []) → ⊥) → EndsAs capture r (Some (session.Wire (taken r) Unfinished))
+unfinished_at capture r client server over run unclosed has all some =
+    refused_at capture r (taken r) Unfinished over run refl
+    (inr (refl, ap length (took_all capture r over unclosed), subst (λ ps. IsOpenEnd ps r.messages) (took_all capture r over unclosed) (open_end_of (pairs_of r) r.messages client server has all.0 all.1 some)))
+
+open_end : (capture : List Pair) (r : Recorded) (client server : List ℕ) → IsOver capture r → IsOfRun r → r.closed ≡ None → HasRun (pairs_of r) r.messages client server → CompletesExactly (pairs_of r) r.messages × HasNoPlace (pairs_of r) →
+    EndsAs capture r (unfinished client server (taken r))
+open_end capture r [] [] over run unclosed has all = accepted r.messages (subst (λ ps. HasRun ps r.messages [] []) (took_all capture r over unclosed) has)
+open_end capture r (b ∷ client) server over run unclosed has all = unfinished_at capture r (b ∷ client) server over run unclosed has all (λ e. (let q : b ∷ client ≡ [] = e.0 in cc))
+open_end capture r [] (b ∷ server) over run unclosed has all = unfinished_at capture r [] (b ∷ server) over run unclosed has all (λ e. (let q : b ∷ server ≡ [] = e.1 in cc))
+
+pub shown : (capture : List Pair) (r : Recorded) → IsOver capture r → IsOfRun r → IsComplete r → EndsAs capture r (fault_at_end r)
+shown capture r over run complete = go r.closed refl over.at complete
+  where
+    go : (c : Option SessionFault) → r.closed ≡ c → IfSome c (IsWireAt (taken r)) → IsCompleteBy c r → EndsAs capture r (end_by c (unfinished r.client r.server (taken r)))
+    go None unclosed at all = open_end capture r r.client r.server over run unclosed run all
+    go (Some (session.Wire at fault)) closed is refusal =
+        refused_at capture r at fault over run is (inl (record { prefix = pairs_of r; rest = over.left; parts = over.parts; at_is = is; refusal = refusal }))
+    go (Some session.Memory) closed is refusal = absurd is
+
+then_kept : (old mid new : Option (List ℕ)) (bytes : List ℕ) → Appends old mid bytes → Keeps mid new → Appends old new bytes
+then_kept None mid new bytes a k = tt
+then_kept (Some xs) None new bytes a k = absurd a
+then_kept (Some xs) (Some ys) None bytes a k = absurd k
+then_kept (Some xs) (Some ys) (Some zs) bytes a k = k ∙ a
+
+module _ (known : Option (List ℕ)) (chunks : List (Side × Vec ℕ Global)) (r : Recorded) (text : IfSome known (λ text. IsCaptureText text (chunks_of chunks))) (over : IsOver (flat (chunks_told chunks)) r) (run : IsOfRun r) (complete : IsComplete r) where
+  told : EndsAs (flat_of (chunks_of chunks)) r (fault_at_end r)
+  told = shown (flat_of (chunks_of chunks)) r (subst (λ ps. IsOver ps r) (sym (pairs_told chunks)) over) run complete
+
+  prefix_shown : (old new : Option (List ℕ)) → AppendsPrefix old new (message_lines r.messages ++ last_line (fault_at_end r)) → WritesSome known old new
+  prefix_shown old new a = record {
+    chunks = chunks_of chunks;
+    is_text = text;
+    yes = is_accepted (fault_at_end r);
+    lines = message_lines r.messages ++ last_line (fault_at_end r);
+    is_shown = told;
+    appended = a;
+  }
+
+  messages_shown : (old new : Option (List ℕ)) → AppendsPrefix old new (message_lines r.messages) → WritesMessages known old new
+  messages_shown old new a = record {
+    chunks = chunks_of chunks;
+    is_text = text;
+    prefix = pairs_of r;
+    messages = r.messages;
+    leads = leads (flat_of (chunks_of chunks)) r (subst (λ ps. IsOver ps r) (sym (pairs_told chunks)) over) run;
+    appended = a;
+  }
+
+  -- the message lines were not all written
+  pub stopped : {A : Type 0} (old new : Option (List ℕ)) (fault : OutputFault) (o : Result A RunFault) → AppendsPrefix old new (message_lines r.messages) → IsErrAnd o (λ e. e ≡ of_output fault) → IfErr o (LeavesShown known old new)
+  stopped old new fault (Ok a) f e = tt
+  stopped old new output.Write (Err e) f same = subst (LeavesShown known old new) (sym same) (prefix_shown old new (prefix_then old new (message_lines r.messages) (last_line (fault_at_end r)) f))
+  stopped old new output.Memory (Err e) f same = subst (LeavesShown known old new) (sym same) (inr (messages_shown old new f))
+
+  -- all lines were written
+  pub all_shown : (old mid new : Option (List ℕ)) (ended : Option SessionFault) (o : Result Bool RunFault) → ended ≡ fault_at_end r → Appends old mid (message_lines r.messages) →
+      IfOk o (λ yes. yes ≡ is_accepted ended) → OnOk o (Appends mid new (last_line ended)) → IfOk o (λ yes. WritesAll known yes old new)
+  all_shown old mid new ended (Err e) same first answer last = tt
+  all_shown old mid new ended (Ok answered) same first answer last = record {
+    chunks = chunks_of chunks;
+    is_text = text;
+    lines = message_lines r.messages ++ last_line (fault_at_end r);
+    is_shown = subst (λ y. IsOutput (flat_of (chunks_of chunks)) y (message_lines r.messages ++ last_line (fault_at_end r))) (sym (answer ∙ ap is_accepted same)) told;
+    appended = Appends-trans old mid new (message_lines r.messages) (last_line (fault_at_end r)) first (subst (λ e. Appends mid new (last_line e)) same last);
+  }
+
+  -- the last line was not written, or not all of it
+  pub last_stopped : (old mid new : Option (List ℕ)) (ended : Option SessionFault) (o : Result Bool RunFault) → ended ≡ fault_at_end r → Appends old mid (message_lines r.messages) →
+      IfErr o (LeavesLast ended mid new) → IfErr o (LeavesShown known old new)
+  last_stopped old mid new ended (Ok answered) same first left = tt
+  last_stopped old mid new ended (Err faults.Write) same first left =
+      prefix_shown old new (then_prefix old mid new (message_lines r.messages) (last_line (fault_at_end r)) first (subst (λ e. AppendsPrefix mid new (last_line e)) same left))
+  last_stopped old mid new ended (Err faults.Memory) same first left =
+      inr (messages_shown old new (message_lines r.messages, [], sym (append-nil (message_lines r.messages)), then_kept old mid new (message_lines r.messages) first left))
+  last_stopped old mid new ended (Err (faults.CaptureLine n)) same first left = absurd left
+  last_stopped old mid new ended (Err faults.CaptureRead) same first left = absurd left
+  last_stopped old mid new ended (Err (faults.OrderLine n)) same first left = absurd left
+  last_stopped old mid new ended (Err faults.OrderRead) same first left = absurd left
+  last_stopped old mid new ended (Err faults.ImageRead) same first left = absurd left
+  last_stopped old mid new ended (Err (faults.ScriptLine n)) same first left = absurd left
+  last_stopped old mid new ended (Err faults.ScriptRead) same first left = absurd left

@@ -1,0 +1,41 @@
+-- How a session that is shown stands at its end, and the last line.
+use Rattle.std.specs.Prelude.{◌≡◌, ℕ, List, [], ◌++◌, Bool, true, false, Option, Some, None, IfSome, codes}
+use Rattle.std.specs.Io.KnownBytes.{Keeps}
+use Rattle.nbd_wire.specs.protocol.Captures.{Pair}
+use Rattle.nbd_capture.specs.Writing.{AppendsPrefix}
+use Rattle.nbd_session.specs.declared.fault.SessionFault.{SessionFault}
+use Rattle.nbd_session.specs.declared.fault.SessionFault.TheVariants as session
+use Rattle.nbd_session.specs.Sessions.{Recorded, pairs_of, taken}
+use Rattle.nbd_judge.specs.declared.verdict.Verdict.TheVariants.{Wire}
+use Rattle.nbd_tool.specs.declared.fault.RunFault.{RunFault}
+use Rattle.nbd_tool.specs.declared.fault.RunFault.TheVariants.{Write, Memory}
+use Rattle.nbd_tool.specs.Verdicts.{line}
+
+-- a fault of the wire at this byte
+abbrev pub IsWireAt : ℕ → SessionFault → Type 0
+IsWireAt n (session.Wire at fault) = at ≡ n
+IsWireAt n session.Memory = ⊥
+
+-- a session took all of a capture's bytes, or was closed by a wire fault at the last one that it took
+pub record IsOver (capture : List Pair) (r : Recorded) : Type 0 where
+  pub left : List Pair
+  pub parts : pairs_of r ++ left ≡ capture
+  pub all : r.closed ≡ None → left ≡ []
+  pub at : IfSome r.closed (IsWireAt (taken r))
+
+-- the session was accepted
+abbrev pub is_accepted : Option SessionFault → Bool
+is_accepted None = true
+is_accepted (Some fault) = false
+
+-- the line that states how a session ended
+abbrev pub last_line : Option SessionFault → List ℕ
+last_line None = codes "ok\n"
+last_line (Some (session.Wire at fault)) = line (Wire at fault)
+last_line (Some session.Memory) = []
+
+-- what stands of the last line after a fault
+abbrev pub LeavesLast : Option SessionFault → (old new : Option (List ℕ)) → RunFault → Type 0
+LeavesLast ended old new Write = AppendsPrefix old new (last_line ended)
+LeavesLast ended old new Memory = Keeps old new
+LeavesLast ended old new _ = ⊥

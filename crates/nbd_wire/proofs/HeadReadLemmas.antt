@@ -1,0 +1,87 @@
+-- What the readers of heads answer, from what they read at the places.
+use Rattle.std.proofs.Common.{◌≡◌, ℕ, List, Some, None, length}
+use Rattle.nbd_wire.specs.declared.magics.TheConstants.{GREETING_MAGIC, OPTION_MAGIC, ANSWER_MAGIC, REQUEST_MAGIC, SIMPLE_MAGIC, CHUNK_MAGIC}
+use Rattle.nbd_wire.specs.declared.heads.negotiation.ChoiceHead.{ChoiceHead}
+use Rattle.nbd_wire.specs.declared.heads.negotiation.AnswerHead.{AnswerHead}
+use Rattle.nbd_wire.specs.declared.heads.transmission.RequestHead.{RequestHead}
+use Rattle.nbd_wire.specs.declared.heads.transmission.SimpleHead.{SimpleHead}
+use Rattle.nbd_wire.specs.declared.heads.transmission.ChunkHead.{ChunkHead}
+use Rattle.nbd_wire.specs.protocol.Encoding.{AreBytes}
+use Rattle.nbd_wire.specs.codec.Heads.{IsGreetingHead, IsClientFlagsHead, IsChoiceHead, IsAnswerHead, IsExportHead, IsRequestHead, IsSimpleHead, IsChunkHead}
+use Rattle.nbd_wire.specs.protocol.Payloads.{number_at}
+use Rattle.nbd_wire.proofs.HeadLemmas.{greeting-found, greeting-only, client_flags-found, client_flags-only, choice-found, choice-only, answer-found, answer-only, export-found, export-only, request-found, request-only, simple-found, simple-only, chunk-found, chunk-only}
+use Rattle.nbd_wire.specs.codec.Reads.{Reads}
+use Rattle.nbd_wire.proofs.ReadLemmas.{Reads-found, Reads-none}
+
+-- a greeting
+pub greeting-reads : (flags : ℕ) (bytes : List ℕ) → AreBytes bytes → length bytes ≡ 18 → number_at 0 8 bytes ≡ GREETING_MAGIC → number_at 8 8 bytes ≡ OPTION_MAGIC → flags ≡ number_at 16 2 bytes → Reads (Some flags) (λ flags. IsGreetingHead flags bytes)
+greeting-reads flags bytes b l m0 m1 e0 =
+    let value : ℕ = number_at 16 2 bytes in
+    Reads-found (λ flags. IsGreetingHead flags bytes) flags value (cc) (greeting-found bytes b l m0 m1) (λ other f. let o = greeting-only other bytes f in cc)
+
+pub greeting-none : (bytes : List ℕ) → (length bytes ≡ 18 → number_at 0 8 bytes ≡ GREETING_MAGIC → number_at 8 8 bytes ≡ OPTION_MAGIC → ⊥) → Reads None (λ flags. IsGreetingHead flags bytes)
+greeting-none bytes h = Reads-none (λ flags. IsGreetingHead flags bytes) (λ other f. let o = greeting-only other bytes f in h o.0 o.1 o.2)
+
+-- the client's flags
+pub client_flags-reads : (flags : ℕ) (bytes : List ℕ) → AreBytes bytes → length bytes ≡ 4 → flags ≡ number_at 0 4 bytes → Reads (Some flags) (λ flags. IsClientFlagsHead flags bytes)
+client_flags-reads flags bytes b l e0 =
+    let value : ℕ = number_at 0 4 bytes in
+    Reads-found (λ flags. IsClientFlagsHead flags bytes) flags value (cc) (client_flags-found bytes b l) (λ other f. let o = client_flags-only other bytes f in cc)
+
+pub client_flags-none : (bytes : List ℕ) → (length bytes ≡ 4 → ⊥) → Reads None (λ flags. IsClientFlagsHead flags bytes)
+client_flags-none bytes h = Reads-none (λ flags. IsClientFlagsHead flags bytes) (λ other f. let o = client_flags-only other bytes f in h o.0)
+
+-- an option's head
+pub choice-reads : (id len : ℕ) (bytes : List ℕ) → AreBytes bytes → length bytes ≡ 16 → number_at 0 8 bytes ≡ OPTION_MAGIC → id ≡ number_at 8 4 bytes → len ≡ number_at 12 4 bytes → Reads (Some (record { id = id; length = len })) (λ head. IsChoiceHead head bytes)
+choice-reads id len bytes b l m0 e0 e1 =
+    let value : ChoiceHead = record { id = number_at 8 4 bytes; length = number_at 12 4 bytes } in
+    Reads-found (λ head. IsChoiceHead head bytes) (record { id = id; length = len }) value (cc) (choice-found bytes b l m0) (λ other f. let o = choice-only other bytes f in let same : value ≡ record { id = other.id; length = other.length } = cc in same)
+
+pub choice-none : (bytes : List ℕ) → (length bytes ≡ 16 → number_at 0 8 bytes ≡ OPTION_MAGIC → ⊥) → Reads None (λ head. IsChoiceHead head bytes)
+choice-none bytes h = Reads-none (λ head. IsChoiceHead head bytes) (λ other f. let o = choice-only other bytes f in h o.0 o.1)
+
+-- an answer's head
+pub answer-reads : (option kind len : ℕ) (bytes : List ℕ) → AreBytes bytes → length bytes ≡ 20 → number_at 0 8 bytes ≡ ANSWER_MAGIC → option ≡ number_at 8 4 bytes → kind ≡ number_at 12 4 bytes → len ≡ number_at 16 4 bytes → Reads (Some (record { option = option; kind = kind; length = len })) (λ head. IsAnswerHead head bytes)
+answer-reads option kind len bytes b l m0 e0 e1 e2 =
+    let value : AnswerHead = record { option = number_at 8 4 bytes; kind = number_at 12 4 bytes; length = number_at 16 4 bytes } in
+    Reads-found (λ head. IsAnswerHead head bytes) (record { option = option; kind = kind; length = len }) value (cc) (answer-found bytes b l m0) (λ other f. let o = answer-only other bytes f in let same : value ≡ record { option = other.option; kind = other.kind; length = other.length } = cc in same)
+
+pub answer-none : (bytes : List ℕ) → (length bytes ≡ 20 → number_at 0 8 bytes ≡ ANSWER_MAGIC → ⊥) → Reads None (λ head. IsAnswerHead head bytes)
+answer-none bytes h = Reads-none (λ head. IsAnswerHead head bytes) (λ other f. let o = answer-only other bytes f in h o.0 o.1)
+
+-- a request's head
+pub request-reads : (flags command cookie offset len : ℕ) (bytes : List ℕ) → AreBytes bytes → length bytes ≡ 28 → number_at 0 4 bytes ≡ REQUEST_MAGIC → flags ≡ number_at 4 2 bytes → command ≡ number_at 6 2 bytes → cookie ≡ number_at 8 8 bytes → offset ≡ number_at 16 8 bytes → len ≡ number_at 24 4 bytes → Reads (Some (record { flags = flags; command = command; cookie = cookie; offset = offset; length = len })) (λ head. IsRequestHead head bytes)
+request-reads flags command cookie offset len bytes b l m0 e0 e1 e2 e3 e4 =
+    let value : RequestHead = record { flags = number_at 4 2 bytes; command = number_at 6 2 bytes; cookie = number_at 8 8 bytes; offset = number_at 16 8 bytes; length = number_at 24 4 bytes } in
+    Reads-found (λ head. IsRequestHead head bytes) (record { flags = flags; command = command; cookie = cookie; offset = offset; length = len }) value (cc) (request-found bytes b l m0) (λ other f. let o = request-only other bytes f in let same : value ≡ record { flags = other.flags; command = other.command; cookie = other.cookie; offset = other.offset; length = other.length } = cc in same)
+
+pub request-none : (bytes : List ℕ) → (length bytes ≡ 28 → number_at 0 4 bytes ≡ REQUEST_MAGIC → ⊥) → Reads None (λ head. IsRequestHead head bytes)
+request-none bytes h = Reads-none (λ head. IsRequestHead head bytes) (λ other f. let o = request-only other bytes f in h o.0 o.1)
+
+-- a simple reply's head
+pub simple-reads : (error cookie : ℕ) (bytes : List ℕ) → AreBytes bytes → length bytes ≡ 16 → number_at 0 4 bytes ≡ SIMPLE_MAGIC → error ≡ number_at 4 4 bytes → cookie ≡ number_at 8 8 bytes → Reads (Some (record { error = error; cookie = cookie })) (λ head. IsSimpleHead head bytes)
+simple-reads error cookie bytes b l m0 e0 e1 =
+    let value : SimpleHead = record { error = number_at 4 4 bytes; cookie = number_at 8 8 bytes } in
+    Reads-found (λ head. IsSimpleHead head bytes) (record { error = error; cookie = cookie }) value (cc) (simple-found bytes b l m0) (λ other f. let o = simple-only other bytes f in let same : value ≡ record { error = other.error; cookie = other.cookie } = cc in same)
+
+pub simple-none : (bytes : List ℕ) → (length bytes ≡ 16 → number_at 0 4 bytes ≡ SIMPLE_MAGIC → ⊥) → Reads None (λ head. IsSimpleHead head bytes)
+simple-none bytes h = Reads-none (λ head. IsSimpleHead head bytes) (λ other f. let o = simple-only other bytes f in h o.0 o.1)
+
+-- a chunk's head
+pub chunk-reads : (flags kind cookie len : ℕ) (bytes : List ℕ) → AreBytes bytes → length bytes ≡ 20 → number_at 0 4 bytes ≡ CHUNK_MAGIC → flags ≡ number_at 4 2 bytes → kind ≡ number_at 6 2 bytes → cookie ≡ number_at 8 8 bytes → len ≡ number_at 16 4 bytes → Reads (Some (record { flags = flags; kind = kind; cookie = cookie; length = len })) (λ head. IsChunkHead head bytes)
+chunk-reads flags kind cookie len bytes b l m0 e0 e1 e2 e3 =
+    let value : ChunkHead = record { flags = number_at 4 2 bytes; kind = number_at 6 2 bytes; cookie = number_at 8 8 bytes; length = number_at 16 4 bytes } in
+    Reads-found (λ head. IsChunkHead head bytes) (record { flags = flags; kind = kind; cookie = cookie; length = len }) value (cc) (chunk-found bytes b l m0) (λ other f. let o = chunk-only other bytes f in let same : value ≡ record { flags = other.flags; kind = other.kind; cookie = other.cookie; length = other.length } = cc in same)
+
+pub chunk-none : (bytes : List ℕ) → (length bytes ≡ 20 → number_at 0 4 bytes ≡ CHUNK_MAGIC → ⊥) → Reads None (λ head. IsChunkHead head bytes)
+chunk-none bytes h = Reads-none (λ head. IsChunkHead head bytes) (λ other f. let o = chunk-only other bytes f in h o.0 o.1)
+
+-- the answer to EXPORT_NAME
+pub export-reads : (size flags : ℕ) (bytes : List ℕ) → AreBytes bytes → length bytes ≡ 10 → size ≡ number_at 0 8 bytes → flags ≡ number_at 8 2 bytes → Reads (Some (size, flags)) (λ (head : ℕ × ℕ). IsExportHead head.0 head.1 bytes)
+export-reads size flags bytes b l e0 e1 =
+    let value : ℕ × ℕ = (number_at 0 8 bytes, number_at 8 2 bytes) in
+    Reads-found (λ (head : ℕ × ℕ). IsExportHead head.0 head.1 bytes) (size, flags) value (cc) (export-found bytes b l)
+    (λ other f. let o = export-only other.0 other.1 bytes f in let same : value ≡ (other.0, other.1) = cc in same)
+
+pub export-none : (bytes : List ℕ) → (length bytes ≡ 10 → ⊥) → Reads None (λ (head : ℕ × ℕ). IsExportHead head.0 head.1 bytes)
+export-none bytes h = Reads-none (λ (head : ℕ × ℕ). IsExportHead head.0 head.1 bytes) (λ other f. let o = export-only other.0 other.1 bytes f in h o.0)

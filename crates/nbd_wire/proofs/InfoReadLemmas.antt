@@ -1,0 +1,64 @@
+-- What `info_of` of the specification gives, from what the reader saw.
+use Rattle.std.proofs.Common.{◌≡◌, ℕ, ◌<◌, ◌≤◌, ◌==◌, List, length, Option, Some, None, false, not, nat_le, sym, ◌∙◌, ap, subst, get_or}
+use Rattle.std.proofs.lemmas.Bool.{cond-true, cond-false, eq-eqb, ne_eqb, le-leb, lt-leb}
+use Rattle.nbd_wire.specs.declared.infos.TheConstants.{EXPORT, BLOCK_SIZE}
+use Rattle.nbd_wire.specs.declared.payloads.Info.{Info}
+use Rattle.nbd_wire.specs.declared.payloads.Info.TheVariants.{Export, BlockSize, Other}
+use Rattle.nbd_wire.specs.protocol.Forms.{HasInfoForm}
+use Rattle.nbd_wire.proofs.InfoFormLemmas.{info_of-reads}
+use Rattle.nbd_wire.proofs.NumberLemmas.{AreBytes-from_places}
+use Rattle.nbd_wire.specs.protocol.Payloads.{number_at, info_of}
+use Rattle.nbd_wire.specs.codec.Reads.{Reads}
+
+pub info-short : (bytes : List ℕ) → length bytes < 2 → None ≡ info_of bytes
+unfolding info_of
+info-short bytes l = sym (cond-true (not (nat_le 2 (length bytes))) _ _ (ap not (lt-leb 2 (length bytes) l)))
+
+-- past the first test
+behind : (bytes : List ℕ) (info : Option Info) → 2 ≤ length bytes → (not (nat_le 2 (length bytes)) ≡ false → info_of bytes ≡ info) → info ≡ info_of bytes
+behind bytes info l then_is = sym (then_is (ap not (le-leb 2 (length bytes) l)))
+
+pub info-export : (bytes : List ℕ) (kind size flags : ℕ) → 2 ≤ length bytes → kind ≡ number_at 0 2 bytes → kind ≡ EXPORT → length bytes ≡ 12 → size ≡ number_at 2 8 bytes → flags ≡ number_at 10 2 bytes → Some (Export size flags) ≡ info_of bytes
+unfolding info_of
+info-export bytes kind size flags l k e w s f =
+    behind bytes (Some (Export size flags)) l (λ t. cond-false (not (nat_le 2 (length bytes))) _ _ t
+    ∙ cond-true (number_at 0 2 bytes == 0) _ _ (eq-eqb (number_at 0 2 bytes) 0 (sym k ∙ e))
+    ∙ cond-true (length bytes == 12) _ _ (eq-eqb (length bytes) 12 w)
+    ∙ ap (λ x. Some (Export x (number_at 10 2 bytes))) (sym s) ∙ ap (λ x. Some (Export size x)) (sym f))
+
+pub info-no_export : (bytes : List ℕ) (kind : ℕ) → 2 ≤ length bytes → kind ≡ number_at 0 2 bytes → kind ≡ EXPORT → (length bytes ≡ 12 → ⊥) → None ≡ info_of bytes
+unfolding info_of
+info-no_export bytes kind l k e w =
+    behind bytes None l (λ t. cond-false (not (nat_le 2 (length bytes))) _ _ t
+    ∙ cond-true (number_at 0 2 bytes == 0) _ _ (eq-eqb (number_at 0 2 bytes) 0 (sym k ∙ e))
+    ∙ cond-false (length bytes == 12) _ _ (ne_eqb (length bytes) 12 w))
+
+pub info-sizes : (bytes : List ℕ) (kind least preferred most : ℕ) → 2 ≤ length bytes → kind ≡ number_at 0 2 bytes → kind ≡ BLOCK_SIZE → length bytes ≡ 14 → least ≡ number_at 2 4 bytes → preferred ≡ number_at 6 4 bytes → most ≡ number_at 10 4 bytes → Some (BlockSize least preferred most) ≡ info_of bytes
+unfolding info_of
+info-sizes bytes kind least preferred most l k e w s f m =
+    behind bytes (Some (BlockSize least preferred most)) l (λ t. cond-false (not (nat_le 2 (length bytes))) _ _ t
+    ∙ cond-false (number_at 0 2 bytes == 0) _ _ (ap (λ x. x == 0) (sym k ∙ e))
+    ∙ cond-true (number_at 0 2 bytes == 3) _ _ (eq-eqb (number_at 0 2 bytes) 3 (sym k ∙ e))
+    ∙ cond-true (length bytes == 14) _ _ (eq-eqb (length bytes) 14 w)
+    ∙ ap (λ x. Some (BlockSize x (number_at 6 4 bytes) (number_at 10 4 bytes))) (sym s)
+    ∙ ap (λ x. Some (BlockSize least x (number_at 10 4 bytes))) (sym f) ∙ ap (λ x. Some (BlockSize least preferred x)) (sym m))
+
+pub info-no_sizes : (bytes : List ℕ) (kind : ℕ) → 2 ≤ length bytes → kind ≡ number_at 0 2 bytes → kind ≡ BLOCK_SIZE → (length bytes ≡ 14 → ⊥) → None ≡ info_of bytes
+unfolding info_of
+info-no_sizes bytes kind l k e w =
+    behind bytes None l (λ t. cond-false (not (nat_le 2 (length bytes))) _ _ t
+    ∙ cond-false (number_at 0 2 bytes == 0) _ _ (ap (λ x. x == 0) (sym k ∙ e))
+    ∙ cond-true (number_at 0 2 bytes == 3) _ _ (eq-eqb (number_at 0 2 bytes) 3 (sym k ∙ e))
+    ∙ cond-false (length bytes == 14) _ _ (ne_eqb (length bytes) 14 w))
+
+pub info-other : (bytes : List ℕ) (kind : ℕ) → 2 ≤ length bytes → kind ≡ number_at 0 2 bytes → (kind ≡ EXPORT → ⊥) → (kind ≡ BLOCK_SIZE → ⊥) → Some (Other kind) ≡ info_of bytes
+unfolding info_of
+info-other bytes kind l k e w =
+    behind bytes (Some (Other kind)) l (λ t. cond-false (not (nat_le 2 (length bytes))) _ _ t
+    ∙ cond-false (number_at 0 2 bytes == 0) _ _ (ne_eqb (number_at 0 2 bytes) 0 (λ x. e (k ∙ x)))
+    ∙ cond-false (number_at 0 2 bytes == 3) _ _ (ne_eqb (number_at 0 2 bytes) 3 (λ x. w (k ∙ x)))
+    ∙ ap (λ x. Some (Other x)) (sym k))
+
+-- what the specification gives has exactly the form
+pub info-form : (bytes : List ℕ) → ((k : ℕ) → get_or bytes k 0 < 256) → (answer : Option Info) → answer ≡ info_of bytes → Reads answer (λ info. HasInfoForm info bytes)
+info-form bytes fits answer same = subst (λ a. Reads a (λ info. HasInfoForm info bytes)) (sym same) (info_of-reads bytes (AreBytes-from_places bytes fits))

@@ -1,0 +1,120 @@
+-- What stands after a length of four bytes, and `is_listed` and `is_go`, which test for it.
+use Rattle.std.proofs.Common.{◌≡◌, ℕ, ◌+◌, ◌*◌, ◌<◌, ◌≤◌, ◌^◌, ◌==◌, List, ◌++◌, length, take, drop, Bool, true, nat_le, IsTrue, refl, sym, ◌∙◌, ap, arith, length-drop, length-append, append_assoc, subst}
+use Rattle.std.specs.Prelude.{◌↔◌}
+use Rattle.std.proofs.Math.Seq.{take-append_seam, drop-append_seam}
+use Rattle.std.proofs.lemmas.Bool.{eqb-true, eq-eqb, leb-true, le-leb, and_parts, and_from}
+use Rattle.std.proofs.lemmas.List.{take-append-drop, length-take-le}
+use Rattle.byteorder.specs.Endian.{big_bytes}
+use Rattle.byteorder.specs.Numbers.{big_number-reads_back}
+use Rattle.nbd_wire.specs.protocol.Encoding.{AreBytes}
+use Rattle.nbd_wire.specs.protocol.Forms.{HasListedForm, HasGoForm}
+use Rattle.nbd_wire.proofs.NumberLemmas.{AreBytes-drop, number_at-drop, number_at-lt}
+use Rattle.nbd_wire.specs.protocol.Payloads.{number_at, is_listed, is_go}
+use Rattle.nbd_wire.proofs.HeadLemmas.{with_next}
+
+-- a length that is not too large counts out a name and leaves a rest
+pub listed-found : (bytes : List ℕ) → AreBytes bytes → 4 + number_at 0 4 bytes ≤ length bytes → HasListedForm (take (number_at 0 4 bytes) (drop 4 bytes)) (drop (number_at 0 4 bytes) (drop 4 bytes)) bytes
+unfolding HasListedForm
+listed-found bytes b l =
+    let n : ℕ = number_at 0 4 bytes in
+    let name : List ℕ = take n (drop 4 bytes) in
+    let rest : List ℕ = drop n (drop 4 bytes) in
+    let is : length name ≡ n = length-take-le n (drop 4 bytes) (omega (arith, length-drop 4 bytes)) in
+    let fits : n < 2 ^ 32 = omega (arith, number_at-lt 0 4 bytes b) in (
+      omega arith,
+      with_next 0 4 bytes (name ++ rest) b (omega arith) (sym (take-append-drop n (drop 4 bytes)))
+          ∙ ap (λ k. big_bytes 4 k ++ (name ++ rest)) (sym is),
+    )
+
+-- a name and a rest after a length are what it counts out
+pub record Counted (name rest bytes : List ℕ) : Type 0 where
+  pub whole : 4 + length name ≤ length bytes
+  pub count : number_at 0 4 bytes ≡ length name
+  pub name_is : take (length name) (drop 4 bytes) ≡ name
+  pub rest_is : drop (length name) (drop 4 bytes) ≡ rest
+
+pub listed-only : (name rest bytes : List ℕ) → HasListedForm name rest bytes → Counted name rest bytes
+unfolding HasListedForm
+listed-only name rest bytes h =
+    subst (λ l. Counted name rest l) (sym h.1)
+    (record {
+      whole = omega (arith, length-append name rest);
+      count = big_number-reads_back 4 (length name) (name ++ rest) (omega (arith, h.0));
+      name_is = take-append_seam name rest;
+      rest_is = drop-append_seam name rest;
+    })
+
+-- only one name and one rest are counted out
+pub counted-one : (a x b y bytes : List ℕ) → HasListedForm a x bytes → HasListedForm b y bytes → (a ≡ b) × (x ≡ y)
+counted-one a x b y bytes h k =
+    let c : Counted a x bytes = listed-only a x bytes h in
+    let d : Counted b y bytes = listed-only b y bytes k in
+    let same : length a ≡ length b = sym c.count ∙ d.count in
+    (sym c.name_is ∙ ap (λ n. take n (drop 4 bytes)) same ∙ d.name_is, sym c.rest_is ∙ ap (λ n. drop n (drop 4 bytes)) same ∙ d.rest_is)
+
+-- the test for a name and a rest
+pub is_listed-exact : (bytes : List ℕ) → AreBytes bytes → IsTrue (is_listed bytes) ↔ ((name : List ℕ) × (text : List ℕ) × HasListedForm name text bytes)
+unfolding is_listed
+is_listed-exact bytes b = (
+  λ t. let p : (nat_le 4 (length bytes) ≡ true) × (nat_le (4 + number_at 0 4 bytes) (length bytes) ≡ true) = and_parts (nat_le 4 (length bytes)) (nat_le (4 + number_at 0 4 bytes) (length bytes)) t in
+      (take (number_at 0 4 bytes) (drop 4 bytes), drop (number_at 0 4 bytes) (drop 4 bytes), listed-found bytes b (leb-true (4 + number_at 0 4 bytes) (length bytes) p.1)),
+  λ (name, text, h). let c : Counted name text bytes = listed-only name text bytes h in
+      and_from (nat_le 4 (length bytes)) (nat_le (4 + number_at 0 4 bytes) (length bytes))
+      (le-leb 4 (length bytes) (omega (arith, c.whole))) (le-leb (4 + number_at 0 4 bytes) (length bytes) (omega (arith, c.whole, c.count))),
+)
+
+-- what counts what a client asks for stands after the name
+pub go-found : (name rest bytes : List ℕ) (count : ℕ) → AreBytes rest → HasListedForm name rest bytes → count ≡ number_at 0 2 rest → length rest ≡ 2 + 2 * count → HasGoForm name count bytes
+unfolding HasGoForm HasListedForm
+go-found name rest bytes count b h c l =
+    let long : 2 ≤ length rest = omega arith in
+    let asked : List ℕ = drop 2 rest in
+    let is : rest ≡ big_bytes 2 count ++ asked = with_next 0 2 rest asked b (omega arith) refl ∙ ap (λ k. big_bytes 2 k ++ asked) (sym c) in (
+      h.0,
+      omega (arith, number_at-lt 0 2 rest b),
+      (
+        asked,
+        omega (arith, length-drop 2 rest),
+        h.1 ∙ ap (λ r. big_bytes 4 (length name) ++ name ++ r) is ∙ sym (append_assoc (big_bytes 4 (length name) ++ name) (big_bytes 2 count) asked),
+      ),
+    )
+
+pub go-only : (name bytes : List ℕ) (count : ℕ) → HasGoForm name count bytes → (rest : List ℕ) × HasListedForm name rest bytes × (number_at 0 2 rest ≡ count) × (length rest ≡ 2 + 2 * count)
+unfolding HasGoForm HasListedForm
+go-only name bytes count h =
+    let asked : List ℕ = h.2.0 in (
+      big_bytes 2 count ++ asked,
+      (h.0, h.2.2 ∙ append_assoc (big_bytes 4 (length name) ++ name) (big_bytes 2 count) asked),
+      big_number-reads_back 2 count asked (omega (arith, h.1)),
+      omega (arith, h.2.1),
+    )
+
+-- the test for the data of INFO and GO
+pub is_go-exact : (bytes : List ℕ) → AreBytes bytes → IsTrue (is_go bytes) ↔ ((name : List ℕ) × (count : ℕ) × HasGoForm name count bytes)
+unfolding is_go
+is_go-exact bytes b =
+    let n : ℕ = number_at 0 4 bytes in
+    let fits : Bool = nat_le (6 + n) (length bytes) in
+    let whole : Bool = length bytes == 6 + n + 2 * number_at (4 + n) 2 bytes in
+    let name : List ℕ = take n (drop 4 bytes) in
+    let rest : List ℕ = drop n (drop 4 bytes) in (
+      λ t. let p : (fits ≡ true) × (whole ≡ true) = and_parts fits whole t in
+          let long : 6 + n ≤ length bytes = leb-true (6 + n) (length bytes) p.0 in
+          let all : length bytes ≡ 6 + n + 2 * number_at (4 + n) 2 bytes = eqb-true (length bytes) (6 + n + 2 * number_at (4 + n) 2 bytes) p.1 in
+          let form : HasListedForm name rest bytes = listed-found bytes b (omega arith) in (
+            name,
+            number_at 0 2 rest,
+            go-found name rest bytes (number_at 0 2 rest) (AreBytes-drop n (drop 4 bytes) (AreBytes-drop 4 bytes b)) form refl
+                (omega (arith, all, number_at-drop 4 n 2 bytes, length-drop n (drop 4 bytes), length-drop 4 bytes)),
+          ),
+      λ (name, count, h).
+          let g = go-only name bytes count h in
+          let rest : List ℕ = g.0 in
+          let c : Counted name rest bytes = listed-only name rest bytes g.1 in
+          let counted : number_at (4 + n) 2 bytes ≡ count =
+          number_at-drop 4 n 2 bytes ∙ ap (λ k. number_at 0 2 (drop k (drop 4 bytes))) c.count ∙ ap (number_at 0 2) c.rest_is ∙ g.2 in
+          let of_rest : length bytes ≡ 4 + length name + length rest =
+          omega (arith, c.whole, ap length c.rest_is, length-drop (length name) (drop 4 bytes), length-drop 4 bytes) in
+          and_from fits whole (le-leb (6 + n) (length bytes) (omega (arith, of_rest, c.count, g.3)))
+          (eq-eqb (length bytes) (6 + n + 2 * number_at (4 + n) 2 bytes) (omega (arith, of_rest, c.count, g.3, counted))),
+    )

@@ -1,0 +1,7 @@
+use Rattle.std.proofs.Common.{refl}
+use Rattle.nbd_wire.specs.protocol.Flags.{has}
+use Rattle.nbd_wire.proofs.flags.has_wide.Goals as goal
+
+pub returns : goal.returns
+unfolding has
+returns c = refl

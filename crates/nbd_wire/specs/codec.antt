@@ -1,0 +1,5 @@
+pub mod Contents
+pub mod Fits
+pub mod Heads
+pub mod Reads
+pub mod RoundTrip

@@ -1,0 +1,44 @@
+-- What is a head with these fields: each in its type's range, and the bytes those of the layout.
+use Rattle.std.specs.Prelude.{◌≡◌, ℕ, ◌<◌, ◌^◌, List}
+use Rattle.nbd_wire.specs.declared.heads.negotiation.ChoiceHead.{ChoiceHead}
+use Rattle.nbd_wire.specs.declared.heads.negotiation.AnswerHead.{AnswerHead}
+use Rattle.nbd_wire.specs.declared.heads.transmission.RequestHead.{RequestHead}
+use Rattle.nbd_wire.specs.declared.heads.transmission.SimpleHead.{SimpleHead}
+use Rattle.nbd_wire.specs.declared.heads.transmission.ChunkHead.{ChunkHead}
+use Rattle.nbd_wire.specs.protocol.Layouts.{greeting_bytes, client_flags_bytes, choice_bytes, answer_bytes, export_bytes, request_bytes, simple_bytes, chunk_bytes}
+
+-- a greeting (proto.md, "Newstyle negotiation")
+unfoldable pub IsGreetingHead : ℕ → List ℕ → Type 0
+IsGreetingHead flags bytes = (flags < 2 ^ 16) × (bytes ≡ greeting_bytes flags)
+
+-- the client's flags (proto.md, "Newstyle negotiation")
+unfoldable pub IsClientFlagsHead : ℕ → List ℕ → Type 0
+IsClientFlagsHead flags bytes = (flags < 2 ^ 32) × (bytes ≡ client_flags_bytes flags)
+
+-- an option's head (proto.md, "Newstyle negotiation")
+unfoldable pub IsChoiceHead : ChoiceHead → List ℕ → Type 0
+IsChoiceHead h bytes = (h.id < 2 ^ 32) × (h.length < 2 ^ 32) × (bytes ≡ choice_bytes h.id h.length)
+
+-- an answer's head (proto.md, "Fixed newstyle negotiation")
+unfoldable pub IsAnswerHead : AnswerHead → List ℕ → Type 0
+IsAnswerHead h bytes = (h.option < 2 ^ 32) × (h.kind < 2 ^ 32) × (h.length < 2 ^ 32) × (bytes ≡ answer_bytes h.option h.kind h.length)
+
+-- the answer to EXPORT_NAME, but for the zeroes after it (proto.md, "Newstyle negotiation")
+unfoldable pub IsExportHead : ℕ → ℕ → List ℕ → Type 0
+IsExportHead size flags bytes = (size < 2 ^ 64) × (flags < 2 ^ 16) × (bytes ≡ export_bytes size flags)
+
+-- a request's head (proto.md, "Request message")
+unfoldable pub IsRequestHead : RequestHead → List ℕ → Type 0
+IsRequestHead h bytes =
+    (h.flags < 2 ^ 16) × (h.command < 2 ^ 16) × (h.cookie < 2 ^ 64) × (h.offset < 2 ^ 64) × (h.length < 2 ^ 32)
+    × (bytes ≡ request_bytes h.flags h.command h.cookie h.offset h.length)
+
+-- a simple reply's head (proto.md, "Simple reply message")
+unfoldable pub IsSimpleHead : SimpleHead → List ℕ → Type 0
+IsSimpleHead h bytes = (h.error < 2 ^ 32) × (h.cookie < 2 ^ 64) × (bytes ≡ simple_bytes h.error h.cookie)
+
+-- a chunk's head (proto.md, "Structured reply chunk message")
+unfoldable pub IsChunkHead : ChunkHead → List ℕ → Type 0
+IsChunkHead h bytes =
+    (h.flags < 2 ^ 16) × (h.kind < 2 ^ 16) × (h.cookie < 2 ^ 64) × (h.length < 2 ^ 32)
+    × (bytes ≡ chunk_bytes h.flags h.kind h.cookie h.length)

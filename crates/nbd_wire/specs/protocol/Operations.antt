@@ -1,0 +1,123 @@
+-- A numbered request, its replies, and what became of it.
+use Rattle.std.specs.Prelude.{ℕ, List, [], ◌∷◌, ◌++◌, ◌+◌, ◌-◌, Bool, true, false, not, ◌&&◌, ◌||◌, ◌==◌, nat_le, if◌then◌else◌, length, IsTrue, is_some}
+use Rattle.nbd_wire.specs.declared.message.Message.{Message}
+use Rattle.nbd_wire.specs.declared.message.Message.TheVariants.{Simple, Chunk}
+use Rattle.nbd_wire.specs.declared.payloads.Piece.{Piece}
+use Rattle.nbd_wire.specs.declared.chunks.TheConstants as chunks
+use Rattle.nbd_wire.specs.declared.command_flags.TheConstants as command_flags
+use Rattle.nbd_wire.specs.declared.commands.TheConstants as commands
+use Rattle.nbd_wire.specs.declared.transmission.TheConstants as transmission
+use Rattle.nbd_wire.specs.protocol.Flags.{has, has_only}
+use Rattle.nbd_wire.specs.protocol.Pieces.{piece_of, is_in, holds, byte_at}
+
+-- the export of the session: its size in bytes and its transmission flags
+pub record Exporting : Type 0 where
+  pub size : ℕ
+  pub flags : ℕ
+
+-- a numbered request, and the messages that completed in answer to it, in order
+pub record Operation : Type 0 where
+  pub flags : ℕ
+  pub command : ℕ
+  pub cookie : ℕ
+  pub offset : ℕ
+  pub length : ℕ
+  pub payload : List ℕ
+  pub replies : List Message
+
+-- an error chunk (proto.md, "Structured reply types")
+abbrev pub is_error_chunk : ℕ → Bool
+is_error_chunk kind = (kind == chunks.ERROR) || (kind == chunks.ERROR_OFFSET)
+
+-- the last message of a reply: a simple one, or a chunk with DONE (proto.md, "Structured reply flags")
+unfoldable pub ends_reply : Message → Bool
+ends_reply (Simple error cookie payload) = true
+ends_reply (Chunk flags kind cookie payload) = has flags chunks.DONE
+ends_reply _ = false
+
+-- the message states that the request failed
+unfoldable pub is_failing : Message → Bool
+is_failing (Simple error cookie payload) = not (error == 0)
+is_failing (Chunk flags kind cookie payload) = is_error_chunk kind
+is_failing _ = false
+
+-- one of the messages has the property
+abbrev pub any : (Message → Bool) → List Message → Bool
+any p [] = false
+any p (m ∷ messages) = p m || any p messages
+
+-- the reply is finished: the request is no longer outstanding
+abbrev pub is_finished : Operation → Bool
+is_finished e = any ends_reply e.replies
+
+-- one of its replies states a failure
+abbrev pub has_failed : Operation → Bool
+has_failed e = any is_failing e.replies
+
+-- what became of a request
+pub data Outcome : Type 0 where
+  Success Failure Pending : Outcome
+
+-- pending where nothing finished it, else a failure where a reply states one, else a success
+abbrev pub outcome : Operation → Outcome
+outcome e = if is_finished e then (if has_failed e then Failure else Success) else Pending
+
+-- what these messages give, one after the other
+abbrev pub pieces_of : ℕ → List Message → List Piece
+pieces_of offset [] = []
+pieces_of offset (m ∷ messages) = piece_of offset m ++ pieces_of offset messages
+
+-- the pieces of a request's reply, in the order of their completion
+abbrev pub pieces : Operation → List Piece
+pieces e = pieces_of e.offset e.replies
+
+-- each offset of the request's range lies in a piece
+abbrev pub Covers : Operation → List Piece → Type 0
+Covers e pieces = (x : ℕ) → IsTrue (is_in e.offset e.length x) → IsTrue (is_some (byte_at pieces x))
+
+-- the type of a numbered request is known (proto.md, "Request types")
+abbrev pub is_known : ℕ → Bool
+is_known command =
+    (command == commands.READ) || (command == commands.WRITE) || (command == commands.FLUSH)
+    || (command == commands.TRIM) || (command == commands.CACHE) || (command == commands.WRITE_ZEROES)
+
+-- the types whose offset and length are a range of the export
+abbrev pub has_range : ℕ → Bool
+has_range command =
+    (command == commands.READ) || (command == commands.WRITE)
+    || (command == commands.TRIM) || (command == commands.CACHE) || (command == commands.WRITE_ZEROES)
+
+-- the types that change the export
+abbrev pub is_change : ℕ → Bool
+is_change command = (command == commands.WRITE) || (command == commands.TRIM) || (command == commands.WRITE_ZEROES)
+
+-- the export offers the type; CACHE needs no SEND_CACHE (this project's choice)
+abbrev pub is_offered : ℕ → ℕ → Bool
+is_offered export command =
+    (not (command == commands.FLUSH) || has export transmission.SEND_FLUSH)
+    && (not (command == commands.TRIM) || has export transmission.SEND_TRIM)
+    && (not (command == commands.WRITE_ZEROES) || has export transmission.SEND_WRITE_ZEROES)
+
+-- a mask where a condition holds, no flag otherwise
+abbrev pub mask_if : Bool → ℕ → ℕ
+mask_if b mask = if b then mask else 0
+
+-- the flags that a request of this type may carry (proto.md, "Command flags")
+abbrev pub allowed_flags : ℕ → ℕ → ℕ
+allowed_flags export command =
+    mask_if (has export transmission.SEND_FUA) command_flags.FUA
+    + mask_if (command == commands.WRITE_ZEROES) command_flags.NO_HOLE
+    + mask_if ((command == commands.READ) && has export transmission.SEND_DF) command_flags.DF
+    + mask_if ((command == commands.WRITE_ZEROES) && has export transmission.SEND_FAST_ZERO) command_flags.FAST_ZERO
+
+-- a request that a client should send: of a known type, its range inside the export, offered, no
+-- change of a read-only export, with allowed flags, and a FLUSH with offset 0 and length 0 (proto.md,
+-- "Transmission flags", "Command flags", "Request types")
+unfoldable pub is_proper : Exporting → Operation → Bool
+is_proper export e =
+    is_known e.command
+    && (not (has_range e.command) || nat_le (e.offset + e.length) export.size)
+    && is_offered export.flags e.command
+    && (not (is_change e.command) || not (has export.flags transmission.READ_ONLY))
+    && has_only e.flags (allowed_flags export.flags e.command)
+    && (not (e.command == commands.FLUSH) || ((e.offset == 0) && (e.length == 0)))

@@ -1,0 +1,53 @@
+-- What the payloads of options, of option replies and of chunks state. Numbers are big-endian.
+use Rattle.std.specs.Prelude.{ℕ, List, Option, Some, None, length, ◌==◌, ◌&&◌, ◌+◌, ◌*◌, not, nat_le, if◌then◌else◌, drop, Bool}
+use Rattle.nbd_wire.specs.declared.payloads.Info.{Info}
+use Rattle.nbd_wire.specs.declared.payloads.Info.TheVariants.{Export, BlockSize, Other}
+use Rattle.nbd_wire.specs.declared.payloads.Piece.{Piece}
+use Rattle.nbd_wire.specs.declared.payloads.Piece.TheVariants.{Bytes, Hole}
+use Rattle.nbd_wire.specs.declared.payloads.Failure.{Failure}
+use Rattle.byteorder.specs.Endian.{big_number}
+use Rattle.nbd_wire.specs.declared.chunks.TheConstants as chunks
+use Rattle.nbd_wire.specs.declared.infos.TheConstants as infos
+
+-- the number of the n bytes at a place
+abbrev pub number_at : ℕ → ℕ → List ℕ → ℕ
+number_at place n bytes = big_number n (drop place bytes)
+
+-- an INFO answer: EXPORT (0) with a size and flags, BLOCK_SIZE (3) with three sizes, or any other type
+-- (proto.md, "Option reply types")
+unfoldable pub info_of : List ℕ → Option Info
+info_of bytes =
+    let kind : ℕ = number_at 0 2 bytes in
+    if not (nat_le 2 (length bytes)) then None
+    else if kind == infos.EXPORT then (if length bytes == 12 then Some (Export (number_at 2 8 bytes) (number_at 10 2 bytes)) else None)
+    else if kind == infos.BLOCK_SIZE then (if length bytes == 14 then Some (BlockSize (number_at 2 4 bytes) (number_at 6 4 bytes) (number_at 10 4 bytes)) else None)
+    else Some (Other kind)
+
+-- a SERVER payload: a name's length, the name, free text (proto.md, "Option reply types")
+unfoldable pub is_listed : List ℕ → Bool
+is_listed bytes = nat_le 4 (length bytes) && nat_le (4 + number_at 0 4 bytes) (length bytes)
+
+-- INFO or GO data: a name's length, the name, a count, two bytes for each (proto.md, "Option types")
+unfoldable pub is_go : List ℕ → Bool
+is_go bytes =
+    let name : ℕ = number_at 0 4 bytes in
+    nat_le (6 + name) (length bytes) && (length bytes == 6 + name + 2 * number_at (4 + name) 2 bytes)
+
+-- a content chunk: OFFSET_DATA (1) with an offset and at least one byte, or OFFSET_HOLE (2) with an offset
+-- and a size above 0 (proto.md, "Structured reply types")
+unfoldable pub content_of : ℕ → List ℕ → Option Piece
+content_of kind bytes =
+    if kind == chunks.OFFSET_DATA then (if nat_le 9 (length bytes) then Some (Bytes (number_at 0 8 bytes) (drop 8 bytes)) else None)
+    else if (kind == chunks.OFFSET_HOLE) && ((length bytes == 12) && not (number_at 8 4 bytes == 0)) then Some (Hole (number_at 0 8 bytes) (number_at 8 4 bytes))
+    else None
+
+-- an error chunk: ERROR (0x8001), or ERROR_OFFSET (0x8002) with the offset after the text; an error above 0,
+-- a text's length and the text; what comes after is ignored (this project's choice)
+unfoldable pub failure_of : ℕ → List ℕ → Option Failure
+failure_of kind bytes =
+    let error : ℕ = number_at 0 4 bytes in
+    let text : ℕ = number_at 4 2 bytes in
+    if error == 0 then None
+    else if (kind == chunks.ERROR) && nat_le (6 + text) (length bytes) then Some (record { error = error; offset = None })
+    else if (kind == chunks.ERROR_OFFSET) && nat_le (14 + text) (length bytes) then Some (record { error = error; offset = Some (number_at (6 + text) 8 bytes) })
+    else None

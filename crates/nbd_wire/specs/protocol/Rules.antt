@@ -1,0 +1,159 @@
+-- What a run is: a marked capture whose marks obey the rules of the protocol profile.
+use Rattle.std.specs.Prelude.{ℕ, List, [], ◌∷◌, ◌++◌, ◌≡◌, ◌+◌, ◌<◌, ◌≤◌, ◌==◌, ◌&&◌, ◌||◌, not, Bool, true, false, Option, Some, None, length, IsTrue, is_some, ◌⊎◌}
+use Rattle.nbd_wire.specs.declared.message.Side.{Side}
+use Rattle.nbd_wire.specs.declared.message.Side.TheVariants.{Client, Server}
+use Rattle.nbd_wire.specs.declared.message.Message.{Message}
+use Rattle.nbd_wire.specs.declared.message.Message.TheVariants.{Greeting, ClientFlags, Choice, Answer, Exported, Request, Simple, Chunk}
+use Rattle.nbd_wire.specs.declared.answers.TheConstants as answers
+use Rattle.nbd_wire.specs.declared.commands.TheConstants as commands
+use Rattle.nbd_wire.specs.declared.handshake.TheConstants as handshake
+use Rattle.nbd_wire.specs.declared.options.TheConstants as options
+use Rattle.nbd_wire.specs.declared.transmission.TheConstants as transmission
+use Rattle.nbd_wire.specs.protocol.Marks.{Item, Byte, Starts, Completes, Serves, IsMarkedBut}
+use Rattle.nbd_wire.specs.protocol.Options.{FitsLimit, MayAnswer, is_error, next_phase, turn}
+use Rattle.nbd_wire.specs.protocol.Replies.{MayReply}
+use Rattle.nbd_wire.specs.protocol.Operations.{Operation, Exporting}
+use Rattle.nbd_wire.specs.protocol.Flags.{has, has_only}
+use Rattle.nbd_wire.specs.protocol.Sendable.{IsSendable}
+use Rattle.nbd_wire.specs.protocol.Sides.{side}
+use Rattle.nbd_wire.specs.protocol.States.{Core, Names, Phase, State, Greet, Flags, Choosing, Naming, Aborting, Answering, Transmission, with_reply_at, operation, start, target}
+
+-- the cookie that a reply repeats
+abbrev pub cookie_of : Message → Option ℕ
+cookie_of (Simple error cookie payload) = Some cookie
+cookie_of (Chunk flags kind cookie payload) = Some cookie
+cookie_of _ = None
+
+-- the request of a cookie, if there is a cookie
+abbrev pub target_of : Option ℕ → List Operation → Option ℕ
+target_of (Some cookie) entries = target cookie entries
+target_of None entries = None
+
+-- the number of the outstanding request that a reply answers
+abbrev pub request_of_reply : Core → Message → Option ℕ
+request_of_reply core m = target_of (cookie_of m) core.entries
+
+-- the message is a request
+abbrev pub is_request : Message → Bool
+is_request (Request _ _ _ _ _ _) = true
+is_request _ = false
+
+-- what a message's first byte needs: in negotiation the side's turn, in transmission of the client a
+-- request and no DISC before, of the server an outstanding request that it answers
+unfoldable pub MayStartIn : Phase → Core → Side → Message → Type 0
+MayStartIn (Transmission export) core Client m = IsTrue (is_request m) × (core.disconnected ≡ false)
+MayStartIn (Transmission export) core Server m = IsTrue (is_some (request_of_reply core m))
+MayStartIn phase core s m = turn phase ≡ Some s
+
+-- the same, in the phase where the session stands
+abbrev pub MayStart : Core → Side → Message → Type 0
+MayStart core s m = MayStartIn core.phase core s m
+
+-- the client speaks fixed newstyle, sets no unknown flag and takes only what was offered (proto.md, "Flag fields")
+abbrev pub AreClientFlags : ℕ → ℕ → Type 0
+AreClientFlags offered flags =
+    IsTrue (has flags handshake.C_FIXED_NEWSTYLE)
+    × IsTrue (has_only flags (handshake.C_FIXED_NEWSTYLE + handshake.C_NO_ZEROES))
+    × (IsTrue (has flags handshake.C_NO_ZEROES) → IsTrue (has offered handshake.NO_ZEROES))
+
+-- the answer to EXPORT_NAME is padded exactly where the client did not take NO_ZEROES
+abbrev pub MayExport : Core → Exporting → Bool → Type 0
+MayExport core export padded =
+    IsTrue (has export.flags transmission.HAS_FLAGS) × (padded ≡ not (has core.client_flags handshake.C_NO_ZEROES)) × FitsLimit export
+
+-- ABORT is answered by an ACK or an error
+abbrev pub MayEnd : (option kind : ℕ) (payload : List ℕ) → Type 0
+MayEnd option kind payload = (option ≡ options.ABORT) × (IsTrue (is_error kind) ⊎ (kind ≡ answers.ACK) × (payload ≡ []))
+
+-- a DISC is empty, and any other request has a cookie that no outstanding one has
+abbrev pub MayAsk : (is_disc : Bool) → Core → (cookie offset len : ℕ) → Type 0
+MayAsk true core cookie offset len = (offset ≡ 0) × (len ≡ 0)
+MayAsk false core cookie offset len = target cookie core.entries ≡ None
+
+-- a reply answers the outstanding request with its cookie, and may stand in that request's reply
+abbrev pub AnswersOne : Core → Exporting → (cookie : ℕ) → Message → Type 0
+AnswersOne core export cookie m =
+    (k : ℕ) × (e : Operation) × (target cookie core.entries ≡ Some k) × (operation k core.entries ≡ Some e) × MayReply core.structured export e m
+
+-- what a message's completion needs, by the phase
+unfoldable pub MayComplete : Core → Phase → Message → Type 0
+MayComplete core Greet (Greeting flags) = IsTrue (has flags handshake.FIXED_NEWSTYLE)
+MayComplete core Flags (ClientFlags flags) = AreClientFlags core.offered flags
+MayComplete core Choosing (Choice id payload) = Unit {0}
+MayComplete core Naming (Exported size flags padded) = MayExport core (record { size = size; flags = flags }) padded
+MayComplete core Aborting (Answer option kind payload) = MayEnd option kind payload
+MayComplete core (Answering asked asked_with info) (Answer option kind payload) = (option ≡ asked) × MayAnswer asked asked_with info kind payload
+MayComplete core (Transmission export) (Request flags command cookie offset len payload) = MayAsk (command == commands.DISC) core cookie offset len
+MayComplete core (Transmission export) (Simple error cookie payload) = AnswersOne core export cookie (Simple error cookie payload)
+MayComplete core (Transmission export) (Chunk flags kind cookie payload) = AnswersOne core export cookie (Chunk flags kind cookie payload)
+MayComplete _ _ _ = ⊥
+
+-- the request that a reply answers has one more reply
+abbrev pub reply_to : Option ℕ → Core → Message → Core
+reply_to (Some k) core m = record core { entries = with_reply_at k m core.entries }
+reply_to None core m = core
+
+-- a reply joins the replies of the request that it answers
+abbrev pub core_with_reply : Core → Message → Core
+core_with_reply core m = reply_to (request_of_reply core m) core m
+
+-- a request gets the next number; a DISC has none
+abbrev pub core_with_request : (is_disc : Bool) → Core → Operation → Core
+core_with_request true core e = record core { disconnected = true }
+core_with_request false core e = record core { entries = core.entries ++ e ∷ [] }
+
+-- the ACK to STRUCTURED_REPLY puts structured replies in force
+abbrev pub grants_structured : (option kind : ℕ) → Bool
+grants_structured option kind = (option == options.STRUCTURED_REPLY) && (kind == answers.ACK)
+
+-- what a completed message leads to
+unfoldable pub complete : Core → Message → Core
+complete core (Greeting flags) = record core { phase = next_phase core.phase (Greeting flags); offered = flags }
+complete core (ClientFlags flags) = record core { phase = next_phase core.phase (ClientFlags flags); client_flags = flags }
+complete core (Choice id payload) = record core { phase = next_phase core.phase (Choice id payload) }
+complete core (Answer option kind payload) =
+    record core { phase = next_phase core.phase (Answer option kind payload); structured = core.structured || grants_structured option kind }
+complete core (Exported size flags padded) = record core { phase = next_phase core.phase (Exported size flags padded) }
+complete core (Request flags command cookie offset len payload) =
+    core_with_request (command == commands.DISC) core
+    (record { flags = flags; command = command; cookie = cookie; offset = offset; length = len; payload = payload; replies = [] })
+complete core (Simple error cookie payload) = core_with_reply core (Simple error cookie payload)
+complete core (Chunk flags kind cookie payload) = core_with_reply core (Chunk flags kind cookie payload)
+
+-- a reply starts only when the request that it answers was served (this project's choice)
+abbrev pub IsServedFor : State → Side → Message → Type 0
+IsServedFor state Client m = Unit {0}
+IsServedFor state Server m = (k : ℕ) → request_of_reply state.core m ≡ Some k → Names state.served k
+
+-- what an item needs; bytes need nothing
+abbrev pub Allows : State → Item → Type 0
+Allows state (Byte s b) = Unit {0}
+Allows state (Starts s m) = (side m ≡ s) × IsSendable m × MayStart state.core s m × IsServedFor state s m
+Allows state (Completes s m) = MayComplete state.core state.core.phase m
+Allows state (Serves k) = (0 < k) × (k ≤ length state.core.entries) × (Names state.served k → ⊥)
+
+-- what an item leads to: bytes and starts change nothing
+abbrev pub after : State → Item → State
+after state (Byte s b) = state
+after state (Starts s m) = state
+after state (Completes s m) = record { core = complete state.core m; served = state.served }
+after state (Serves k) = record { core = state.core; served = state.served ++ k ∷ [] }
+
+-- each item is allowed where it stands
+abbrev pub Obeys : State → List Item → Type 0
+Obeys state [] = Unit {0}
+Obeys state (item ∷ items) = Allows state item × Obeys (after state item) items
+
+-- what the items lead to
+abbrev pub ends_at : State → List Item → State
+ends_at state [] = state
+ends_at state (item ∷ items) = ends_at (after state item) items
+
+-- a run, but for bytes of each side that belong to no completed message
+pub record IsRunBut (items : List Item) (client server : List ℕ) : Type 0 where
+  pub marked : IsMarkedBut items client server
+  pub obeys : Obeys start items
+
+-- a run: a marked capture that obeys the rules from the start
+abbrev pub IsRun : List Item → Type 0
+IsRun items = IsRunBut items [] []

@@ -1,0 +1,24 @@
+-- Which messages have an encoding.
+use Rattle.std.specs.Prelude.{ℕ, List, ◌≡◌, ◌<◌, ◌^◌, ◌==◌, if◌then◌else◌, length}
+use Rattle.nbd_wire.specs.declared.message.Message.{Message}
+use Rattle.nbd_wire.specs.declared.message.Message.TheVariants.{Greeting, ClientFlags, Choice, Answer, Exported, Request, Simple, Chunk}
+use Rattle.nbd_wire.specs.declared.commands.TheConstants as commands
+use Rattle.nbd_wire.specs.protocol.Encoding.{AreBytes}
+
+-- a payload of bytes whose length has four bytes (the limit on a simple reply is this project's choice)
+abbrev pub IsPayload : List ℕ → Type 0
+IsPayload payload = (length payload < 2 ^ 32) × AreBytes payload
+
+-- each number fits its field, and a request carries bytes where it is a WRITE, as many as its length
+-- says (proto.md, "Request message")
+unfoldable pub IsSendable : Message → Type 0
+IsSendable (Greeting flags) = flags < 2 ^ 16
+IsSendable (ClientFlags flags) = flags < 2 ^ 32
+IsSendable (Choice id payload) = (id < 2 ^ 32) × IsPayload payload
+IsSendable (Answer option kind payload) = (option < 2 ^ 32) × (kind < 2 ^ 32) × IsPayload payload
+IsSendable (Exported size flags padded) = (size < 2 ^ 64) × (flags < 2 ^ 16)
+IsSendable (Request flags command cookie offset len payload) =
+    (flags < 2 ^ 16) × (command < 2 ^ 16) × (cookie < 2 ^ 64) × (offset < 2 ^ 64) × (len < 2 ^ 32)
+    × (length payload ≡ (if command == commands.WRITE then len else 0)) × AreBytes payload
+IsSendable (Simple error cookie payload) = (error < 2 ^ 32) × (cookie < 2 ^ 64) × IsPayload payload
+IsSendable (Chunk flags kind cookie payload) = (flags < 2 ^ 16) × (kind < 2 ^ 16) × (cookie < 2 ^ 64) × IsPayload payload

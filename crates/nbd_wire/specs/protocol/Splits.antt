@@ -1,0 +1,77 @@
+-- The place of a refusal: a run but for open bytes, at which a line of the table of faults holds, and no line at any byte before.
+use Rattle.std.specs.Prelude.{List, [], ◌∷◌, ◌++◌, ◌≡◌, ◌<◌, ◌&&◌, ◌||◌, not, Bool, true, false, if◌then◌else◌, Option, Some, None, ℕ}
+use Rattle.nbd_wire.specs.declared.fault.WireFault.{WireFault}
+use Rattle.nbd_wire.specs.declared.message.Message.{Message}
+use Rattle.nbd_wire.specs.declared.message.Side.{Side}
+use Rattle.nbd_wire.specs.declared.message.Side.TheVariants.{Client, Server}
+use Rattle.nbd_wire.specs.protocol.Marks.{Item, Byte, Starts, Completes, Serves, completed_messages, pairs}
+use Rattle.nbd_wire.specs.protocol.Captures.{Pair, ArePairs}
+use Rattle.nbd_wire.specs.protocol.Rows.{IsWhole, Row, rank}
+use Rattle.nbd_wire.specs.protocol.Rules.{IsRunBut, complete, ends_at}
+use Rattle.nbd_wire.specs.protocol.Sides.{same_side}
+use Rattle.nbd_wire.specs.protocol.States.{Core, start}
+
+-- a message of the side completes in these items
+abbrev pub completes_in : Side → List Item → Bool
+completes_in s [] = false
+completes_in s (Byte t b ∷ items) = completes_in s items
+completes_in s (Starts t m ∷ items) = completes_in s items
+completes_in s (Completes t m ∷ items) = same_side s t || completes_in s items
+completes_in s (Serves k ∷ items) = completes_in s items
+
+-- the open bytes of a side: those after its last completed message
+abbrev pub open_bytes : Side → List Item → List ℕ
+open_bytes s [] = []
+open_bytes s (Byte t b ∷ items) = if same_side s t && not (completes_in s items) then b ∷ open_bytes s items else open_bytes s items
+open_bytes s (Starts t m ∷ items) = open_bytes s items
+open_bytes s (Completes t m ∷ items) = open_bytes s items
+open_bytes s (Serves k ∷ items) = open_bytes s items
+
+-- what had completed, from this core on, before the first open byte of a side; where there is none, before the end
+abbrev pub since_from : Side → Core → List Item → Core
+since_from s core [] = core
+since_from s core (Byte t b ∷ items) = if same_side s t && not (completes_in s items) then core else since_from s core items
+since_from s core (Starts t m ∷ items) = since_from s core items
+since_from s core (Completes t m ∷ items) = since_from s (complete core m) items
+since_from s core (Serves k ∷ items) = since_from s core items
+
+-- whose byte is the last
+abbrev pub last_or : Option Side → List Item → Option Side
+last_or last [] = last
+last_or last (Byte t b ∷ items) = last_or (Some t) items
+last_or last (Starts t m ∷ items) = last_or last items
+last_or last (Completes t m ∷ items) = last_or last items
+last_or last (Serves k ∷ items) = last_or last items
+
+-- the line of a fault holds of the side whose byte is the last
+pub record HoldsAt (fault : WireFault) (items : List Item) : Type 0 where
+  pub s : Side
+  pub is_last : last_or None items ≡ Some s
+  pub row : Row fault (since_from s start.core items) (ends_at start items).core s (open_bytes s items)
+
+-- the open bytes of the side whose byte is the last are a whole message
+pub record IsWholeAt (items : List Item) : Type 0 where
+  pub s : Side
+  pub is_last : last_or None items ≡ Some s
+  pub whole : IsWhole (since_from s start.core items) (ends_at start items).core s (open_bytes s items)
+
+-- a run but for open bytes that has these bytes and messages; each byte is below 256
+pub record IsSplit (items : List Item) (ps : List Pair) (messages : List Message) : Type 0 where
+  pub run : IsRunBut items (open_bytes Client items) (open_bytes Server items)
+  pub are_pairs : ArePairs ps
+  pub has_pairs : pairs items ≡ ps
+  pub has_messages : completed_messages items ≡ messages
+
+-- before each byte no line holds and no message is whole and not complete
+abbrev pub IsClear : List Item → Type 0
+IsClear items = (before more : List Item) (s : Side) (b : ℕ) → items ≡ before ++ Byte s b ∷ more →
+    ((fault : WireFault) → HoldsAt fault before → ⊥) × (IsWholeAt before → ⊥)
+
+-- the place of these bytes is the last of them, with this fault: of a split of them with these messages the fault's line holds at the
+-- last byte, no earlier line of the table does, and at no byte before any line does
+pub record IsPlace (ps : List Pair) (messages : List Message) (fault : WireFault) : Type 0 where
+  pub items : List Item
+  pub split : IsSplit items ps messages
+  pub holds : HoldsAt fault items
+  pub lowest : (other : WireFault) → rank other < rank fault → HoldsAt other items → ⊥
+  pub first : IsClear items

@@ -1,0 +1,81 @@
+-- What the completed messages of a session have led to.
+use Rattle.std.specs.Prelude.{◌≡◌, ◌⊎◌, ℕ, zero, suc, List, [], ◌∷◌, ◌++◌, ◌==◌, ◌&&◌, not, Bool, false, if◌then◌else◌, Option, Some, None}
+use Rattle.nbd_wire.specs.declared.message.Message.{Message}
+use Rattle.nbd_wire.specs.protocol.Operations.{Exporting, Operation, is_finished}
+
+-- where the session stands (proto.md, "Newstyle negotiation", "Transmission")
+pub data Phase : Type 0 where
+  -- nothing has come
+  Greet : Phase
+  -- the server has greeted
+  Flags : Phase
+  -- the client may choose an option
+  Choosing : Phase
+  -- EXPORT_NAME was chosen
+  Naming : Phase
+  -- ABORT was chosen
+  Aborting : Phase
+  -- another option was chosen: its number, its data, and the last EXPORT info that came since
+  Answering : (option : ℕ) (payload : List ℕ) (info : Option Exporting) → Phase
+  -- ABORT was answered
+  Ended : Phase
+  -- requests and replies
+  Transmission : (export : Exporting) → Phase
+
+-- the phase, the server's handshake flags, the client's flags, whether structured replies are in
+-- force, whether the client has sent DISC, and the numbered requests
+pub record Core : Type 0 where
+  pub phase : Phase
+  pub offered : ℕ
+  pub client_flags : ℕ
+  pub structured : Bool
+  pub disconnected : Bool
+  pub entries : List Operation
+
+-- the same, and the numbers of the requests that were served
+pub record State : Type 0 where
+  pub core : Core
+  pub served : List ℕ
+
+-- before the first byte
+abbrev pub start : State
+start = record {
+  core = record { phase = Greet; offered = 0; client_flags = 0; structured = false; disconnected = false; entries = [] };
+  served = [];
+}
+
+-- the request is outstanding and has this cookie (proto.md, "Ordering of messages and writes")
+abbrev pub is_awaiting : ℕ → Operation → Bool
+is_awaiting cookie e = (e.cookie == cookie) && not (is_finished e)
+
+-- the number of the first outstanding request with this cookie, counted on from n
+abbrev pub target_from : ℕ → ℕ → List Operation → Option ℕ
+target_from n cookie [] = None
+target_from n cookie (e ∷ entries) = if is_awaiting cookie e then Some (suc n) else target_from (suc n) cookie entries
+
+-- the number of the outstanding request with this cookie
+unfoldable pub target : ℕ → List Operation → Option ℕ
+target cookie entries = target_from 0 cookie entries
+
+-- request k, counted from 1
+abbrev pub operation : ℕ → List Operation → Option Operation
+operation k [] = None
+operation zero (e ∷ entries) = None
+operation (suc zero) (e ∷ entries) = Some e
+operation (suc (suc k)) (e ∷ entries) = operation (suc k) entries
+
+-- a request with one more reply
+abbrev pub with_reply : Operation → Message → Operation
+with_reply e m = record e { replies = e.replies ++ m ∷ [] }
+
+-- request k has one more reply
+abbrev pub with_reply_at : ℕ → Message → List Operation → List Operation
+with_reply_at k m [] = []
+with_reply_at zero m (e ∷ entries) = e ∷ entries
+with_reply_at (suc zero) m (e ∷ entries) = with_reply e m ∷ entries
+with_reply_at (suc (suc k)) m (e ∷ entries) = e ∷ with_reply_at (suc k) m entries
+
+-- the list names k
+abbrev pub Names : List ℕ → ℕ → Type 0
+Names [] k = ⊥
+Names (j ∷ js) k = (j ≡ k) ⊎ Names js k
