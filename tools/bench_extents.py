@@ -15,6 +15,7 @@ top builds it. Not part of the gate. With --list the shapes are listed.
 import argparse
 import os
 import random
+import resource
 import subprocess
 import sys
 import tempfile
@@ -164,10 +165,10 @@ def timed(words, runs):
     """The best processor time of some runs, and what the last one wrote."""
     best = None
     for _ in range(runs):
-        before = os.times()
+        before = resource.getrusage(resource.RUSAGE_CHILDREN)
         done = subprocess.run(words, capture_output=True, check=False)
-        after = os.times()
-        took = after.children_user + after.children_system - before.children_user - before.children_system
+        after = resource.getrusage(resource.RUSAGE_CHILDREN)
+        took = after.ru_utime + after.ru_stime - before.ru_utime - before.ru_stime
         best = took if best is None else min(best, took)
     return best, (done.stdout + done.stderr).decode(errors="replace").strip().split("\n")[0]
 

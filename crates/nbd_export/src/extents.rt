@@ -1,6 +1,6 @@
 //! Contents by ranges: what costs is the ranges and the bytes that a call names, never the export's size.
 
-ghost use Rattle.std.specs.Prelude.{◌≡◌, ◌==◌, ◌+◌, ◌<◌, ◌≤◌, ℕ, if◌then◌else◌, IfOk, OnErr, OnOk, length};
+ghost use Rattle.std.specs.Prelude.{◌≡◌, ◌==◌, ◌+◌, ◌<◌, ◌≤◌, ℕ, if◌then◌else◌, IfOk, IsOk, OnErr, OnOk, length};
 ghost use Rattle.nbd_export.specs.Extents.{Becomes, byte_of, range_count, size_of};
 ghost use Rattle.nbd_export.specs.RangeKinds.{kind_of};
 ghost use Rattle.nbd_export.specs.Ranges.{AreSameBelow, DiffersIn, IsLeast, bytes_from, unknown, zeroes};
@@ -17,7 +17,8 @@ use std::alloc::{AllocError, Global};
 /// Contents by ranges: each range is unknown, or zeroes, or bytes, and the bytes lie in pages.
 ///
 /// A change costs the logarithm of the number of ranges, and the bytes that it names: where a range is
-/// split, or two are joined, no byte is copied. A page that is written once is kept, also where its bytes
+/// split, or two are joined, no byte is copied. It raises the number of ranges by two at most; a change of
+/// a range without bytes is Ok, takes no memory and leaves all as it was. A page that is written once is kept, also where its bytes
 /// are zeroes or unknown later; it then means nothing.
 #[derive(Drop)]
 pub struct Extents {
@@ -103,7 +104,7 @@ impl Contents for Extents {
         ensures done { OnOk result (Becomes self.old self.new offset (length bytes.now) (bytes_from offset bytes.now)) }
         ensures refused { OnErr result (AreSameBelow (size_of self.old) (byte_of self.new) (byte_of self.old)) }
         ensures ranges { range_count self.new ≤ range_count self.old + 2 }
-        ensures empty { length bytes.now ≡ 0 → range_count self.new ≡ range_count self.old }
+        ensures empty { length bytes.now ≡ 0 → IsOk result × (range_count self.new ≡ range_count self.old) }
         ensures refused_ranges { OnErr result (range_count self.new ≡ range_count self.old) }
     {
         if bytes.is_empty() {
@@ -122,7 +123,7 @@ impl Contents for Extents {
         ensures done { OnOk result (Becomes self.old self.new offset len zeroes) }
         ensures refused { OnErr result (AreSameBelow (size_of self.old) (byte_of self.new) (byte_of self.old)) }
         ensures ranges { range_count self.new ≤ range_count self.old + 2 }
-        ensures empty { len ≡ 0 → range_count self.new ≡ range_count self.old }
+        ensures empty { len ≡ 0 → IsOk result × (range_count self.new ≡ range_count self.old) }
         ensures refused_ranges { OnErr result (range_count self.new ≡ range_count self.old) }
     {
         if len > 0 {
@@ -137,7 +138,7 @@ impl Contents for Extents {
         ensures done { OnOk result (Becomes self.old self.new offset len unknown) }
         ensures refused { OnErr result (AreSameBelow (size_of self.old) (byte_of self.new) (byte_of self.old)) }
         ensures ranges { range_count self.new ≤ range_count self.old + 2 }
-        ensures empty { len ≡ 0 → range_count self.new ≡ range_count self.old }
+        ensures empty { len ≡ 0 → IsOk result × (range_count self.new ≡ range_count self.old) }
         ensures refused_ranges { OnErr result (range_count self.new ≡ range_count self.old) }
     {
         if len > 0 {

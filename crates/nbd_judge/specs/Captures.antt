@@ -1,10 +1,10 @@
 -- What the verdict on a capture says.
-use Rattle.std.specs.Prelude.{ℕ, List, ◌≡◌, map}
+use Rattle.std.specs.Prelude.{ℕ, List, ◌≡◌, ◌↔◌, map}
 use Rattle.std.specs.declared.alloc.Global.{Global}
 use Rattle.std.specs.declared.vec.Vec.{Vec}
 use Rattle.nbd_wire.specs.declared.message.Message.{Message}
 use Rattle.nbd_wire.specs.declared.message.Side.{Side}
-use Rattle.nbd_wire.specs.protocol.Explains.{Start}
+use Rattle.nbd_wire.specs.protocol.Explains.{Explained, Start}
 use Rattle.nbd_wire.specs.protocol.Marks.{Item, pairs}
 use Rattle.nbd_wire.specs.protocol.Captures.{Pair}
 use Rattle.nbd_wire.specs.protocol.Reports.{report}
@@ -50,3 +50,7 @@ IsChecked capture order initial (Content request offset) = HasVerdict capture or
 abbrev pub SaysYes : Verdict → Type 0
 SaysYes (Yes of_requests of_answered of_improper) = Unit {0}
 SaysYes _ = ⊥
+
+-- the verdict is a yes exactly where the order explains the capture
+abbrev pub AnswersExactly : List Pair → List ℕ → Start → Verdict → Type 0
+AnswersExactly capture order initial v = SaysYes v ↔ Explained capture order initial

@@ -1,10 +1,9 @@
 //! The verdict on a capture.
 
-ghost use Rattle.std.specs.Prelude.{◌<◌, ◌^◌, ◌↔◌, IfErr, IfOk, length};
-ghost use Rattle.nbd_wire.specs.protocol.Explains.{Explained};
+ghost use Rattle.std.specs.Prelude.{◌<◌, ◌^◌, IfErr, IfOk, length};
 ghost use Rattle.nbd_wire.specs.protocol.Captures.{flat};
 ghost use Rattle.nbd_judge.specs.Beginnings.{initial_of};
-ghost use Rattle.nbd_judge.specs.Captures.{IsChecked, IsFaultOf, SaysYes, chunks_told};
+ghost use Rattle.nbd_judge.specs.Captures.{AnswersExactly, IsChecked, IsFaultOf, chunks_told};
 ghost use Rattle.nbd_judge.specs.internal.Captures.{IsTold};
 
 use crate::{Verdict, conclude};
@@ -26,8 +25,7 @@ pub fn check(
     requires { length (flat (chunks_told chunks.now)) < 2 ^ 63 }
     ensures verdict { IfOk result (IsChecked (flat (chunks_told chunks.now)) order.now (initial_of start)) }
     // Yes is said of exactly the captures that the order explains.
-    ensures exactly { IfOk result (λ v. SaysYes v
-        ↔ Explained (flat (chunks_told chunks.now)) order.now (initial_of start)) }
+    ensures exactly { IfOk result (AnswersExactly (flat (chunks_told chunks.now)) order.now (initial_of start)) }
 {
     let finished = session_over(alloc, chunks);
     conclude(alloc, finished, order, start)

@@ -18,8 +18,8 @@ use Rattle.nbd_wire.specs.protocol.Reports.{Asked, operations_of, export_in, exp
 use Rattle.nbd_wire.specs.protocol.Operations.{Covers, Operation, Exporting, Outcome, Success, Pending, any, ends_reply, has_failed, has_range, is_failing, is_finished, is_proper, outcome, pieces, pieces_of}
 use Rattle.nbd_wire.specs.protocol.Pieces.{byte_at, chunk_piece, holds, is_in, piece_of, piece_offset, piece_size, simple_piece}
 use Rattle.nbd_wire.specs.protocol.Flags.{has}
-use Rattle.nbd_wire.specs.protocol.Flags as requests_flags
 use Rattle.nbd_wire.specs.protocol.Operations as requests
+use Rattle.nbd_wire.specs.protocol.Flags as requests_flags
 use Rattle.nbd_wire.specs.protocol.Rules.{MayComplete, request_of_reply, complete, ends_at, reply_to, core_with_request}
 use Rattle.nbd_wire.specs.protocol.Sendable.{IsSendable}
 use Rattle.nbd_wire.specs.protocol.States.{Core, Phase, Greet, Flags, Choosing, Naming, Aborting, Answering, Ended, Transmission, with_reply_at, operation, start, target, with_reply}

@@ -1,25 +1,24 @@
 -- In a run no line of the table of faults holds before a byte: its messages are judged to go on until they complete.
-use Rattle.std.proofs.Common.{◌≡◌, ℕ, ◌<◌, List, [], ◌∷◌, ◌++◌, length, refl, sym, ◌∙◌, ap, subst, inl, inr, Option, Some, None, Result, Ok, Err}
+use Rattle.std.proofs.Common.{◌≡◌, ℕ, List, [], ◌∷◌, ◌++◌, length, refl, sym, ◌∙◌, ap, subst, Some, None, Result, Ok, Err}
 use Rattle.nbd_wire.specs.declared.fault.WireFault.{WireFault}
 use Rattle.nbd_wire.specs.declared.message.Message.{Message}
 use Rattle.nbd_wire.specs.declared.message.Side.{Side}
 use Rattle.nbd_wire.specs.declared.message.Side.TheVariants.{Client, Server}
-use Rattle.nbd_wire.specs.protocol.Encoding.{enc}
 use Rattle.nbd_wire.specs.protocol.Captures.{ArePairs, Pair}
-use Rattle.nbd_wire.specs.protocol.Marks.{Item, Byte, Starts, Completes, Serves, pairs}
+use Rattle.nbd_wire.specs.protocol.Marks.{Item, pairs}
 use Rattle.nbd_wire.specs.protocol.Rows.{IsWhole, Row}
-use Rattle.nbd_wire.specs.protocol.Rules.{IsRun, MayComplete, Obeys, complete, ends_at}
+use Rattle.nbd_wire.specs.protocol.Rules.{IsRun, Obeys, complete, ends_at}
 use Rattle.nbd_wire.specs.protocol.Splits.{HoldsAt, IsClear, IsSplit, IsWholeAt, last_or, open_bytes, since_from}
 use Rattle.nbd_wire.specs.protocol.States.{Core, start}
 use Rattle.nbd_wire.specs.protocol.Within.{Begins, within}
-use Rattle.nbd_laws.proofs.machine.MachineLemmas.{AreHeld, Busy, Idle, IsExact, IsMore, IsMoreAt, IsSound, Kept, Loose, Open, Tracks, Walk, ended, final, get-put_same, held_more, held_whole, kept_next, led, loose, middle, opening, reads_held, serving, with_byte}
-use Rattle.nbd_laws.specs.internal.Machine.{Bad, Both, IsFilled, Judge, Machine, More, Reading, Rest, Whole, fresh, get, grown, old_of, on_ok, put, reads, settle, step}
+use Rattle.nbd_laws.proofs.machine.MachineLemmas.{AreHeld, Busy, IsExact, IsMore, IsMoreAt, IsSound, Kept, Open, Tracks, Walk, ended, final, get-put_same, held_more, held_whole, kept_next, led, loose, middle, opening, reads_held, serving, with_byte}
+use Rattle.nbd_laws.specs.internal.Machine.{Bad, Both, Judge, Machine, More, Reading, Rest, Whole, fresh, get, grown, old_of, on_ok, put, reads, settle}
 use Rattle.nbd_laws.proofs.runs.FollowLemmas.{HasEnd, IsSidedOpen, completes_later, each_with, follows}
 use Rattle.nbd_laws.proofs.machine.MarkLemmas.{AreInStep, InStep, IsRead, in_step_completed, in_step_sided, in_step_with, within_middle, within_opening}
 use Rattle.nbd_laws.proofs.runs.RunLemmas.{fresh_canonical, fresh_held, marks_law, walk_of}
 use Rattle.nbd_laws.proofs.runs.TraceLemmas.{IsTrace, led_whole, trace, tracks_more}
 use Rattle.nbd_laws.proofs.runs.PlacingLemmas.{HasNone, IsTelling, at_machine, clear_of, grown_by, last_of_pairs, more_none, split_of, to_held}
-use Rattle.nbd_laws.proofs.runs.PlaceLemmas.{HasLast, are_prefix, are_last as last_byte, last_of, none_last, reads-append}
+use Rattle.nbd_laws.proofs.runs.PlaceLemmas.{are_prefix, are_last as last_byte, last_of, none_last, reads-append}
 
 module _ (judge : Judge) (exact : IsExact judge) where
   judged_more : (core : Core) (rest : Rest) (s : Side) (m : Message) (left : List ℕ) → InStep core rest s (Busy m left) → HasEnd s core m → Kept judge s rest.since core rest.bytes → judge rest.since core s rest.bytes ≡ More

@@ -1,14 +1,12 @@
 -- A run but for open bytes without them is a run.
-use Rattle.std.proofs.Common.{◌≡◌, ℕ, zero, suc, ◌<◌, ◌-◌, List, [], ◌∷◌, ◌++◌, length, refl, sym, ◌∙◌, ap, subst, append-nil, arith, Bool, true, false, nat_lt, if◌then◌else◌}
+use Rattle.std.proofs.Common.{◌≡◌, ℕ, suc, ◌-◌, List, [], ◌∷◌, length, refl, sym, ◌∙◌, ap, subst, append-nil, arith, Bool, if◌then◌else◌}
 use Rattle.std.proofs.lemmas.Bool.{lt-ltb}
 use Rattle.nbd_wire.specs.declared.message.Side.{Side}
 use Rattle.nbd_wire.specs.declared.message.Side.TheVariants.{Client, Server}
-use Rattle.nbd_wire.specs.declared.message.Message.{Message}
 use Rattle.nbd_wire.specs.protocol.Marks.{Item, Byte, Starts, Completes, Serves, completed_messages, pairs}
 use Rattle.nbd_wire.specs.protocol.Captures.{Pair}
 use Rattle.nbd_wire.specs.Pushed.{bytes_of}
-use Rattle.nbd_wire.specs.protocol.Rules.{IsRun, IsRunBut, Obeys, after}
-use Rattle.nbd_wire.specs.protocol.Sides.{same_side}
+use Rattle.nbd_wire.specs.protocol.Rules.{IsRun, Obeys}
 use Rattle.nbd_wire.specs.protocol.States.{State, start}
 use Rattle.nbd_laws.specs.Bytes.{OpenBytesEndRuns, first_bytes}
 use Rattle.nbd_laws.specs.Holding.{bytes_from}

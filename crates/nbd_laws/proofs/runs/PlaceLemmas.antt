@@ -9,15 +9,15 @@ use Rattle.nbd_wire.specs.declared.message.Side.TheVariants.{Client, Server}
 use Rattle.nbd_wire.specs.protocol.Captures.{ArePairs, Pair}
 use Rattle.nbd_wire.specs.protocol.Marks.{Item, Byte, Starts, Completes, Serves, completed_messages, pairs}
 use Rattle.nbd_wire.specs.protocol.Rows.{IsWhole, Row, rank}
-use Rattle.nbd_wire.specs.protocol.Rules.{IsRun, ends_at}
-use Rattle.nbd_wire.specs.protocol.Splits.{HoldsAt, IsClear, IsPlace, IsSplit, IsWholeAt, last_or, open_bytes, since_from}
+use Rattle.nbd_wire.specs.protocol.Rules.{ends_at}
+use Rattle.nbd_wire.specs.protocol.Splits.{HoldsAt, IsClear, IsPlace, IsSplit, last_or, open_bytes, since_from}
 use Rattle.nbd_wire.specs.protocol.States.{Core, start}
-use Rattle.nbd_wire.specs.protocol.Within.{Begins, BeginsNoRun, within}
+use Rattle.nbd_wire.specs.protocol.Within.{BeginsNoRun, within}
 use Rattle.nbd_laws.proofs.machine.MachineLemmas.{AreHeld, IsExact, IsSound, Kept, kept_next, led, reads_held, with_byte}
-use Rattle.nbd_laws.specs.internal.Machine.{Bad, Judge, Machine, More, Reading, Whole, fresh, get, grown, old_of, on_ok, reads, settle, step}
+use Rattle.nbd_laws.specs.internal.Machine.{Bad, Judge, Machine, More, Reading, Whole, fresh, get, old_of, on_ok, reads, settle, step}
 use Rattle.nbd_laws.proofs.runs.BlockLemmas.{walked}
 use Rattle.nbd_laws.proofs.runs.RunLemmas.{fresh_held, no_run}
-use Rattle.nbd_laws.proofs.runs.PlacingLemmas.{HasNone, IsTelling, Tells, at_machine, from_held, from_machine, grown_by, last_of_pairs, to_held}
+use Rattle.nbd_laws.proofs.runs.PlacingLemmas.{IsTelling, Tells, at_machine, from_held, from_machine, grown_by, last_of_pairs, to_held}
 use Rattle.nbd_laws.proofs.runs.SplitLemmas.{IsReadBefore, marks_but}
 
 -- the fault of a line of the table

@@ -1,18 +1,18 @@
 -- Where a machine answers a fault is the place of that fault, over any judge that speaks in the words of the table of faults.
-use Rattle.std.proofs.Common.{◌≡◌, ℕ, ◌<◌, ◌⊎◌, List, [], ◌∷◌, ◌++◌, length, refl, sym, ◌∙◌, ap, subst, inl, inr, Bool, true, false, Option, Some, None, Ok, arith}
+use Rattle.std.proofs.Common.{◌≡◌, ℕ, ◌<◌, ◌⊎◌, List, [], ◌∷◌, ◌++◌, refl, sym, ◌∙◌, ap, subst, inl, inr, Bool, true, false, Option, Some, None, Ok}
 use Rattle.nbd_wire.specs.declared.fault.WireFault.{WireFault}
 use Rattle.nbd_wire.specs.declared.message.Message.{Message}
 use Rattle.nbd_wire.specs.declared.message.Side.{Side}
 use Rattle.nbd_wire.specs.declared.message.Side.TheVariants.{Client, Server}
 use Rattle.nbd_wire.specs.protocol.Captures.{ArePairs, Pair}
-use Rattle.nbd_wire.specs.protocol.Marks.{Item, Byte, Starts, Completes, Serves, completed_messages, pairs, IsMarkedBut}
+use Rattle.nbd_wire.specs.protocol.Marks.{Item, Byte, Starts, Completes, Serves, pairs, IsMarkedBut}
 use Rattle.nbd_wire.specs.protocol.Rows.{IsWhole, Row, rank}
-use Rattle.nbd_wire.specs.protocol.Rules.{IsRunBut, ends_at}
-use Rattle.nbd_wire.specs.protocol.Splits.{HoldsAt, IsClear, IsPlace, IsSplit, IsWholeAt, completes_in, last_or, open_bytes, since_from}
-use Rattle.nbd_wire.specs.protocol.States.{Core, State, start}
-use Rattle.nbd_laws.proofs.machine.MachineLemmas.{old-filled, IsFilled-snoc, Kept, AreHeld, kept_next, reads_held, led, with_byte, IsMore, Tracks, get-put_same, get-put_other, Open, Idle, Walk, IsSound, ended_by}
-use Rattle.nbd_laws.specs.internal.Machine.{Both, get, put, IsFilled, Rest, Machine, Reading, More, Whole, Bad, old_of, old_by, Judge, grown, reads, fresh}
-use Rattle.nbd_laws.proofs.runs.TraceLemmas.{IsTrace, trace, trace_then, more_step, at_end, IsStray}
+use Rattle.nbd_wire.specs.protocol.Rules.{ends_at}
+use Rattle.nbd_wire.specs.protocol.Splits.{IsClear, IsPlace, IsSplit, completes_in, last_or, open_bytes, since_from}
+use Rattle.nbd_wire.specs.protocol.States.{Core, start}
+use Rattle.nbd_laws.proofs.machine.MachineLemmas.{old-filled, IsFilled-snoc, Kept, kept_next, reads_held, led, with_byte, IsMore, Tracks, get-put_same, Walk, IsSound, ended_by}
+use Rattle.nbd_laws.specs.internal.Machine.{get, put, IsFilled, Rest, Machine, Reading, More, Whole, Bad, old_of, Judge, grown, reads, fresh}
+use Rattle.nbd_laws.proofs.runs.TraceLemmas.{IsTrace, trace_then, more_step, at_end, IsStray}
 use Rattle.nbd_laws.proofs.runs.BlockLemmas.{marked, Idles}
 use Rattle.nbd_laws.proofs.runs.RunLemmas.{fresh_held, idle_at, both_idle, fresh_canonical}
 use Rattle.nbd_laws.proofs.runs.TrackLemmas.{IsTracked, tracked, bytes_by, since_by}

@@ -1,21 +1,17 @@
 -- The bytes of a split at which no line of the table of faults holds before the last of them are read so: the law of marks, with open bytes.
-use Rattle.std.proofs.Common.{◌≡◌, ℕ, suc, zero, ◌<◌, ◌⊎◌, List, [], ◌∷◌, ◌++◌, length, refl, sym, ◌∙◌, ap, subst, inl, inr, Option, Some, None, Ok, append_assoc, append-nil}
-use Rattle.nbd_wire.specs.declared.fault.WireFault.{WireFault}
+use Rattle.std.proofs.Common.{◌≡◌, ℕ, ◌<◌, ◌⊎◌, List, [], ◌∷◌, ◌++◌, length, refl, sym, ◌∙◌, ap, subst, inl, inr, Option, Some, Ok, append_assoc, append-nil}
 use Rattle.nbd_wire.specs.declared.message.Side.{Side}
-use Rattle.nbd_wire.specs.declared.message.Side.TheVariants.{Client, Server}
 use Rattle.nbd_wire.specs.declared.message.Message.{Message}
-use Rattle.nbd_wire.specs.protocol.Encoding.{enc}
 use Rattle.nbd_wire.specs.protocol.Sides.{side}
 use Rattle.nbd_wire.specs.protocol.Marks.{Item, Byte, Starts, Completes, Serves, pairs}
 use Rattle.nbd_wire.specs.protocol.Captures.{Pair, ArePairs}
 use Rattle.nbd_wire.specs.protocol.States.{Core}
-use Rattle.nbd_wire.specs.protocol.Sendable.{IsSendable}
 use Rattle.nbd_wire.specs.protocol.Rows.{IsWhole, Row}
-use Rattle.nbd_wire.specs.protocol.Rules.{MayStart, MayComplete, complete, Obeys}
+use Rattle.nbd_wire.specs.protocol.Rules.{MayComplete, complete, Obeys}
 use Rattle.nbd_wire.specs.protocol.Splits.{last_or}
 use Rattle.nbd_wire.specs.protocol.Within.{within}
-use Rattle.nbd_laws.proofs.machine.MachineLemmas.{IsFilled-snoc, old-empty, old-filled, Kept, AreHeld, kept_next, held_more, held_whole, get-put_same, get-put_other, same_or_not, Open, Idle, Busy, Loose, IsNotBusy, Walk, ended, ended_by, serving, opening, middle, final, loose, led, with_byte, Later, at_once, behind, Later-trans, IsExact}
-use Rattle.nbd_laws.specs.internal.Machine.{Both, get, put, IsFilled, Rest, Machine, Reading, More, Whole, Bad, old_of, settle, Judge, grown, reads, on_ok}
+use Rattle.nbd_laws.proofs.machine.MachineLemmas.{old-filled, Kept, AreHeld, kept_next, held_more, held_whole, get-put_same, get-put_other, same_or_not, Open, Idle, Busy, Loose, Walk, ended, ended_by, serving, opening, middle, final, loose, led, with_byte, Later, at_once, behind, Later-trans, IsExact}
+use Rattle.nbd_laws.specs.internal.Machine.{Both, get, put, Rest, Machine, Reading, More, Whole, Bad, old_of, settle, Judge, grown, reads, on_ok}
 use Rattle.nbd_laws.proofs.runs.FollowLemmas.{HasEnd, IsSidedOpen, completes_later, each_with, follows}
 use Rattle.nbd_laws.proofs.machine.MarkLemmas.{within_opening, within_middle}
 use Rattle.nbd_laws.proofs.runs.TraceLemmas.{IsWithin, led_whole}

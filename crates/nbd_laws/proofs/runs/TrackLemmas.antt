@@ -1,12 +1,12 @@
 -- The open bytes of a side and what had completed before them, as functions of the items, are those of the machine.
-use Rattle.std.proofs.Common.{◌≡◌, ℕ, ◌⊎◌, List, [], ◌∷◌, ◌++◌, refl, sym, ◌∙◌, ap, subst, inl, inr, Bool, true, false, not, ◌&&◌, ◌||◌, if◌then◌else◌, append_assoc, append-nil}
+use Rattle.std.proofs.Common.{◌≡◌, ℕ, List, [], ◌∷◌, ◌++◌, refl, sym, ◌∙◌, ap, subst, inl, inr, Bool, true, false, not, ◌&&◌, ◌||◌, if◌then◌else◌, append_assoc, append-nil}
 use Rattle.nbd_wire.specs.declared.message.Side.{Side}
 use Rattle.nbd_wire.specs.declared.message.Side.TheVariants.{Client, Server}
 use Rattle.nbd_wire.specs.declared.message.Message.{Message}
 use Rattle.nbd_wire.specs.protocol.Sides.{same_side}
 use Rattle.nbd_wire.specs.protocol.Marks.{Item, Byte, Starts, Completes, Serves}
-use Rattle.nbd_wire.specs.protocol.States.{Core, State}
-use Rattle.nbd_wire.specs.protocol.Rules.{complete, after, ends_at}
+use Rattle.nbd_wire.specs.protocol.States.{Core}
+use Rattle.nbd_wire.specs.protocol.Rules.{complete, ends_at}
 use Rattle.nbd_wire.specs.protocol.Splits.{completes_in, open_bytes, since_from}
 use Rattle.nbd_laws.proofs.machine.MachineLemmas.{led, ended_by, get-put_same, get-put_other, same_or_not}
 use Rattle.nbd_laws.specs.internal.Machine.{Both, get, put, Rest, Machine, grown, old_of, old_by}

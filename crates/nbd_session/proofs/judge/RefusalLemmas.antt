@@ -8,13 +8,13 @@ use Rattle.nbd_wire.specs.protocol.Marks.{Item, Byte, Starts, Completes, Serves,
 use Rattle.nbd_wire.specs.protocol.Captures.{Pair, ArePairs, side_pairs}
 use Rattle.nbd_wire.specs.Pushed.{bytes_of}
 use Rattle.nbd_wire.specs.protocol.Rules.{IsRun}
-use Rattle.nbd_wire.specs.protocol.Within.{Begins, BeginsNoRun, CompletesExactly, IsOfNoRun, within}
+use Rattle.nbd_wire.specs.protocol.Within.{CompletesExactly, IsOfNoRun, within}
 use Rattle.nbd_wire.specs.declared.fault.WireFault.{WireFault}
 use Rattle.nbd_wire.specs.declared.fault.WireFault.TheVariants.{Unfinished}
 use Rattle.nbd_laws.proofs.machine.MachineLemmas.{AreHeld}
 use Rattle.nbd_laws.specs.internal.Machine.{Bad, IsFilled, Machine, More, Reading, Rest, Whole, fresh, get, grown, old_of, on_ok, reads, settle, step}
 use Rattle.nbd_laws.proofs.machine.MarkLemmas.{IsRead}
-use Rattle.nbd_laws.proofs.runs.RunLemmas.{marks_law, no_run}
+use Rattle.nbd_laws.proofs.runs.RunLemmas.{marks_law}
 use Rattle.nbd_session.specs.declared.fault.SessionFault.{SessionFault}
 use Rattle.nbd_session.specs.declared.fault.SessionFault.TheVariants.{Memory, Wire}
 use Rattle.nbd_session.specs.declared.held.Held.{Held}

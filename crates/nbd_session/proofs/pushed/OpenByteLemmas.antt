@@ -10,12 +10,11 @@ use Rattle.nbd_wire.specs.protocol.Captures.{Pair, ArePairs, side_pairs}
 use Rattle.nbd_wire.specs.Pushed.{bytes_of}
 use Rattle.nbd_wire.specs.protocol.Rules.{IsRunBut, Obeys, after, complete}
 use Rattle.nbd_wire.specs.protocol.Sides.{side, same_side}
-use Rattle.nbd_wire.specs.protocol.States.{Core, State, start}
+use Rattle.nbd_wire.specs.protocol.States.{State, start}
 use Rattle.nbd_session.specs.internal.Concrete.{concrete}
-use Rattle.nbd_laws.proofs.machine.MachineLemmas.{AreHeld, Busy, Idle, IsSound, IsSoundAt, Loose, Open, Walk, ended, final, held_more, held_whole, kept_next, loose, middle, opening, serving, with_byte}
+use Rattle.nbd_laws.proofs.machine.MachineLemmas.{AreHeld, IsSound, IsSoundAt, Open, Walk, ended, final, held_more, held_whole, kept_next, loose, middle, opening, serving, with_byte}
 use Rattle.nbd_laws.specs.internal.Machine.{Bad, Both, Judge, Machine, More, Reading, Rest, Whole, fresh, get, grown, on_ok, put, reads, settle}
 use Rattle.nbd_laws.proofs.runs.BlockLemmas.{IsCalm, byte_other, byte_same, walked}
-use Rattle.nbd_laws.proofs.runs.FollowLemmas.{Follows, IsSidedOpen, each_with, follows}
 use Rattle.nbd_session.specs.internal.Standing.{with_more}
 use Rattle.nbd_laws.specs.Holding.{bytes_from}
 use Rattle.nbd_laws.proofs.runs.RunLemmas.{fresh_held, run_but_law}

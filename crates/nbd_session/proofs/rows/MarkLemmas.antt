@@ -1,10 +1,7 @@
 -- The laws of the table of faults, by the project's own judge.
-use Rattle.std.proofs.Common.{◌≡◌, List, [], ◌∷◌, ◌++◌, refl, sym, ◌∙◌, ap, subst, append_assoc, Ok, Err}
-use Rattle.nbd_wire.specs.declared.fault.WireFault.{WireFault}
-use Rattle.nbd_wire.specs.declared.message.Message.{Message}
+use Rattle.std.proofs.Common.{◌≡◌, List, [], ◌∷◌, ◌++◌, refl, sym, ◌∙◌, ap, append_assoc}
 use Rattle.nbd_wire.specs.protocol.Captures.{Pair}
-use Rattle.nbd_wire.specs.protocol.Splits.{IsPlace}
-use Rattle.nbd_laws.specs.internal.Machine.{fresh, on_ok, reads}
+use Rattle.nbd_laws.specs.internal.Machine.{fresh, reads}
 use Rattle.nbd_laws.proofs.runs.ClearLemmas.{beginning_clear, run_clear}
 use Rattle.nbd_laws.proofs.runs.PlaceLemmas as unique
 use Rattle.nbd_session.specs.internal.Concrete.{concrete}

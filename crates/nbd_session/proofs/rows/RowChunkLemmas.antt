@@ -1,5 +1,5 @@
 -- What is decided of a chunk, in the words of the table of faults.
-use Rattle.std.proofs.Common.{◌≡◌, ℕ, zero, suc, ◌+◌, ◌<◌, ◌≤◌, ◌≢◌, ◌⊎◌, ◌==◌, List, [], ◌∷◌, length, drop, refl, sym, ◌∙◌, ap, subst, inl, inr, Option, Some, None, Bool, true, false, not, ◌&&◌, ◌||◌, IsTrue, is_some, arith, eqb-true, eq-eqb, nat_le, nat_lt, if◌then◌else◌}
+use Rattle.std.proofs.Common.{◌≡◌, ℕ, zero, suc, ◌+◌, ◌<◌, ◌≤◌, ◌≢◌, ◌⊎◌, ◌==◌, List, [], ◌∷◌, length, drop, refl, sym, ◌∙◌, ap, subst, inl, inr, Option, Some, None, Bool, true, false, not, ◌&&◌, ◌||◌, IsTrue, is_some, arith, eqb-true, nat_le, nat_lt, if◌then◌else◌}
 use Rattle.std.proofs.lemmas.Bool.{eqb-false, leb-false, leb-true, le-leb, lt-ltb, ltb-true}
 use Rattle.nbd_wire.specs.declared.chunks.TheConstants as chunks
 use Rattle.nbd_wire.specs.declared.command_flags.TheConstants as command_flags
@@ -14,14 +14,14 @@ use Rattle.nbd_wire.specs.protocol.Replies.{IsChunk, IsContent}
 use Rattle.nbd_wire.specs.protocol.Operations.{Operation, Exporting, has_failed, is_proper, pieces}
 use Rattle.nbd_wire.specs.protocol.Pieces.{byte_at, holds, is_in, piece_byte, piece_offset, piece_size}
 use Rattle.nbd_wire.specs.protocol.Flags.{has}
-use Rattle.nbd_wire.specs.protocol.Rows.{BeginsChunk, BeginsSimple, FinishesWell, HasForm, IsAnswered, IsBadContent, IsMisplaced, IsWholeIn, RowIn, chunk_in, rank}
+use Rattle.nbd_wire.specs.protocol.Rows.{BeginsChunk, FinishesWell, HasForm, IsAnswered, IsBadContent, IsMisplaced, IsWholeIn, RowIn, chunk_in, rank}
 use Rattle.nbd_wire.specs.protocol.Rows.IsMisplaced.{to_no_read, before_range, after_range, overlaps, second}
 use Rattle.nbd_wire.specs.protocol.Rows.IsWholeIn.{whole_simple, whole_chunk}
 use Rattle.nbd_wire.specs.protocol.Rows.RowIn.{wrong_magic, neither_magic, not_fixed_newstyle, out_of_turn, wrong_option, bad_reply_kind, ack_with_payload, export_too_large, unknown_cookie, simple_forbidden, chunk_forbidden, bad_chunk, bad_content, incomplete_read, success_of_improper}
-use Rattle.nbd_wire.specs.protocol.States.{Core, Transmission, operation, target, with_reply}
+use Rattle.nbd_wire.specs.protocol.States.{Core, Transmission, target, with_reply}
 use Rattle.nbd_session.specs.internal.Decisions.{fault_if}
-use Rattle.nbd_session.specs.internal.JudgeTransmission.{chunk_fault, chunk_head_fault, chunk_last_fault, chunk_of, chunk_to, content_fault, done_fault, operation_of, finish_fault, fits_failure, fits_read, is_apart, is_apart_from, is_inside, is_no_piece, total}
-use Rattle.nbd_session.proofs.judge.BoolLemmas.{and_true, not_false, not_true, or_true}
+use Rattle.nbd_session.specs.internal.JudgeTransmission.{chunk_fault, chunk_head_fault, chunk_last_fault, chunk_to, content_fault, done_fault, operation_of, finish_fault, fits_failure, fits_read, is_apart, is_apart_from, is_inside, is_no_piece, total}
+use Rattle.nbd_session.proofs.judge.BoolLemmas.{and_true, not_false, not_true}
 use Rattle.nbd_session.proofs.judge.CoverLemmas.{ArePositive, covered, covered_total, no_overlap}
 use Rattle.nbd_session.proofs.judge.ExactTransmissionLemmas.{content_positive, pieces_positive}
 use Rattle.nbd_session.proofs.judge.PhaseLemmas.{IsAppended}

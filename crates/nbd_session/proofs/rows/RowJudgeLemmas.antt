@@ -1,6 +1,6 @@
 -- The judge says the lowest line that holds, whole where a message is whole and no line holds, and else more.
-use Rattle.std.proofs.Common.{◌≡◌, ℕ, ◌+◌, ◌<◌, ◌≤◌, ◌≢◌, ◌⊎◌, ◌==◌, List, [], ◌∷◌, ◌++◌, length, refl, sym, ◌∙◌, ap, subst, inl, inr, Option, Some, None, Bool, true, false, not, ◌&&◌, nat_le, arith, eq-eqb, length-append, append-nil}
-use Rattle.std.proofs.lemmas.Bool.{le-leb, leb-true}
+use Rattle.std.proofs.Common.{◌≡◌, ℕ, ◌<◌, ◌≤◌, ◌⊎◌, ◌==◌, List, [], ◌∷◌, ◌++◌, length, refl, sym, ◌∙◌, ap, subst, inl, inr, Option, Some, None, Bool, true, false, ◌&&◌, arith, eq-eqb, length-append, append-nil}
+use Rattle.std.proofs.lemmas.Bool.{le-leb}
 use Rattle.nbd_wire.specs.declared.fault.WireFault.{WireFault}
 use Rattle.nbd_wire.specs.declared.fault.WireFault.TheVariants.{BadMagic, OutOfTurn}
 use Rattle.nbd_wire.specs.declared.handshake.TheConstants as handshake
@@ -11,11 +11,11 @@ use Rattle.nbd_wire.specs.protocol.Options.{turn}
 use Rattle.nbd_wire.specs.protocol.Payloads.{number_at}
 use Rattle.nbd_wire.specs.protocol.Operations.{Operation, Exporting}
 use Rattle.nbd_wire.specs.protocol.Flags.{has}
-use Rattle.nbd_wire.specs.protocol.Rows.{BeginsChunk, BeginsSimple, IsHead, IsOutOfTurn, IsWhole, IsWholeIn, Row, RowIn, rank}
+use Rattle.nbd_wire.specs.protocol.Rows.{IsHead, IsOutOfTurn, IsWhole, IsWholeIn, Row, RowIn, rank}
 use Rattle.nbd_wire.specs.protocol.Rows.IsWholeIn.{whole_greeting, whole_flags, whole_choice, whole_export, whole_abort_answer, whole_answer, whole_request, whole_simple, whole_chunk}
 use Rattle.nbd_wire.specs.protocol.Rows.RowIn.{wrong_magic, neither_magic, not_fixed_newstyle, bad_client_flags, out_of_turn, wrong_option, bad_reply_kind, out_of_profile, ack_with_payload, bad_reply_payload, missing_export_info, no_has_flags, bad_padding, export_too_large, cookie_in_use, unknown_cookie, simple_forbidden, chunk_forbidden, bad_chunk, bad_content, incomplete_read, success_of_improper, bad_disconnect}
-use Rattle.nbd_wire.specs.protocol.States.{Core, Phase, Greet, Flags, Choosing, Naming, Aborting, Answering, Ended, Transmission, operation, target}
-use Rattle.nbd_laws.specs.internal.Machine.{Bad, More, Reading}
+use Rattle.nbd_wire.specs.protocol.States.{Core, Phase, Greet, Flags, Choosing, Naming, Aborting, Answering, Ended, Transmission, target}
+use Rattle.nbd_laws.specs.internal.Machine.{Bad, More}
 use Rattle.nbd_laws.specs.Reached.{IsReached}
 use Rattle.nbd_laws.proofs.machine.MachineLemmas.{Kept, Later, Later-trans, at_once, begun, kept}
 use Rattle.nbd_session.specs.internal.Concrete.{concrete, judged, read_by}
@@ -23,16 +23,16 @@ use Rattle.nbd_session.specs.internal.Decisions.{Decision}
 use Rattle.nbd_session.specs.internal.Judge.{decided, request_unless}
 use Rattle.nbd_session.specs.internal.JudgeTransmission.{begins, operation_if, operation_of, no_reply, reply, request}
 use Rattle.nbd_session.proofs.judge.AwaitedLemmas.{GoesBy, decision_of, first_more, goes_by, some_decided}
-use Rattle.nbd_session.proofs.judge.PhaseLemmas.{IsAppended, Later-appended, Later-transmission, Later-turn}
+use Rattle.nbd_session.proofs.judge.PhaseLemmas.{IsAppended, Later-appended, Later-turn}
 use Rattle.nbd_session.proofs.judge.SoundLemmas.{kept_later, kept_reached}
 use Rattle.nbd_session.proofs.judge.SoundServerLemmas.{magic_of}
 use Rattle.nbd_session.proofs.judge.SteadyLemmas as steady
 use Rattle.nbd_session.proofs.judge.SteadyLemmas.{IsBegun, IsDeciding, IsSameHead, IsSteady, as_chunk, as_neither, as_simple, deciding, is_chunk_reply, is_no_reply, is_simple_reply}
-use Rattle.nbd_laws.proofs.runs.PlacingLemmas.{HasNone, IsTelling, Tells}
-use Rattle.nbd_session.proofs.rows.RowLemmas.{IsLeast, IsTied, above_none, least_if, least_none, tied_tells}
+use Rattle.nbd_laws.proofs.runs.PlacingLemmas.{IsTelling, Tells}
+use Rattle.nbd_session.proofs.rows.RowLemmas.{IsTied, above_none, least_if, least_none, tied_tells}
 use Rattle.nbd_session.proofs.rows.RowReplyLemmas.{abort_tied, answer_tied}
 use Rattle.nbd_session.proofs.rows.RowChunkLemmas.{chunk_tied}
-use Rattle.nbd_session.proofs.rows.RowRequestLemmas.{not_both_kinds, request_tied, simple_tied}
+use Rattle.nbd_session.proofs.rows.RowRequestLemmas.{request_tied, simple_tied}
 use Rattle.nbd_session.proofs.rows.RowStartLemmas.{choice_tied, export_tied, flags_tied, greeting_tied}
 use Rattle.nbd_session.proofs.pushed.TidyLemmas.{AreTidy, IsTidy, tidy, tidy_entry}
 

@@ -1,14 +1,12 @@
 -- What the judge says of a side's bytes, in the words of the table of faults: tests and the facts that they test, and the lowest of some faults.
-use Rattle.std.proofs.Common.{◌≡◌, ℕ, ◌+◌, ◌<◌, ◌≤◌, ◌≢◌, ◌⊎◌, ◌==◌, List, length, refl, sym, ◌∙◌, ap, subst, inl, inr, Option, Some, None, Bool, true, false, not, ◌&&◌, ◌||◌, IsTrue, nat_lt, arith, eqb-true, eq-eqb}
-use Rattle.std.proofs.lemmas.Bool.{ltb-true, ltb-false, lt-ltb, eqb-false, ne_eqb}
+use Rattle.std.proofs.Common.{◌≡◌, ℕ, ◌+◌, ◌<◌, ◌≤◌, ◌⊎◌, ◌==◌, List, length, refl, sym, ◌∙◌, ap, inl, inr, Option, Some, None, Bool, true, false, not, ◌&&◌, ◌||◌, IsTrue, nat_lt, arith, eqb-true}
+use Rattle.std.proofs.lemmas.Bool.{ltb-true, ltb-false, lt-ltb, eqb-false}
 use Rattle.nbd_wire.specs.declared.fault.WireFault.{WireFault}
-use Rattle.nbd_wire.specs.declared.message.Message.{Message}
 use Rattle.nbd_wire.specs.protocol.Rows.{rank}
 use Rattle.nbd_laws.proofs.runs.PlacingLemmas.{Tells}
 use Rattle.nbd_session.specs.internal.Concrete.{ended, read_by, staged_by}
 use Rattle.nbd_session.specs.internal.Decisions.{Decision, fault_if}
 use Rattle.nbd_session.specs.internal.JudgeNegotiation.{at_ack, unless_error}
-use Rattle.nbd_session.proofs.judge.BoolLemmas.{and_true, or_true, or_false}
 
 -- a test of a fact
 pub record Link (C : Type 0) (c : Bool) : Type 0 where

@@ -1,5 +1,5 @@
 -- What is decided of an answer, in the words of the table of faults.
-use Rattle.std.proofs.Common.{◌≡◌, ℕ, ◌+◌, ◌<◌, ◌≤◌, ◌≢◌, ◌⊎◌, ◌==◌, List, length, drop, refl, sym, ◌∙◌, ap, subst, inl, inr, Option, Some, None, Bool, true, false, not, ◌&&◌, ◌||◌, IsTrue, arith, nat_lt, eqb-true}
+use Rattle.std.proofs.Common.{◌≡◌, ℕ, ◌+◌, ◌<◌, ◌≤◌, ◌≢◌, ◌⊎◌, ◌==◌, List, length, drop, refl, sym, ◌∙◌, ap, subst, inl, inr, Option, Some, None, Bool, true, false, not, ◌&&◌, IsTrue, arith, nat_lt}
 use Rattle.nbd_wire.specs.declared.answers.TheConstants as answers
 use Rattle.nbd_wire.specs.declared.fault.WireFault.{WireFault}
 use Rattle.nbd_wire.specs.declared.fault.WireFault.TheVariants.{BadMagic, WrongOption, BadReplyKind, OutOfProfile, BadReplyPayload, MissingExportInfo, ExportTooLarge, SuccessOfImproper}
@@ -19,7 +19,7 @@ use Rattle.nbd_wire.specs.protocol.Rows.IsWholeIn.{whole_abort_answer, whole_ans
 use Rattle.nbd_wire.specs.protocol.Rows.RowIn.{wrong_magic, not_fixed_newstyle, out_of_turn, wrong_option, bad_reply_kind, out_of_profile, ack_with_payload, bad_reply_payload, missing_export_info, export_too_large, success_of_improper}
 use Rattle.nbd_wire.specs.protocol.States.{Core, Aborting, Answering}
 use Rattle.nbd_session.specs.internal.JudgeNegotiation.{abort_answer, answer, info_fault, is_good_info, success_fault}
-use Rattle.nbd_session.proofs.rows.RowLemmas.{Above, IsLeast, IsTied, Link, above_if, above_none, above_with, least_at_ack, least_if, least_none, least_same, least_unless, link_and, link_eq, link_lt, link_neg, link_or, link_same, link_true}
+use Rattle.nbd_session.proofs.rows.RowLemmas.{Above, IsLeast, IsTied, Link, above_if, above_none, above_with, least_at_ack, least_if, least_none, least_unless, link_and, link_eq, link_lt, link_neg, link_or, link_true}
 
 -- no kind of success is an error
 ack_succeeds : (kind : ℕ) → kind ≡ answers.ACK → IsSuccess kind

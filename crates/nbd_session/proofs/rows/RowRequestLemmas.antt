@@ -1,5 +1,5 @@
 -- What is decided of a request and of a simple reply, in the words of the table of faults.
-use Rattle.std.proofs.Common.{◌≡◌, ℕ, zero, suc, ◌+◌, ◌<◌, ◌≤◌, ◌≢◌, ◌⊎◌, ◌==◌, List, [], ◌∷◌, ◌++◌, length, drop, refl, sym, ◌∙◌, ap, subst, inl, inr, Option, Some, None, Bool, true, false, not, ◌&&◌, ◌||◌, IsTrue, is_some, arith, eqb-true, if◌then◌else◌}
+use Rattle.std.proofs.Common.{◌≡◌, ℕ, zero, suc, ◌+◌, ◌<◌, ◌≢◌, ◌⊎◌, ◌==◌, List, [], ◌∷◌, ◌++◌, length, refl, sym, ◌∙◌, ap, subst, inl, inr, Option, Some, None, Bool, true, false, not, IsTrue, is_some, arith, eqb-true, if◌then◌else◌}
 use Rattle.nbd_wire.specs.declared.commands.TheConstants as commands
 use Rattle.nbd_wire.specs.declared.fault.WireFault.{WireFault}
 use Rattle.nbd_wire.specs.declared.fault.WireFault.TheVariants.{BadMagic, CookieInUse, UnknownCookie, SimpleForbidden, SuccessOfImproper, BadDisconnect}

@@ -1,5 +1,5 @@
 -- What is decided of a greeting, of the client's flags, of an option and of the answer to EXPORT_NAME, in the words of the table of faults.
-use Rattle.std.proofs.Common.{◌≡◌, ℕ, ◌+◌, ◌<◌, ◌≤◌, ◌≢◌, ◌⊎◌, ◌==◌, List, length, drop, replicate, refl, sym, ◌∙◌, ap, subst, inl, inr, Option, Some, None, Bool, true, false, not, ◌&&◌, ◌||◌, IsTrue, arith, eqb-true, eq-eqb, if◌then◌else◌, nat_lt, length-drop}
+use Rattle.std.proofs.Common.{◌≡◌, ℕ, ◌+◌, ◌<◌, ◌≤◌, ◌≢◌, ◌⊎◌, ◌==◌, List, length, drop, replicate, refl, sym, ◌∙◌, ap, subst, inl, inr, Bool, true, false, not, arith, eqb-true, if◌then◌else◌, nat_lt, length-drop}
 use Rattle.nbd_wire.specs.declared.fault.WireFault.{WireFault}
 use Rattle.nbd_wire.specs.declared.fault.WireFault.TheVariants.{BadMagic, NotFixedNewstyle, BadClientFlags, BadExport, ExportTooLarge}
 use Rattle.nbd_wire.specs.declared.handshake.TheConstants as handshake
@@ -9,13 +9,13 @@ use Rattle.nbd_wire.specs.declared.message.Side.TheVariants.{Client, Server}
 use Rattle.nbd_wire.specs.declared.transmission.TheConstants as transmission
 use Rattle.nbd_wire.specs.protocol.Payloads.{number_at}
 use Rattle.nbd_wire.specs.protocol.Flags.{has, has_only}
-use Rattle.nbd_wire.specs.protocol.Rows.{IsWholeIn, Lacks, RowIn, SetsMore, rank}
+use Rattle.nbd_wire.specs.protocol.Rows.{IsWholeIn, Lacks, RowIn, SetsMore}
 use Rattle.nbd_wire.specs.protocol.Rows.IsWholeIn.{whole_greeting, whole_flags, whole_choice, whole_export}
 use Rattle.nbd_wire.specs.protocol.Rows.RowIn.{wrong_magic, not_fixed_newstyle, bad_client_flags, out_of_turn, wrong_option, bad_reply_kind, ack_with_payload, no_has_flags, bad_padding, export_too_large, success_of_improper}
 use Rattle.nbd_wire.specs.protocol.States.{Core, Greet, Flags, Choosing, Naming}
 use Rattle.nbd_session.specs.internal.JudgeNegotiation.{are_zeroes, choice, client_flags, exported, greeting}
 use Rattle.nbd_session.proofs.judge.BoolLemmas.{are_zeroes-replicate}
-use Rattle.nbd_session.proofs.rows.RowLemmas.{IsLeast, IsTied, Link, above_if, above_none, least_if, least_none, link_and, link_eq, link_lt, link_neg, link_or, link_same, link_true}
+use Rattle.nbd_session.proofs.rows.RowLemmas.{IsLeast, IsTied, Link, above_if, above_none, least_if, least_none, link_and, link_eq, link_lt, link_neg, link_or, link_true}
 
 module _ (since now : Core) (bytes : List ℕ) where
   abbrev pub GreetingHead : WireFault → Type 0

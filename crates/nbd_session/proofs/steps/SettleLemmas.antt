@@ -13,7 +13,7 @@ use Rattle.nbd_session.specs.internal.Concrete.{concrete}
 use Rattle.nbd_session.specs.internal.Holdings.{holding_of}
 use Rattle.nbd_session.specs.internal.Judge.{decided_counted}
 use Rattle.nbd_session.specs.internal.Logging.{logged}
-use Rattle.nbd_laws.specs.internal.Machine.{Machine, More, fresh, get, old_of, put, reads}
+use Rattle.nbd_laws.specs.internal.Machine.{Machine, More, fresh, get, old_of, put}
 use Rattle.nbd_session.specs.internal.Readings.{reading_if}
 use Rattle.nbd_state.specs.Shows.{AreKnown, Shows}
 use Rattle.nbd_session.specs.internal.Standing.{Holding, IsReadTo, counted_at, pairs_held, rest_of, with_taken}

@@ -1,5 +1,5 @@
 -- What has completed in the captures that are refused.
-use Rattle.std.specs.Prelude.{◌∷◌, ◌++◌, [], List}
+use Rattle.std.specs.Prelude.{◌∷◌, [], List}
 use Rattle.byteorder.specs.Endian.{big_bytes}
 use Rattle.nbd_wire.specs.declared.answers.TheConstants as answers
 use Rattle.nbd_wire.specs.declared.message.Message.{Message}

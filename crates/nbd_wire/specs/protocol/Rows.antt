@@ -1,6 +1,6 @@
 -- What is wrong where a session is refused: the lines of the table of faults (docs/PROFILE.md, "Faults"), in its order. Each says
 -- at which of the open bytes of a side it is seen, by their number, and which rule they break.
-use Rattle.std.specs.Prelude.{ℕ, suc, List, [], ◌≡◌, ◌≢◌, ◌+◌, ◌<◌, ◌⊎◌, ◌==◌, Bool, true, false, if◌then◌else◌, Option, Some, None, length, drop, replicate, IsTrue, is_some}
+use Rattle.std.specs.Prelude.{ℕ, List, [], ◌≡◌, ◌≢◌, ◌+◌, ◌<◌, ◌⊎◌, ◌==◌, true, false, if◌then◌else◌, Option, Some, None, length, drop, replicate, IsTrue, is_some}
 use Rattle.nbd_wire.specs.declared.answers.TheConstants as answers
 use Rattle.nbd_wire.specs.declared.chunks.TheConstants as chunks
 use Rattle.nbd_wire.specs.declared.command_flags.TheConstants as command_flags
@@ -23,7 +23,7 @@ use Rattle.nbd_wire.specs.protocol.Replies.{simple_length}
 use Rattle.nbd_wire.specs.protocol.Operations.{Operation, Exporting, has_failed, is_proper, pieces}
 use Rattle.nbd_wire.specs.protocol.Pieces.{byte_at, holds, is_in, piece_offset, piece_size}
 use Rattle.nbd_wire.specs.protocol.Flags.{has, has_only}
-use Rattle.nbd_wire.specs.protocol.States.{Core, Phase, Greet, Flags, Choosing, Naming, Aborting, Answering, Ended, Transmission, operation, target, with_reply}
+use Rattle.nbd_wire.specs.protocol.States.{Core, Phase, Greet, Flags, Choosing, Naming, Aborting, Answering, Transmission, operation, target, with_reply}
 
 -- the place of a fault in the table
 abbrev pub rank : WireFault → ℕ

@@ -1,5 +1,5 @@
 -- The place of a refusal: a run but for open bytes, at which a line of the table of faults holds, and no line at any byte before.
-use Rattle.std.specs.Prelude.{List, [], ◌∷◌, ◌++◌, ◌≡◌, ◌<◌, ◌&&◌, ◌||◌, not, Bool, true, false, if◌then◌else◌, Option, Some, None, ℕ}
+use Rattle.std.specs.Prelude.{List, [], ◌∷◌, ◌++◌, ◌≡◌, ◌<◌, ◌&&◌, ◌||◌, not, Bool, false, if◌then◌else◌, Option, Some, None, ℕ}
 use Rattle.nbd_wire.specs.declared.fault.WireFault.{WireFault}
 use Rattle.nbd_wire.specs.declared.message.Message.{Message}
 use Rattle.nbd_wire.specs.declared.message.Side.{Side}
