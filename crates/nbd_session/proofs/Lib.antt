@@ -2,5 +2,4 @@ pub mod judge
 pub mod log
 pub mod parsing
 pub mod pushed
-pub mod rows
 pub mod steps

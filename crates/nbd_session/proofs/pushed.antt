@@ -2,4 +2,3 @@ pub mod NoteLemmas
 pub mod OpenByteLemmas
 pub mod PushLemmas
 pub mod StretchLemmas
-pub mod TidyLemmas

@@ -1,10 +1,5 @@
 pub mod Asking
-pub mod Concrete
-pub mod Decisions
 pub mod Holdings
-pub mod Judge
-pub mod JudgeNegotiation
-pub mod JudgeTransmission
 pub mod Leading
 pub mod Logging
 pub mod Readings

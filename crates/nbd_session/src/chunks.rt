@@ -15,8 +15,8 @@ ghost use Rattle.nbd_wire.specs.protocol.Payloads.{number_at};
 ghost use Rattle.nbd_wire.specs.declared.fault.WireFault.TheVariants.{BadChunk, BadContent};
 ghost use Rattle.nbd_session.specs.internal.Asking.{ShownIf, done_by, finish_by, span_of};
 ghost use Rattle.nbd_state.specs.Showing.{IsShown};
-ghost use Rattle.nbd_session.specs.internal.Decisions.{fault_if};
-ghost use Rattle.nbd_session.specs.internal.JudgeTransmission.{begins, chunk_to, chunk_fault, fits_read, fits_failure, total};
+ghost use Rattle.nbd_places.specs.internal.Decisions.{fault_if};
+ghost use Rattle.nbd_places.specs.internal.JudgeTransmission.{begins, chunk_to, chunk_fault, fits_read, fits_failure, total};
 ghost use Rattle.nbd_session.specs.internal.Readings.{reading_of};
 
 use crate::leading::leading_chunk;

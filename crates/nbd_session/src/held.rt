@@ -7,7 +7,7 @@ ghost use Rattle.nbd_wire.specs.protocol.States.{Core, start};
 ghost use Rattle.nbd_session.specs.declared.reading.Reading.TheVariants.{Whole};
 ghost use Rattle.nbd_session.specs.internal.Holdings.{holding_of, is_of};
 ghost use Rattle.nbd_session.specs.Views.{spans_of, recorded};
-ghost use Rattle.nbd_session.specs.internal.Judge.{awaited, decided_counted};
+ghost use Rattle.nbd_places.specs.internal.Judge.{awaited, decided_counted};
 ghost use Rattle.nbd_laws.specs.internal.Machine.{Machine, get, old_of};
 ghost use Rattle.nbd_session.specs.internal.Readings.{reading_if, until};
 ghost use Rattle.nbd_session.specs.Sessions.{IsReported, fault_at_end, fault_of};

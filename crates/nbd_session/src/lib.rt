@@ -2,11 +2,9 @@
 #![tactic(auto)]
 
 mod chunks;
-pub mod examples;
 pub mod fault;
 mod heads;
 mod held;
-pub mod laws;
 mod leading;
 mod messages;
 mod negotiation;

@@ -5,8 +5,8 @@
 ghost use Rattle.std.specs.Prelude.{◌≡◌, ◌≤◌, IfOk, drop, length};
 ghost use Rattle.nbd_wire.specs.declared.magics.TheConstants.{ANSWER_MAGIC, CHUNK_MAGIC, OPTION_MAGIC, REQUEST_MAGIC, SIMPLE_MAGIC};
 ghost use Rattle.nbd_wire.specs.protocol.Payloads.{number_at};
-ghost use Rattle.nbd_session.specs.internal.JudgeNegotiation.{answer_of, choice, exported, greeting};
-ghost use Rattle.nbd_session.specs.internal.JudgeTransmission.{chunk_of, request_of, simple_of};
+ghost use Rattle.nbd_places.specs.internal.JudgeNegotiation.{answer_of, choice, exported, greeting};
+ghost use Rattle.nbd_places.specs.internal.JudgeTransmission.{chunk_of, request_of, simple_of};
 ghost use Rattle.nbd_session.specs.internal.Leading.{HasGreeting, HasHead};
 
 use crate::leading::{

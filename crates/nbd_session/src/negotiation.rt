@@ -2,7 +2,7 @@
 //! EXPORT_NAME ("NBD_OPT_EXPORT_NAME").
 
 ghost use Rattle.std.specs.Prelude.{◌≡◌};
-ghost use Rattle.nbd_session.specs.internal.JudgeNegotiation.{are_zeroes, client_flags, export_fault, exported, greeting, sets_more};
+ghost use Rattle.nbd_places.specs.internal.JudgeNegotiation.{are_zeroes, client_flags, export_fault, exported, greeting, sets_more};
 ghost use Rattle.nbd_session.specs.internal.Leading.{unless_fault};
 ghost use Rattle.nbd_session.specs.internal.Readings.{reading_of};
 

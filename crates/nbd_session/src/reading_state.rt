@@ -8,8 +8,8 @@ ghost use Rattle.nbd_wire.specs.protocol.Operations.{Exporting};
 ghost use Rattle.nbd_wire.specs.protocol.States as definitions;
 ghost use Rattle.nbd_wire.specs.protocol.States.{Core};
 ghost use Rattle.nbd_session.specs.internal.Asking.{ShownIf};
-ghost use Rattle.nbd_session.specs.internal.Judge.{decided_counted};
-ghost use Rattle.nbd_session.specs.internal.JudgeTransmission.{operation_counted};
+ghost use Rattle.nbd_places.specs.internal.Judge.{decided_counted};
+ghost use Rattle.nbd_places.specs.internal.JudgeTransmission.{operation_counted};
 ghost use Rattle.nbd_session.specs.internal.Readings.{reading_if};
 ghost use Rattle.nbd_state.specs.Shows.{Shows};
 

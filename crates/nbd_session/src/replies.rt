@@ -9,7 +9,7 @@ ghost use Rattle.nbd_wire.specs.declared.magics.TheConstants.{CHUNK_MAGIC, SIMPL
 ghost use Rattle.nbd_wire.specs.declared.commands.TheConstants as commands;
 ghost use Rattle.nbd_session.specs.internal.Asking.{ShownIf};
 ghost use Rattle.nbd_state.specs.Showing.{IsShown};
-ghost use Rattle.nbd_session.specs.internal.JudgeTransmission.{begins, reply_by, simple_to};
+ghost use Rattle.nbd_places.specs.internal.JudgeTransmission.{begins, reply_by, simple_to};
 ghost use Rattle.nbd_session.specs.internal.Readings.{reading_of};
 
 use crate::chunks::read_chunk;

@@ -4,7 +4,7 @@ ghost use Rattle.std.specs.Prelude.{◌≡◌, ℕ, is_some};
 ghost use Rattle.std.specs.BTreeMap.{get};
 ghost use Rattle.std.specs.Ordering.{nat_cmp};
 ghost use Rattle.nbd_wire.specs.protocol.States.{Core, target};
-ghost use Rattle.nbd_session.specs.internal.JudgeTransmission.{request, request_payload_length};
+ghost use Rattle.nbd_places.specs.internal.JudgeTransmission.{request, request_payload_length};
 ghost use Rattle.nbd_session.specs.internal.Readings.{reading_of};
 
 use crate::leading::leading_request;

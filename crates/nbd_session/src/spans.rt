@@ -4,7 +4,7 @@ ghost use Rattle.std.specs.Prelude.{◌≡◌, ◌+◌, ◌-◌, ◌^◌, ◌&&�
 ghost use Rattle.nbd_wire.specs.declared.payloads.Piece.{Piece};
 ghost use Rattle.nbd_wire.specs.codec.Contents.{piece_of};
 ghost use Rattle.nbd_session.specs.internal.Asking.{span_of};
-ghost use Rattle.nbd_session.specs.internal.JudgeTransmission.{is_apart_from, total};
+ghost use Rattle.nbd_places.specs.internal.JudgeTransmission.{is_apart_from, total};
 
 use nbd_state::ends_by;
 use nbd_wire::{Content, Piece};

@@ -1,5 +1,6 @@
 -- How the program's values show what the definitions speak of.
 use Rattle.std.specs.Prelude.{◌≡◌, List, [], ◌∷◌, Bool, true, false, not, Option, Some, None, is_some}
+use Rattle.nbd_places.specs.internal.Decisions.{is_none_yet}
 use Rattle.nbd_wire.specs.declared.message.Message.{Message}
 use Rattle.nbd_wire.specs.protocol.Operations.{Operation, Exporting, is_proper, has_failed, outcome, pieces}
 use Rattle.nbd_wire.specs.protocol.Operations as definitions
@@ -21,11 +22,6 @@ abbrev pub outcome_of : Outcome → definitions.Outcome
 outcome_of Success = definitions.Success
 outcome_of Failure = definitions.Failure
 outcome_of Pending = definitions.Pending
-
--- no reply message has come
-abbrev pub is_none_yet : List Message → Bool
-is_none_yet [] = true
-is_none_yet (m ∷ messages) = false
 
 -- an exchange shows a numbered request of a session on this export
 pub record IsShown (export : Exporting) (e : Operation) (x : Exchange) : Type 0 where

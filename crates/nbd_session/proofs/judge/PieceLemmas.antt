@@ -12,15 +12,15 @@ use Rattle.nbd_session.specs.declared.fault.SessionFault.TheVariants.{Memory}
 use Rattle.nbd_session.specs.declared.held.Held.{Held}
 use Rattle.nbd_session.specs.internal.Holdings.{holding_of}
 use Rattle.nbd_session.specs.Views.{spans_of}
-use Rattle.nbd_session.specs.internal.Judge.{awaited}
+use Rattle.nbd_places.specs.internal.Judge.{awaited}
 use Rattle.nbd_laws.specs.internal.Machine.{IsFilled, Machine, fresh, get, old_of}
 use Rattle.nbd_session.specs.Sessions.{Adds}
-use Rattle.nbd_session.specs.internal.Concrete.{concrete}
+use Rattle.nbd_places.specs.internal.Concrete.{concrete}
 use Rattle.nbd_session.specs.internal.Logging.{logged}
 use Rattle.nbd_state.specs.Shows.{AreKnown, Shows}
 use Rattle.nbd_session.specs.internal.Standing.{AreSpansOf, IsReadTo, pairs_held, rest_of, span_total, with_taken}
 use Rattle.nbd_session.specs.internal.Steps.{AddsHeld, HoldsRun, IsRefused, IsSame, IsShut, IsTaken, Stands}
-use Rattle.nbd_session.proofs.judge.AwaitedLemmas.{held_short}
+use Rattle.nbd_places.proofs.judge.AwaitedLemmas.{held_short}
 use Rattle.nbd_state.proofs.PlacedLemmas.{shown_length}
 use Rattle.nbd_session.proofs.pushed.OpenByteLemmas.{read_is_run_but}
 use Rattle.nbd_session.proofs.pushed.PushLemmas.{first_fits, left_spans, sent-append}

@@ -18,27 +18,27 @@ use Rattle.nbd_laws.proofs.runs.RunLemmas.{marks_law}
 use Rattle.nbd_session.specs.declared.fault.SessionFault.{SessionFault}
 use Rattle.nbd_session.specs.declared.fault.SessionFault.TheVariants.{Memory, Wire}
 use Rattle.nbd_session.specs.declared.held.Held.{Held}
-use Rattle.nbd_session.specs.internal.Concrete.{concrete}
+use Rattle.nbd_places.specs.internal.Concrete.{concrete}
 use Rattle.nbd_session.specs.internal.Holdings.{holding_of}
-use Rattle.nbd_session.specs.internal.Judge.{awaited}
+use Rattle.nbd_places.specs.internal.Judge.{awaited}
 use Rattle.nbd_wire.specs.protocol.Splits.{IsPlace}
 use Rattle.nbd_laws.proofs.runs.PlacingLemmas.{place_law}
 use Rattle.nbd_laws.proofs.runs.PlaceLemmas.{read_no_place}
-use Rattle.nbd_session.proofs.rows.RowJudgeLemmas.{telling}
+use Rattle.nbd_places.proofs.rows.RowJudgeLemmas.{telling}
 use Rattle.nbd_session.specs.Refusals.{EndsIn, HasNoPlace, IsComplete, IsOpenEnd, IsRefusal, IsWireFault, Refuses}
 use Rattle.nbd_session.specs.Sessions.{HasRun, Recorded, fault_at_end, fault_of, pairs_of, taken, unfinished}
 use Rattle.nbd_session.specs.internal.Standing.{Holding, IsReadTo, pairs_held, with_taken}
 use Rattle.nbd_session.specs.internal.Steps.{IsKept, IsShut, Stands}
 use Rattle.nbd_session.specs.Views.{recorded}
 use Rattle.nbd_session.specs.internal.Stopped.{IsStopped}
-use Rattle.nbd_session.proofs.judge.AwaitedLemmas.{reads_below}
-use Rattle.nbd_session.proofs.judge.BlockLemmas.{extended, reads-append, with_rest}
-use Rattle.nbd_session.proofs.judge.ExactLemmas.{exact, none_refused}
+use Rattle.nbd_places.proofs.judge.AwaitedLemmas.{reads_below}
+use Rattle.nbd_places.proofs.judge.BlockLemmas.{extended, reads-append, with_rest}
+use Rattle.nbd_places.proofs.judge.ExactLemmas.{exact, none_refused}
 use Rattle.nbd_laws.specs.Holding.{bytes_from}
 use Rattle.nbd_laws.proofs.runs.RunByteLemmas.{AreBytesOf, run_bytes}
 use Rattle.nbd_session.proofs.pushed.OpenByteLemmas.{fresh_bytes}
 use Rattle.nbd_session.proofs.pushed.PushLemmas.{sent-append}
-use Rattle.nbd_session.proofs.judge.SoundLemmas.{sound}
+use Rattle.nbd_places.proofs.judge.SoundLemmas.{sound}
 use Rattle.nbd_session.proofs.steps.StepLemmas.{held_of, pairs-taken}
 
 -- the last of some bytes, and those before it

@@ -4,7 +4,7 @@ use Rattle.std.proofs.lemmas.Bool.{lt-ltb, le-ltb, ne_eqb, eq-eqb}
 use Rattle.nbd_wire.specs.declared.fault.WireFault.{WireFault}
 use Rattle.nbd_session.specs.declared.reading.Reading.{Reading}
 use Rattle.nbd_session.specs.declared.reading.Reading.TheVariants.{Await, Whole}
-use Rattle.nbd_session.specs.internal.Decisions.{Decision}
+use Rattle.nbd_places.specs.internal.Decisions.{Decision}
 use Rattle.nbd_session.specs.internal.Readings.{reading_of, at_end, or_fault, behind_head, unless_before}
 
 pub before : (d : Decision) (bytes : List ℕ) → length bytes < d.head_length → Ok (Await d.head_length) ≡ reading_of d bytes

@@ -5,14 +5,14 @@ use Rattle.nbd_wire.specs.declared.message.Side.{Side}
 use Rattle.nbd_wire.specs.protocol.Captures.{Pair, side_pairs}
 use Rattle.nbd_wire.specs.protocol.Rules.{request_of_reply}
 use Rattle.nbd_wire.specs.protocol.States.{Core, start}
-use Rattle.nbd_session.specs.internal.Concrete.{concrete}
+use Rattle.nbd_places.specs.internal.Concrete.{concrete}
 use Rattle.nbd_state.specs.Folded.{core_from}
-use Rattle.nbd_session.specs.internal.Judge.{awaited}
+use Rattle.nbd_places.specs.internal.Judge.{awaited}
 use Rattle.nbd_state.specs.Logged.{Logged, known_by, messages_of}
 use Rattle.nbd_session.specs.internal.Logging.{log_with, logged}
 use Rattle.nbd_laws.proofs.machine.MachineLemmas.{AreHeld}
 use Rattle.nbd_laws.specs.internal.Machine.{IsFilled, Judge, Machine, More, Whole, fresh, get, old_of, reads}
-use Rattle.nbd_session.proofs.judge.BlockLemmas.{extended}
+use Rattle.nbd_places.proofs.judge.BlockLemmas.{extended}
 use Rattle.nbd_session.proofs.log.CountLemmas.{count_of}
 use Rattle.nbd_session.proofs.log.FoldLemmas.{core_is}
 use Rattle.nbd_state.proofs.KnownLemmas.{known_by-within, known_here-other, known_here-same, known_or, or_is, or_none}

@@ -10,11 +10,11 @@ use Rattle.nbd_session.specs.declared.reading.Reading.TheVariants.{Whole}
 use Rattle.nbd_state.specs.declared.state.Chosen.{Chosen}
 use Rattle.nbd_state.specs.declared.state.Export.{Export}
 use Rattle.nbd_state.specs.declared.state.Phase.TheVariants.{Greet, Answering, Transmission}
-use Rattle.nbd_session.specs.internal.Decisions.{Decision}
-use Rattle.nbd_session.specs.internal.Judge.{decided_with}
+use Rattle.nbd_places.specs.internal.Decisions.{Decision}
+use Rattle.nbd_places.specs.internal.Judge.{decided_with}
 use Rattle.nbd_wire.specs.protocol.Options.{is_proper_option}
 use Rattle.nbd_wire.specs.protocol.Payloads.{number_at}
-use Rattle.nbd_session.specs.internal.JudgeTransmission.{begins, chunk_of, reply_by, simple_of}
+use Rattle.nbd_places.specs.internal.JudgeTransmission.{begins, chunk_of, reply_by, simple_of}
 use Rattle.nbd_session.specs.internal.Leading.{HasGreeting, HasHead}
 use Rattle.nbd_session.specs.internal.Readings.{reading_if, reading_of}
 use Rattle.nbd_state.specs.Shows.{phase_shown}

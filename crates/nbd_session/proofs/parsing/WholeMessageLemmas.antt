@@ -7,12 +7,12 @@ use Rattle.nbd_wire.specs.protocol.Operations.{Operation, Exporting}
 use Rattle.nbd_wire.specs.protocol.States.{Core}
 use Rattle.nbd_wire.specs.declared.fault.WireFault.{WireFault}
 use Rattle.nbd_session.specs.declared.reading.Reading.TheVariants.{Whole}
-use Rattle.nbd_session.specs.internal.Decisions.{Decision, fault_if}
-use Rattle.nbd_session.specs.internal.JudgeNegotiation.{abort_answer, answer, choice, client_flags, exported, greeting}
-use Rattle.nbd_session.specs.internal.JudgeTransmission.{begins, chunk_to, request, simple_to}
+use Rattle.nbd_places.specs.internal.Decisions.{Decision, fault_if}
+use Rattle.nbd_places.specs.internal.JudgeNegotiation.{abort_answer, answer, choice, client_flags, exported, greeting}
+use Rattle.nbd_places.specs.internal.JudgeTransmission.{begins, chunk_to, request, simple_to}
 use Rattle.nbd_session.specs.internal.Leading.{HasHead, HasGreeting}
 use Rattle.nbd_session.specs.internal.Readings.{at_end, behind_head, unless_before, reading_of}
-use Rattle.nbd_session.proofs.judge.BoolLemmas.{fault_none, not_false}
+use Rattle.nbd_places.proofs.judge.BoolLemmas.{fault_none, not_false}
 
 -- a whole message without a fault
 pub record IsWhole (d : Decision) (bytes : List ℕ) : Type 0 where

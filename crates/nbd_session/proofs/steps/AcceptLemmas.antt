@@ -11,12 +11,12 @@ use Rattle.nbd_wire.specs.protocol.States.{Core, start}
 use Rattle.nbd_session.specs.declared.held.Held.{Held}
 use Rattle.nbd_state.specs.declared.asked.Exchange.{Exchange}
 use Rattle.nbd_session.specs.declared.reading.Reading.TheVariants as program
-use Rattle.nbd_session.specs.internal.Concrete.{concrete}
-use Rattle.nbd_session.specs.internal.Decisions.{Decision}
+use Rattle.nbd_places.specs.internal.Concrete.{concrete}
+use Rattle.nbd_places.specs.internal.Decisions.{Decision}
 use Rattle.nbd_state.specs.Folded.{core_from}
 use Rattle.nbd_session.specs.internal.Holdings.{holding_of}
 use Rattle.nbd_session.specs.Views.{spans_of}
-use Rattle.nbd_session.specs.internal.Judge.{decided_counted}
+use Rattle.nbd_places.specs.internal.Judge.{decided_counted}
 use Rattle.nbd_state.specs.Logged.{messages_of}
 use Rattle.nbd_session.specs.internal.Logging.{logged}
 use Rattle.nbd_laws.specs.internal.Machine.{Machine, Whole, fresh, get, old_of, put, reads}

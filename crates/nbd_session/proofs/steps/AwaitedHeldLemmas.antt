@@ -6,16 +6,16 @@ use Rattle.nbd_wire.specs.protocol.States.{Core, Phase, Greet, Flags, Choosing, 
 use Rattle.nbd_wire.specs.declared.fault.WireFault.{WireFault}
 use Rattle.nbd_session.specs.declared.reading.Reading.TheVariants as program
 use Rattle.nbd_session.specs.declared.reading.Reading as program_reading
-use Rattle.nbd_session.specs.internal.Concrete.{concrete, judged}
-use Rattle.nbd_session.specs.internal.Decisions.{Decision, awaited_by}
-use Rattle.nbd_session.specs.internal.Judge.{awaited, decided, decided_counted, decided_with}
-use Rattle.nbd_session.specs.internal.JudgeTransmission.{operation_counted}
+use Rattle.nbd_places.specs.internal.Concrete.{concrete, judged}
+use Rattle.nbd_places.specs.internal.Decisions.{Decision, awaited_by}
+use Rattle.nbd_places.specs.internal.Judge.{awaited, decided, decided_counted, decided_with}
+use Rattle.nbd_places.specs.internal.JudgeTransmission.{operation_counted}
 use Rattle.nbd_laws.specs.internal.Machine.{Bad, IsFilled, Machine, More, Rest, Whole, get, old_of}
 use Rattle.nbd_laws.proofs.machine.MachineLemmas.{Held, at_once, none_held, old-empty, some_held}
 use Rattle.nbd_session.specs.internal.Readings.{reading_if, until}
 use Rattle.nbd_session.specs.internal.Standing.{Holding, IsReadTo, counted_at, rest_of}
-use Rattle.nbd_session.proofs.judge.AwaitedLemmas.{held_short, in_head}
-use Rattle.nbd_session.proofs.judge.SteadyLemmas.{IsDeciding, deciding}
+use Rattle.nbd_places.proofs.judge.AwaitedLemmas.{held_short, in_head}
+use Rattle.nbd_places.proofs.judge.SteadyLemmas.{IsDeciding, deciding}
 use Rattle.nbd_session.proofs.steps.StepLemmas.{decided_held, held_of}
 use Rattle.nbd_session.proofs.steps.TakeLemmas.{awaited_is, judged_bad, judged_whole}
 

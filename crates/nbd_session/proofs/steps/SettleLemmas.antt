@@ -9,9 +9,9 @@ use Rattle.nbd_session.specs.declared.held.Held.{Held}
 use Rattle.nbd_session.specs.declared.reading.Reading as program
 use Rattle.nbd_session.specs.declared.reading.Reading.TheVariants.{Await}
 use Rattle.nbd_wire.specs.protocol.States.{Core}
-use Rattle.nbd_session.specs.internal.Concrete.{concrete}
+use Rattle.nbd_places.specs.internal.Concrete.{concrete}
 use Rattle.nbd_session.specs.internal.Holdings.{holding_of}
-use Rattle.nbd_session.specs.internal.Judge.{decided_counted}
+use Rattle.nbd_places.specs.internal.Judge.{decided_counted}
 use Rattle.nbd_session.specs.internal.Logging.{logged}
 use Rattle.nbd_laws.specs.internal.Machine.{Machine, More, fresh, get, old_of, put}
 use Rattle.nbd_session.specs.internal.Readings.{reading_if}
@@ -19,7 +19,7 @@ use Rattle.nbd_state.specs.Shows.{AreKnown, Shows}
 use Rattle.nbd_session.specs.internal.Standing.{Holding, IsReadTo, counted_at, pairs_held, rest_of, with_taken}
 use Rattle.nbd_session.specs.internal.Steps.{HoldsRun, IsSame, IsShut, IsTaken, Stands}
 use Rattle.nbd_session.specs.internal.Stopped.{IsStopped}
-use Rattle.nbd_session.proofs.judge.BlockLemmas.{extended}
+use Rattle.nbd_places.proofs.judge.BlockLemmas.{extended}
 use Rattle.nbd_session.proofs.log.LogKnownLemmas.{logged-kept}
 use Rattle.nbd_session.proofs.pushed.OpenByteLemmas.{more_is_run_but}
 use Rattle.nbd_session.proofs.judge.RefusalLemmas.{stopped}

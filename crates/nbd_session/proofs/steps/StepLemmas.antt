@@ -11,20 +11,20 @@ use Rattle.nbd_wire.specs.protocol.Sides.{side, same_side}
 use Rattle.nbd_wire.specs.protocol.States.{Core, Phase, Greet, Flags, Choosing, Naming, Aborting, Answering, Ended, Transmission}
 use Rattle.nbd_wire.specs.declared.fault.WireFault.{WireFault}
 use Rattle.nbd_session.specs.declared.reading.Reading.TheVariants as program
-use Rattle.nbd_session.specs.internal.Concrete.{concrete, judged}
-use Rattle.nbd_session.specs.internal.Decisions.{Decision}
-use Rattle.nbd_session.specs.internal.Judge.{decided, decided_counted, decided_with, awaited}
-use Rattle.nbd_session.specs.internal.JudgeTransmission.{operation_counted}
+use Rattle.nbd_places.specs.internal.Concrete.{concrete, judged}
+use Rattle.nbd_places.specs.internal.Decisions.{Decision}
+use Rattle.nbd_places.specs.internal.Judge.{decided, decided_counted, decided_with, awaited}
+use Rattle.nbd_places.specs.internal.JudgeTransmission.{operation_counted}
 use Rattle.nbd_laws.specs.internal.Machine.{Machine, Rest, Reading, More, Whole, Bad, get, put, reads, fresh, old_of, settle, on_ok, IsFilled}
 use Rattle.nbd_laws.proofs.machine.MachineLemmas.{IsSoundAt, AreHeld, reads_held, old-empty, old-filled}
 use Rattle.nbd_session.specs.internal.Standing.{Holding, IsReadTo, AreSpansOf, noted, pairs_held, rest_of, with_message, with_more, with_taken, counted_at}
 use Rattle.nbd_session.specs.internal.Readings.{reading_if}
-use Rattle.nbd_session.proofs.judge.AwaitedLemmas.{reads_up_to}
-use Rattle.nbd_session.proofs.judge.BlockLemmas.{judged_at_once, extended, reads-append}
+use Rattle.nbd_places.proofs.judge.AwaitedLemmas.{reads_up_to}
+use Rattle.nbd_places.proofs.judge.BlockLemmas.{judged_at_once, extended, reads-append}
 use Rattle.nbd_session.proofs.log.CountLemmas.{held_counted, count_of}
 use Rattle.nbd_session.proofs.pushed.PushLemmas.{bytes_of-snoc, mixed-noted, spans-noted}
 use Rattle.nbd_laws.proofs.runs.RunLemmas.{fresh_held}
-use Rattle.nbd_session.proofs.judge.SoundLemmas.{sound}
+use Rattle.nbd_places.proofs.judge.SoundLemmas.{sound}
 use Rattle.nbd_session.proofs.steps.TakeLemmas.{judged_bad, judged_more, judged_whole, kept_more}
 
 behind : (s u : Side) (more prefix bytes : List ℕ) → prefix ++ with_more s u more bytes ≡ with_more s u more (prefix ++ bytes)

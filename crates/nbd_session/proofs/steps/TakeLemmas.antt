@@ -7,15 +7,15 @@ use Rattle.nbd_wire.specs.protocol.States.{Core}
 use Rattle.nbd_wire.specs.declared.fault.WireFault.{WireFault}
 use Rattle.nbd_wire.specs.declared.fault.WireFault.TheVariants.{OutOfTurn}
 use Rattle.nbd_session.specs.declared.reading.Reading.TheVariants as program
-use Rattle.nbd_session.specs.internal.Concrete.{concrete, judged, staged_by, ended}
-use Rattle.nbd_session.specs.internal.Decisions.{Decision, awaited_by}
-use Rattle.nbd_session.specs.internal.Judge.{awaited}
+use Rattle.nbd_places.specs.internal.Concrete.{concrete, judged, staged_by, ended}
+use Rattle.nbd_places.specs.internal.Decisions.{Decision, awaited_by}
+use Rattle.nbd_places.specs.internal.Judge.{awaited}
 use Rattle.nbd_laws.specs.internal.Machine.{Rest, More, Whole, Bad, old_of, IsFilled}
 use Rattle.nbd_laws.specs.Reached.{IsReached}
 use Rattle.nbd_laws.proofs.machine.MachineLemmas.{Kept, kept, Held, kept_next, reached_of, at_once, IsFilled-snoc}
 use Rattle.nbd_session.specs.internal.Readings.{reading_if, unless_before, behind_head, at_end}
-use Rattle.nbd_session.proofs.judge.AwaitedLemmas.{held_short}
-use Rattle.nbd_session.proofs.judge.BlockLemmas.{GoesOn}
+use Rattle.nbd_places.proofs.judge.AwaitedLemmas.{held_short}
+use Rattle.nbd_places.proofs.judge.BlockLemmas.{GoesOn}
 
 -- what the program answers and what the judge says, by the tests that both make
 staged_more : (before : Bool) (head : ℕ) (head_fault : Option WireFault) (whole : Bool) (len : ℕ) (last : Option WireFault) (m : Message) (n : ℕ) →

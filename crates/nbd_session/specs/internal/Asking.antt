@@ -7,7 +7,7 @@ use Rattle.nbd_wire.specs.protocol.Pieces.{piece_offset, piece_size}
 use Rattle.nbd_wire.specs.declared.fault.WireFault.{WireFault}
 use Rattle.nbd_wire.specs.declared.fault.WireFault.TheVariants.{IncompleteRead, SuccessOfImproper}
 use Rattle.nbd_session.specs.declared.spans.Span.{Span}
-use Rattle.nbd_session.specs.internal.Decisions.{fault_if}
+use Rattle.nbd_places.specs.internal.Decisions.{fault_if}
 use Rattle.nbd_state.specs.declared.asked.Exchange.{Exchange}
 use Rattle.nbd_state.specs.Showing.{IsShown}
 

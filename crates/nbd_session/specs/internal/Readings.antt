@@ -4,7 +4,7 @@ use Rattle.nbd_wire.specs.declared.fault.WireFault.{WireFault}
 use Rattle.nbd_wire.specs.declared.fault.WireFault.TheVariants.{OutOfTurn}
 use Rattle.nbd_session.specs.declared.reading.Reading.{Reading}
 use Rattle.nbd_session.specs.declared.reading.Reading.TheVariants.{Await, Whole}
-use Rattle.nbd_session.specs.internal.Decisions.{Decision}
+use Rattle.nbd_places.specs.internal.Decisions.{Decision}
 
 abbrev pub or_fault : Option WireFault → Reading → Result Reading WireFault
 or_fault (Some fault) reading = Err fault

@@ -6,7 +6,7 @@ use Rattle.nbd_wire.specs.declared.message.Message.{Message}
 use Rattle.nbd_wire.specs.protocol.Captures.{Pair, ArePairs}
 use Rattle.nbd_wire.specs.Pushed.{Span, bytes_of, pushed_pairs}
 use Rattle.nbd_wire.specs.protocol.Sides.{same_side}
-use Rattle.nbd_session.specs.internal.Concrete.{concrete}
+use Rattle.nbd_places.specs.internal.Concrete.{concrete}
 use Rattle.nbd_laws.specs.internal.Machine.{Machine, get, reads, fresh, IsFilled}
 
 -- the spans' bytes of a side

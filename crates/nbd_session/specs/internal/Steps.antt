@@ -5,9 +5,9 @@ use Rattle.nbd_wire.specs.protocol.Encoding.{AreBytes}
 use Rattle.nbd_session.specs.declared.fault.SessionFault.{SessionFault}
 use Rattle.nbd_session.specs.declared.fault.SessionFault.TheVariants.{Memory, Wire}
 use Rattle.nbd_session.specs.declared.held.Held.{Held}
-use Rattle.nbd_session.specs.internal.Concrete.{concrete}
+use Rattle.nbd_places.specs.internal.Concrete.{concrete}
 use Rattle.nbd_session.specs.internal.Holdings.{holding_of}
-use Rattle.nbd_session.specs.internal.Judge.{awaited}
+use Rattle.nbd_places.specs.internal.Judge.{awaited}
 use Rattle.nbd_session.specs.internal.Logging.{logged}
 use Rattle.nbd_laws.specs.internal.Machine.{IsFilled, Machine, fresh, get, old_of}
 use Rattle.nbd_session.specs.Sessions.{Adds, HasRun}

@@ -6,9 +6,9 @@ use Rattle.nbd_wire.specs.declared.message.Message.{Message}
 use Rattle.nbd_wire.specs.protocol.States.{Core}
 use Rattle.nbd_session.specs.declared.reading.Reading.TheVariants.{Whole}
 use Rattle.nbd_state.specs.declared.state.State.{State}
-use Rattle.nbd_session.specs.internal.Decisions.{Decision}
-use Rattle.nbd_session.specs.internal.Judge.{decided_counted}
-use Rattle.nbd_session.specs.internal.JudgeTransmission.{begins, chunk_of, simple_of}
+use Rattle.nbd_places.specs.internal.Decisions.{Decision}
+use Rattle.nbd_places.specs.internal.Judge.{decided_counted}
+use Rattle.nbd_places.specs.internal.JudgeTransmission.{begins, chunk_of, simple_of}
 use Rattle.nbd_session.specs.internal.Leading.{HasHead}
 use Rattle.nbd_session.specs.internal.Readings.{reading_of}
 use Rattle.nbd_state.specs.Shows.{Shows}

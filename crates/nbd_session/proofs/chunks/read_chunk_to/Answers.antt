@@ -8,8 +8,8 @@ use Rattle.nbd_wire.specs.protocol.Operations.{Operation, Exporting}
 use Rattle.nbd_wire.specs.protocol.States.{with_reply}
 use Rattle.nbd_wire.specs.declared.fault.WireFault.{WireFault}
 use Rattle.nbd_wire.specs.declared.fault.WireFault.TheVariants.{ChunkForbidden}
-use Rattle.nbd_session.specs.internal.Decisions.{fault_if}
-use Rattle.nbd_session.specs.internal.JudgeTransmission.{chunk_fault, chunk_last_fault, chunk_to}
+use Rattle.nbd_places.specs.internal.Decisions.{fault_if}
+use Rattle.nbd_places.specs.internal.JudgeTransmission.{chunk_fault, chunk_last_fault, chunk_to}
 use Rattle.nbd_session.proofs.judge.ReplyLemmas.{fails, ends}
 use Rattle.nbd_session.proofs.chunks.read_chunk_to.Goals as goal
 

@@ -2,8 +2,8 @@ use Rattle.std.proofs.Common.{◌∙◌, ap, sym}
 use Rattle.nbd_wire.specs.declared.message.Side.TheVariants.{Server}
 use Rattle.nbd_wire.specs.protocol.Payloads.{number_at}
 use Rattle.nbd_wire.specs.protocol.States as definitions
-use Rattle.nbd_session.specs.internal.Judge.{decided_with}
-use Rattle.nbd_session.specs.internal.JudgeTransmission.{operation_counted}
+use Rattle.nbd_places.specs.internal.Judge.{decided_with}
+use Rattle.nbd_places.specs.internal.JudgeTransmission.{operation_counted}
 use Rattle.nbd_session.specs.internal.Readings.{reading_if}
 use Rattle.nbd_session.proofs.reading_state.read_answered.Goals as goal
 

@@ -2,8 +2,8 @@ use Rattle.std.proofs.Common.{ℕ, ◌≡◌, ◌∙◌, ap, sym, refl, Option, 
 use Rattle.nbd_wire.specs.declared.message.Side.TheVariants.{Client}
 use Rattle.nbd_wire.specs.protocol.States as definitions
 use Rattle.nbd_wire.specs.protocol.States.{target}
-use Rattle.nbd_session.specs.internal.Judge.{decided_with, request_unless}
-use Rattle.nbd_session.specs.internal.JudgeTransmission.{operation_counted}
+use Rattle.nbd_places.specs.internal.Judge.{decided_with, request_unless}
+use Rattle.nbd_places.specs.internal.JudgeTransmission.{operation_counted}
 use Rattle.nbd_session.specs.internal.Readings.{reading_if}
 use Rattle.nbd_state.specs.Shows.{place_of}
 use Rattle.nbd_session.proofs.reading_state.read_asked.Goals as goal

@@ -1,7 +1,7 @@
 use Rattle.std.proofs.Common.{◌≡◌, ◌∙◌, sym}
 use Rattle.std.proofs.lemmas.Result.{IfOk-weaker}
 use Rattle.nbd_wire.specs.declared.message.Side.TheVariants.{Server}
-use Rattle.nbd_session.specs.internal.JudgeTransmission.{operation_counted}
+use Rattle.nbd_places.specs.internal.JudgeTransmission.{operation_counted}
 use Rattle.nbd_session.specs.internal.WholeMessage.{IsDecided, reply_of}
 use Rattle.nbd_session.proofs.parsing.WholeForLemmas.{answer_long, greeting_long, reply_named}
 use Rattle.nbd_session.proofs.whole.server_message.Goals as goal

@@ -1,7 +1,7 @@
 use Rattle.std.proofs.Common.{◌∙◌, ◌++◌, ◌∷◌, [], ap, sym, subst}
 use Rattle.nbd_wire.specs.protocol.Rules.{complete}
 use Rattle.nbd_state.specs.declared.state.State.{State}
-use Rattle.nbd_session.specs.internal.Concrete.{concrete}
+use Rattle.nbd_places.specs.internal.Concrete.{concrete}
 use Rattle.nbd_session.specs.internal.Logging.{logged}
 use Rattle.nbd_laws.specs.internal.Machine.{fresh}
 use Rattle.nbd_state.specs.Shows.{AreKnown, Shows}

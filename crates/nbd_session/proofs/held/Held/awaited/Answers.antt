@@ -1,6 +1,6 @@
 use Rattle.std.proofs.Common.{length, ◌∙◌, ap}
 use Rattle.nbd_session.specs.internal.Holdings.{holding_of}
-use Rattle.nbd_session.specs.internal.Judge.{decided_counted}
+use Rattle.nbd_places.specs.internal.Judge.{decided_counted}
 use Rattle.nbd_session.specs.internal.Readings.{reading_if, until}
 use Rattle.nbd_session.proofs.steps.AwaitedHeldLemmas.{awaited_until}
 use Rattle.nbd_session.proofs.held.Held.awaited.Goals as goal

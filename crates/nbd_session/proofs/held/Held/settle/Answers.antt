@@ -1,5 +1,5 @@
 use Rattle.std.proofs.Common.{◌∙◌, ap, sym, Ok}
-use Rattle.nbd_session.specs.internal.Judge.{decided_counted}
+use Rattle.nbd_places.specs.internal.Judge.{decided_counted}
 use Rattle.nbd_session.specs.internal.Readings.{reading_if}
 use Rattle.nbd_session.specs.internal.Steps.{IsShut}
 use Rattle.nbd_session.proofs.steps.SettleLemmas.{memory_alone, same_held, settled_more, shut_memory, shut_wire}

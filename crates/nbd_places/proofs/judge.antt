@@ -1,0 +1,14 @@
+pub mod AwaitedLemmas
+pub mod BlockLemmas
+pub mod BoolLemmas
+pub mod CoverLemmas
+pub mod ExactLemmas
+pub mod ExactNegotiationLemmas
+pub mod ExactTransmissionLemmas
+pub mod PhaseLemmas
+pub mod SoundClientLemmas
+pub mod SoundLemmas
+pub mod SoundNegotiationLemmas
+pub mod SoundServerLemmas
+pub mod SteadyLemmas
+pub mod TidyLemmas

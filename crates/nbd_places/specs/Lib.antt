@@ -1,0 +1,3 @@
+pub mod Marking
+pub mod captures
+pub mod internal

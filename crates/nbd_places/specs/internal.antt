@@ -1,0 +1,5 @@
+pub mod Concrete
+pub mod Decisions
+pub mod Judge
+pub mod JudgeNegotiation
+pub mod JudgeTransmission
