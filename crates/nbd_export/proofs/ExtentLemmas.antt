@@ -7,7 +7,7 @@ use Rattle.nbd_export.specs.declared.kind.Kind.{Kind}
 use Rattle.nbd_export.specs.Extents.{byte_by_kind, byte_of}
 use Rattle.nbd_export.specs.RangeKinds.{kind_of}
 use Rattle.nbd_export.specs.Pages.{stored_byte}
-use Rattle.nbd_export.specs.Ranges.{AreSameBelow, bytes_from, changed}
+use Rattle.nbd_export.specs.Ranges.{AreSameBelow, bytes_from, overlay}
 
 -- a byte in a range of this kind
 pub byte_of-kind : (e : Extents) (x : ℕ) (kind : Kind) → kind_of e.kinds x ≡ Some kind → byte_of e x ≡ byte_by_kind (Some kind) (stored_byte e.pages x)
@@ -20,13 +20,13 @@ unfolding byte_of
 byte_of-same p q x k s = ap (λ o. byte_by_kind o (stored_byte q.pages x)) k ∙ ap (byte_by_kind (kind_of p.kinds x)) s
 
 -- inside a range the new bytes, before it and after it the old ones
-changed_inside : (offset len x : ℕ) (new old : ℕ → Option ℕ) → offset ≤ x → x < offset + len → changed offset len new old x ≡ new x
+changed_inside : (offset len x : ℕ) (new old : ℕ → Option ℕ) → offset ≤ x → x < offset + len → overlay offset len new old x ≡ new x
 changed_inside offset len x new old lo hi = ap (λ b. if b then new x else old x) (and_from (nat_le offset x) (nat_lt x (offset + len)) (le-leb offset x lo) (lt-ltb x (offset + len) hi))
 
-changed_before : (offset len x : ℕ) (new old : ℕ → Option ℕ) → x < offset → changed offset len new old x ≡ old x
+changed_before : (offset len x : ℕ) (new old : ℕ → Option ℕ) → x < offset → overlay offset len new old x ≡ old x
 changed_before offset len x new old l = ap (λ b. if b then new x else old x) (and_left (nat_le offset x) (nat_lt x (offset + len)) (lt-leb offset x l))
 
-changed_behind : (offset len x : ℕ) (new old : ℕ → Option ℕ) → offset + len ≤ x → changed offset len new old x ≡ old x
+changed_behind : (offset len x : ℕ) (new old : ℕ → Option ℕ) → offset + len ≤ x → overlay offset len new old x ≡ old x
 changed_behind offset len x new old l = ap (λ b. if b then new x else old x) (and_right (nat_le offset x) (nat_lt x (offset + len)) (le-ltb x (offset + len) l))
 
 -- the bytes around a range that was made of one kind
@@ -37,7 +37,7 @@ module _ (p q : Extents) (offset len size : ℕ) (kind : Kind) (new : ℕ → Op
     (stored_before : (x : ℕ) → x < offset → stored_byte q.pages x ≡ stored_byte p.pages x)
     (stored_behind : (x : ℕ) → offset + len ≤ x → stored_byte q.pages x ≡ stored_byte p.pages x)
     (bytes : (x : ℕ) → offset ≤ x → x < offset + len → byte_by_kind (Some kind) (stored_byte q.pages x) ≡ new x) where
-  pub range_made : AreSameBelow size (byte_of q) (changed offset len new (byte_of p))
+  pub range_made : AreSameBelow size (byte_of q) (overlay offset len new (byte_of p))
   range_made x l = ⊎_elim
       (λ (m : x < offset). byte_of-same p q x (before x m) (stored_before x m) ∙ sym (changed_before offset len x new (byte_of p) m))
       (λ (m : offset ≤ x). ⊎_elim
@@ -47,7 +47,7 @@ module _ (p q : Extents) (offset len size : ℕ) (kind : Kind) (new : ℕ → Op
       (cases_lt x offset)
 
 -- a range of no byte changes nothing
-pub range_empty : (p : Extents) (offset len size : ℕ) (new : ℕ → Option ℕ) → len ≡ 0 → AreSameBelow size (byte_of p) (changed offset len new (byte_of p))
+pub range_empty : (p : Extents) (offset len size : ℕ) (new : ℕ → Option ℕ) → len ≡ 0 → AreSameBelow size (byte_of p) (overlay offset len new (byte_of p))
 range_empty p offset len size new e x l = ⊎_elim
     (λ (m : x < offset). sym (changed_before offset len x new (byte_of p) m))
     (λ (m : offset ≤ x). sym (changed_behind offset len x new (byte_of p) (omega arith)))

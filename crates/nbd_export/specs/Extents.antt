@@ -6,7 +6,7 @@ use Rattle.nbd_export.specs.declared.kind.Kind.{Kind}
 use Rattle.nbd_export.specs.declared.kind.Kind.TheVariants.{Unknown, Zeroes, Bytes}
 use Rattle.nbd_export.specs.Pages.{stored_byte}
 use Rattle.nbd_export.specs.RangeKinds.{kind_of}
-use Rattle.nbd_export.specs.Ranges.{AreSameBelow, changed}
+use Rattle.nbd_export.specs.Ranges.{AreSameBelow, overlay}
 
 -- what a range of this kind says of a byte, which is written down as given: nothing, 0, or that byte
 abbrev pub byte_by_kind : Option Kind → ℕ → Option ℕ
@@ -29,4 +29,4 @@ range_count extents = btree_map_len extents.kinds.starts
 
 -- below the size a range has come to these bytes, and the others are as they were
 abbrev pub Becomes : (old new : Extents) (offset len : ℕ) → (ℕ → Option ℕ) → Type 0
-Becomes old new offset len bytes = AreSameBelow (size_of old) (byte_of new) (changed offset len bytes (byte_of old))
+Becomes old new offset len bytes = AreSameBelow (size_of old) (byte_of new) (overlay offset len bytes (byte_of old))

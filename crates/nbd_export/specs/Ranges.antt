@@ -7,8 +7,8 @@ abbrev pub is_in : (offset len x : ℕ) → Bool
 is_in offset len x = nat_le offset x && nat_lt x (offset + len)
 
 -- the new bytes inside the range, the old ones outside it
-abbrev pub changed : (offset len : ℕ) → (new old : ℕ → Option ℕ) → ℕ → Option ℕ
-changed offset len new old x = if is_in offset len x then new x else old x
+abbrev pub overlay : (offset len : ℕ) → (new old : ℕ → Option ℕ) → ℕ → Option ℕ
+overlay offset len new old x = if is_in offset len x then new x else old x
 
 -- these bytes, the first of them at the offset
 abbrev pub bytes_from : ℕ → List ℕ → ℕ → Option ℕ

@@ -4,7 +4,7 @@
 
 ghost use Rattle.std.specs.Prelude.{◌≡◌, ◌+◌, ◌≤◌, ◌<◌, ℕ, IfOk, length, slice_get};
 ghost use Rattle.nbd_export.specs.Cells.{cell};
-ghost use Rattle.nbd_export.specs.Ranges.{DiffersIn, IsLeast, bytes_from, changed, zeroes};
+ghost use Rattle.nbd_export.specs.Ranges.{DiffersIn, IsLeast, bytes_from, overlay, zeroes};
 
 use std::alloc::{AllocError, Global};
 
@@ -23,7 +23,7 @@ pub fn cells_of(alloc: Global, image: &[u8]) -> Result<Vec<Option<u8>>, AllocErr
 /// Lets a range hold these bytes.
 pub fn store(cells: &mut [Option<u8>], offset: usize, bytes: &[u8])
     requires { offset + length bytes.now ≤ length cells.old }
-    ensures { (x : ℕ) → cell cells.new x ≡ changed offset (length bytes.now) (bytes_from offset bytes.now)
+    ensures { (x : ℕ) → cell cells.new x ≡ overlay offset (length bytes.now) (bytes_from offset bytes.now)
         (cell cells.old) x }
 {
     for i in 0..bytes.len() {
@@ -34,7 +34,7 @@ pub fn store(cells: &mut [Option<u8>], offset: usize, bytes: &[u8])
 /// Lets each cell of a range be this one.
 pub fn fill(cells: &mut [Option<u8>], offset: usize, len: usize, value: Option<u8>)
     requires { offset + len ≤ length cells.old }
-    ensures { (x : ℕ) → cell cells.new x ≡ changed offset len (λ _. value) (cell cells.old) x }
+    ensures { (x : ℕ) → cell cells.new x ≡ overlay offset len (λ _. value) (cell cells.old) x }
 {
     for i in 0..len {
         cells[offset + i] = value;

@@ -1,7 +1,7 @@
 //! Contents: what is known of each byte of an export, and the calls that change and compare them.
 
 ghost use Rattle.std.specs.Prelude.{◌≡◌, ◌+◌, ◌<◌, ◌≤◌, ℕ, Option, length, OnErr, OnOk};
-ghost use Rattle.nbd_export.specs.Ranges.{AreSameBelow, DiffersIn, IsLeast, bytes_from, changed, unknown, zeroes};
+ghost use Rattle.nbd_export.specs.Ranges.{AreSameBelow, DiffersIn, IsLeast, bytes_from, overlay, unknown, zeroes};
 
 use std::alloc::AllocError;
 
@@ -31,7 +31,7 @@ pub trait Contents {
         requires { offset + length bytes.now ≤ size self.old }
         ensures size { size self.new ≡ size self.old }
         ensures done { OnOk result (AreSameBelow (size self.old) (byte self.new)
-            (changed offset (length bytes.now) (bytes_from offset bytes.now) (byte self.old))) }
+            (overlay offset (length bytes.now) (bytes_from offset bytes.now) (byte self.old))) }
         ensures refused { OnErr result (AreSameBelow (size self.old) (byte self.new) (byte self.old)) };
 
     /// Makes the range zeroes. All is as before where memory is refused.
@@ -39,7 +39,7 @@ pub trait Contents {
         requires { offset + len ≤ size self.old }
         ensures size { size self.new ≡ size self.old }
         ensures done { OnOk result (AreSameBelow (size self.old) (byte self.new)
-            (changed offset len zeroes (byte self.old))) }
+            (overlay offset len zeroes (byte self.old))) }
         ensures refused { OnErr result (AreSameBelow (size self.old) (byte self.new) (byte self.old)) };
 
     /// Makes the range unknown. All is as before where memory is refused.
@@ -47,7 +47,7 @@ pub trait Contents {
         requires { offset + len ≤ size self.old }
         ensures size { size self.new ≡ size self.old }
         ensures done { OnOk result (AreSameBelow (size self.old) (byte self.new)
-            (changed offset len unknown (byte self.old))) }
+            (overlay offset len unknown (byte self.old))) }
         ensures refused { OnErr result (AreSameBelow (size self.old) (byte self.new) (byte self.old)) };
 
     /// The least offset of the range that begins at `offset` where a byte is known and is not the one in

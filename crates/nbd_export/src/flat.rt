@@ -2,7 +2,7 @@
 
 ghost use Rattle.std.specs.Prelude.{◌≡◌, ◌+◌, ◌<◌, ◌≤◌, ℕ, List, Option, IfOk, IsOk, length};
 ghost use Rattle.nbd_export.specs.Cells.{cell};
-ghost use Rattle.nbd_export.specs.Ranges.{AreSameBelow, bytes_from, changed, unknown, zeroes};
+ghost use Rattle.nbd_export.specs.Ranges.{AreSameBelow, bytes_from, overlay, unknown, zeroes};
 ghost use Rattle.nbd_export.specs.Starts.{FitsSize, start_byte};
 
 use crate::cells::{cells_of, fill, first_nonzero, first_other, store};
@@ -59,7 +59,7 @@ impl Contents for Flat {
         ensures ok { IsOk result }
         ensures size { length self.new ≡ length self.old }
         ensures done { (x : ℕ) →
-            cell self.new x ≡ changed offset (length bytes.now) (bytes_from offset bytes.now) (cell self.old) x }
+            cell self.new x ≡ overlay offset (length bytes.now) (bytes_from offset bytes.now) (cell self.old) x }
     {
         store(&mut self.cells, offset as usize, bytes);
         Ok(())
@@ -70,7 +70,7 @@ impl Contents for Flat {
         requires { offset + len ≤ length self.old }
         ensures ok { IsOk result }
         ensures size { length self.new ≡ length self.old }
-        ensures done { (x : ℕ) → cell self.new x ≡ changed offset len zeroes (cell self.old) x }
+        ensures done { (x : ℕ) → cell self.new x ≡ overlay offset len zeroes (cell self.old) x }
     {
         fill(&mut self.cells, offset as usize, len as usize, Some(0));
         Ok(())
@@ -81,7 +81,7 @@ impl Contents for Flat {
         requires { offset + len ≤ length self.old }
         ensures ok { IsOk result }
         ensures size { length self.new ≡ length self.old }
-        ensures done { (x : ℕ) → cell self.new x ≡ changed offset len unknown (cell self.old) x }
+        ensures done { (x : ℕ) → cell self.new x ≡ overlay offset len unknown (cell self.old) x }
     {
         fill(&mut self.cells, offset as usize, len as usize, None);
         Ok(())

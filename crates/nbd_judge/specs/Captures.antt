@@ -4,7 +4,7 @@ use Rattle.std.specs.declared.alloc.Global.{Global}
 use Rattle.std.specs.declared.vec.Vec.{Vec}
 use Rattle.nbd_wire.specs.declared.message.Message.{Message}
 use Rattle.nbd_wire.specs.declared.message.Side.{Side}
-use Rattle.nbd_wire.specs.protocol.Explains.{Explained, Start}
+use Rattle.nbd_wire.specs.protocol.Explains.{IsExplained, Start}
 use Rattle.nbd_wire.specs.protocol.Marks.{Item, pairs}
 use Rattle.nbd_wire.specs.protocol.Captures.{Pair}
 use Rattle.nbd_wire.specs.protocol.Reports.{report}
@@ -18,12 +18,12 @@ use Rattle.nbd_judge.specs.Conclusions.{Answers}
 use Rattle.nbd_judge.specs.Verdicts.{IsVerdict}
 
 -- a chunk's side and its bytes
-abbrev pub chunk_told : Side × Vec ℕ Global → Side × List ℕ
-chunk_told chunk = (chunk.0, chunk.1.items)
+abbrev pub record_of : Side × Vec ℕ Global → Side × List ℕ
+record_of chunk = (chunk.0, chunk.1.items)
 
 -- each chunk's side and its bytes
-abbrev pub chunks_told : List (Side × Vec ℕ Global) → List (Side × List ℕ)
-chunks_told chunks = map chunk_told chunks
+abbrev pub records_of : List (Side × Vec ℕ Global) → List (Side × List ℕ)
+records_of chunks = map record_of chunks
 
 -- a session over the capture ends in this fault; of out of memory nothing is said
 abbrev pub IsFaultOf : List Pair → SessionFault → Type 0
@@ -53,4 +53,4 @@ SaysYes _ = ⊥
 
 -- the verdict is a yes exactly where the order explains the capture
 abbrev pub AnswersExactly : List Pair → List ℕ → Start → Verdict → Type 0
-AnswersExactly capture order initial v = SaysYes v ↔ Explained capture order initial
+AnswersExactly capture order initial v = SaysYes v ↔ IsExplained capture order initial

@@ -3,14 +3,14 @@ use Rattle.std.specs.Prelude.{ℕ, List, [], ◌∷◌, ◌≡◌, Option, Some,
 use Rattle.nbd_wire.specs.protocol.ExportBytes.{Effect, entries_before, byte_before, effect_byte, touches}
 
 -- the contents after a request, if there is one
-abbrev pub applied : Option Effect → (ℕ → Option ℕ) → ℕ → Option ℕ
-applied (Some e) old x = if touches e x then effect_byte e x else old x
-applied None old x = old x
+abbrev pub contents_with_effect : Option Effect → (ℕ → Option ℕ) → ℕ → Option ℕ
+contents_with_effect (Some e) old x = if touches e x then effect_byte e x else old x
+contents_with_effect None old x = old x
 
 -- the contents after these requests, taken one after the other
 abbrev pub contents_after : (ℕ → Option Effect) → List ℕ → (ℕ → Option ℕ) → ℕ → Option ℕ
 contents_after requests [] old = old
-contents_after requests (k ∷ order) old = contents_after requests order (applied (requests k) old)
+contents_after requests (k ∷ order) old = contents_after requests order (contents_with_effect (requests k) old)
 
 -- taken forward, the contents after the requests before k are the bytes looked up backwards from k
 abbrev pub Folding : Type 0

@@ -1,13 +1,13 @@
 //! What a request changes when it is served (this project's choice).
 
 ghost use Rattle.std.specs.Prelude.{◌≡◌, OnOk, Some};
-ghost use Rattle.nbd_export.specs.Ranges.{AreSameBelow, changed, unknown};
+ghost use Rattle.nbd_export.specs.Ranges.{AreSameBelow, overlay, unknown};
 ghost use Rattle.nbd_wire.specs.protocol.ExportBytes.{effect};
-ghost use Rattle.nbd_state.specs.Transcripts.{asked_told};
-ghost use Rattle.nbd_judge.specs.Folding.{applied};
+ghost use Rattle.nbd_state.specs.Transcripts.{report_of_request};
+ghost use Rattle.nbd_judge.specs.Folding.{contents_with_effect};
 ghost use Rattle.nbd_judge.specs.internal.Servable.{IsServable};
 
-use crate::compare::succeeded;
+use crate::compare::is_success;
 use nbd_export::Contents;
 use nbd_session::Asked;
 use nbd_wire::commands;
@@ -16,14 +16,14 @@ use std::alloc::AllocError;
 /// Lets the contents be those after this request: a successful WRITE leaves its bytes, a successful
 /// WRITE_ZEROES zeroes, every other change unknown bytes, whatever else is asked no change.
 pub fn change<C: Contents>(one: &Asked, contents: &mut C) -> Result<(), AllocError>
-    requires { IsServable (C.size contents.old) (asked_told one.now) }
+    requires { IsServable (C.size contents.old) (report_of_request one.now) }
     ensures size { C.size contents.new ≡ C.size contents.old }
     ensures done { OnOk result (AreSameBelow (C.size contents.old) (C.byte contents.new)
-        (applied (Some (effect (asked_told one.now))) (C.byte contents.old))) }
+        (contents_with_effect (Some (effect (report_of_request one.now))) (C.byte contents.old))) }
 {
     match one.command {
         commands::WRITE => {
-            if succeeded(one.outcome) {
+            if is_success(one.outcome) {
                 contents.put(one.offset, one.payload.as_slice())?;
             } else {
                 erase(one.offset, one.length, contents)?;
@@ -31,7 +31,7 @@ pub fn change<C: Contents>(one: &Asked, contents: &mut C) -> Result<(), AllocErr
         }
         commands::TRIM => erase(one.offset, one.length, contents)?,
         commands::WRITE_ZEROES => {
-            if succeeded(one.outcome) {
+            if is_success(one.outcome) {
                 contents.zero(one.offset, one.length as u64)?;
             } else {
                 erase(one.offset, one.length, contents)?;
@@ -46,7 +46,7 @@ pub fn change<C: Contents>(one: &Asked, contents: &mut C) -> Result<(), AllocErr
 fn erase<C: Contents>(offset: u64, len: u32, contents: &mut C) -> Result<(), AllocError>
     ensures size { C.size contents.new ≡ C.size contents.old }
     ensures done { OnOk result (AreSameBelow (C.size contents.old) (C.byte contents.new)
-        (changed offset len unknown (C.byte contents.old))) }
+        (overlay offset len unknown (C.byte contents.old))) }
 {
     let size = contents.size();
     if offset < size {

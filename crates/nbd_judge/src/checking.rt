@@ -3,7 +3,7 @@
 ghost use Rattle.std.specs.Prelude.{◌<◌, ◌^◌, IfErr, IfOk, length};
 ghost use Rattle.nbd_wire.specs.protocol.Captures.{flat};
 ghost use Rattle.nbd_judge.specs.Beginnings.{initial_of};
-ghost use Rattle.nbd_judge.specs.Captures.{AnswersExactly, IsChecked, IsFaultOf, chunks_told};
+ghost use Rattle.nbd_judge.specs.Captures.{AnswersExactly, IsChecked, IsFaultOf, records_of};
 ghost use Rattle.nbd_judge.specs.internal.Captures.{IsTold};
 
 use crate::{Verdict, conclude};
@@ -22,10 +22,10 @@ pub fn check(
     order: &[u64],
     start: Start,
 ) -> Result<Verdict, AllocError>
-    requires { length (flat (chunks_told chunks.now)) < 2 ^ 63 }
-    ensures verdict { IfOk result (IsChecked (flat (chunks_told chunks.now)) order.now (initial_of start)) }
+    requires { length (flat (records_of chunks.now)) < 2 ^ 63 }
+    ensures verdict { IfOk result (IsChecked (flat (records_of chunks.now)) order.now (initial_of start)) }
     // Yes is said of exactly the captures that the order explains.
-    ensures exactly { IfOk result (AnswersExactly (flat (chunks_told chunks.now)) order.now (initial_of start)) }
+    ensures exactly { IfOk result (AnswersExactly (flat (records_of chunks.now)) order.now (initial_of start)) }
 {
     let finished = session_over(alloc, chunks);
     conclude(alloc, finished, order, start)
@@ -33,9 +33,9 @@ pub fn check(
 
 // What a session over these chunks finishes with.
 fn session_over(alloc: Global, chunks: &[(Side, Vec<u8>)]) -> Result<Transcript, SessionFault>
-    requires { length (flat (chunks_told chunks.now)) < 2 ^ 63 }
-    ensures told { IfOk result (IsTold (flat (chunks_told chunks.now))) }
-    ensures wire { IfErr result (IsFaultOf (flat (chunks_told chunks.now))) }
+    requires { length (flat (records_of chunks.now)) < 2 ^ 63 }
+    ensures told { IfOk result (IsTold (flat (records_of chunks.now))) }
+    ensures wire { IfErr result (IsFaultOf (flat (records_of chunks.now))) }
 {
     let mut session = Session::new(alloc);
     for (side, bytes) in chunks {

@@ -4,7 +4,7 @@ ghost use Rattle.std.specs.Prelude.{◌≡◌, ◌+◌, ◌≤◌, length};
 ghost use Rattle.nbd_export.specs.Ranges.{IsLeast};
 ghost use Rattle.nbd_wire.specs.protocol.ExportBytes.{IsWrongIn, effect, is_success};
 ghost use Rattle.nbd_wire.specs.protocol.Pieces.{piece_offset, piece_size};
-ghost use Rattle.nbd_state.specs.Transcripts.{asked_told};
+ghost use Rattle.nbd_state.specs.Transcripts.{report_of_request};
 ghost use Rattle.nbd_judge.specs.internal.Pieces.{AreInside, DiffersInOneOf, DiffersInPiece};
 ghost use Rattle.nbd_judge.specs.internal.Servable.{IsServable};
 ghost use Rattle.nbd_state.specs.Showing.{outcome_of};
@@ -17,11 +17,11 @@ use nbd_wire::{Piece, commands};
 /// The least offset of a wrong byte of a request that is served now; None where it has none. The cost is
 /// that of the bytes and holes of its reply.
 pub fn wrong<C: Contents>(one: &Asked, contents: &C) -> Option<u64>
-    requires { IsServable (C.size contents.now) (asked_told one.now) }
-    ensures { IsLeast (IsWrongIn (effect (asked_told one.now)) (C.byte contents.now)) result }
+    requires { IsServable (C.size contents.now) (report_of_request one.now) }
+    ensures { IsLeast (IsWrongIn (effect (report_of_request one.now)) (C.byte contents.now)) result }
 {
     if one.command == commands::READ {
-        if succeeded(one.outcome) {
+        if is_success(one.outcome) {
             return first_difference(&one.pieces, contents);
         }
     }
@@ -29,7 +29,7 @@ pub fn wrong<C: Contents>(one: &Asked, contents: &C) -> Option<u64>
 }
 
 /// Whether a request succeeded.
-pub fn succeeded(outcome: Outcome) -> bool
+pub fn is_success(outcome: Outcome) -> bool
     ensures { result ≡ is_success (outcome_of outcome) }
 {
     match outcome {

@@ -7,7 +7,7 @@ ghost use Rattle.nbd_judge.specs.Verdicts.{IsJudged};
 use crate::Verdict;
 use crate::order::order_fault;
 use crate::replay::replay;
-use crate::tally::{answered, improper};
+use crate::tally::{answered_count, improper_count};
 use nbd_export::Contents;
 use nbd_session::Transcript;
 use std::alloc::{AllocError, Global};
@@ -34,7 +34,7 @@ pub fn judge<C: Contents>(
     }
     Ok(Verdict::Yes {
         requests,
-        answered: answered(transcript),
-        improper: improper(transcript),
+        answered: answered_count(transcript),
+        improper: improper_count(transcript),
     })
 }

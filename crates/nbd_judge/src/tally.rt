@@ -7,7 +7,7 @@ ghost use Rattle.nbd_state.specs.Showing.{outcome_of};
 use nbd_session::{Outcome, Transcript};
 
 /// How many requests were finished, with success or with failure.
-pub fn answered(transcript: &Transcript) -> u64
+pub fn answered_count(transcript: &Transcript) -> u64
     ensures { result ≡ definitions.answered_count transcript.now }
 {
     let mut answered = 0;
@@ -22,7 +22,7 @@ pub fn answered(transcript: &Transcript) -> u64
 }
 
 /// How many requests were improper.
-pub fn improper(transcript: &Transcript) -> u64
+pub fn improper_count(transcript: &Transcript) -> u64
     ensures { result ≡ definitions.improper_count transcript.now }
 {
     let mut improper = 0;

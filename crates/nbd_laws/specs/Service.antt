@@ -4,7 +4,7 @@ use Rattle.nbd_wire.specs.declared.commands.TheConstants as commands
 use Rattle.nbd_wire.specs.declared.message.Side.TheVariants.{Client, Server}
 use Rattle.nbd_wire.specs.declared.message.Message.{Message}
 use Rattle.nbd_wire.specs.declared.message.Message.TheVariants.{Request}
-use Rattle.nbd_wire.specs.protocol.Explains.{Explained, Start}
+use Rattle.nbd_wire.specs.protocol.Explains.{IsExplained, Start}
 use Rattle.nbd_wire.specs.protocol.Reports.{operations_of, export_of}
 use Rattle.nbd_wire.specs.protocol.Marks.{Item, Completes, Starts, Serves, service_order}
 use Rattle.nbd_wire.specs.protocol.Operations.{Operation, Exporting, is_finished}
@@ -42,7 +42,7 @@ ServedOnceAfterCompletion = (prefix back : List Item) (k : ℕ) → IsRun (prefi
 
 -- the empty capture is explained by the empty order, from every start
 abbrev pub EmptyIsExplained : Type 0
-EmptyIsExplained = (initial : Start) → Explained [] [] initial
+EmptyIsExplained = (initial : Start) → IsExplained [] [] initial
 
 -- a DISC is empty
 abbrev pub DisconnectsAreEmpty : Type 0

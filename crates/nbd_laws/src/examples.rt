@@ -86,8 +86,8 @@ pub fn shared_cookie()
 {}
 
 /// After a DISC the server may answer what is outstanding.
-pub fn disconnected()
-    ensures { IsYes (flat reads.disconnected) (1 ∷ 2 ∷ []) Zeroes 2 2 0 }
+pub fn disconnection()
+    ensures { IsYes (flat reads.disconnection) (1 ∷ 2 ∷ []) Zeroes 2 2 0 }
 {}
 
 /// The pieces of a structured reply come in any order, and a hole reads as zeroes.
@@ -166,18 +166,18 @@ pub fn refused_tls()
 {}
 
 /// A session may end with ABORT.
-pub fn aborted()
-    ensures { IsYes (flat options.aborted) [] Zeroes 0 0 0 }
+pub fn abort_acknowledged()
+    ensures { IsYes (flat options.abort_acknowledged) [] Zeroes 0 0 0 }
 {}
 
 /// A LIST is answered by names and an ACK.
-pub fn listed()
-    ensures { IsYes (flat options.listed) [] Zeroes 0 0 0 }
+pub fn export_list()
+    ensures { IsYes (flat options.export_list) [] Zeroes 0 0 0 }
 {}
 
 /// A session may end where the server closes in place of an answer.
-pub fn unnamed()
-    ensures { IsYes (flat options.unnamed) [] Zeroes 0 0 0 }
+pub fn export_name_alone()
+    ensures { IsYes (flat options.export_name_alone) [] Zeroes 0 0 0 }
 {}
 
 /// An image of another size than the export explains nothing.

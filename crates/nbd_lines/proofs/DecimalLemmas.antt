@@ -49,9 +49,9 @@ parsed_plain ds (Err x) plain h = λ n fits e.
     let numeral = decimal_is_IsNumeral n fits in
     h (subst (IsNumeral 10) (sym e) numeral.0, let v : digits_value 10 ds ≡ n = ap (digits_value 10) e ∙ numeral.1 in omega arith)
 
-pub parsed : {E : Type 0} (ds : List ℕ) (r : Result ℕ E) → BeginsPlainly ds → ParsesUnsigned 64 10 ds r
+pub plain_digits_parse : {E : Type 0} (ds : List ℕ) (r : Result ℕ E) → BeginsPlainly ds → ParsesUnsigned 64 10 ds r
     → MatchOption (result_ok r) ((n : ℕ) → n < 2 ^ 64 → ds ≡ decimal n → ⊥) (λ n. ds ≡ decimal n)
-parsed ds r plain h =
+plain_digits_parse ds r plain h =
     let digit = plain.0 in
     let no_plus : get_or ds 0 0 ≢ 43 = omega (arith, digit) in
     let same = without_leading_plus_none ds no_plus in

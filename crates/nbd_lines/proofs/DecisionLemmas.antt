@@ -22,8 +22,8 @@ use Rattle.nbd_lines.specs.Line.IsEnd.{nothing}
 use Rattle.nbd_lines.specs.internal.Reading.{BeginsNumber, BeginsNumbers, EndsWord, IsSpaceless, ReadsNumber, ReadsNumbers}
 use Rattle.nbd_lines.specs.Script.{IsScriptLine}
 use Rattle.nbd_lines.specs.Script.IsScriptLine.{message, blank, comment, ok}
-use Rattle.nbd_lines.specs.Table.{carried, field_name, fields, has_payload, line_form, numbers, words}
-use Rattle.nbd_lines.proofs.EndLemmas.{no_payload, not_nothing, payload_at, undecoded}
+use Rattle.nbd_lines.specs.Table.{payload_of, field_name, fields, has_payload, line_form, numbers, words}
+use Rattle.nbd_lines.proofs.EndLemmas.{no_payload, not_nothing, payload_at, bad_digits_are_no_end}
 use Rattle.nbd_lines.proofs.MessageLineLemmas.{EndsSo, built, ends_so, fields_small, form_by, form_by-words, from_parts, misfit, no_end, no_form, no_numbers, nth}
 use Rattle.nbd_lines.proofs.NumberLemmas.{no_more, number_read, number_word, put_first, split_first}
 use Rattle.nbd_lines.proofs.ScriptLineLemmas.{formless_line, is_silent}
@@ -219,7 +219,7 @@ built-numbers Request ns bytes w = listed-within (fields Request) ns w
 built-numbers Simple ns bytes w = listed-within (fields Simple) ns w
 built-numbers Chunk ns bytes w = listed-within (fields Chunk) ns w
 
-built-payload : (f : Form) (ns bytes end : List ℕ) → IsEnd (has_payload f) bytes end → carried (built f ns bytes) ≡ bytes
+built-payload : (f : Form) (ns bytes end : List ℕ) → IsEnd (has_payload f) bytes end → payload_of (built f ns bytes) ≡ bytes
 unfolding built EndsSo
 built-payload Greeting ns bytes end e = sym (ends_so false bytes end e).0
 built-payload ClientFlags ns bytes end e = sym (ends_so false bytes end e).0
@@ -235,7 +235,7 @@ End p text = ((bytes : List ℕ) × IsEnd p bytes text) ⊎ ((bytes : List ℕ) 
 
 decoded : (p : Bool) (digits end : List ℕ) → p ≡ true → end ≡ payload_words ++ digits → (r : Result (List ℕ) FromHexError) → decode_of digits ≡ r → End p end
 decoded p digits end e w (Ok bytes) d = inl (bytes, payload_at p digits bytes end e w d)
-decoded p digits end e w (Err fault) d = inr (undecoded p digits end fault e w d)
+decoded p digits end e w (Err fault) d = inr (bad_digits_are_no_end p digits end fault e w d)
 
 an_end : (p : Bool) (end : List ℕ) → End p end
 an_end true end =

@@ -27,9 +27,9 @@ pub no_payload : (p : Bool) (end : List ℕ) → p ≡ true → ((digits : List 
 unfolding EndsSo
 no_payload p end e none bytes i = let c : Carries bytes end = ends_at p true bytes end e i in none c.digits c.whole
 
-pub undecoded : (p : Bool) (digits end : List ℕ) (fault : FromHexError) → p ≡ true → end ≡ payload_words ++ digits → decode_of digits ≡ Err fault → (bytes : List ℕ) → IsEnd p bytes end → ⊥
+pub bad_digits_are_no_end : (p : Bool) (digits end : List ℕ) (fault : FromHexError) → p ≡ true → end ≡ payload_words ++ digits → decode_of digits ≡ Err fault → (bytes : List ℕ) → IsEnd p bytes end → ⊥
 unfolding EndsSo
-undecoded p digits end fault e w bad bytes i =
+bad_digits_are_no_end p digits end fault e w bad bytes i =
     let c : Carries bytes end = ends_at p true bytes end e i in
     let same : c.digits ≡ digits = append_cancel_left payload_words c.digits digits (sym c.whole ∙ w) in
     let good : decode_of digits ≡ Ok bytes = ap decode_of (sym same) ∙ decodes c.digits bytes c.spelled in

@@ -12,7 +12,7 @@ use Rattle.nbd_wire.proofs.NumberLemmas.{slice_index-byte}
 use Rattle.nbd_wire.specs.protocol.Sendable.{IsSendable}
 use Rattle.nbd_capture.specs.Capture.{Chunk, IsCaptureText, chunk_line}
 use Rattle.nbd_lines.specs.Script.{chunk_lines, made_chunk, made_line}
-use Rattle.nbd_lines.specs.Table.{carried}
+use Rattle.nbd_lines.specs.Table.{payload_of}
 use Rattle.nbd_lines.proofs.PrintableLemmas.{sendable_bytes}
 
 -- each number is a byte
@@ -57,7 +57,7 @@ head_bytes (messages.Request flags command cookie offset len bytes) =
 head_bytes (messages.Simple error cookie bytes) = join (join (big 4 SIMPLE_MAGIC) (big 4 error)) (big 8 cookie)
 head_bytes (messages.Chunk flags kind cookie bytes) = join (join (join (join (big 4 CHUNK_MAGIC) (big 2 flags)) (big 2 kind)) (big 8 cookie)) (big 4 (length bytes))
 
-tail_bytes : (m : Message) → AreBytes (carried m) → AreBytes (tail m)
+tail_bytes : (m : Message) → AreBytes (payload_of m) → AreBytes (tail m)
 unfolding tail
 tail_bytes (messages.Greeting flags) b = tt
 tail_bytes (messages.ClientFlags flags) b = tt

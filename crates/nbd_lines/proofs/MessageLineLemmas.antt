@@ -15,7 +15,7 @@ use Rattle.nbd_lines.specs.declared.forms.Form.TheVariants.{Greeting, ClientFlag
 use Rattle.nbd_lines.specs.Line.{IsEnd, IsMessageLine, numbers_text, payload_words}
 use Rattle.nbd_lines.specs.Line.IsEnd.{nothing, payload}
 use Rattle.nbd_lines.specs.internal.Reading.{BeginsNumbers, EndsWord, ReadsNumbers}
-use Rattle.nbd_lines.specs.Table.{carried, fields, has_payload, line_form, numbers, words}
+use Rattle.nbd_lines.specs.Table.{payload_of, fields, has_payload, line_form, numbers, words}
 use Rattle.nbd_lines.proofs.NumberLemmas.{one_list}
 
 -- the first and the third letter of a line state its form
@@ -93,7 +93,7 @@ built Request ns bytes = messages.Request (nth 0 ns) (nth 1 ns) (nth 2 ns) (nth 
 built Simple ns bytes = messages.Simple (nth 0 ns) (nth 1 ns) bytes
 built Chunk ns bytes = messages.Chunk (nth 0 ns) (nth 1 ns) (nth 2 ns) bytes
 
-built-parts : (m : Message) → built (line_form m) (numbers m) (carried m) ≡ m
+built-parts : (m : Message) → built (line_form m) (numbers m) (payload_of m) ≡ m
 unfolding built
 built-parts (messages.Greeting flags) = refl
 built-parts (messages.ClientFlags flags) = refl
@@ -106,11 +106,11 @@ built-parts (messages.Simple error cookie bytes) = refl
 built-parts (messages.Chunk flags kind cookie bytes) = refl
 
 -- messages are their parts
-pub same_message : (a b : Message) → line_form a ≡ line_form b → numbers a ≡ numbers b → carried a ≡ carried b → a ≡ b
+pub same_message : (a b : Message) → line_form a ≡ line_form b → numbers a ≡ numbers b → payload_of a ≡ payload_of b → a ≡ b
 same_message a b f n p =
     let left = built-parts a in
     let right = built-parts b in
-    let parts : built (line_form a) (numbers a) (carried a) ≡ built (line_form b) (numbers b) (carried b) = cc in
+    let parts : built (line_form a) (numbers a) (payload_of a) ≡ built (line_form b) (numbers b) (payload_of b) = cc in
     sym left ∙ parts ∙ right
 
 pub fields_small : (f : Form) → AllByRecursion (λ (g : Field). g.most < 2 ^ 64) (fields f)
@@ -130,18 +130,18 @@ pub record Spells (line : List ℕ) (f : Form) (ns bytes : List ℕ) : Type 0 wh
   pub is_end : IsEnd (has_payload f) bytes end
   pub whole : line ≡ words f ++ (numbers_text (fields f) ns ++ end)
 
-spells : (line : List ℕ) (m : Message) (f : Form) → line_form m ≡ f → IsMessageLine line m → Spells line f (numbers m) (carried m)
+spells : (line : List ℕ) (m : Message) (f : Form) → line_form m ≡ f → IsMessageLine line m → Spells line f (numbers m) (payload_of m)
 spells line m f e h =
-    let own : Spells line (line_form m) (numbers m) (carried m) = record {
+    let own : Spells line (line_form m) (numbers m) (payload_of m) = record {
       end = h.end;
       begins = record { within = h.within; whole = refl };
       is_end = h.is_end;
       whole = h.whole;
     } in
-    subst (λ g. Spells line g (numbers m) (carried m)) e own
+    subst (λ g. Spells line g (numbers m) (payload_of m)) e own
 
 -- a line that begins with the words of a form is of this form
-spells_rest : (line rest : List ℕ) (f : Form) (m : Message) → line ≡ words f ++ rest → IsMessageLine line m → Spells line f (numbers m) (carried m)
+spells_rest : (line rest : List ℕ) (f : Form) (m : Message) → line ≡ words f ++ rest → IsMessageLine line m → Spells line f (numbers m) (payload_of m)
 spells_rest line rest f m e h =
     let same = one_form f (line_form m) rest _ (sym e ∙ h.whole) in
     spells line m f (sym same.0) h
@@ -156,18 +156,18 @@ pub no_numbers : (line rest : List ℕ) (f : Form) → line ≡ words f ++ rest
     → ((ns behind : List ℕ) → EndsWord behind → BeginsNumbers (fields f) ns rest behind → ⊥) → (m : Message) → IsMessageLine line m → ⊥
 no_numbers line rest f e none m h =
     let s = spells_rest line rest f m e h in
-    none (numbers m) s.end (end_ends (has_payload f) (carried m) s.end s.is_end) (rest_of line rest f (numbers m) (carried m) e s)
+    none (numbers m) s.end (end_ends (has_payload f) (payload_of m) s.end s.is_end) (rest_of line rest f (numbers m) (payload_of m) e s)
 
 pub no_end : (line rest end : List ℕ) (f : Form) (ns : List ℕ) → line ≡ words f ++ rest → ReadsNumbers (fields f) ns rest end
     → ((bytes : List ℕ) → IsEnd (has_payload f) bytes end → ⊥) → (m : Message) → IsMessageLine line m → ⊥
 no_end line rest end f ns e reads none m h =
     let s = spells_rest line rest f m e h in
-    let same = reads.only (numbers m) s.end (end_ends (has_payload f) (carried m) s.end s.is_end) (rest_of line rest f (numbers m) (carried m) e s) in
-    none (carried m) (subst (IsEnd (has_payload f) (carried m)) same.1 s.is_end)
+    let same = reads.only (numbers m) s.end (end_ends (has_payload f) (payload_of m) s.end s.is_end) (rest_of line rest f (numbers m) (payload_of m) e s) in
+    none (payload_of m) (subst (IsEnd (has_payload f) (payload_of m)) same.1 s.is_end)
 
 -- the message of the parts that were read has the line
 pub from_parts : (line rest end : List ℕ) (f : Form) (ns bytes : List ℕ) (m : Message) → line ≡ words f ++ rest → ReadsNumbers (fields f) ns rest end
-    → IsEnd (has_payload f) bytes end → line_form m ≡ f → numbers m ≡ ns → carried m ≡ bytes → IsMessageLine line m
+    → IsEnd (has_payload f) bytes end → line_form m ≡ f → numbers m ≡ ns → payload_of m ≡ bytes → IsMessageLine line m
 from_parts line rest end f ns bytes m e reads is_end ef en ec =
     let s : Spells line f ns bytes = record {
       end = end;
@@ -175,7 +175,7 @@ from_parts line rest end f ns bytes m e reads is_end ef en ec =
       is_end = is_end;
       whole = e ∙ ap (λ l. words f ++ l) reads.begins.whole;
     } in
-    let own : Spells line (line_form m) (numbers m) (carried m) = rw (ef, en, ec) s in
+    let own : Spells line (line_form m) (numbers m) (payload_of m) = rw (ef, en, ec) s in
     record { end = own.end; within = own.begins.within; is_end = own.is_end; whole = own.whole }
 
 -- a line stands for one message
@@ -184,13 +184,13 @@ one_message line a b x y =
     let f = line_form a in
     let s = spells line a f refl x in
     let t = spells_rest line _ f b s.whole y in
-    let left = rest_of line _ f (numbers a) (carried a) s.whole s in
-    let right = rest_of line _ f (numbers b) (carried b) s.whole t in
+    let left = rest_of line _ f (numbers a) (payload_of a) s.whole s in
+    let right = rest_of line _ f (numbers b) (payload_of b) s.whole t in
     let form : line_form a ≡ line_form b = (one_form f (line_form b) _ _ (sym s.whole ∙ y.whole)).0 in
     let same = one_list (fields f) (fields_small f) (numbers a) (numbers b) _ s.end t.end
-    (end_ends (has_payload f) (carried a) s.end s.is_end) (end_ends (has_payload f) (carried b) t.end t.is_end) left right in
-    let end : IsEnd (has_payload f) (carried b) s.end = subst (IsEnd (has_payload f) (carried b)) (sym same.1) t.is_end in
-    same_message a b form same.0 (one_payload (has_payload f) (carried a) (carried b) s.end s.is_end end)
+    (end_ends (has_payload f) (payload_of a) s.end s.is_end) (end_ends (has_payload f) (payload_of b) t.end t.is_end) left right in
+    let end : IsEnd (has_payload f) (payload_of b) s.end = subst (IsEnd (has_payload f) (payload_of b)) (sym same.1) t.is_end in
+    same_message a b form same.0 (one_payload (has_payload f) (payload_of a) (payload_of b) s.end s.is_end end)
 
 pub misfit : (line : List ℕ) (a : Message) → IsMessageLine line a → (FitsItsHead a → ⊥) → (b : Message) → IsMessageLine line b → FitsItsHead b → ⊥
 misfit line a x unfit b y fit = unfit (subst FitsItsHead (one_message line b a y x) fit)

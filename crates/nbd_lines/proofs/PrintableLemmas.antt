@@ -27,7 +27,7 @@ use Rattle.nbd_lines.specs.Line.{AreWithin, IsEnd, IsMessageLine, end_text, equa
 use Rattle.nbd_lines.specs.Line.IsEnd.{nothing, payload}
 use Rattle.nbd_lines.specs.Script.{IsScript, message_lines, shown_line}
 use Rattle.nbd_lines.specs.Script.IsScriptLine.{message, ok}
-use Rattle.nbd_lines.specs.Table.{carried, field_name, fields, has_payload, line_form, numbers, words}
+use Rattle.nbd_lines.specs.Table.{payload_of, field_name, fields, has_payload, line_form, numbers, words}
 use Rattle.nbd_lines.proofs.MessageLineLemmas.{fields_small}
 
 padded_within : (padded : Bool) → (if padded then 1 else 0) ≤ 1
@@ -47,7 +47,7 @@ sendable_within (messages.Request flags command cookie offset len bytes) s =
 sendable_within (messages.Simple error cookie bytes) s = (omega (arith, s.0), (omega (arith, s.1), tt))
 sendable_within (messages.Chunk flags kind cookie bytes) s = (omega (arith, s.0), (omega (arith, s.1), (omega (arith, s.2), tt)))
 
-pub sendable_bytes : (m : Message) → IsSendable m → AreBytes (carried m)
+pub sendable_bytes : (m : Message) → IsSendable m → AreBytes (payload_of m)
 unfolding IsSendable
 sendable_bytes (messages.Greeting flags) s = tt
 sendable_bytes (messages.ClientFlags flags) s = tt
@@ -77,7 +77,7 @@ printed_end : (p : Bool) (bytes : List ℕ) → AreBytes bytes → (p ≡ false 
 printed_end true bytes b none = payload (encode_lower bytes) bytes (spelled (encode_lower bytes) bytes (decode_of-encode_lower bytes (slice_index-byte bytes b)))
 printed_end false bytes b none = subst (λ l. IsEnd false l []) (sym (none refl)) nothing
 
-nothing_carried : (m : Message) → has_payload (line_form m) ≡ false → carried m ≡ []
+nothing_carried : (m : Message) → has_payload (line_form m) ≡ false → payload_of m ≡ []
 nothing_carried (messages.Greeting flags) e = refl
 nothing_carried (messages.ClientFlags flags) e = refl
 nothing_carried (messages.Choice id bytes) e = cc e
@@ -88,12 +88,12 @@ nothing_carried (messages.Simple error cookie bytes) e = cc e
 nothing_carried (messages.Chunk flags kind cookie bytes) e = cc e
 
 -- a printed line stands for its message
-pub printed : (m : Message) → IsSendable m → IsMessageLine (message_line m) m × FitsItsHead m
-printed m s = (
+pub message_line_is_sendable : (m : Message) → IsSendable m → IsMessageLine (message_line m) m × FitsItsHead m
+message_line_is_sendable m s = (
   record {
-    end = end_text (has_payload (line_form m)) (carried m);
+    end = end_text (has_payload (line_form m)) (payload_of m);
     within = sendable_within m s;
-    is_end = printed_end (has_payload (line_form m)) (carried m) (sendable_bytes m s) (nothing_carried m);
+    is_end = printed_end (has_payload (line_form m)) (payload_of m) (sendable_bytes m s) (nothing_carried m);
     whole = refl;
   },
   sendable_fits m s,
@@ -175,22 +175,22 @@ unbroken_end false bytes b = tt
 unbroken_line : (m : Message) → IsSendable m → IsUnbroken (message_line m)
 unbroken_line m s =
     let f : Form = line_form m in
-    unbroken_both (words f) (numbers_text (fields f) (numbers m) ++ end_text (has_payload f) (carried m)) (unbroken_words f)
-    (unbroken_both (numbers_text (fields f) (numbers m)) (end_text (has_payload f) (carried m)) (unbroken_numbers (fields f) (fields_small f) (numbers m) (sendable_within m s)) (unbroken_end (has_payload f) (carried m) (sendable_bytes m s)))
+    unbroken_both (words f) (numbers_text (fields f) (numbers m) ++ end_text (has_payload f) (payload_of m)) (unbroken_words f)
+    (unbroken_both (numbers_text (fields f) (numbers m)) (end_text (has_payload f) (payload_of m)) (unbroken_numbers (fields f) (fields_small f) (numbers m) (sendable_within m s)) (unbroken_end (has_payload f) (payload_of m) (sendable_bytes m s)))
 
 -- printed lines are a script, also before lines that stand for no message
 pub shown_then : (all : List Message) (tail : List ℕ) → AllByRecursion IsSendable all → IsScript tail [] → IsScript (message_lines all ++ tail) all
 shown_then [] tail s silent = silent
 shown_then (m ∷ ms) tail s silent =
-    let form = printed m s.0 in
+    let form = message_line_is_sendable m s.0 in
     let more : List ℕ = message_lines ms ++ tail in
     let whole = line (message_line m) (m ∷ []) more ms (unbroken_line m s.0) (message (message_line m) m form.0 form.1) (shown_then ms tail s.1 silent) in
     let joined : (shown_line m ++ message_lines ms) ++ tail ≡ message_line m ++ line_feed ∷ more =
     append_assoc (shown_line m) (message_lines ms) tail ∙ append_assoc (message_line m) (line_feed ∷ []) more in
     subst (λ t. IsScript t (m ∷ ms)) (sym joined) whole
 
-pub shown : (all : List Message) → AllByRecursion IsSendable all → IsScript (message_lines all) all
-shown all s = subst (λ t. IsScript t all) (append-nil (message_lines all)) (shown_then all [] s empty)
+pub message_lines_are_script : (all : List Message) → AllByRecursion IsSendable all → IsScript (message_lines all) all
+message_lines_are_script all s = subst (λ t. IsScript t all) (append-nil (message_lines all)) (shown_then all [] s empty)
 
 pub ok_alone : IsScript (codes "ok\n") []
 ok_alone = line (codes "ok") [] [] [] (omega arith, (omega arith, tt)) ok empty

@@ -6,7 +6,7 @@ use Rattle.nbd_lines.specs.declared.forms.Field.{Field}
 use Rattle.hex.specs.Hex.{encode_lower}
 use Rattle.nbd_wire.specs.declared.message.Message.{Message}
 use Rattle.nbd_lines.specs.Line.{end_text, message_line, payload_words, number_text, numbers_text}
-use Rattle.nbd_lines.specs.Table.{carried, fields, has_payload, line_form, numbers, words}
+use Rattle.nbd_lines.specs.Table.{payload_of, fields, has_payload, line_form, numbers, words}
 use Rattle.nbd_lines.specs.internal.Printing.{AddsPrefix}
 
 pub adds_nothing : (old : List ℕ) → AddsPrefix old old
@@ -55,10 +55,10 @@ numbers_text-take (f ∷ fs) (n ∷ ns) = ap (λ l. number_text f n ++ l) (numbe
 -- the parts of a line, one after the other
 pub line_printed : (m : Message) (ns old first second third : List ℕ) → take (length (fields (line_form m))) ns ≡ numbers m
     → first ≡ old ++ words (line_form m) → second ≡ first ++ numbers_text (fields (line_form m)) ns
-    → third ≡ second ++ end_text (has_payload (line_form m)) (carried m) → third ≡ old ++ message_line m
+    → third ≡ second ++ end_text (has_payload (line_form m)) (payload_of m) → third ≡ old ++ message_line m
 line_printed m ns old first second third same a b c =
     let fs : List Field = fields (line_form m) in
-    let end : List ℕ = end_text (has_payload (line_form m)) (carried m) in
+    let end : List ℕ = end_text (has_payload (line_form m)) (payload_of m) in
     let own : numbers_text fs ns ≡ numbers_text fs (numbers m) = sym (numbers_text-take fs ns) ∙ ap (numbers_text fs) same in
     c ∙ ap (λ l. l ++ end) (b ∙ ap (λ l. l ++ numbers_text fs ns) a ∙ ap (λ l. (old ++ words (line_form m)) ++ l) own)
     ∙ append_assoc (old ++ words (line_form m)) (numbers_text fs (numbers m)) end

@@ -37,12 +37,12 @@ pointwise-refl [] = refl
 pointwise-refl (a ∷ prefix) = rw (eq-eqb a a refl) (pointwise-refl prefix)
 
 -- what `strip_prefix` answers
-pub stripped : (prefix text : List ℕ) (r : Option (Bor (List ℕ)))
+pub strip_is_prefix : (prefix text : List ℕ) (r : Option (Bor (List ℕ)))
     → MatchOption r (pointwise nat_eq (take (length prefix) text) prefix ≡ false) (λ x. (pointwise nat_eq (take (length prefix) text) prefix ≡ true) × (x.now ≡ drop (length prefix) text) × (length x.now + length prefix ≡ length text))
     → MatchOption r ((rest : List ℕ) → text ≡ prefix ++ rest → ⊥) (λ x. text ≡ prefix ++ x.now)
-stripped prefix text None h = λ rest e.
+strip_is_prefix prefix text None h = λ rest e.
     let same : take (length prefix) text ≡ prefix = ap (take (length prefix)) e ∙ take-append_seam prefix rest in
     cc (h, pointwise-refl prefix, ap (λ l. pointwise nat_eq l prefix) same)
-stripped prefix text (Some x) h =
+strip_is_prefix prefix text (Some x) h =
     let same : take (length prefix) text ≡ prefix = pointwise-same (take (length prefix) text) prefix h.0 in
     sym (take-append-drop (length prefix) text) ∙ ap (λ l. l ++ drop (length prefix) text) same ∙ ap (λ l. prefix ++ l) (sym h.1)

@@ -5,7 +5,7 @@ use Rattle.hex.specs.Hex.{encode_lower}
 use Rattle.nbd_wire.specs.declared.message.Message.{Message}
 use Rattle.nbd_capture.specs.Capture.{AreDigits, space}
 use Rattle.nbd_lines.specs.declared.forms.Field.{Field}
-use Rattle.nbd_lines.specs.Table.{carried, field_name, fields, has_payload, line_form, numbers, words}
+use Rattle.nbd_lines.specs.Table.{payload_of, field_name, fields, has_payload, line_form, numbers, words}
 
 -- `=`
 abbrev pub equals : ℕ
@@ -39,7 +39,7 @@ pub data IsEnd : Bool → List ℕ → List ℕ → Type 0 where
 pub record IsMessageLine (line : List ℕ) (m : Message) : Type 0 where
   pub end : List ℕ
   pub within : AreWithin (fields (line_form m)) (numbers m)
-  pub is_end : IsEnd (has_payload (line_form m)) (carried m) end
+  pub is_end : IsEnd (has_payload (line_form m)) (payload_of m) end
   pub whole : line ≡ words (line_form m) ++ (numbers_text (fields (line_form m)) (numbers m) ++ end)
 
 -- the end of a line as it is printed, in lower case
@@ -49,4 +49,4 @@ end_text false bytes = []
 
 -- a message's line as it is printed
 abbrev pub message_line : Message → List ℕ
-message_line m = words (line_form m) ++ (numbers_text (fields (line_form m)) (numbers m) ++ end_text (has_payload (line_form m)) (carried m))
+message_line m = words (line_form m) ++ (numbers_text (fields (line_form m)) (numbers m) ++ end_text (has_payload (line_form m)) (payload_of m))

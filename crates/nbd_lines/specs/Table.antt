@@ -78,10 +78,10 @@ numbers (messages.Simple error cookie payload) = error ∷ cookie ∷ []
 numbers (messages.Chunk flags kind cookie payload) = flags ∷ kind ∷ cookie ∷ []
 
 -- the payload that a message carries, if its form has one
-abbrev pub carried : Message → List ℕ
-carried (messages.Choice id payload) = payload
-carried (messages.Answer option kind payload) = payload
-carried (messages.Request flags command cookie offset len payload) = payload
-carried (messages.Simple error cookie payload) = payload
-carried (messages.Chunk flags kind cookie payload) = payload
-carried _ = []
+abbrev pub payload_of : Message → List ℕ
+payload_of (messages.Choice id payload) = payload
+payload_of (messages.Answer option kind payload) = payload
+payload_of (messages.Request flags command cookie offset len payload) = payload
+payload_of (messages.Simple error cookie payload) = payload
+payload_of (messages.Chunk flags kind cookie payload) = payload
+payload_of _ = []

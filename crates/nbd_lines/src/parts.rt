@@ -2,7 +2,7 @@
 
 ghost use Rattle.std.specs.Prelude.{◌≡◌, ◌⊎◌, [], length, take, true};
 ghost use Rattle.nbd_lines.specs.Line.{AreWithin};
-ghost use Rattle.nbd_lines.specs.Table.{carried, fields, has_payload, line_form, numbers};
+ghost use Rattle.nbd_lines.specs.Table.{payload_of, fields, has_payload, line_form, numbers};
 
 use crate::forms::Form;
 use nbd_wire::{Bytes, Message};
@@ -66,7 +66,7 @@ pub fn numbers_of(message: &Message) -> [u64; MOST_NUMBERS]
 
 /// The payload of a message; empty where its form has none.
 pub fn payload_of(message: &Message) -> &[u8]
-    ensures { result.now ≡ carried message.now }
+    ensures { result.now ≡ payload_of message.now }
 {
     match message {
         Message::Choice { payload, .. }
@@ -84,7 +84,7 @@ pub fn message_of(form: Form, values: [u64; MOST_NUMBERS], payload: Bytes) -> Me
     requires carried { (has_payload form ≡ true) ⊎ (payload ≡ []) }
     ensures form { line_form result ≡ form }
     ensures numbers { numbers result ≡ take (length (fields form)) values }
-    ensures payload { carried result ≡ payload }
+    ensures payload { payload_of result ≡ payload }
 {
     let [first, second, third, fourth, fifth] = values;
     match form {

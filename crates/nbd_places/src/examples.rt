@@ -7,7 +7,7 @@ ghost use Rattle.nbd_wire.specs.declared.fault.WireFault.TheVariants.{BadMagic, 
 ghost use Rattle.nbd_wire.specs.declared.message.Message.TheVariants.{Greeting};
 ghost use Rattle.nbd_laws.specs.captures.Openings.{hasty_client};
 ghost use Rattle.nbd_places.specs.captures.Refused as refused;
-ghost use Rattle.nbd_places.specs.captures.Messages.{opened};
+ghost use Rattle.nbd_places.specs.captures.Messages.{opening_messages};
 
 /// The client speaks first.
 pub fn client_first()
@@ -37,10 +37,10 @@ pub fn greedy_client()
 
 /// A reply to no request.
 pub fn unasked_reply()
-    ensures { IsPlace (flat refused.unasked_reply) opened UnknownCookie }
+    ensures { IsPlace (flat refused.unasked_reply) opening_messages UnknownCookie }
 {}
 
 /// A DISC with a length.
 pub fn long_disconnect()
-    ensures { IsPlace (flat refused.long_disconnect) opened BadDisconnect }
+    ensures { IsPlace (flat refused.long_disconnect) opening_messages BadDisconnect }
 {}

@@ -4,4 +4,5 @@ pub mod KnownLemmas
 pub mod LogKnownLemmas
 pub mod LogLemmas
 pub mod LogStepLemmas
+pub mod Logs
 pub mod ReportLemmas

@@ -8,7 +8,7 @@ use Rattle.nbd_wire.specs.declared.fault.WireFault.{WireFault}
 use Rattle.nbd_wire.specs.declared.fault.WireFault.TheVariants.{Unfinished}
 use Rattle.nbd_session.specs.declared.fault.SessionFault.{SessionFault}
 use Rattle.nbd_session.specs.declared.fault.SessionFault.TheVariants.{Memory, Wire}
-use Rattle.nbd_session.specs.Sessions.{Recorded, pairs_of}
+use Rattle.nbd_session.specs.Sessions.{SessionView, pairs_of}
 
 -- a fault at the last of these bytes, which is the place that the rules name, with these messages: no run begins with them, and
 -- before the last one exactly these messages complete in each run that begins so
@@ -42,21 +42,21 @@ IsWireFault capture messages at fault =
     IsRefusedAt capture messages at fault ⊎ (fault ≡ Unfinished) × (at ≡ length capture) × IsOpenEnd capture messages
 
 -- a session that answers this fault was refused at the last byte that it took; of out of memory nothing is said
-abbrev pub Refuses : Recorded → SessionFault → Type 0
+abbrev pub Refuses : SessionView → SessionFault → Type 0
 Refuses r (Wire at fault) = IsRefusal (pairs_of r) r.messages fault
 Refuses r Memory = Unit {0}
 
 -- a session that ends in this fault
-abbrev pub EndsIn : Recorded → SessionFault → Type 0
+abbrev pub EndsIn : SessionView → SessionFault → Type 0
 EndsIn r (Wire at fault) = IsWireFault (pairs_of r) r.messages at fault
 EndsIn r Memory = Unit {0}
 
 -- the messages of a session under way are all that complete within its bytes, no prefix of which has a place; one that is closed
 -- was refused
-abbrev pub IsCompleteBy : Option SessionFault → Recorded → Type 0
+abbrev pub IsCompleteBy : Option SessionFault → SessionView → Type 0
 IsCompleteBy None r = CompletesExactly (pairs_of r) r.messages × HasNoPlace (pairs_of r)
 IsCompleteBy (Some fault) r = Refuses r fault
 
 -- the same of a session, by the fault that closed it
-abbrev pub IsComplete : Recorded → Type 0
+abbrev pub IsComplete : SessionView → Type 0
 IsComplete r = IsCompleteBy r.closed r

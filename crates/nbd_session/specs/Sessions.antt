@@ -13,7 +13,7 @@ use Rattle.nbd_wire.specs.declared.fault.WireFault.TheVariants.{Unfinished}
 
 -- the accepted messages in the order of their completion, each side's bytes after its messages, the
 -- spans of all bytes, and the fault that closed the session, if one did
-pub record Recorded : Type 0 where
+pub record SessionView : Type 0 where
   pub messages : List Message
   pub client : List ℕ
   pub server : List ℕ
@@ -21,12 +21,12 @@ pub record Recorded : Type 0 where
   pub closed : Option SessionFault
 
 -- the bytes that were taken, with their senders
-abbrev pub pairs_of : Recorded → List Pair
+abbrev pub pairs_of : SessionView → List Pair
 pairs_of r = pushed_pairs r.messages r.client r.server r.spans
 
 -- how many bytes were taken
-abbrev pub taken : Recorded → ℕ
-taken r = length (pairs_of r)
+abbrev pub bytes_taken : SessionView → ℕ
+bytes_taken r = length (pairs_of r)
 
 -- some run, but for these bytes after each side's last message, has the pairs, and these messages
 -- complete in it in this order
@@ -37,7 +37,7 @@ pub record HasRun (ps : List Pair) (messages : List Message) (client server : Li
   pub has_messages : completed_messages items ≡ messages
 
 -- what was taken belongs to such a run
-abbrev pub IsOfRun : Recorded → Type 0
+abbrev pub IsOfRun : SessionView → Type 0
 IsOfRun r = HasRun (pairs_of r) r.messages r.client r.server
 
 -- of a side's piece all but `left` was taken, and more messages may have been accepted
@@ -49,18 +49,18 @@ pub record Adds (before after : List Pair) (earlier later : List Message) (s : S
   pub has_messages : later ≡ earlier ++ more
 
 -- a prefix of a side's piece was taken, and more messages may have been accepted
-abbrev pub AddsPrefix : (old new : Recorded) → Side → (piece : List ℕ) → Type 0
+abbrev pub AddsPrefix : (old new : SessionView) → Side → (piece : List ℕ) → Type 0
 AddsPrefix old new s piece = (left : List ℕ) × Adds (pairs_of old) (pairs_of new) old.messages new.messages s piece left
 
 -- a wire fault names the last byte that was taken
-abbrev pub IsAtEnd : Recorded → SessionFault → Type 0
-IsAtEnd r (Wire at fault) = at ≡ taken r
+abbrev pub IsAtEnd : SessionView → SessionFault → Type 0
+IsAtEnd r (Wire at fault) = at ≡ bytes_taken r
 IsAtEnd r Memory = Unit {0}
 
 -- a message that started has not completed where bytes of a side stand after its messages
-abbrev pub unfinished : (client server : List ℕ) → (at : ℕ) → Option SessionFault
-unfinished [] [] at = None
-unfinished client server at = Some (Wire at Unfinished)
+abbrev pub open_end_fault : (client server : List ℕ) → (at : ℕ) → Option SessionFault
+open_end_fault [] [] at = None
+open_end_fault client server at = Some (Wire at Unfinished)
 
 -- the fault that closed it, or else this one
 abbrev pub end_by : Option SessionFault → Option SessionFault → Option SessionFault
@@ -68,8 +68,8 @@ end_by (Some fault) last = Some fault
 end_by None last = last
 
 -- the fault of a session that is to end
-abbrev pub fault_at_end : Recorded → Option SessionFault
-fault_at_end r = end_by r.closed (unfinished r.client r.server (taken r))
+abbrev pub fault_at_end : SessionView → Option SessionFault
+fault_at_end r = end_by r.closed (open_end_fault r.client r.server (bytes_taken r))
 
 -- the fault of an answer, if it is one
 abbrev pub fault_of : {A : Type 0} → Result A SessionFault → Option SessionFault
@@ -77,12 +77,12 @@ fault_of (Ok a) = None
 fault_of (Err fault) = Some fault
 
 -- before the first byte
-abbrev pub none_taken : Recorded
-none_taken = record { messages = []; client = []; server = []; spans = []; closed = None }
+abbrev pub empty_session : SessionView
+empty_session = record { messages = []; client = []; server = []; spans = []; closed = None }
 
 -- some run has exactly the bytes that were taken and these messages, and the report of any such run
 -- is this one
-pub record IsReported (r : Recorded) (told : Report) : Type 0 where
+pub record IsReported (r : SessionView) (told : Report) : Type 0 where
   pub items : List Item
   pub is_run : IsRun items
   pub has_pairs : pairs items ≡ pairs_of r

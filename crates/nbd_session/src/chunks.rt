@@ -21,7 +21,7 @@ ghost use Rattle.nbd_session.specs.internal.Readings.{reading_of};
 
 use crate::leading::leading_chunk;
 use crate::reading::Reading;
-use crate::spans::{Span, content_span, given, is_apart_from, is_inside};
+use crate::spans::{Span, content_span, bytes_in, is_apart_from, is_inside};
 use nbd_state::{Asked, Exchange};
 use nbd_wire::flags::has;
 use nbd_wire::{
@@ -184,7 +184,7 @@ fn finish_fault(exchange: &Exchange, more: u64) -> Option<WireFault>
         return None;
     }
     if asked.command == commands::READ
-        && given(&asked.pieces).saturating_add(more) != u64::from(asked.length)
+        && bytes_in(&asked.pieces).saturating_add(more) != u64::from(asked.length)
     {
         return Some(WireFault::IncompleteRead);
     }

@@ -6,13 +6,13 @@ ghost use Rattle.nbd_wire.specs.protocol.Sides.{same_side};
 ghost use Rattle.nbd_wire.specs.protocol.States.{Core, start};
 ghost use Rattle.nbd_session.specs.declared.reading.Reading.TheVariants.{Whole};
 ghost use Rattle.nbd_session.specs.internal.Holdings.{holding_of, is_of};
-ghost use Rattle.nbd_session.specs.Views.{spans_of, recorded};
-ghost use Rattle.nbd_places.specs.internal.Judge.{awaited, decided_counted};
+ghost use Rattle.nbd_session.specs.Views.{spans_of, session_view};
+ghost use Rattle.nbd_places.specs.internal.Judge.{awaited_length, decision_by_count};
 ghost use Rattle.nbd_laws.specs.internal.Machine.{Machine, get, old_of};
 ghost use Rattle.nbd_session.specs.internal.Readings.{reading_if, until};
 ghost use Rattle.nbd_session.specs.Sessions.{IsReported, fault_at_end, fault_of};
 ghost use Rattle.nbd_state.specs.Shows.{Shows};
-ghost use Rattle.nbd_session.specs.internal.Standing.{IsReadTo, noted, rest_of, span_total, with_taken};
+ghost use Rattle.nbd_session.specs.internal.Standing.{IsReadTo, spans_with, rest_of, span_total, with_bytes};
 ghost use Rattle.nbd_session.specs.internal.Steps.{AddsHeld, IsRefused, IsSame, IsShut, IsTaken, Stands};
 
 use crate::fault::SessionFault;
@@ -84,10 +84,10 @@ impl Held {
     }
 
     /// The next length of a side's bytes at which something is decided of them.
-    pub(crate) fn awaited(&self, side: Side) -> usize
+    pub(crate) fn awaited_length(&self, side: Side) -> usize
         ensures { (machine : Machine) → IsReadTo (holding_of self.now) machine →
             Shows self.now.state machine.core →
-            result ≡ awaited (old_of machine.core (get machine.rests side)) machine.core side
+            result ≡ awaited_length (old_of machine.core (get machine.rests side)) machine.core side
             (rest_of (holding_of self.now) side) }
     {
         let rest = self.rest(side);
@@ -128,7 +128,7 @@ impl Held {
         ensures adds { IfOk result (λ count. AddsHeld self.old self.new side left.now (drop count left.now)) }
         ensures refused { IfErr result (λ fault. IsRefused self.old self.new side left.now fault) }
     {
-        let missing = self.awaited(side) - self.rest(side).len();
+        let missing = self.awaited_length(side) - self.rest(side).len();
         let count = missing.min(left.len());
         self.take(side, &left[..count])?;
         self.settle(alloc, side)?;
@@ -139,7 +139,7 @@ impl Held {
     fn take(&mut self, side: Side, piece: &[u8]) -> Result<(), AllocError>
         requires spans { span_total side (spans_of self.old.stretches.items) + length piece.now < 2 ^ 64 }
         requires fits { self.old.taken + length piece.now < 2 ^ 64 }
-        ensures taken { OnOk result (holding_of self.new ≡ with_taken (holding_of self.old) side piece.now
+        ensures taken { OnOk result (holding_of self.new ≡ with_bytes (holding_of self.old) side piece.now
             (length self.old.state.exchanges.items)) }
         ensures state { self.new.state ≡ self.old.state }
         ensures count { OnOk result (self.new.taken ≡ self.old.taken + length piece.now) }
@@ -183,7 +183,7 @@ impl Held {
     fn accept(&mut self, alloc: Global, side: Side) -> Result<(), AllocError>
         requires taken { IsTaken self.old side }
         requires whole { (core : Core) → Shows self.old.state core →
-            reading_if (decided_counted self.old.counted core side (rest_of (holding_of self.old) side))
+            reading_if (decision_by_count self.old.counted core side (rest_of (holding_of self.old) side))
             (rest_of (holding_of self.old) side) ≡ Ok Whole }
         ensures stands { OnOk result (Stands self.new) }
         ensures same { IsSame self.old self.new }
@@ -199,8 +199,8 @@ impl Held {
     /// What the session states, unless bytes stand after a side's messages.
     pub(crate) fn finish(self) -> Result<Transcript, SessionFault>
         requires { Stands self }
-        ensures told { IfOk result (λ told. IsReported (recorded self None) told) }
-        ensures fault { fault_of result ≡ fault_at_end (recorded self None) }
+        ensures told { IfOk result (λ told. IsReported (session_view self None) told) }
+        ensures fault { fault_of result ≡ fault_at_end (session_view self None) }
     {
         if self.client.is_empty() && self.server.is_empty() {
             Ok(self.state.transcript())
@@ -235,7 +235,7 @@ fn append(
 ) -> Result<(), AllocError>
     requires { span_total side (spans_of stretches.old.items) + length piece.now < 2 ^ 64 }
     ensures bytes { OnOk result (bytes.new.items ≡ bytes.old.items ++ piece.now) }
-    ensures spans { OnOk result (spans_of stretches.new.items ≡ noted (spans_of stretches.old.items) side
+    ensures spans { OnOk result (spans_of stretches.new.items ≡ spans_with (spans_of stretches.old.items) side
         (length piece.now)) }
     ensures unchanged { OnErr result ((bytes.new.items ≡ bytes.old.items)
         × (spans_of stretches.new.items ≡ spans_of stretches.old.items)) }
@@ -261,7 +261,7 @@ fn until(reading: Result<Reading, WireFault>, have: usize) -> usize
 /// So many more bytes of a side after all others. After an `Err`, that memory ran out, nothing changed.
 fn note(stretches: &mut Vec<Stretch>, side: Side, count: u64) -> Result<(), AllocError>
     requires { span_total side (spans_of stretches.old.items) + count < 2 ^ 64 }
-    ensures noted { OnOk result (spans_of stretches.new.items ≡ noted (spans_of stretches.old.items) side count) }
+    ensures noted { OnOk result (spans_of stretches.new.items ≡ spans_with (spans_of stretches.old.items) side count) }
     ensures unchanged { OnErr result (spans_of stretches.new.items ≡ spans_of stretches.old.items) }
 {
     if !is_last(stretches, side) {

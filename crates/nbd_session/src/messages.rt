@@ -5,7 +5,7 @@
 ghost use Rattle.std.specs.Prelude.{◌≡◌, ◌≤◌, IfOk, drop, length};
 ghost use Rattle.nbd_wire.specs.declared.magics.TheConstants.{ANSWER_MAGIC, CHUNK_MAGIC, OPTION_MAGIC, REQUEST_MAGIC, SIMPLE_MAGIC};
 ghost use Rattle.nbd_wire.specs.protocol.Payloads.{number_at};
-ghost use Rattle.nbd_places.specs.internal.JudgeNegotiation.{answer_of, choice, exported, greeting};
+ghost use Rattle.nbd_places.specs.internal.JudgeNegotiation.{answer_of, choice, export_answer, greeting};
 ghost use Rattle.nbd_places.specs.internal.JudgeTransmission.{chunk_of, request_of, simple_of};
 ghost use Rattle.nbd_session.specs.internal.Leading.{HasGreeting, HasHead};
 
@@ -64,7 +64,7 @@ pub(crate) fn answer_message(alloc: Global, bytes: &[u8]) -> Result<Message, All
 /// The answer to EXPORT_NAME, which is padded unless the client took NO_ZEROES.
 pub(crate) fn exported_message(bytes: &[u8], no_zeroes: bool) -> Message
     requires { 10 ≤ length bytes.now }
-    ensures { result ≡ (exported no_zeroes bytes.now).message }
+    ensures { result ≡ (export_answer no_zeroes bytes.now).message }
 {
     let (size, flags) = leading_export(bytes);
     Message::Exported {

@@ -2,7 +2,7 @@
 //! EXPORT_NAME ("NBD_OPT_EXPORT_NAME").
 
 ghost use Rattle.std.specs.Prelude.{◌≡◌};
-ghost use Rattle.nbd_places.specs.internal.JudgeNegotiation.{are_zeroes, client_flags, export_fault, exported, greeting, sets_more};
+ghost use Rattle.nbd_places.specs.internal.JudgeNegotiation.{are_zeroes, client_flags, export_fault, export_answer, greeting, sets_more};
 ghost use Rattle.nbd_session.specs.internal.Leading.{unless_fault};
 ghost use Rattle.nbd_session.specs.internal.Readings.{reading_of};
 
@@ -52,7 +52,7 @@ fn sets_more(offered: u16, flags: u32) -> bool
 
 /// The answer to EXPORT_NAME, which is padded unless the client took NO_ZEROES.
 pub(crate) fn read_exported(bytes: &[u8], no_zeroes: bool) -> Result<Reading, WireFault>
-    ensures { result ≡ reading_of (exported no_zeroes bytes.now) bytes.now }
+    ensures { result ≡ reading_of (export_answer no_zeroes bytes.now) bytes.now }
 {
     if bytes.len() < head_lengths::EXPORT {
         return Ok(Reading::Await(head_lengths::EXPORT));

@@ -8,7 +8,7 @@ ghost use Rattle.nbd_wire.specs.protocol.Operations.{Exporting};
 ghost use Rattle.nbd_wire.specs.protocol.States as definitions;
 ghost use Rattle.nbd_wire.specs.protocol.States.{Core};
 ghost use Rattle.nbd_session.specs.internal.Asking.{ShownIf};
-ghost use Rattle.nbd_places.specs.internal.Judge.{decided_counted};
+ghost use Rattle.nbd_places.specs.internal.Judge.{decision_by_count};
 ghost use Rattle.nbd_places.specs.internal.JudgeTransmission.{operation_counted};
 ghost use Rattle.nbd_session.specs.internal.Readings.{reading_if};
 ghost use Rattle.nbd_state.specs.Shows.{Shows};
@@ -32,7 +32,7 @@ pub(crate) fn read(
     counted: u64,
 ) -> Result<Reading, WireFault>
     ensures { (core : Core) → Shows state.now core →
-        result ≡ reading_if (decided_counted counted core side bytes.now) bytes.now }
+        result ≡ reading_if (decision_by_count counted core side bytes.now) bytes.now }
 {
     match side {
         Side::Client => read_client(state, bytes),
@@ -43,7 +43,7 @@ pub(crate) fn read(
 // What a client's bytes are.
 fn read_client(state: &State, bytes: &[u8]) -> Result<Reading, WireFault>
     ensures { (core : Core) (counted : ℕ) → Shows state.now core →
-        result ≡ reading_if (decided_counted counted core Client bytes.now) bytes.now }
+        result ≡ reading_if (decision_by_count counted core Client bytes.now) bytes.now }
 {
     match state.phase {
         Phase::Flags => read_client_flags(bytes, state.offered),
@@ -57,7 +57,7 @@ fn read_client(state: &State, bytes: &[u8]) -> Result<Reading, WireFault>
 fn read_asked(state: &State, bytes: &[u8]) -> Result<Reading, WireFault>
     ensures { (core : Core) (counted : ℕ) (export : Exporting) → Shows state.now core →
         core.phase ≡ definitions.Transmission export →
-        result ≡ reading_if (decided_counted counted core Client bytes.now) bytes.now }
+        result ≡ reading_if (decision_by_count counted core Client bytes.now) bytes.now }
 {
     if state.disconnected {
         Err(WireFault::OutOfTurn)
@@ -69,7 +69,7 @@ fn read_asked(state: &State, bytes: &[u8]) -> Result<Reading, WireFault>
 // What a server's bytes are.
 fn read_server(state: &State, bytes: &[u8], counted: u64) -> Result<Reading, WireFault>
     ensures { (core : Core) → Shows state.now core →
-        result ≡ reading_if (decided_counted counted core Server bytes.now) bytes.now }
+        result ≡ reading_if (decision_by_count counted core Server bytes.now) bytes.now }
 {
     match state.phase {
         Phase::Greet => read_greeting(bytes),
@@ -85,7 +85,7 @@ fn read_server(state: &State, bytes: &[u8], counted: u64) -> Result<Reading, Wir
 fn read_answered(state: &State, bytes: &[u8], counted: u64) -> Result<Reading, WireFault>
     ensures { (core : Core) (export : Exporting) → Shows state.now core →
         core.phase ≡ definitions.Transmission export →
-        result ≡ reading_if (decided_counted counted core Server bytes.now) bytes.now }
+        result ≡ reading_if (decision_by_count counted core Server bytes.now) bytes.now }
 {
     read_reply(bytes, exchange_in(state, bytes, counted), state.structured)
 }

@@ -5,7 +5,7 @@ ghost use Rattle.nbd_wire.specs.protocol.Captures.{side_pairs};
 ghost use Rattle.nbd_wire.specs.protocol.Within.{CompletesExactly};
 ghost use Rattle.nbd_session.specs.declared.fault.SessionFault.{SessionFault};
 ghost use Rattle.nbd_session.specs.Refusals.{EndsIn, HasNoPlace, IsComplete, Refuses};
-ghost use Rattle.nbd_session.specs.Sessions.{AddsPrefix, IsAtEnd, IsOfRun, IsReported, fault_at_end, fault_of, none_taken, pairs_of, taken};
+ghost use Rattle.nbd_session.specs.Sessions.{AddsPrefix, IsAtEnd, IsOfRun, IsReported, fault_at_end, fault_of, empty_session, pairs_of, bytes_taken};
 
 use crate::fault::SessionFault;
 use crate::held::Held;
@@ -27,13 +27,13 @@ pub struct Session {
 }
 
 impl Model for Session {
-    ghost use Rattle.nbd_session.specs.Sessions.{Recorded};
+    ghost use Rattle.nbd_session.specs.Sessions.{SessionView};
     ghost use Rattle.nbd_session.specs.internal.Steps.{IsKept};
-    ghost use Rattle.nbd_session.specs.Views.{recorded};
+    ghost use Rattle.nbd_session.specs.Views.{session_view};
 
-    ghost Value = { Recorded };
+    ghost Value = { SessionView };
 
-    ghost view = { λ s. recorded s.held s.closed };
+    ghost view = { λ s. session_view s.held s.closed };
 
     ghost invariant = { λ s. IsKept s.held s.closed };
 }
@@ -41,7 +41,7 @@ impl Model for Session {
 impl Session {
     /// A session that has taken nothing; takes no memory.
     pub fn new(alloc: Global) -> Session
-        ensures { result ≡ none_taken }
+        ensures { result ≡ empty_session }
     {
         Session {
             alloc,
@@ -52,7 +52,7 @@ impl Session {
 
     /// How many bytes were taken, of both sides. The byte of a wire fault counts, bytes after it do not.
     pub fn taken(&self) -> u64
-        ensures { result ≡ taken self.now }
+        ensures { result ≡ bytes_taken self.now }
     {
         self.held.taken
     }
@@ -64,7 +64,7 @@ impl Session {
     /// nothing, and `messages` are those that were accepted before. At `Wire` the bytes up to the refused
     /// one were taken, at `Memory` some prefix of the piece.
     pub fn push(&mut self, side: Side, piece: &[u8]) -> Result<(), SessionFault>
-        requires { taken self.old + length piece.now < 2 ^ 63 }
+        requires { bytes_taken self.old + length piece.now < 2 ^ 63 }
         ensures added { OnOk result (pairs_of self.new ≡ pairs_of self.old ++ side_pairs side piece.now) }
         ensures open { OnOk result (self.new.closed ≡ None) }
         ensures prefix { AddsPrefix self.old self.new side piece.now }

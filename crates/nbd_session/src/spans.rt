@@ -71,7 +71,7 @@ pub(crate) fn is_apart_from(span: Span, pieces: &[Piece]) -> bool
 }
 
 /// The sizes of pieces, added up, or the largest number where they pass it.
-pub(crate) fn given(pieces: &[Piece]) -> u64
+pub(crate) fn bytes_in(pieces: &[Piece]) -> u64
     ensures { result ≡ min (total pieces.now) (2 ^ 64 - 1) }
 {
     pieces

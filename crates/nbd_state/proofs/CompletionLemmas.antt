@@ -19,7 +19,7 @@ use Rattle.nbd_places.specs.internal.Decisions.{is_none_yet}
 use Rattle.nbd_state.specs.Showing.{IsShown, exporting}
 use Rattle.nbd_laws.specs.Reached.{IsReached}
 use Rattle.nbd_state.specs.Shows.{AreShown, Shows, export_shown, phase_shown, place_of}
-use Rattle.nbd_state.proofs.PlacedLemmas.{IsPlaced, are_shown_in, placed, shown_length}
+use Rattle.nbd_state.proofs.PlacedLemmas.{IsPlaced, are_shown_in, place_shows_operation, shown_length}
 use Rattle.nbd_laws.proofs.requests.SoundnessLemmas.{open_target}
 use Rattle.nbd_state.proofs.TargetLemmas.{distinct_reached, target_replied, target_requested}
 
@@ -53,9 +53,9 @@ place_if_last true n j t e = ap Some (omega (arith, e))
 place_if_last false n j t e = refl
 
 -- a message of the negotiation changes the phase and what it says of the handshake
-pub negotiated : (old new : State) (core next : Core) → Shows old core → export_in core.phase ≡ None → next.entries ≡ core.entries → new.exchanges ≡ old.exchanges → new.outstanding ≡ old.outstanding →
+pub negotiation_is_shown : (old new : State) (core next : Core) → Shows old core → export_in core.phase ≡ None → next.entries ≡ core.entries → new.exchanges ≡ old.exchanges → new.outstanding ≡ old.outstanding →
     new.phase ≡ phase_shown next.phase → new.offered ≡ next.offered → new.client_flags ≡ next.client_flags → new.structured ≡ next.structured → new.disconnected ≡ next.disconnected → Shows new next
-negotiated old new core next s n entries exchanges outstanding phase offered client_flags structured disconnected = record {
+negotiation_is_shown old new core next s n entries exchanges outstanding phase offered client_flags structured disconnected = record {
   phase_is = phase;
   offered_is = offered;
   client_flags_are = client_flags;
@@ -91,7 +91,7 @@ pub replied_shows : (old mid new : State) (core : Core) (export : Exporting) (co
 replied_shows old mid new core export cookie place m x y r s p c g i step kept left made items = subst (λ t. Shows new (reply_to t core m)) (sym named) shows
   where
     a : IsPlaced core export cookie place old.exchanges.items
-    a = placed old core export cookie place s p g
+    a = place_shows_operation old core export cookie place s p g
 
     named : target_of (cookie_of m) core.entries ≡ Some (suc place)
     named = ap (λ o. target_of o core.entries) c ∙ a.found
@@ -120,7 +120,7 @@ replied_shows old mid new core export cookie place m x y r s p c g i step kept l
 -- no outstanding request has a place that no exchange has
 pub not_placed : (old : State) (core : Core) (export : Exporting) (cookie place : ℕ) → Shows old core → core.phase ≡ Transmission export → get nat_cmp old.outstanding cookie ≡ Some place → length old.exchanges.items ≤ place → ⊥
 not_placed old core export cookie place s p g l =
-    let a = placed old core export cookie place s p g in
+    let a = place_shows_operation old core export cookie place s p g in
     let w : Some a.x ≡ None = sym a.stands ∙ slice_get_past old.exchanges.items place l in cc
 
 -- what `get_mut` lends stands in the list

@@ -4,8 +4,8 @@ use Rattle.nbd_wire.specs.declared.message.Message.{Message}
 use Rattle.nbd_wire.specs.protocol.Rules.{request_of_reply, complete}
 use Rattle.nbd_wire.specs.protocol.States.{Core}
 use Rattle.nbd_laws.proofs.runs.TraceLemmas.{answered_by-within, length-complete}
-use Rattle.nbd_state.specs.Folded.{core_from}
-use Rattle.nbd_state.specs.Logged.{Logged, known_by, known_here, known_if, messages_of}
+use Rattle.nbd_state.specs.Completions.{core_from}
+use Rattle.nbd_state.specs.Logs.{LogEntry, known_by, known_here, known_if, messages_of}
 
 abbrev pub known_or : Option ℕ → Option ℕ → Option ℕ
 known_or (Some n) later = Some n
@@ -20,7 +20,7 @@ or_none (Some m) = refl
 or_none None = refl
 
 -- what is known with one more message: what was known, or its count where it answers the request
-pub known_by-snoc : (core : Core) (k : ℕ) (log : List Logged) (l : Logged) →
+pub known_by-snoc : (core : Core) (k : ℕ) (log : List LogEntry) (l : LogEntry) →
     known_by core k (log ++ l ∷ []) ≡ known_or (known_by core k log) (known_here (request_of_reply (core_from core (messages_of log)) l.message) l.known k None)
 known_by-snoc core k [] l = refl
 known_by-snoc core k (x ∷ log) l = ap (known_here (request_of_reply core x.message) x.known k) (known_by-snoc (complete core x.message) k log l) ∙ here (request_of_reply core x.message)
@@ -55,7 +55,7 @@ core_from_grows core (m ∷ messages) =
     let others : length (complete core m).entries ≤ length (core_from (complete core m) messages).entries = core_from_grows (complete core m) messages in
     omega (arith, first, others)
 
-pub known_by-within : (core : Core) (k n : ℕ) (log : List Logged) → known_by core k log ≡ Some n → (0 < k) × (k ≤ length (core_from core (messages_of log)).entries)
+pub known_by-within : (core : Core) (k n : ℕ) (log : List LogEntry) → known_by core k log ≡ Some n → (0 < k) × (k ≤ length (core_from core (messages_of log)).entries)
 known_by-within core k n [] e = absurd (cc)
 known_by-within core k n (l ∷ log) e = go (request_of_reply core l.message) refl (known_by-within (complete core l.message) k n log) e
   where

@@ -13,7 +13,7 @@ use Rattle.nbd_state.specs.declared.state.Phase as states
 use Rattle.nbd_state.specs.declared.state.Phase.TheVariants as shown
 use Rattle.nbd_state.specs.declared.state.State.{State}
 use Rattle.nbd_state.specs.Shows.{Shows, export_shown_if, phase_shown}
-use Rattle.nbd_state.proofs.CompletionLemmas.{negotiated}
+use Rattle.nbd_state.proofs.CompletionLemmas.{negotiation_is_shown}
 
 -- after an answer
 pub behind_abort : (p : Phase) (option kind : ℕ) (payload : List ℕ) → shown.Aborting ≡ phase_shown p → shown.Ended ≡ phase_shown (next_phase p (Answer option kind payload))
@@ -150,7 +150,7 @@ module _ (old new : State) (core : Core) (s : Shows old core) where
   unfolding complete
   shows_greeted flags ok made =
       let r = greets core core.phase flags ok in
-      negotiated old new core (complete core (Greeting flags)) s r.0 refl (ap (λ (z : State). z.exchanges) made) (ap (λ (z : State). z.outstanding) made)
+      negotiation_is_shown old new core (complete core (Greeting flags)) s r.0 refl (ap (λ (z : State). z.exchanges) made) (ap (λ (z : State). z.outstanding) made)
       (ap (λ (z : State). z.phase) made ∙ r.1) (ap (λ (z : State). z.offered) made) (ap (λ (z : State). z.client_flags) made ∙ s.client_flags_are)
       (ap (λ (z : State). z.structured) made ∙ s.structured_is) (ap (λ (z : State). z.disconnected) made ∙ s.disconnected_is)
 
@@ -158,7 +158,7 @@ module _ (old new : State) (core : Core) (s : Shows old core) where
   unfolding complete
   shows_flags flags ok made =
       let r = flags_in core core.phase flags ok in
-      negotiated old new core (complete core (ClientFlags flags)) s r.0 refl (ap (λ (z : State). z.exchanges) made) (ap (λ (z : State). z.outstanding) made)
+      negotiation_is_shown old new core (complete core (ClientFlags flags)) s r.0 refl (ap (λ (z : State). z.exchanges) made) (ap (λ (z : State). z.outstanding) made)
       (ap (λ (z : State). z.phase) made ∙ r.1) (ap (λ (z : State). z.offered) made ∙ s.offered_is) (ap (λ (z : State). z.client_flags) made)
       (ap (λ (z : State). z.structured) made ∙ s.structured_is) (ap (λ (z : State). z.disconnected) made ∙ s.disconnected_is)
 
@@ -166,7 +166,7 @@ module _ (old new : State) (core : Core) (s : Shows old core) where
   unfolding complete
   shows_chosen id payload phase ok is made =
       let r = chooses core core.phase id payload ok in
-      negotiated old new core (complete core (Choice id payload)) s r.0 refl (ap (λ (z : State). z.exchanges) made) (ap (λ (z : State). z.outstanding) made)
+      negotiation_is_shown old new core (complete core (Choice id payload)) s r.0 refl (ap (λ (z : State). z.exchanges) made) (ap (λ (z : State). z.outstanding) made)
       (ap (λ (z : State). z.phase) made ∙ is ∙ r.1) (ap (λ (z : State). z.offered) made ∙ s.offered_is) (ap (λ (z : State). z.client_flags) made ∙ s.client_flags_are)
       (ap (λ (z : State). z.structured) made ∙ s.structured_is) (ap (λ (z : State). z.disconnected) made ∙ s.disconnected_is)
 
@@ -174,7 +174,7 @@ module _ (old new : State) (core : Core) (s : Shows old core) where
       phase ≡ phase_shown (next_phase core.phase (Answer option kind payload)) → grants ≡ grants_structured option kind → new ≡ record old { phase = phase; structured = old.structured || grants } → Shows new (complete core (Answer option kind payload))
   unfolding complete
   shows_answered option kind payload phase grants ok is granted made =
-      negotiated old new core (complete core (Answer option kind payload)) s (answers core core.phase option kind payload ok) refl (ap (λ (z : State). z.exchanges) made) (ap (λ (z : State). z.outstanding) made)
+      negotiation_is_shown old new core (complete core (Answer option kind payload)) s (answers core core.phase option kind payload ok) refl (ap (λ (z : State). z.exchanges) made) (ap (λ (z : State). z.outstanding) made)
       (ap (λ (z : State). z.phase) made ∙ is) (ap (λ (z : State). z.offered) made ∙ s.offered_is) (ap (λ (z : State). z.client_flags) made ∙ s.client_flags_are)
       (ap (λ (z : State). z.structured) made ∙ ap (λ b. b || grants) s.structured_is ∙ ap (λ b. core.structured || b) granted) (ap (λ (z : State). z.disconnected) made ∙ s.disconnected_is)
 
@@ -182,7 +182,7 @@ module _ (old new : State) (core : Core) (s : Shows old core) where
   unfolding complete
   shows_exported size flags padded phase ok is made =
       let r = exports core core.phase size flags padded ok in
-      negotiated old new core (complete core (Exported size flags padded)) s r.0 refl (ap (λ (z : State). z.exchanges) made) (ap (λ (z : State). z.outstanding) made)
+      negotiation_is_shown old new core (complete core (Exported size flags padded)) s r.0 refl (ap (λ (z : State). z.exchanges) made) (ap (λ (z : State). z.outstanding) made)
       (ap (λ (z : State). z.phase) made ∙ is ∙ r.1) (ap (λ (z : State). z.offered) made ∙ s.offered_is) (ap (λ (z : State). z.client_flags) made ∙ s.client_flags_are)
       (ap (λ (z : State). z.structured) made ∙ s.structured_is) (ap (λ (z : State). z.disconnected) made ∙ s.disconnected_is)
 

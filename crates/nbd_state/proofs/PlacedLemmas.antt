@@ -51,9 +51,9 @@ pub record IsPlaced (core : Core) (export : Exporting) (cookie place : ℕ) (exc
   pub stands : slice_get exchanges place ≡ Some x
   pub shown : IsShown export e x
 
-pub placed : (state : State) (core : Core) (export : Exporting) (cookie place : ℕ) → Shows state core → core.phase ≡ Transmission export →
+pub place_shows_operation : (state : State) (core : Core) (export : Exporting) (cookie place : ℕ) → Shows state core → core.phase ≡ Transmission export →
     get nat_cmp state.outstanding cookie ≡ Some place → IsPlaced core export cookie place state.exchanges.items
-placed state core export cookie place s p g = go (target cookie core.entries) refl
+place_shows_operation state core export cookie place s p g = go (target cookie core.entries) refl
   where
     go : (t : Option ℕ) → target cookie core.entries ≡ t → IsPlaced core export cookie place state.exchanges.items
     go None t = absurd (let w : Some place ≡ place_of None = sym g ∙ s.places cookie ∙ ap place_of t in cc)

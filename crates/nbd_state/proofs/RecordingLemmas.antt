@@ -33,13 +33,13 @@ outcome-of before e m ends fails o u f h = go ends fails f h
     go false fails f h = o ∙ ap (λ b. if b then (if has_failed e then definitions.Failure else definitions.Success) else definitions.Pending) u
         ∙ sym (ap (λ b. if b then (if has_failed (with_reply e m) then definitions.Failure else definitions.Success) else definitions.Pending) f)
 
-pub recorded : (export : Exporting) (e : Operation) (m : Message) (x y : Exchange) (ends fails : Bool) (known : ℕ) → IsShown export e x → is_finished e ≡ false → ends_reply m ≡ ends → is_failing m ≡ fails → IsKept x y →
+pub exchange_shows_reply : (export : Exporting) (e : Operation) (m : Message) (x y : Exchange) (ends fails : Bool) (known : ℕ) → IsShown export e x → is_finished e ≡ false → ends_reply m ≡ ends → is_failing m ≡ fails → IsKept x y →
     y.asked.known_at ≡ (if is_some x.asked.known_at then x.asked.known_at else Some known) →
     y.failed ≡ (x.failed || fails) →
     y.asked.outcome ≡ (if ends then (if y.failed then Failure else Success) else x.asked.outcome) →
     y.asked.pieces.items ≡ x.asked.pieces.items ++ piece_of e.offset m →
     IsShown export (with_reply e m) y
-recorded export e m x y ends fails known s u n f k known_is failed_is outcome_is pieces_are =
+exchange_shows_reply export e m x y ends fails known s u n f k known_is failed_is outcome_is pieces_are =
     let failed : has_failed (with_reply e m) ≡ y.failed =
     any-snoc is_failing e.replies m ∙ ap (λ b. b || is_failing m) (sym s.failed) ∙ ap (λ b. x.failed || b) f ∙ sym failed_is in
     let finished : is_finished (with_reply e m) ≡ ends = any-snoc ends_reply e.replies m ∙ ap (λ b. b || ends_reply m) u ∙ n in

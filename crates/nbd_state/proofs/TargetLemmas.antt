@@ -5,7 +5,7 @@ use Rattle.nbd_wire.specs.protocol.Operations.{Operation, ends_reply, is_finishe
 use Rattle.nbd_wire.specs.protocol.States.{Core, with_reply_at, operation, is_awaiting, target, target_from, with_reply}
 use Rattle.nbd_laws.specs.Reached.{IsReached, at_start, after_message}
 use Rattle.nbd_state.proofs.ReplyLemmas.{any-snoc}
-use Rattle.nbd_laws.proofs.requests.OutstandingLemmas.{AreDistinct, Free, IsFound, both_true, distinct_complete, find, free_at, unfinished}
+use Rattle.nbd_laws.proofs.requests.OutstandingLemmas.{AreDistinct, Free, IsFound, both_true, distinct_complete, find, free_at, not_true_is_false}
 
 pub distinct_reached : {core : Core} → IsReached core → AreDistinct core.entries
 distinct_reached at_start = tt
@@ -92,7 +92,7 @@ ended n cookie (suc (suc k)) m (x ∷ es) e d i c u h = go (is_awaiting cookie x
     go true w ih =
         let p = both_true (x.cookie == cookie) (not (is_finished x)) w in
         let same : x.cookie ≡ cookie = eqb-true x.cookie cookie p.0 in
-        absurd (free_at cookie (suc k) es e (subst (λ j. Free j es) same (d.0 (unfinished (is_finished x) p.1))) i c u)
+        absurd (free_at cookie (suc k) es e (subst (λ j. Free j es) same (d.0 (not_true_is_false (is_finished x) p.1))) i c u)
     go false w ih = ih
 
 -- after a reply to the request with this cookie
@@ -111,5 +111,5 @@ target_replied q cookie k m es d t = go (ends_reply m) refl (cookie == q) refl
 
     go : (b : Bool) → ends_reply m ≡ b → (c : Bool) → (cookie == q) ≡ c → target_from 0 q (with_reply_at k m es) ≡ (if b && c then None else target_from 0 q es)
     go false h c g = going 0 q k m es h
-    go true h true g = subst (λ j. target_from 0 j (with_reply_at k m es) ≡ None) (eqb-true cookie q g) (ended 0 cookie k m es f.found d f.numbered same (unfinished (is_finished f.found) w.1) h)
+    go true h true g = subst (λ j. target_from 0 j (with_reply_at k m es) ≡ None) (eqb-true cookie q g) (ended 0 cookie k m es f.found d f.numbered same (not_true_is_false (is_finished f.found) w.1) h)
     go true h false g = elsewhere 0 q k m es f.found f.numbered (ap (λ j. j == q) same ∙ g)

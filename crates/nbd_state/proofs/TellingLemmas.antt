@@ -10,8 +10,8 @@ use Rattle.nbd_wire.specs.protocol.States.{Core, start, target}
 use Rattle.nbd_state.specs.declared.asked.Exchange.{Exchange}
 use Rattle.nbd_state.specs.declared.state.State.{State}
 use Rattle.nbd_state.specs.internal.Completing.{AddsUnanswered, TellsOne, known_first}
-use Rattle.nbd_state.specs.Folded.{core_from}
-use Rattle.nbd_state.specs.Logged.{Logged, known_by, known_here, messages_of}
+use Rattle.nbd_state.specs.Completions.{core_from}
+use Rattle.nbd_state.specs.Logs.{LogEntry, known_by, known_here, messages_of}
 use Rattle.nbd_state.specs.Shows.{AreKnown, Shows, place_of}
 use Rattle.nbd_state.proofs.PlacedLemmas.{shown_length, no_entry}
 use Rattle.nbd_laws.proofs.service.LatestLemmas.{same_number}
@@ -42,8 +42,8 @@ tells_at told n place old new z y t stands k is p x q = elim (set_at old place p
   | inr b ↦ (x, b.1, (λ u. absurd (b.0 (let w : Some p ≡ Some place = sym u ∙ t in cc))), λ ne. refl)
 ]
 
-module _ (core : Core) (log : List Logged) (m : Message) (n : ℕ) (e : core ≡ core_from start.core (messages_of log)) where
-  l : Logged
+module _ (core : Core) (log : List LogEntry) (m : Message) (n : ℕ) (e : core ≡ core_from start.core (messages_of log)) where
+  l : LogEntry
   l = record { message = m; known = n }
 
   -- one more message, by the request that it answers

@@ -3,15 +3,15 @@ use Rattle.std.proofs.Common.{◌≡◌, ℕ, zero, suc, ◌-◌, ◌<◌, ◌�
 use Rattle.std.proofs.lemmas.Bool.{ltb-true}
 use Rattle.nbd_wire.specs.protocol.Reports.{asked_at}
 use Rattle.nbd_state.specs.declared.asked.Exchange.{Exchange}
-use Rattle.nbd_state.specs.Transcripts.{asked_told}
+use Rattle.nbd_state.specs.Transcripts.{report_of_request}
 
-told_place : (xs : List Exchange) (place : ℕ) (d : Exchange) → place < length xs → Some (asked_told (slice_index_or xs place d).asked) ≡ slice_get (map (λ (x : Exchange). asked_told x.asked) xs) place
+told_place : (xs : List Exchange) (place : ℕ) (d : Exchange) → place < length xs → Some (report_of_request (slice_index_or xs place d).asked) ≡ slice_get (map (λ (x : Exchange). report_of_request x.asked) xs) place
 told_place [] place d l = absurd (omega (arith, l))
 told_place (x ∷ xs) zero d l = refl
 told_place (x ∷ xs) (suc place) d l = told_place xs place d (omega (arith, l))
 
-pub told_at : (xs : List Exchange) (k place : ℕ) (d : Exchange) → k ≡ suc place → true ≡ nat_lt place (length xs) → Some (asked_told (slice_index_or xs place d).asked) ≡ asked_at k (map (λ (x : Exchange). asked_told x.asked) xs)
-told_at xs k place d e l = told_place xs place d (ltb-true place (length xs) (sym l)) ∙ ap (λ n. asked_at n (map (λ (x : Exchange). asked_told x.asked) xs)) (sym e)
+pub told_at : (xs : List Exchange) (k place : ℕ) (d : Exchange) → k ≡ suc place → true ≡ nat_lt place (length xs) → Some (report_of_request (slice_index_or xs place d).asked) ≡ asked_at k (map (λ (x : Exchange). report_of_request x.asked) xs)
+told_at xs k place d e l = told_place xs place d (ltb-true place (length xs) (sym l)) ∙ ap (λ n. asked_at n (map (λ (x : Exchange). report_of_request x.asked) xs)) (sym e)
 
 pub counted_from_one : (o : Option ℕ) (k place : ℕ) → SomeIff o (1 ≤ k) (k - 1) → o ≡ Some place → k ≡ suc place
 counted_from_one None k place h e = absurd (cc)

@@ -1,5 +1,5 @@
-pub mod Folded
-pub mod Logged
+pub mod Completions
+pub mod Logs
 pub mod Showing
 pub mod Shows
 pub mod Transcripts

@@ -12,7 +12,7 @@ use Rattle.nbd_state.specs.declared.state.Export.{Export}
 use Rattle.nbd_state.specs.declared.state.Phase.{Phase}
 use Rattle.nbd_state.specs.declared.state.Phase.TheVariants.{Greet, Flags, Choosing, Naming, Aborting, Answering, Ended, Transmission}
 use Rattle.nbd_state.specs.declared.state.State.{State}
-use Rattle.nbd_state.specs.Logged.{Logged, known_by}
+use Rattle.nbd_state.specs.Logs.{LogEntry, known_by}
 use Rattle.nbd_state.specs.Showing.{IsShown}
 
 -- an export as the program has it
@@ -56,5 +56,5 @@ pub record Shows (state : State) (core : Core) : Type 0 where
   pub places : (cookie : ℕ) → get nat_cmp state.outstanding cookie ≡ place_of (target cookie core.entries)
 
 -- each exchange knows what the log says of its request
-abbrev pub AreKnown : List Logged → List Exchange → Type 0
+abbrev pub AreKnown : List LogEntry → List Exchange → Type 0
 AreKnown log exchanges = (place : ℕ) (x : Exchange) → slice_get exchanges place ≡ Some x → x.asked.known_at ≡ known_by start.core (place + 1) log

@@ -11,8 +11,8 @@ use Rattle.nbd_state.specs.declared.state.Phase.TheVariants.{Transmission}
 use Rattle.nbd_state.specs.Showing.{exporting_if, outcome_of}
 
 -- a request as a report states it
-abbrev pub asked_told : Asked → definitions.Asked
-asked_told a = record {
+abbrev pub report_of_request : Asked → definitions.Asked
+report_of_request a = record {
   flags = a.flags;
   command = a.command;
   cookie = a.cookie;
@@ -26,9 +26,9 @@ asked_told a = record {
 }
 
 -- the same, of a request if there is one
-abbrev pub told_if : Option Asked → Option definitions.Asked
-told_if (Some a) = Some (asked_told a)
-told_if None = None
+abbrev pub report_of_request_if : Option Asked → Option definitions.Asked
+report_of_request_if (Some a) = Some (report_of_request a)
+report_of_request_if None = None
 
 -- size and flags of an export, if there is one
 abbrev pub size_and_flags : Option Exporting → Option (ℕ × ℕ)
@@ -36,8 +36,8 @@ size_and_flags (Some export) = Some (export.size, export.flags)
 size_and_flags None = None
 
 -- the report of this export and these exchanges
-abbrev pub report_told : Option Export → List Exchange → Report
-report_told export exchanges = record { export = exporting_if export; asked = map (λ x. asked_told x.asked) exchanges }
+abbrev pub transcript_report : Option Export → List Exchange → Report
+transcript_report export exchanges = record { export = exporting_if export; asked = map (λ x. report_of_request x.asked) exchanges }
 
 -- the export of transmission, if it was reached
 abbrev pub export_of : Phase → Option Export

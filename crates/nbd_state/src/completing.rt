@@ -14,8 +14,8 @@ ghost use Rattle.nbd_wire.specs.protocol.States as definitions;
 ghost use Rattle.nbd_wire.specs.protocol.States.{Core, start, target};
 ghost use Rattle.nbd_state.specs.internal.Showing.{operation_of_head};
 ghost use Rattle.nbd_state.specs.internal.Completing.{AddsUnanswered, TellsOne};
-ghost use Rattle.nbd_state.specs.Folded.{core_from};
-ghost use Rattle.nbd_state.specs.Logged.{Logged, messages_of};
+ghost use Rattle.nbd_state.specs.Completions.{core_from};
+ghost use Rattle.nbd_state.specs.Logs.{LogEntry, messages_of};
 ghost use Rattle.nbd_laws.specs.Reached.{IsReached};
 ghost use Rattle.nbd_state.specs.Shows.{AreKnown, Shows, export_shown_if, phase_shown};
 
@@ -42,7 +42,7 @@ impl State {
         ensures shown { OnOk result ((core : Core) → IsReached core → Shows self.old core →
             IsSendable message.now → MayComplete core core.phase message.now →
             Shows self.new (complete core message.now)) }
-        ensures known { OnOk result ((core : Core) (log : List Logged) → IsReached core → Shows self.old core →
+        ensures known { OnOk result ((core : Core) (log : List LogEntry) → IsReached core → Shows self.old core →
             MayComplete core core.phase message.now → core ≡ core_from start.core (messages_of log) →
             AreKnown log self.old.exchanges.items →
             AreKnown (log ++ record { message = message.now; known = known } ∷ []) self.new.exchanges.items) }
@@ -68,19 +68,19 @@ impl State {
                 payload,
             } => {
                 self.structured |= grants_structured(*option, *kind);
-                self.phase = answered(self.phase, *kind, payload.as_slice());
+                self.phase = phase_after_reply(self.phase, *kind, payload.as_slice());
                 Ok(())
             }
             Message::Exported { size, flags, .. } => {
-                self.phase = exported(*size, *flags);
+                self.phase = phase_after_export(*size, *flags);
                 Ok(())
             }
-            _ => self.transmitted(alloc, message, known),
+            _ => self.complete_transmission(alloc, message, known),
         }
     }
 
     // A message of transmission has completed.
-    fn transmitted(
+    fn complete_transmission(
         &mut self,
         alloc: Global,
         message: &Message,
@@ -89,7 +89,7 @@ impl State {
         ensures shown { OnOk result ((core : Core) (export : Exporting) → IsReached core →
             Shows self.old core → core.phase ≡ definitions.Transmission export →
             MayComplete core core.phase message.now → Shows self.new (complete core message.now)) }
-        ensures known { OnOk result ((core : Core) (export : Exporting) (log : List Logged) →
+        ensures known { OnOk result ((core : Core) (export : Exporting) (log : List LogEntry) →
             Shows self.old core → core.phase ≡ definitions.Transmission export →
             MayComplete core core.phase message.now → core ≡ core_from start.core (messages_of log) →
             AreKnown log self.old.exchanges.items →
@@ -253,7 +253,7 @@ fn chosen(option: u32, payload: &[u8]) -> Phase
 }
 
 /// Where the answer to EXPORT_NAME leads.
-fn exported(size: u64, flags: u16) -> Phase
+fn phase_after_export(size: u64, flags: u16) -> Phase
     ensures { result ≡ phase_shown (definitions.Transmission (record { size = size; flags = flags })) }
 {
     Phase::Transmission(Export { size, flags })
@@ -267,7 +267,7 @@ fn grants_structured(option: u32, kind: u32) -> bool
 }
 
 /// Where an answer leads.
-fn answered(phase: Phase, kind: u32, payload: &[u8]) -> Phase
+fn phase_after_reply(phase: Phase, kind: u32, payload: &[u8]) -> Phase
     ensures { (p : definitions.Phase) (option : ℕ) → phase ≡ phase_shown p →
         result ≡ phase_shown (next_phase p (Answer option kind payload.now)) }
 {

@@ -177,13 +177,13 @@ fn content_piece(alloc: Global, kind: u16, payload: &[u8]) -> Result<Option<Piec
     ensures { IfOk result (λ piece. piece ≡ payloads.content_of kind payload.now) }
 {
     match content_of(kind, payload) {
-        Some(content) => Ok(Some(owned(alloc, &content)?)),
+        Some(content) => Ok(Some(owned_piece(alloc, &content)?)),
         None => Ok(None),
     }
 }
 
 // A copy of the content.
-fn owned(alloc: Global, content: &Content<'_>) -> Result<Piece, AllocError>
+fn owned_piece(alloc: Global, content: &Content<'_>) -> Result<Piece, AllocError>
     ensures { IfOk result (λ piece. piece ≡ piece_of content.now) }
 {
     match content {

@@ -64,7 +64,7 @@ impl State {
     ghost use Rattle.std.specs.Prelude.{◌≡◌};
     ghost use Rattle.nbd_state.specs.Shows.{Shows};
     ghost use Rattle.nbd_laws.specs.Soundness.{IsSoundReport};
-    ghost use Rattle.nbd_state.specs.Transcripts.{export_of, report_told};
+    ghost use Rattle.nbd_state.specs.Transcripts.{export_of, transcript_report};
 
     /// Before the first message (proto.md, "Newstyle negotiation"); takes no memory.
     pub fn new(alloc: Global) -> State
@@ -84,8 +84,8 @@ impl State {
     /// What a session that ends here states: its export, if it reached transmission, and its numbered
     /// requests; takes no memory. The condition is that this is a sound report.
     pub fn transcript(self) -> Transcript
-        requires { IsSoundReport (report_told (export_of self.phase) self.exchanges.items) }
-        ensures { result ≡ report_told (export_of self.phase) self.exchanges.items }
+        requires { IsSoundReport (transcript_report (export_of self.phase) self.exchanges.items) }
+        ensures { result ≡ transcript_report (export_of self.phase) self.exchanges.items }
     {
         let export = match self.phase {
             Phase::Transmission(export) => Some(export),

@@ -4,7 +4,7 @@ ghost use Rattle.std.specs.Prelude.{◌≡◌, length};
 ghost use Rattle.std.specs.Option.{option_copied};
 ghost use Rattle.nbd_wire.specs.protocol.Reports.{asked_at};
 ghost use Rattle.nbd_laws.specs.Soundness.{IsSoundReport};
-ghost use Rattle.nbd_state.specs.Transcripts.{size_and_flags, told_if};
+ghost use Rattle.nbd_state.specs.Transcripts.{size_and_flags, report_of_request_if};
 
 use crate::asked::{Asked, Exchange};
 use crate::state::Export;
@@ -22,22 +22,22 @@ pub struct Transcript {
 impl Model for Transcript {
     ghost use Rattle.nbd_wire.specs.protocol.Reports.{Report};
     ghost use Rattle.nbd_laws.specs.Soundness.{IsSoundReport};
-    ghost use Rattle.nbd_state.specs.Transcripts.{report_told};
+    ghost use Rattle.nbd_state.specs.Transcripts.{transcript_report};
 
     ghost Value = { Report };
 
-    ghost view = { λ t. report_told t.export t.exchanges.items };
+    ghost view = { λ t. transcript_report t.export t.exchanges.items };
 
-    ghost invariant = { λ t. IsSoundReport (report_told t.export t.exchanges.items) };
+    ghost invariant = { λ t. IsSoundReport (transcript_report t.export t.exchanges.items) };
 }
 
 impl Transcript {
-    ghost use Rattle.nbd_state.specs.Transcripts.{report_told};
+    ghost use Rattle.nbd_state.specs.Transcripts.{transcript_report};
 
     /// What a session on this export states with these exchanges.
     pub(crate) fn new(export: Option<Export>, exchanges: Vec<Exchange>) -> Transcript
-        requires { IsSoundReport (report_told export exchanges.items) }
-        ensures { result ≡ report_told export exchanges.items }
+        requires { IsSoundReport (transcript_report export exchanges.items) }
+        ensures { result ≡ transcript_report export exchanges.items }
     {
         Transcript { export, exchanges }
     }
@@ -60,7 +60,7 @@ impl Transcript {
 
     /// Request number `k`, counted from 1 in the order of completion; None where there is none.
     pub fn asked(&self, k: u64) -> Option<&Asked>
-        ensures { told_if (option_copied result) ≡ asked_at k self.now.asked }
+        ensures { report_of_request_if (option_copied result) ≡ asked_at k self.now.asked }
     {
         let place = k.checked_sub(1)?;
         Some(&self.exchanges.get(place as usize)?.asked)

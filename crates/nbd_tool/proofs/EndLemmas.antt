@@ -15,5 +15,5 @@ all_read (Some bytes) (Some rest) (Some left) text last p q e end =
     sym (p ∙ ap (λ l. text ++ l) none ∙ append-nil text)
 
 -- what fills a buffer stands in its prefix
-pub filled : (n : ℕ) (bytes behind : List ℕ) → length bytes ≡ n → take n (bytes ++ behind) ≡ bytes
-filled n bytes behind e = subst (λ n. take n (bytes ++ behind) ≡ bytes) e (take-append_seam bytes behind)
+pub take_of_prefix : (n : ℕ) (bytes behind : List ℕ) → length bytes ≡ n → take n (bytes ++ behind) ≡ bytes
+take_of_prefix n bytes behind e = subst (λ n. take n (bytes ++ behind) ≡ bytes) e (take-append_seam bytes behind)

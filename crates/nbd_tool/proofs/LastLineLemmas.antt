@@ -15,8 +15,8 @@ use Rattle.nbd_session.specs.declared.fault.SessionFault.TheVariants as session
 use Rattle.nbd_wire.specs.protocol.Within.{CompletesExactly}
 use Rattle.nbd_session.specs.Refusals.{HasNoPlace, IsComplete, IsCompleteBy, IsOpenEnd, IsWireFault}
 use Rattle.nbd_session.proofs.judge.RefusalLemmas.{no_run_of, open_end_of}
-use Rattle.nbd_session.specs.Sessions.{HasRun, IsOfRun, Recorded, end_by, fault_at_end, pairs_of, taken, unfinished}
-use Rattle.nbd_judge.specs.Captures.{chunks_told}
+use Rattle.nbd_session.specs.Sessions.{HasRun, IsOfRun, SessionView, end_by, fault_at_end, pairs_of, bytes_taken, open_end_fault}
+use Rattle.nbd_judge.specs.Captures.{records_of}
 use Rattle.nbd_lines.specs.Script.{message_lines}
 use Rattle.nbd_tool.specs.declared.fault.RunFault.{RunFault}
 use Rattle.nbd_tool.specs.declared.fault.RunFault.TheVariants as faults
@@ -30,38 +30,38 @@ use Rattle.nbd_tool.specs.Shown.IsOutput.{accepted, refused}
 use Rattle.nbd_tool.proofs.JudgedLemmas.{pairs_told}
 
 -- the messages of a session that is over are those of a prefix of the capture
-pub leads : (capture : List Pair) (r : Recorded) → IsOver capture r → IsOfRun r → Leads capture (pairs_of r) r.messages
+pub leads : (capture : List Pair) (r : SessionView) → IsOver capture r → IsOfRun r → Leads capture (pairs_of r) r.messages
 leads capture r over run = record { rest = over.left; client = r.client; server = r.server; parts = over.parts; run = run }
 
 -- what a session shows that ends in this way
-abbrev EndsAs : List Pair → Recorded → Option SessionFault → Type 0
+abbrev EndsAs : List Pair → SessionView → Option SessionFault → Type 0
 EndsAs capture r ended = IsOutput capture (is_accepted ended) (message_lines r.messages ++ last_line ended)
 
-refused_at : (capture : List Pair) (r : Recorded) (at : ℕ) (fault : WireFault) → IsOver capture r → IsOfRun r → at ≡ taken r → IsWireFault capture r.messages at fault → EndsAs capture r (Some (session.Wire at fault))
+refused_at : (capture : List Pair) (r : SessionView) (at : ℕ) (fault : WireFault) → IsOver capture r → IsOfRun r → at ≡ bytes_taken r → IsWireFault capture r.messages at fault → EndsAs capture r (Some (session.Wire at fault))
 refused_at capture r at fault over run e why =
     subst (λ n. EndsAs capture r (Some (session.Wire n fault))) (sym e)
     (refused (pairs_of r) r.messages fault (leads capture r over run) (subst (λ n. IsWireFault capture r.messages n fault) e why) (no_run_of capture r.messages at fault why))
 
 -- all was taken of an open session's capture
-took_all : (capture : List Pair) (r : Recorded) → IsOver capture r → r.closed ≡ None → pairs_of r ≡ capture
+took_all : (capture : List Pair) (r : SessionView) → IsOver capture r → r.closed ≡ None → pairs_of r ≡ capture
 took_all capture r over unclosed = sym (append-nil (pairs_of r)) ∙ ap (λ ps. pairs_of r ++ ps) (sym (over.all unclosed)) ∙ over.parts
 
-unfinished_at : (capture : List Pair) (r : Recorded) (client server : List ℕ) → IsOver capture r → IsOfRun r → r.closed ≡ None → HasRun (pairs_of r) r.messages client server →
-    CompletesExactly (pairs_of r) r.messages × HasNoPlace (pairs_of r) → ((client ≡ []) × (server ≡ []) → ⊥) → EndsAs capture r (Some (session.Wire (taken r) Unfinished))
+unfinished_at : (capture : List Pair) (r : SessionView) (client server : List ℕ) → IsOver capture r → IsOfRun r → r.closed ≡ None → HasRun (pairs_of r) r.messages client server →
+    CompletesExactly (pairs_of r) r.messages × HasNoPlace (pairs_of r) → ((client ≡ []) × (server ≡ []) → ⊥) → EndsAs capture r (Some (session.Wire (bytes_taken r) Unfinished))
 unfinished_at capture r client server over run unclosed has all some =
-    refused_at capture r (taken r) Unfinished over run refl
+    refused_at capture r (bytes_taken r) Unfinished over run refl
     (inr (refl, ap length (took_all capture r over unclosed), subst (λ ps. IsOpenEnd ps r.messages) (took_all capture r over unclosed) (open_end_of (pairs_of r) r.messages client server has all.0 all.1 some)))
 
-open_end : (capture : List Pair) (r : Recorded) (client server : List ℕ) → IsOver capture r → IsOfRun r → r.closed ≡ None → HasRun (pairs_of r) r.messages client server → CompletesExactly (pairs_of r) r.messages × HasNoPlace (pairs_of r) →
-    EndsAs capture r (unfinished client server (taken r))
+open_end : (capture : List Pair) (r : SessionView) (client server : List ℕ) → IsOver capture r → IsOfRun r → r.closed ≡ None → HasRun (pairs_of r) r.messages client server → CompletesExactly (pairs_of r) r.messages × HasNoPlace (pairs_of r) →
+    EndsAs capture r (open_end_fault client server (bytes_taken r))
 open_end capture r [] [] over run unclosed has all = accepted r.messages (subst (λ ps. HasRun ps r.messages [] []) (took_all capture r over unclosed) has)
 open_end capture r (b ∷ client) server over run unclosed has all = unfinished_at capture r (b ∷ client) server over run unclosed has all (λ e. (let q : b ∷ client ≡ [] = e.0 in cc))
 open_end capture r [] (b ∷ server) over run unclosed has all = unfinished_at capture r [] (b ∷ server) over run unclosed has all (λ e. (let q : b ∷ server ≡ [] = e.1 in cc))
 
-pub shown : (capture : List Pair) (r : Recorded) → IsOver capture r → IsOfRun r → IsComplete r → EndsAs capture r (fault_at_end r)
+pub shown : (capture : List Pair) (r : SessionView) → IsOver capture r → IsOfRun r → IsComplete r → EndsAs capture r (fault_at_end r)
 shown capture r over run complete = go r.closed refl over.at complete
   where
-    go : (c : Option SessionFault) → r.closed ≡ c → IfSome c (IsWireAt (taken r)) → IsCompleteBy c r → EndsAs capture r (end_by c (unfinished r.client r.server (taken r)))
+    go : (c : Option SessionFault) → r.closed ≡ c → IfSome c (IsWireAt (bytes_taken r)) → IsCompleteBy c r → EndsAs capture r (end_by c (open_end_fault r.client r.server (bytes_taken r)))
     go None unclosed at all = open_end capture r r.client r.server over run unclosed run all
     go (Some (session.Wire at fault)) closed is refusal =
         refused_at capture r at fault over run is (inl (record { prefix = pairs_of r; rest = over.left; parts = over.parts; at_is = is; refusal = refusal }))
@@ -73,7 +73,7 @@ then_kept (Some xs) None new bytes a k = absurd a
 then_kept (Some xs) (Some ys) None bytes a k = absurd k
 then_kept (Some xs) (Some ys) (Some zs) bytes a k = k ∙ a
 
-module _ (known : Option (List ℕ)) (chunks : List (Side × Vec ℕ Global)) (r : Recorded) (text : IfSome known (λ text. IsCaptureText text (chunks_of chunks))) (over : IsOver (flat (chunks_told chunks)) r) (run : IsOfRun r) (complete : IsComplete r) where
+module _ (known : Option (List ℕ)) (chunks : List (Side × Vec ℕ Global)) (r : SessionView) (text : IfSome known (λ text. IsCaptureText text (chunks_of chunks))) (over : IsOver (flat (records_of chunks)) r) (run : IsOfRun r) (complete : IsComplete r) where
   told : EndsAs (flat_of (chunks_of chunks)) r (fault_at_end r)
   told = shown (flat_of (chunks_of chunks)) r (subst (λ ps. IsOver ps r) (sym (pairs_told chunks)) over) run complete
 

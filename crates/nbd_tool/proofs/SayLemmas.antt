@@ -5,14 +5,14 @@ use Rattle.std.specs.Io.KnownBytes.{Appends}
 use Rattle.nbd_capture.specs.Capture.{Chunk, IsCaptureText}
 use Rattle.nbd_capture.specs.Order.{IsOrderText}
 use Rattle.nbd_capture.specs.Writing.{AppendsPrefix}
-use Rattle.nbd_wire.specs.protocol.Explains.{Explained, Start}
+use Rattle.nbd_wire.specs.protocol.Explains.{IsExplained, Start}
 use Rattle.nbd_judge.specs.declared.verdict.Verdict.{Verdict}
 use Rattle.nbd_judge.specs.declared.verdict.Verdict.TheVariants.{Yes, Wire, Image, Order, Content}
 use Rattle.nbd_tool.specs.Runs.{IsVerdictOn, SaysYes, flat_of}
 use Rattle.nbd_tool.specs.Verdicts.{line}
 
 abbrev IsExplainedOn : (text numbers_text : List ℕ) → Start → Type 0
-IsExplainedOn text numbers_text initial = (chunks : List Chunk) × (numbers : List ℕ) × IsCaptureText text chunks × IsOrderText numbers_text numbers × Explained (flat_of chunks) numbers initial
+IsExplainedOn text numbers_text initial = (chunks : List Chunk) × (numbers : List ℕ) × IsCaptureText text chunks × IsOrderText numbers_text numbers × IsExplained (flat_of chunks) numbers initial
 
 abbrev first : List ℕ → ℕ
 first [] = 0

@@ -1,6 +1,6 @@
 -- What a run of `check` says of its inputs and leaves written, where the readers and the writer state their bytes.
 use Rattle.std.specs.Prelude.{◌≡◌, ◌↔◌, ℕ, List, ◌++◌, Option, Some, IfSome, IsTrue, Bool, codes, map}
-use Rattle.nbd_wire.specs.protocol.Explains.{Explained, Start}
+use Rattle.nbd_wire.specs.protocol.Explains.{IsExplained, Start}
 use Rattle.nbd_wire.specs.protocol.Captures.{Pair, flat}
 use Rattle.std.specs.Io.KnownBytes.{Appends, Keeps}
 use Rattle.nbd_capture.specs.Capture.{Chunk, IsCaptureText, IsFirstBadCaptureLine}
@@ -75,5 +75,5 @@ BeginsYes text = (rest : List ℕ) × (text ≡ codes "yes" ++ rest)
 abbrev pub SaysYes : (capture order : Option (List ℕ)) → Option Start → (old new : Option (List ℕ)) → Type 0
 SaysYes (Some text) (Some numbers_text) (Some initial) (Some old) (Some new) =
     (written : List ℕ) → new ≡ old ++ written → BeginsYes written →
-    (chunks : List Chunk) × (numbers : List ℕ) × IsCaptureText text chunks × IsOrderText numbers_text numbers × Explained (flat_of chunks) numbers initial
+    (chunks : List Chunk) × (numbers : List ℕ) × IsCaptureText text chunks × IsOrderText numbers_text numbers × IsExplained (flat_of chunks) numbers initial
 SaysYes capture order initial old new = Unit {0}

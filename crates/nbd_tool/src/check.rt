@@ -3,7 +3,7 @@ ghost use Rattle.std.specs.Prelude.{◌≡◌, ◌<◌, ◌^◌, OnOk, IfErr, If
 ghost use Rattle.nbd_capture.specs.Capture.{IsCaptureText, chunks_of};
 ghost use Rattle.nbd_capture.specs.Order.{IsOrderText};
 ghost use Rattle.nbd_wire.specs.protocol.Captures.{flat};
-ghost use Rattle.nbd_judge.specs.Captures.{chunks_told};
+ghost use Rattle.nbd_judge.specs.Captures.{records_of};
 ghost use Rattle.nbd_tool.specs.Runs.{IsCapture, IsOrder, IsCaptureCause, IsCause, LeavesWritten, SaysYes, Tells};
 ghost use Rattle.nbd_tool.specs.internal.Runs.{IsOrderCause};
 ghost use Rattle.nbd_tool.specs.Starts.{initial_from};
@@ -57,7 +57,7 @@ pub(crate) fn read_capture<C: BufRead>(
 ) -> Result<Vec<(Side, Vec<u8>)>, RunFault>
     ensures text { IfOk result (λ chunks. IfSome (C.remaining capture.old)
         (λ text. IsCaptureText text (chunks_of chunks.items))) }
-    ensures small { IfOk result (λ chunks. length (flat (chunks_told chunks.items)) < 2 ^ 63) }
+    ensures small { IfOk result (λ chunks. length (flat (records_of chunks.items)) < 2 ^ 63) }
     ensures cause { IfErr result (IsCaptureCause (C.remaining capture.old)) }
 {
     let text = read_whole(alloc, capture).map_err(|fault| match fault {

@@ -4,7 +4,7 @@ ghost use Rattle.std.specs.Io.KnownBytes.{Appends};
 ghost use Rattle.nbd_wire.specs.protocol.Captures.{flat};
 ghost use Rattle.nbd_session.specs.declared.fault.SessionFault.TheVariants.{Wire};
 ghost use Rattle.nbd_session.specs.Sessions.{fault_of};
-ghost use Rattle.nbd_judge.specs.Captures.{chunks_told};
+ghost use Rattle.nbd_judge.specs.Captures.{records_of};
 ghost use Rattle.nbd_tool.specs.Runs.{IsCapture};
 ghost use Rattle.nbd_tool.specs.internal.Ends.{IsOver, LeavesLast, is_accepted, last_line};
 ghost use Rattle.nbd_tool.specs.Shown.{IsShowCause, LeavesShown, WritesAll};
@@ -45,8 +45,8 @@ pub fn run_show<C: BufRead + Drop, W: Write>(
 
 /// A session over these chunks, up to the byte at which it is refused.
 fn session_over(alloc: Global, chunks: &[(Side, Vec<u8>)]) -> Result<Session, AllocError>
-    requires { length (flat (chunks_told chunks.now)) < 2 ^ 63 }
-    ensures { IfOk result (IsOver (flat (chunks_told chunks.now))) }
+    requires { length (flat (records_of chunks.now)) < 2 ^ 63 }
+    ensures { IfOk result (IsOver (flat (records_of chunks.now))) }
 {
     let mut session = Session::new(alloc);
     for (side, bytes) in chunks {

@@ -5,13 +5,13 @@ use Rattle.nbd_wire.specs.declared.commands.TheConstants as commands
 use Rattle.nbd_wire.specs.protocol.ExportBytes.{Effect, IsWrong, IsWrongIn, entries_before, byte_before, effect, effects, is_success}
 use Rattle.nbd_wire.specs.protocol.Reports.{Asked, Report}
 use Rattle.nbd_export.specs.Ranges.{AreSameBelow, IsLeast}
-use Rattle.nbd_judge.specs.Folding.{applied, contents_after}
+use Rattle.nbd_judge.specs.Folding.{contents_with_effect, contents_after}
 use Rattle.nbd_judge.specs.internal.Orders.{IsOnce}
 use Rattle.nbd_judge.specs.internal.Servable.{IsServable}
 use Rattle.nbd_judge.specs.Verdicts.{HasWrongFrom}
 use Rattle.nbd_judge.proofs.verdicts.DecisionLemmas.{same_or_not}
 use Rattle.nbd_judge.proofs.contents.CompareLemmas.{from_in, least_as}
-use Rattle.nbd_judge.proofs.contents.ForwardLemmas.{after_push, applied_same, folded}
+use Rattle.nbd_judge.proofs.contents.ForwardLemmas.{after_push, applied_same, folding}
 
 before_from : (k n : ℕ) (order : List ℕ) → n < length order → ((j : ℕ) → j < n → slice_index order j ≡ k → ⊥) → slice_index order n ≡ k → entries_before k order ≡ take n order
 before_from k n [] w apart here = absurd (omega arith)
@@ -26,10 +26,10 @@ before_entry i order w once = before_from (slice_index order i) i order w (λ j 
 
 module _ (size : ℕ) (requests : ℕ → Option Effect) (order : List ℕ) (initial now : ℕ → Option ℕ) (i : ℕ) (within : i < length order) (once : IsOnce order) (same : AreSameBelow size now (contents_after requests (take i order) initial)) where
   same_now : (x : ℕ) → x < size → now x ≡ byte_before requests order initial (slice_index order i) x
-  same_now x h = same x h ∙ ap (λ ks. contents_after requests ks initial x) (sym (before_entry i order within once)) ∙ folded requests order initial (slice_index order i) x
+  same_now x h = same x h ∙ ap (λ ks. contents_after requests ks initial x) (sym (before_entry i order within once)) ∙ folding requests order initial (slice_index order i) x
 
   -- the contents after it, whether there is such a request or not
-  pub next : (after : ℕ → Option ℕ) → AreSameBelow size after (applied (requests (slice_index order i)) now) → AreSameBelow size after (contents_after requests (take (i + 1) order) initial)
+  pub next : (after : ℕ → Option ℕ) → AreSameBelow size after (contents_with_effect (requests (slice_index order i)) now) → AreSameBelow size after (contents_after requests (take (i + 1) order) initial)
   next after h x l =
       let taken : take (i + 1) order ≡ take i order ++ slice_index order i ∷ [] = ap (λ n. take n order) (add-one i) ∙ take-suc order i 0 within in
       h x l ∙ applied_same (requests (slice_index order i)) size now (contents_after requests (take i order) initial) same x l

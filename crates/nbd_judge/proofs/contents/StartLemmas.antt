@@ -68,10 +68,10 @@ fitting r order start fits (verdict.Content k x) h = (fits, h)
 fitting r order start fits (verdict.Wire at fault) h = h
 fitting r order start fits (verdict.Image i s) h = absurd h
 
-pub concluded : {E : Type 0} (r : Report) → IsSoundReport r → (order : List ℕ) (f : ℕ → Option ℕ) (start : Start) → FitsImage r.export start → AreSameBelow (size_of r.export) f (start_byte start)
+pub report_of_conclusion : {E : Type 0} (r : Report) → IsSoundReport r → (order : List ℕ) (f : ℕ → Option ℕ) (start : Start) → FitsImage r.export start → AreSameBelow (size_of r.export) f (start_byte start)
     → (o : Result Verdict E) → IfOk o (IsJudged r order f) → IfOk o (IsVerdict r order start)
-concluded r sound order f start fits same (Ok v) h = fitting r order start fits v (judged_same r sound order f (start_byte start) same v h)
-concluded r sound order f start fits same (Err e) h = h
+report_of_conclusion r sound order f start fits same (Ok v) h = fitting r order start fits v (judged_same r sound order f (start_byte start) same v h)
+report_of_conclusion r sound order f start fits same (Err e) h = h
 
 -- the export of a transcript that states its size
 pub exporting_of : (o : Option Exporting) (size flags : ℕ) → Some (size, flags) ≡ size_and_flags o → (e : Exporting) × (o ≡ Some e) × (e.size ≡ size)

@@ -10,10 +10,10 @@ use Rattle.nbd_wire.specs.protocol.Reports.{Report}
 use Rattle.nbd_wire.specs.protocol.Rules.{IsRun}
 use Rattle.nbd_session.specs.declared.fault.SessionFault.{SessionFault}
 use Rattle.nbd_session.specs.declared.fault.SessionFault.TheVariants as session
-use Rattle.nbd_session.specs.Sessions.{AddsPrefix, IsAtEnd, IsReported, Recorded, end_by, fault_at_end, fault_of, pairs_of, taken, unfinished}
+use Rattle.nbd_session.specs.Sessions.{AddsPrefix, IsAtEnd, IsReported, SessionView, end_by, fault_at_end, fault_of, pairs_of, bytes_taken, open_end_fault}
 use Rattle.nbd_judge.specs.declared.verdict.Verdict.{Verdict}
 use Rattle.nbd_judge.specs.declared.verdict.Verdict.TheVariants.{Yes, Wire, Image, Order, Content}
-use Rattle.nbd_judge.specs.Captures.{HasVerdict, IsChecked, IsFaultOf, chunks_told}
+use Rattle.nbd_judge.specs.Captures.{HasVerdict, IsChecked, IsFaultOf, records_of}
 use Rattle.nbd_judge.specs.internal.Captures.{IsTold}
 use Rattle.nbd_judge.specs.Conclusions.{Answers, IsConclusion, IsReportOf}
 use Rattle.nbd_judge.specs.Verdicts.{IsVerdict}
@@ -24,7 +24,7 @@ length_sent s (b ∷ bytes) = ap suc (length_sent s bytes)
 
 -- with one more chunk
 prefix_suc : (cs : List (Side × Vec ℕ Global)) (i : ℕ) (c : Side × Vec ℕ Global) → i < length cs → c ≡ get_or cs i c →
-    flat (chunks_told (take (suc i) cs)) ≡ flat (chunks_told (take i cs)) ++ side_pairs c.0 c.1.items
+    flat (records_of (take (suc i) cs)) ≡ flat (records_of (take i cs)) ++ side_pairs c.0 c.1.items
 prefix_suc [] i c w e = absurd (omega arith)
 prefix_suc (d ∷ cs) zero c w e = go d (sym e)
   where
@@ -34,21 +34,21 @@ prefix_suc (d ∷ cs) zero c w e = go d (sym e)
 
     go : (d : Side × Vec ℕ Global) → d ≡ c → side_pairs d.0 d.1.items ++ [] ≡ side_pairs c.0 c.1.items
     go d e = nil (side_pairs d.0 d.1.items) ∙ ap (λ (q : Side × Vec ℕ Global). side_pairs q.0 q.1.items) e
-prefix_suc (d ∷ cs) (suc i) c w e = ap (λ r. side_pairs d.0 d.1.items ++ r) (prefix_suc cs i c (omega arith) e) ∙ sym (append_assoc (side_pairs d.0 d.1.items) (flat (chunks_told (take i cs))) (side_pairs c.0 c.1.items))
+prefix_suc (d ∷ cs) (suc i) c w e = ap (λ r. side_pairs d.0 d.1.items ++ r) (prefix_suc cs i c (omega arith) e) ∙ sym (append_assoc (side_pairs d.0 d.1.items) (flat (records_of (take i cs))) (side_pairs c.0 c.1.items))
 
 pub prefix_more : (cs : List (Side × Vec ℕ Global)) (i : ℕ) (c : Side × Vec ℕ Global) → i < length cs → c ≡ get_or cs i c →
-    flat (chunks_told (take (i + 1) cs)) ≡ flat (chunks_told (take i cs)) ++ side_pairs c.0 c.1.items
-prefix_more cs i c w e = ap (λ n. flat (chunks_told (take n cs))) (add-one i) ∙ prefix_suc cs i c w e
+    flat (records_of (take (i + 1) cs)) ≡ flat (records_of (take i cs)) ++ side_pairs c.0 c.1.items
+prefix_more cs i c w e = ap (λ n. flat (records_of (take n cs))) (add-one i) ∙ prefix_suc cs i c w e
 
 -- no prefix is longer than the whole
-pub prefix_within : (cs : List (Side × Vec ℕ Global)) (i : ℕ) → length (flat (chunks_told (take i cs))) ≤ length (flat (chunks_told cs))
+pub prefix_within : (cs : List (Side × Vec ℕ Global)) (i : ℕ) → length (flat (records_of (take i cs))) ≤ length (flat (records_of cs))
 prefix_within [] zero = omega arith
 prefix_within [] (suc i) = omega arith
 prefix_within (d ∷ cs) zero = omega arith
 prefix_within (d ∷ cs) (suc i) =
     let ih = prefix_within cs i in
-    let a = length-append (side_pairs d.0 d.1.items) (flat (chunks_told (take i cs))) in
-    let b = length-append (side_pairs d.0 d.1.items) (flat (chunks_told cs)) in
+    let a = length-append (side_pairs d.0 d.1.items) (flat (records_of (take i cs))) in
+    let b = length-append (side_pairs d.0 d.1.items) (flat (records_of cs)) in
     omega arith
 
 pub prefix_whole : (cs : List (Side × Vec ℕ Global)) (i : ℕ) → length cs ≤ i → take i cs ≡ cs
@@ -58,7 +58,7 @@ prefix_whole (d ∷ cs) zero w = absurd (omega arith)
 prefix_whole (d ∷ cs) (suc i) w = ap (λ r. d ∷ r) (prefix_whole cs i (omega arith))
 
 -- what a finished session states is told of its bytes
-pub told_of : (r : Recorded) (capture : List Pair) (told : Report) → pairs_of r ≡ capture → IsReported r told → IsTold capture told
+pub told_of : (r : SessionView) (capture : List Pair) (told : Report) → pairs_of r ≡ capture → IsReported r told → IsTold capture told
 told_of r capture told same reported = record {
   items = reported.items;
   is_run = reported.is_run;
@@ -92,22 +92,22 @@ checked capture order initial (Ok r) v told within is answers = go v is (answers
 
 -- the bytes of one more chunk
 pub grown_by : (cs : List (Side × Vec ℕ Global)) (i : ℕ) (c : Side × Vec ℕ Global) → i < length cs → c ≡ get_or cs i c →
-    length (flat (chunks_told (take (i + 1) cs))) ≡ length (flat (chunks_told (take i cs))) + length c.1.items
+    length (flat (records_of (take (i + 1) cs))) ≡ length (flat (records_of (take i cs))) + length c.1.items
 grown_by cs i c w e =
     let more = ap length (prefix_more cs i c w e) in
-    let grown = length-append (flat (chunks_told (take i cs))) (side_pairs c.0 c.1.items) in
+    let grown = length-append (flat (records_of (take i cs))) (side_pairs c.0 c.1.items) in
     let len = length_sent c.0 c.1.items in
     omega arith
 
 -- the next piece fits, where the whole does
 pub piece_fits : (cs : List (Side × Vec ℕ Global)) (i : ℕ) (c : Side × Vec ℕ Global) → i < length cs → c ≡ get_or cs i c →
-    length (flat (chunks_told (take i cs))) + length c.1.items ≤ length (flat (chunks_told cs))
+    length (flat (records_of (take i cs))) + length c.1.items ≤ length (flat (records_of cs))
 piece_fits cs i c w e =
     let grown = grown_by cs i c w e in
     let within = prefix_within cs (i + 1) in
     omega arith
 
-pub finish_told : (r : Recorded) (capture : List Pair) (o : Result Report SessionFault) → pairs_of r ≡ capture → IfOk o (IsReported r) → IfOk o (IsTold capture)
+pub finish_told : (r : SessionView) (capture : List Pair) (o : Result Report SessionFault) → pairs_of r ≡ capture → IfOk o (IsReported r) → IfOk o (IsTold capture)
 finish_told r capture (Ok told) same h = told_of r capture told same h
 finish_told r capture (Err fault) same h = h
 

@@ -2,16 +2,16 @@
 use Rattle.std.proofs.Common.{◌≡◌, ℕ, zero, suc, ◌<◌, List, [], ◌∷◌, ◌++◌, length, refl, sym, ◌∙◌, ap, subst, arith, take, drop, get_or, append_assoc, inl, inr, Result, Ok, Err, IfOk, IfErr, Vec}
 use Rattle.std.specs.declared.alloc.Global.{Global}
 use Rattle.nbd_wire.specs.declared.message.Side.{Side}
-use Rattle.nbd_wire.specs.protocol.Explains.{Explained, Start}
+use Rattle.nbd_wire.specs.protocol.Explains.{IsExplained, Start}
 use Rattle.nbd_wire.specs.protocol.Captures.{Pair, flat, side_pairs}
 use Rattle.nbd_session.specs.declared.fault.SessionFault.{SessionFault}
 use Rattle.nbd_session.specs.declared.fault.SessionFault.TheVariants.{Memory, Wire}
 use Rattle.nbd_session.specs.Refusals.{EndsIn, IsWireFault, Refuses}
-use Rattle.nbd_session.specs.Sessions.{AddsPrefix, IsAtEnd, Recorded, pairs_of}
+use Rattle.nbd_session.specs.Sessions.{AddsPrefix, IsAtEnd, SessionView, pairs_of}
 use Rattle.nbd_session.proofs.judge.RefusalLemmas.{no_run_of}
 use Rattle.nbd_judge.specs.declared.verdict.Verdict.{Verdict}
 use Rattle.nbd_judge.specs.declared.verdict.Verdict.TheVariants as verdict
-use Rattle.nbd_judge.specs.Captures.{IsChecked, IsFaultOf, SaysYes, chunks_told}
+use Rattle.nbd_judge.specs.Captures.{IsChecked, IsFaultOf, SaysYes, records_of}
 use Rattle.std.specs.Prelude.{◌↔◌}
 
 sent_both : (s : Side) (a b : List ℕ) → side_pairs s (a ++ b) ≡ side_pairs s a ++ side_pairs s b
@@ -20,23 +20,23 @@ sent_both s (x ∷ a) b = ap (λ ps. record { from = s; byte = x } ∷ ps) (sent
 
 -- before a chunk, the chunk, and after it
 split_at : (cs : List (Side × Vec ℕ Global)) (i : ℕ) (c : Side × Vec ℕ Global) → i < length cs → c ≡ get_or cs i c →
-    flat (chunks_told cs) ≡ flat (chunks_told (take i cs)) ++ (side_pairs c.0 c.1.items ++ flat (chunks_told (drop (suc i) cs)))
+    flat (records_of cs) ≡ flat (records_of (take i cs)) ++ (side_pairs c.0 c.1.items ++ flat (records_of (drop (suc i) cs)))
 split_at [] i c w e = absurd (omega arith)
 split_at (d ∷ cs) zero c w e = go d e
   where
-    go : (d : Side × Vec ℕ Global) → c ≡ d → side_pairs d.0 d.1.items ++ flat (chunks_told cs) ≡ side_pairs c.0 c.1.items ++ flat (chunks_told cs)
-    go d e = ap (λ (q : Side × Vec ℕ Global). side_pairs q.0 q.1.items ++ flat (chunks_told cs)) (sym e)
+    go : (d : Side × Vec ℕ Global) → c ≡ d → side_pairs d.0 d.1.items ++ flat (records_of cs) ≡ side_pairs c.0 c.1.items ++ flat (records_of cs)
+    go d e = ap (λ (q : Side × Vec ℕ Global). side_pairs q.0 q.1.items ++ flat (records_of cs)) (sym e)
 split_at (d ∷ cs) (suc i) c w e =
     ap (λ r. side_pairs d.0 d.1.items ++ r) (split_at cs i c (omega arith) e)
-    ∙ sym (append_assoc (side_pairs d.0 d.1.items) (flat (chunks_told (take i cs))) (side_pairs c.0 c.1.items ++ flat (chunks_told (drop (suc i) cs))))
+    ∙ sym (append_assoc (side_pairs d.0 d.1.items) (flat (records_of (take i cs))) (side_pairs c.0 c.1.items ++ flat (records_of (drop (suc i) cs))))
 
 -- a fault in a chunk is that of the capture
-pub fault_in : (cs : List (Side × Vec ℕ Global)) (i : ℕ) (c : Side × Vec ℕ Global) (piece : List ℕ) (old new : Recorded) (fault : SessionFault) → i < length cs → c ≡ get_or cs i c → piece ≡ c.1.items →
-    pairs_of old ≡ flat (chunks_told (take i cs)) → AddsPrefix old new c.0 piece → IsAtEnd new fault → Refuses new fault → IsFaultOf (flat (chunks_told cs)) fault
+pub fault_in : (cs : List (Side × Vec ℕ Global)) (i : ℕ) (c : Side × Vec ℕ Global) (piece : List ℕ) (old new : SessionView) (fault : SessionFault) → i < length cs → c ≡ get_or cs i c → piece ≡ c.1.items →
+    pairs_of old ≡ flat (records_of (take i cs)) → AddsPrefix old new c.0 piece → IsAtEnd new fault → Refuses new fault → IsFaultOf (flat (records_of cs)) fault
 fault_in cs i c piece old new Memory w e same took prefix is refuses = tt
 fault_in cs i c piece old new (Wire at fault) w e same took prefix is refuses =
     let added = prefix.1 in
-    let behind : List Pair = flat (chunks_told (drop (suc i) cs)) in
+    let behind : List Pair = flat (records_of (drop (suc i) cs)) in
     let whole : side_pairs c.0 added.prefix ++ side_pairs c.0 prefix.0 ≡ side_pairs c.0 c.1.items = sym (sent_both c.0 added.prefix prefix.0) ∙ ap (side_pairs c.0) (added.parts ∙ same) in (
       new.messages,
       inl (record {
@@ -52,23 +52,23 @@ fault_in cs i c piece old new (Wire at fault) w e same took prefix is refuses =
       }),
     )
 
-end_fault : (r : Recorded) (capture : List Pair) (fault : SessionFault) → pairs_of r ≡ capture → EndsIn r fault → IsFaultOf capture fault
+end_fault : (r : SessionView) (capture : List Pair) (fault : SessionFault) → pairs_of r ≡ capture → EndsIn r fault → IsFaultOf capture fault
 end_fault r capture Memory same e = tt
 end_fault r capture (Wire at fault) same e = (r.messages, subst (λ ps. IsWireFault ps r.messages at fault) same e)
 
 -- so is one at the end
-pub finish_fault : {A : Type 0} (r : Recorded) (capture : List Pair) (o : Result A SessionFault) → pairs_of r ≡ capture → IfErr o (EndsIn r) → IfErr o (IsFaultOf capture)
+pub finish_fault : {A : Type 0} (r : SessionView) (capture : List Pair) (o : Result A SessionFault) → pairs_of r ≡ capture → IfErr o (EndsIn r) → IfErr o (IsFaultOf capture)
 finish_fault r capture (Ok told) same h = tt
 finish_fault r capture (Err fault) same h = end_fault r capture fault same h
 
 -- yes is said of exactly the captures that are explained
-says_exactly : (capture : List Pair) (order : List ℕ) (initial : Start) (v : Verdict) → IsChecked capture order initial v → SaysYes v ↔ Explained capture order initial
+says_exactly : (capture : List Pair) (order : List ℕ) (initial : Start) (v : Verdict) → IsChecked capture order initial v → SaysYes v ↔ IsExplained capture order initial
 says_exactly capture order initial (verdict.Yes a b c) is = ((λ y. is.answers.explained), λ x. tt)
 says_exactly capture order initial (verdict.Wire at fault) is = ((λ y. absurd y), λ x. no_run_of capture is.0 at fault is.1 x.items x.is_run x.has_pairs)
 says_exactly capture order initial (verdict.Image i s) is = ((λ y. absurd y), λ x. is.answers x)
 says_exactly capture order initial (verdict.Order e f) is = ((λ y. absurd y), λ x. is.answers.0 x)
 says_exactly capture order initial (verdict.Content k x) is = ((λ y. absurd y), λ x. is.answers x)
 
-pub answers_exactly : {E : Type 0} (capture : List Pair) (order : List ℕ) (initial : Start) (o : Result Verdict E) → IfOk o (IsChecked capture order initial) → IfOk o (λ v. SaysYes v ↔ Explained capture order initial)
+pub answers_exactly : {E : Type 0} (capture : List Pair) (order : List ℕ) (initial : Start) (o : Result Verdict E) → IfOk o (IsChecked capture order initial) → IfOk o (λ v. SaysYes v ↔ IsExplained capture order initial)
 answers_exactly capture order initial (Ok v) is = says_exactly capture order initial v is
 answers_exactly capture order initial (Err e) is = tt

@@ -9,7 +9,7 @@ use Rattle.nbd_wire.specs.protocol.Captures.{Pair, ArePairs}
 use Rattle.nbd_wire.specs.protocol.States.{Core}
 use Rattle.nbd_wire.specs.protocol.Sendable.{IsSendable}
 use Rattle.nbd_wire.specs.protocol.Rules.{MayStart, MayComplete, complete}
-use Rattle.nbd_laws.specs.internal.Machine.{Both, get, put, IsFilled, Rest, Machine, Reading, old_by, old_of, settle, Judge, grown, on_ok, reads, More, Whole, Bad}
+use Rattle.nbd_laws.specs.internal.Machine.{Both, get, put, IsFilled, Rest, Machine, Reading, old_by, old_of, settle, Judge, rest_with, on_ok, reads, More, Whole, Bad}
 use Rattle.nbd_laws.specs.Reached.{IsReached, after_message}
 
 pub get-put_same : {A : Type 0} (p : Both A) (s : Side) (a : A) → get (put p s a) s ≡ a
@@ -77,14 +77,14 @@ ended_by rest = record { bytes = []; since = rest.since }
 -- the machine that the items lead to
 abbrev pub led : Machine → List Item → Machine
 led machine [] = machine
-led machine (Byte s b ∷ items) = led (record machine { rests = put machine.rests s (grown machine.core (get machine.rests s) b) }) items
+led machine (Byte s b ∷ items) = led (record machine { rests = put machine.rests s (rest_with machine.core (get machine.rests s) b) }) items
 led machine (Starts s m ∷ items) = led machine items
 led machine (Completes s m ∷ items) =
     led (record { core = complete machine.core m; rests = put machine.rests s (ended_by (get machine.rests s)); messages = machine.messages ++ m ∷ [] }) items
 led machine (Serves k ∷ items) = led machine items
 
 abbrev pub with_byte : Machine → Side → ℕ → Machine
-with_byte machine s b = record machine { rests = put machine.rests s (grown machine.core (get machine.rests s) b) }
+with_byte machine s b = record machine { rests = put machine.rests s (rest_with machine.core (get machine.rests s) b) }
 
 abbrev pub IsMoreAt : Judge → Core → Side → Rest → Type 0
 IsMoreAt judge core s rest = (judge rest.since core s rest.bytes ≡ More) × Kept judge s rest.since core rest.bytes
@@ -149,7 +149,7 @@ pub reached_of : {judge : Judge} {core : Core} {s : Side} {rest : Rest} → Held
 reached_of (none_held rc e) = rc
 reached_of (some_held rc now f k m l) = rc
 
-pub kept_next : (judge : Judge) (core : Core) (s : Side) (rest : Rest) (b : ℕ) → b < 256 → Held judge core s rest → Kept judge s (grown core rest b).since core (grown core rest b).bytes
+pub kept_next : (judge : Judge) (core : Core) (s : Side) (rest : Rest) (b : ℕ) → b < 256 → Held judge core s rest → Kept judge s (rest_with core rest b).since core (rest_with core rest b).bytes
 kept_next judge core s rest b lt (none_held rc e) =
     subst (λ c. Kept judge s c core (rest.bytes ++ b ∷ [])) (sym (old-empty core rest e)) (subst (λ l. Kept judge s core core (l ++ b ∷ [])) (sym e) (begun b lt rc))
 kept_next judge core s rest b lt (some_held rc now f k m l) =
@@ -163,8 +163,8 @@ held_with judge rests core next s rest all here other u = go (same_or_not s u)
     go (inr ne) = subst (λ r. Held judge next u r) (sym (get-put_other rests s u rest ne)) (other u ne (all u))
 
 pub held_more : (judge : Judge) (machine : Machine) (s : Side) (b : ℕ) → b < 256 → AreHeld judge machine →
-    judge (grown machine.core (get machine.rests s) b).since machine.core s (grown machine.core (get machine.rests s) b).bytes ≡ More → AreHeld judge (with_byte machine s b)
-held_more judge machine s b lt all m = held_with judge machine.rests machine.core machine.core s (grown machine.core (get machine.rests s) b) all
+    judge (rest_with machine.core (get machine.rests s) b).since machine.core s (rest_with machine.core (get machine.rests s) b).bytes ≡ More → AreHeld judge (with_byte machine s b)
+held_more judge machine s b lt all m = held_with judge machine.rests machine.core machine.core s (rest_with machine.core (get machine.rests s) b) all
     (some_held (reached_of (all s)) machine.core (IsFilled-snoc (get machine.rests s).bytes b) (kept_next judge machine.core s (get machine.rests s) b lt (all s)) m at_once) (λ u ne h. h)
 
 later_held : (judge : Judge) (core : Core) (m : Message) (u : Side) (rest : Rest) → (side m ≡ u → ⊥) → IsSendable m → MayComplete core core.phase m → Held judge core u rest → Held judge (complete core m) u rest
@@ -176,13 +176,13 @@ held_whole judge machine s m rest e all sd sn ok = held_with judge machine.rests
     (λ u ne h. later_held judge machine.core m u (get machine.rests u) (λ q. ne (sym sd ∙ q)) sn ok h)
 
 held_on : (judge : Judge) → IsSound judge → (machine mid : Machine) (p : Pair) (ps : List Pair) → p.byte < 256 → AreHeld judge machine → ((next : Machine) → AreHeld judge next → reads judge next ps ≡ Ok mid → AreHeld judge mid) →
-    (r : Reading) → judge (grown machine.core (get machine.rests p.from) p.byte).since machine.core p.from (grown machine.core (get machine.rests p.from) p.byte).bytes ≡ r →
-    on_ok (settle machine p.from (grown machine.core (get machine.rests p.from) p.byte) r) (λ next. reads judge next ps) ≡ Ok mid → AreHeld judge mid
+    (r : Reading) → judge (rest_with machine.core (get machine.rests p.from) p.byte).since machine.core p.from (rest_with machine.core (get machine.rests p.from) p.byte).bytes ≡ r →
+    on_ok (settle machine p.from (rest_with machine.core (get machine.rests p.from) p.byte) r) (λ next. reads judge next ps) ≡ Ok mid → AreHeld judge mid
 held_on judge sound machine mid p ps lt held ih More is h = ih _ (held_more judge machine p.from p.byte lt held is) h
 held_on judge sound machine mid p ps lt held ih (Whole m) is h =
-    let ok : IsSoundAt (grown machine.core (get machine.rests p.from) p.byte).since machine.core p.from (grown machine.core (get machine.rests p.from) p.byte).bytes m =
+    let ok : IsSoundAt (rest_with machine.core (get machine.rests p.from) p.byte).since machine.core p.from (rest_with machine.core (get machine.rests p.from) p.byte).bytes m =
     sound _ _ _ _ m (kept_next judge machine.core p.from (get machine.rests p.from) p.byte lt (held p.from)) is in
-    ih _ (held_whole judge machine p.from m (record (grown machine.core (get machine.rests p.from) p.byte) { bytes = [] }) refl held ok.sided ok.sendable ok.completes) h
+    ih _ (held_whole judge machine p.from m (record (rest_with machine.core (get machine.rests p.from) p.byte) { bytes = [] }) refl held ok.sided ok.sendable ok.completes) h
 held_on judge sound machine mid p ps lt held ih (Bad f) is h = absurd (cc)
 
 -- what was read without a fault was judged so

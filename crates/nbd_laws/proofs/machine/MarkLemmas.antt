@@ -11,7 +11,7 @@ use Rattle.nbd_wire.specs.protocol.Sendable.{IsSendable}
 use Rattle.nbd_wire.specs.protocol.Rules.{MayStart, MayComplete, complete, Obeys}
 use Rattle.nbd_wire.specs.protocol.Within.{within}
 use Rattle.nbd_laws.proofs.machine.MachineLemmas.{IsFilled-snoc, old-empty, old-filled, Kept, AreHeld, kept_next, held_more, held_whole, get-put_same, get-put_other, same_or_not, Open, Idle, Busy, Loose, Walk, ended, serving, opening, middle, final, loose, Later, at_once, behind, Later-trans, IsExact}
-use Rattle.nbd_laws.specs.internal.Machine.{Both, get, put, IsFilled, Rest, Machine, Reading, More, Whole, Bad, old_of, settle, Judge, grown, reads, on_ok}
+use Rattle.nbd_laws.specs.internal.Machine.{Both, get, put, IsFilled, Rest, Machine, Reading, More, Whole, Bad, old_of, settle, Judge, rest_with, reads, on_ok}
 use Rattle.nbd_laws.proofs.runs.FollowLemmas.{HasEnd, IsSidedOpen, completes_later, each_with, follows}
 use Rattle.nbd_laws.proofs.runs.TraceLemmas.{IsWithin}
 
@@ -64,7 +64,7 @@ in_step_completed machine o s m rest ms all sd ok e u = go (same_or_not s u)
 
 abbrev pub reads_next : (judge : Judge) (machine : Machine) (s : Side) (b : ℕ) (ps : List Pair) (messages : List Message) → Reading → Type 0
 reads_next judge machine s b ps messages More =
-    IsRead judge (record machine { rests = put machine.rests s (grown machine.core (get machine.rests s) b) }) ps messages
+    IsRead judge (record machine { rests = put machine.rests s (rest_with machine.core (get machine.rests s) b) }) ps messages
 reads_next judge machine s b ps messages (Whole m) =
     (rest : List Message) × (messages ≡ m ∷ rest)
     × IsRead judge (record { core = complete machine.core m; rests = put machine.rests s (record { bytes = []; since = old_of machine.core (get machine.rests s) }); messages = machine.messages ++ m ∷ [] }) ps rest
@@ -72,16 +72,16 @@ reads_next judge machine s b ps messages (Bad f) = ⊥
 
 -- a step and what follows it
 read_on : (judge : Judge) (machine : Machine) (s : Side) (b : ℕ) (ps : List Pair) (messages : List Message) (r : Reading) →
-    judge (grown machine.core (get machine.rests s) b).since machine.core s (grown machine.core (get machine.rests s) b).bytes ≡ r →
+    judge (rest_with machine.core (get machine.rests s) b).since machine.core s (rest_with machine.core (get machine.rests s) b).bytes ≡ r →
     reads_next judge machine s b ps messages r → IsRead judge machine (record { from = s; byte = b } ∷ ps) messages
 read_on judge machine s b ps messages More e h = record {
   end = h.end;
-  reads_it = ap (λ r. on_ok (settle machine s (grown machine.core (get machine.rests s) b) r) (λ next. reads judge next ps)) e ∙ h.reads_it;
+  reads_it = ap (λ r. on_ok (settle machine s (rest_with machine.core (get machine.rests s) b) r) (λ next. reads judge next ps)) e ∙ h.reads_it;
   messages_are = h.messages_are;
 }
 read_on judge machine s b ps messages (Whole m) e (rest, is, h) = record {
   end = h.end;
-  reads_it = ap (λ r. on_ok (settle machine s (grown machine.core (get machine.rests s) b) r) (λ next. reads judge next ps)) e ∙ h.reads_it;
+  reads_it = ap (λ r. on_ok (settle machine s (rest_with machine.core (get machine.rests s) b) r) (λ next. reads judge next ps)) e ∙ h.reads_it;
   messages_are = h.messages_are ∙ append_assoc machine.messages (m ∷ []) rest ∙ ap (λ ms. machine.messages ++ ms) (sym is);
 }
 read_on judge machine s b ps messages (Bad f) e h = absurd h
@@ -91,7 +91,7 @@ nothing_read judge machine messages e = record { end = machine; reads_it = refl;
 
 -- the rest with one more byte
 pub within_opening : (core : Core) (rest : Rest) (s : Side) (m : Message) (b : ℕ) (left : List ℕ) → rest.bytes ≡ [] → enc m ≡ b ∷ left → IsFilled left → side m ≡ s → IsSendable m → MayStart core s m →
-    InStep core (grown core rest b) s (Busy m left)
+    InStep core (rest_with core rest b) s (Busy m left)
 within_opening core rest s m b left e f g sd sn ms = (
   record {
     filled = IsFilled-snoc rest.bytes b;
@@ -104,7 +104,7 @@ within_opening core rest s m b left e f g sd sn ms = (
   subst (λ c. Later s c core) (sym (old-empty core rest e)) at_once,
 )
 
-pub within_middle : (core : Core) (rest : Rest) (s : Side) (m : Message) (b : ℕ) (left : List ℕ) → InStep core rest s (Busy m (b ∷ left)) → IsFilled left → InStep core (grown core rest b) s (Busy m left)
+pub within_middle : (core : Core) (rest : Rest) (s : Side) (m : Message) (b : ℕ) (left : List ℕ) → InStep core rest s (Busy m (b ∷ left)) → IsFilled left → InStep core (rest_with core rest b) s (Busy m left)
 within_middle core rest s m b left i g = (
   record {
     filled = IsFilled-snoc rest.bytes b;
@@ -140,27 +140,27 @@ marks judge exact {o} (opening s m b left {items = items} is f g w) machine js o
     let p_is : record { from = s; byte = b } ≡ p = cc in
     let b_lt : b < 256 = subst (λ (q : Pair). q.byte < 256) (sym p_is) lt.0 in
     let e' : pairs items ≡ ps ++ more = cc in
-    let i : InStep machine.core (grown machine.core (get machine.rests s) b) s (Busy m left) =
+    let i : InStep machine.core (rest_with machine.core (get machine.rests s) b) s (Busy m left) =
     within_opening machine.core (get machine.rests s) s m b left (subst (InStep machine.core (get machine.rests s) s) is (st s)) f g ob.0.0 ob.0.1 ob.0.2 in
     let end : HasEnd s machine.core m = completes_later w machine.core (follows items (record { core = machine.core; served = js }) ob.1.1) (each_with IsSidedOpen o s (Busy m left) (in_step_sided machine o st) ob.0.0) s m left (get-put_same o s (Busy m left)) in
-    let j : judge (grown machine.core (get machine.rests s) b).since machine.core s (grown machine.core (get machine.rests s) b).bytes ≡ More =
-    judged_more judge exact machine.core (grown machine.core (get machine.rests s) b) s m left i end (kept_next judge machine.core s (get machine.rests s) b b_lt (hd s)) in
+    let j : judge (rest_with machine.core (get machine.rests s) b).since machine.core s (rest_with machine.core (get machine.rests s) b).bytes ≡ More =
+    judged_more judge exact machine.core (rest_with machine.core (get machine.rests s) b) s m left i end (kept_next judge machine.core s (get machine.rests s) b b_lt (hd s)) in
     subst (λ q. IsRead judge machine (q ∷ ps) (within (length ps) items)) p_is
     (read_on judge machine s b ps _ More j
-    (marks judge exact w _ js ob.1.1 (in_step_with machine o s (grown machine.core (get machine.rests s) b) (Busy m left) st i) (held_more judge machine s b b_lt hd j) ps more lt.1 e'))
+    (marks judge exact w _ js ob.1.1 (in_step_with machine o s (rest_with machine.core (get machine.rests s) b) (Busy m left) st i) (held_more judge machine s b b_lt hd j) ps more lt.1 e'))
 marks judge exact (middle s m b left is g w) machine js ob st hd [] more lt e = nothing_read judge machine _ refl
 marks judge exact {o} (middle s m b left {items = items} is g w) machine js ob st hd (p ∷ ps) more lt e =
     let p_is : record { from = s; byte = b } ≡ p = cc in
     let b_lt : b < 256 = subst (λ (q : Pair). q.byte < 256) (sym p_is) lt.0 in
     let e' : pairs items ≡ ps ++ more = cc in
     let i0 : InStep machine.core (get machine.rests s) s (Busy m (b ∷ left)) = subst (InStep machine.core (get machine.rests s) s) is (st s) in
-    let i : InStep machine.core (grown machine.core (get machine.rests s) b) s (Busy m left) = within_middle machine.core (get machine.rests s) s m b left i0 g in
+    let i : InStep machine.core (rest_with machine.core (get machine.rests s) b) s (Busy m left) = within_middle machine.core (get machine.rests s) s m b left i0 g in
     let end : HasEnd s machine.core m = completes_later w machine.core (follows items (record { core = machine.core; served = js }) ob.1) (each_with IsSidedOpen o s (Busy m left) (in_step_sided machine o st) i0.0.sided) s m left (get-put_same o s (Busy m left)) in
-    let j : judge (grown machine.core (get machine.rests s) b).since machine.core s (grown machine.core (get machine.rests s) b).bytes ≡ More =
-    judged_more judge exact machine.core (grown machine.core (get machine.rests s) b) s m left i end (kept_next judge machine.core s (get machine.rests s) b b_lt (hd s)) in
+    let j : judge (rest_with machine.core (get machine.rests s) b).since machine.core s (rest_with machine.core (get machine.rests s) b).bytes ≡ More =
+    judged_more judge exact machine.core (rest_with machine.core (get machine.rests s) b) s m left i end (kept_next judge machine.core s (get machine.rests s) b b_lt (hd s)) in
     subst (λ q. IsRead judge machine (q ∷ ps) (within (length ps) items)) p_is
     (read_on judge machine s b ps _ More j
-    (marks judge exact w _ js ob.1 (in_step_with machine o s (grown machine.core (get machine.rests s) b) (Busy m left) st i) (held_more judge machine s b b_lt hd j) ps more lt.1 e'))
+    (marks judge exact w _ js ob.1 (in_step_with machine o s (rest_with machine.core (get machine.rests s) b) (Busy m left) st i) (held_more judge machine s b b_lt hd j) ps more lt.1 e'))
 marks judge exact (final s m b is w) machine js ob st hd [] more lt e = nothing_read judge machine _ refl
 marks judge exact {o} (final s m b {items = items} is w) machine js ob st hd (p ∷ ps) more lt e =
     let p_is : record { from = s; byte = b } ≡ p = cc in

@@ -19,7 +19,7 @@ use Rattle.nbd_wire.specs.protocol.Pieces as requests_pieces
 use Rattle.nbd_wire.specs.protocol.Sendable.{IsSendable}
 use Rattle.nbd_wire.specs.protocol.States.{with_reply_at, operation, with_reply}
 use Rattle.nbd_laws.proofs.requests.LaidLemmas.{AreApart, AreInside, apart_snoc, inside_snoc, pieces-snoc}
-use Rattle.nbd_laws.proofs.requests.OutstandingLemmas.{both_true, unfinished}
+use Rattle.nbd_laws.proofs.requests.OutstandingLemmas.{both_true, not_true_is_false}
 
 pub record IsGood (export : Exporting) (e : Operation) : Type 0 where
   pub carried : e.command ≡ commands.WRITE → length e.payload ≡ e.length
@@ -145,7 +145,7 @@ kept_chunk export e flags kind cookie payload g h = elim h [
 pub good_chunk : (structured : Bool) (export : Exporting) (e : Operation) (flags kind cookie : ℕ) (payload : List ℕ) → IsGood export e → is_finished e ≡ false → MayReply structured export e (Chunk flags kind cookie payload) →
     IsGood export (with_reply e (Chunk flags kind cookie payload))
 unfolding MayReply ends_reply is_proper
-good_chunk structured export e flags kind cookie payload g unfinished h =
+good_chunk structured export e flags kind cookie payload g not_true_is_false h =
     let k : Keeps export e (pieces (with_reply e (Chunk flags kind cookie payload))) = kept_chunk export e flags kind cookie payload g h.1 in
     record { carried = g.carried; inside = k.inside; apart = k.apart; reads = k.reads; single = k.single; success = λ s. (finish s).0; covered = λ s. (finish s).1 }
   where
@@ -153,7 +153,7 @@ good_chunk structured export e flags kind cookie payload g unfinished h =
         IsTrue (is_proper export (with_reply e (Chunk flags kind cookie payload))) × (e.command ≡ commands.READ → Covers e (pieces (with_reply e (Chunk flags kind cookie payload))))
     finish s =
         let w : Succeeds (with_reply e (Chunk flags kind cookie payload)) = succeeds (with_reply e (Chunk flags kind cookie payload)) s in
-        elim (h.2 (any-last ends_reply e.replies (Chunk flags kind cookie payload) unfinished w.finished)) [
+        elim (h.2 (any-last ends_reply e.replies (Chunk flags kind cookie payload) not_true_is_false w.finished)) [
           | inl f ↦ absurd (let q : true ≡ false = sym f ∙ w.unfailed in (cc))
           | inr r ↦ r
         ]

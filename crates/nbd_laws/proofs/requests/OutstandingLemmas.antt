@@ -164,9 +164,9 @@ both_true true true e = (refl, refl)
 both_true true false e = absurd (cc)
 both_true false b e = absurd (cc)
 
-pub unfinished : (b : Bool) → not b ≡ true → b ≡ false
-unfinished true e = absurd (cc)
-unfinished false e = refl
+pub not_true_is_false : (b : Bool) → not b ≡ true → b ≡ false
+not_true_is_false true e = absurd (cc)
+not_true_is_false false e = refl
 
 answers_found : (prefix : List Item) (m : Message) (cookie k : ℕ) → AreDistinct (operations_of prefix) → cookie_of m ≡ Some cookie → target cookie (operations_of prefix) ≡ Some k → Names (service_order prefix) k →
     (k : ℕ) × (e : Operation) × AnswersRequest prefix m k e
@@ -174,7 +174,7 @@ answers_found prefix m cookie k d c h n =
     let f : IsFound cookie k (operations_of prefix) = find cookie (operations_of prefix) k h in
     let w = both_true (f.found.cookie == cookie) (not (is_finished f.found)) f.waits in
     let same : f.found.cookie ≡ cookie = eqb-true f.found.cookie cookie w.0 in
-    let open_ : is_finished f.found ≡ false = unfinished (is_finished f.found) w.1 in (
+    let open_ : is_finished f.found ≡ false = not_true_is_false (is_finished f.found) w.1 in (
       k,
       f.found,
       record {

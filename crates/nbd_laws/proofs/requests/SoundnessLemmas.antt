@@ -14,7 +14,7 @@ use Rattle.nbd_wire.specs.declared.payloads.Info.TheVariants.{Export, BlockSize,
 use Rattle.nbd_wire.specs.protocol.Marks.{Item, Byte, Starts, Completes, Serves}
 use Rattle.nbd_wire.specs.protocol.Options.{IsInfo, MayAcknowledge, MayAnswer, ack_phase, reply_phase, choice_phase, last_info, next_phase}
 use Rattle.nbd_wire.specs.protocol.Payloads.{info_of}
-use Rattle.nbd_wire.specs.protocol.Reports.{Asked, operations_of, export_in, export_of, known, known_from, known_if, first_known, report, asked_of, asked_list}
+use Rattle.nbd_wire.specs.protocol.Reports.{Asked, operations_of, export_in, export_of, known_count, known_from, known_if, first_known, report, asked_of, asked_list}
 use Rattle.nbd_wire.specs.protocol.Operations.{Covers, Operation, Exporting, Outcome, Success, Pending, any, ends_reply, has_failed, has_range, is_failing, is_finished, is_proper, outcome, pieces, pieces_of}
 use Rattle.nbd_wire.specs.protocol.Pieces.{byte_at, chunk_piece, holds, is_in, piece_of, piece_offset, piece_size, simple_piece}
 use Rattle.nbd_wire.specs.protocol.Flags.{has}
@@ -28,7 +28,7 @@ use Rattle.nbd_laws.proofs.runs.PrefixLemmas.{InTransmission, asks, gives, phase
 use Rattle.nbd_laws.proofs.requests.LaidLemmas.{are_laid}
 use Rattle.nbd_laws.proofs.service.LatestLemmas.{core_end, entries_grow}
 use Rattle.nbd_laws.specs.Reached.{IsReached, at_start, after_message}
-use Rattle.nbd_laws.proofs.requests.OutstandingLemmas.{IsFound, both_true, find, unfinished}
+use Rattle.nbd_laws.proofs.requests.OutstandingLemmas.{IsFound, both_true, find, not_true_is_false}
 use Rattle.nbd_laws.proofs.runs.ReachLemmas.{run_reaches}
 use Rattle.nbd_laws.proofs.runs.RunLemmas.{core_end-ends_at}
 use Rattle.nbd_laws.proofs.requests.ReportLemmas.{asked-report, length-report, told_if}
@@ -50,7 +50,7 @@ pub open_target : (core : Core) (cookie k : ℕ) (e : Operation) → target cook
 open_target core cookie k e t is =
     let f : IsFound cookie k core.entries = find cookie core.entries k t in
     let s : f.found ≡ e = (let q : Some f.found ≡ Some e = sym f.numbered ∙ is in cc) in
-    subst (λ y. is_finished y ≡ false) s (unfinished (is_finished f.found) (both_true (f.found.cookie == cookie) (not (is_finished f.found)) f.waits).1)
+    subst (λ y. is_finished y ≡ false) s (not_true_is_false (is_finished f.found) (both_true (f.found.cookie == cookie) (not (is_finished f.found)) f.waits).1)
 
 good_requested : (b : Bool) (core : Core) (export : Exporting) (e : Operation) → AreGood export core.entries → IsGood export e → AreGood export (core_with_request b core e).entries
 good_requested true core export e g h = g
@@ -197,12 +197,12 @@ reports_are_sound items run = go (ends_at start items).core.phase refl (sound (r
       each = λ export k a q. absurd (let r : None ≡ Some export = sym x ∙ q in (cc));
     }
       where
-        asked_none : (es : List Operation) → es ≡ [] → asked_list 0 (export_of items) (known items) es ≡ []
+        asked_none : (es : List Operation) → es ≡ [] → asked_list 0 (export_of items) (known_count items) es ≡ []
         asked_none [] e = refl
         asked_none (x ∷ es) e = absurd (cc)
 
-    one : (export : Exporting) (k : ℕ) (e : Operation) (a : Asked) → export_of items ≡ Some export → IsGood export e → asked_of (export_of items) (known items k) e ≡ a → IsSoundAsked export.size (length (report items).asked) k a
-    one export k e a x g q = subst (λ (a : Asked). IsSoundAsked export.size (length (report items).asked) k a) (ap (λ o. asked_of o (known items k) e) (sym x) ∙ q) (record {
+    one : (export : Exporting) (k : ℕ) (e : Operation) (a : Asked) → export_of items ≡ Some export → IsGood export e → asked_of (export_of items) (known_count items k) e ≡ a → IsSoundAsked export.size (length (report items).asked) k a
+    one export k e a x g q = subst (λ (a : Asked). IsSoundAsked export.size (length (report items).asked) k a) (ap (λ o. asked_of o (known_count items k) e) (sym x) ∙ q) (record {
       known = λ n h. (let b : (k ≤ n) × (n ≤ length (core_end start.core items).entries) = known_between start.core items k n h in (b.0, subst (λ c. n ≤ c) count b.1));
       carried = g.carried;
       success = g.success;
@@ -226,10 +226,10 @@ reports_are_sound items run = go (ends_at start items).core.phase refl (sound (r
               (numbered export k a x i.2 (operation k (operations_of items)) refl (sym (asked-report items k) ∙ at)));
         }
       where
-        numbered : (export : Exporting) (k : ℕ) (a : Asked) → export_of items ≡ Some export → AreGood export (operations_of items) → (o : Option Operation) → operation k (operations_of items) ≡ o → told_if (export_of items) (known items k) o ≡ Some a →
+        numbered : (export : Exporting) (k : ℕ) (a : Asked) → export_of items ≡ Some export → AreGood export (operations_of items) → (o : Option Operation) → operation k (operations_of items) ≡ o → told_if (export_of items) (known_count items k) o ≡ Some a →
             IsSoundAsked export.size (length (report items).asked) k a
         numbered export k a x g None p q = absurd (cc)
-        numbered export k a x g (Some e) p q = one export k e a x (good_entry export k (operations_of items) e g p) (let w : Some (asked_of (export_of items) (known items k) e) ≡ Some a = q in cc)
+        numbered export k a x g (Some e) p q = one export k e a x (good_entry export k (operations_of items) e g p) (let w : Some (asked_of (export_of items) (known_count items k) e) ≡ Some a = q in cc)
     go Greet q h = no_requests (subst (λ phase. InPhase phase (operations_of items)) q h) (ap export_in q)
     go Flags q h = no_requests (subst (λ phase. InPhase phase (operations_of items)) q h) (ap export_in q)
     go Choosing q h = no_requests (subst (λ phase. InPhase phase (operations_of items)) q h) (ap export_in q)

@@ -167,8 +167,8 @@ abbrev pub Idles : Both Open
 Idles = record { client = Idle; server = Idle }
 
 -- a walk from nothing is a marked capture
-pub marked : {P : Type 0} {items : List Item} → Walk P Idles items → (client : List ℕ) × (server : List ℕ) × IsMarkedBut items client server × (IsFilled client → P) × (IsFilled server → P)
-marked {P} {items} w =
+pub walk_is_marked : {P : Type 0} {items : List Item} → Walk P Idles items → (client : List ℕ) × (server : List ℕ) × IsMarkedBut items client server × (IsFilled client → P) × (IsFilled server → P)
+walk_is_marked {P} {items} w =
     let c : IsLeft P Client Idle items = lefts w Client in
     let s : IsLeft P Server Idle items = lefts w Server in (
       c.rest,
@@ -357,8 +357,8 @@ unblocked {P} (Byte u b ∷ Starts v m ∷ items) o un l t = unbyted u b (Starts
 unblocked {P} (Byte u b ∷ Serves k ∷ items) o un l t = unbyted u b (Serves k ∷ items) (unblocked (Serves k ∷ items)) (λ m y e. ends_now u m items y (Serves k) (λ q. q) t.1 e) o un l t
 
 -- a marked capture is read from the left
-pub walked : {P : Type 0} (items : List Item) (client server : List ℕ) → (IsFilled client → P) → (IsFilled server → P) → IsMarkedBut items client server → Walk P Idles items
-walked items client server cs ss m = unblocked items Idles (elim [ Client ↦ tt | Server ↦ tt ])
+pub marked_is_walk : {P : Type 0} (items : List Item) (client server : List ℕ) → (IsFilled client → P) → (IsFilled server → P) → IsMarkedBut items client server → Walk P Idles items
+marked_is_walk items client server cs ss m = unblocked items Idles (elim [ Client ↦ tt | Server ↦ tt ])
     (elim [
       | Client ↦ record { messages = m.client_side.messages; rest = client; blocks = m.client_side.blocks; loosely = λ e. absurd (cc); strays = cs }
       | Server ↦ record { messages = m.server_side.messages; rest = server; blocks = m.server_side.blocks; loosely = λ e. absurd (cc); strays = ss }

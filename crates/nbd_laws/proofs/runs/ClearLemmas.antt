@@ -12,7 +12,7 @@ use Rattle.nbd_wire.specs.protocol.Splits.{HoldsAt, IsClear, IsSplit, IsWholeAt,
 use Rattle.nbd_wire.specs.protocol.States.{Core, start}
 use Rattle.nbd_wire.specs.protocol.Within.{Begins, within}
 use Rattle.nbd_laws.proofs.machine.MachineLemmas.{AreHeld, Busy, IsExact, IsMore, IsMoreAt, IsSound, Kept, Open, Tracks, Walk, ended, final, get-put_same, held_more, held_whole, kept_next, led, loose, middle, opening, reads_held, serving, with_byte}
-use Rattle.nbd_laws.specs.internal.Machine.{Bad, Both, Judge, Machine, More, Reading, Rest, Whole, fresh, get, grown, old_of, on_ok, put, reads, settle}
+use Rattle.nbd_laws.specs.internal.Machine.{Bad, Both, Judge, Machine, More, Reading, Rest, Whole, fresh, get, rest_with, old_of, on_ok, put, reads, settle}
 use Rattle.nbd_laws.proofs.runs.FollowLemmas.{HasEnd, IsSidedOpen, completes_later, each_with, follows}
 use Rattle.nbd_laws.proofs.machine.MarkLemmas.{AreInStep, InStep, IsRead, in_step_completed, in_step_sided, in_step_with, within_middle, within_opening}
 use Rattle.nbd_laws.proofs.runs.RunLemmas.{fresh_canonical, fresh_held, marks_law, walk_of}
@@ -25,31 +25,31 @@ module _ (judge : Judge) (exact : IsExact judge) where
   judged_more core rest s m left i end k =
       exact.more rest.since core end.end s m rest.bytes left i.1 end.later i.0.sided i.0.sendable i.0.starts end.completes i.0.encodes i.0.filled i.0.unfinished k
 
-  more_at : (machine : Machine) (s : Side) (b : ℕ) → judge (grown machine.core (get machine.rests s) b).since machine.core s (grown machine.core (get machine.rests s) b).bytes ≡ More →
-      Kept judge s (grown machine.core (get machine.rests s) b).since machine.core (grown machine.core (get machine.rests s) b).bytes → IsMore judge (with_byte machine s b) s
-  more_at machine s b j k = subst (λ (r : Rest). IsMoreAt judge machine.core s r) (sym (get-put_same machine.rests s (grown machine.core (get machine.rests s) b))) (j, k)
+  more_at : (machine : Machine) (s : Side) (b : ℕ) → judge (rest_with machine.core (get machine.rests s) b).since machine.core s (rest_with machine.core (get machine.rests s) b).bytes ≡ More →
+      Kept judge s (rest_with machine.core (get machine.rests s) b).since machine.core (rest_with machine.core (get machine.rests s) b).bytes → IsMore judge (with_byte machine s b) s
+  more_at machine s b j k = subst (λ (r : Rest). IsMoreAt judge machine.core s r) (sym (get-put_same machine.rests s (rest_with machine.core (get machine.rests s) b))) (j, k)
 
   -- each byte of a run but the last of a message is judged to go on
   tracks_run : {o : Both Open} {items : List Item} (w : Walk ⊥ o items) (machine : Machine) (js : List ℕ) → Obeys (record { core = machine.core; served = js }) items → AreInStep machine o → AreHeld judge machine → ArePairs (pairs items) → Tracks judge machine items
   tracks_run (ended c d) machine js ob st hd lt = tt
   tracks_run (serving k w) machine js ob st hd lt = tracks_run w machine _ ob.1 st hd lt
   tracks_run {o} (opening s m b left {items = items} is f g w) machine js ob st hd lt =
-      let i : InStep machine.core (grown machine.core (get machine.rests s) b) s (Busy m left) =
+      let i : InStep machine.core (rest_with machine.core (get machine.rests s) b) s (Busy m left) =
       within_opening machine.core (get machine.rests s) s m b left (subst (InStep machine.core (get machine.rests s) s) is (st s)) f g ob.0.0 ob.0.1 ob.0.2 in
       let end : HasEnd s machine.core m = completes_later w machine.core (follows items (record { core = machine.core; served = js }) ob.1.1) (each_with IsSidedOpen o s (Busy m left) (in_step_sided machine o st) ob.0.0) s m left (get-put_same o s (Busy m left)) in
       let k = kept_next judge machine.core s (get machine.rests s) b lt.0 (hd s) in
-      let j = judged_more machine.core (grown machine.core (get machine.rests s) b) s m left i end k in
+      let j = judged_more machine.core (rest_with machine.core (get machine.rests s) b) s m left i end k in
       tracks_more judge machine s b items
-      (tracks_run w _ js ob.1.1 (in_step_with machine o s (grown machine.core (get machine.rests s) b) (Busy m left) st i) (held_more judge machine s b lt.0 hd j) lt.1)
+      (tracks_run w _ js ob.1.1 (in_step_with machine o s (rest_with machine.core (get machine.rests s) b) (Busy m left) st i) (held_more judge machine s b lt.0 hd j) lt.1)
       (λ x xs e. more_at machine s b j k)
   tracks_run {o} (middle s m b left {items = items} is g w) machine js ob st hd lt =
       let i0 : InStep machine.core (get machine.rests s) s (Busy m (b ∷ left)) = subst (InStep machine.core (get machine.rests s) s) is (st s) in
-      let i : InStep machine.core (grown machine.core (get machine.rests s) b) s (Busy m left) = within_middle machine.core (get machine.rests s) s m b left i0 g in
+      let i : InStep machine.core (rest_with machine.core (get machine.rests s) b) s (Busy m left) = within_middle machine.core (get machine.rests s) s m b left i0 g in
       let end : HasEnd s machine.core m = completes_later w machine.core (follows items (record { core = machine.core; served = js }) ob.1) (each_with IsSidedOpen o s (Busy m left) (in_step_sided machine o st) i0.0.sided) s m left (get-put_same o s (Busy m left)) in
       let k = kept_next judge machine.core s (get machine.rests s) b lt.0 (hd s) in
-      let j = judged_more machine.core (grown machine.core (get machine.rests s) b) s m left i end k in
+      let j = judged_more machine.core (rest_with machine.core (get machine.rests s) b) s m left i end k in
       tracks_more judge machine s b items
-      (tracks_run w _ js ob.1 (in_step_with machine o s (grown machine.core (get machine.rests s) b) (Busy m left) st i) (held_more judge machine s b lt.0 hd j) lt.1)
+      (tracks_run w _ js ob.1 (in_step_with machine o s (rest_with machine.core (get machine.rests s) b) (Busy m left) st i) (held_more judge machine s b lt.0 hd j) lt.1)
       (λ x xs e. more_at machine s b j k)
   tracks_run {o} (final s m b {items = items} is w) machine js ob st hd lt =
       let i0 : InStep machine.core (get machine.rests s) s (Busy m (b ∷ [])) = subst (InStep machine.core (get machine.rests s) s) is (st s) in (

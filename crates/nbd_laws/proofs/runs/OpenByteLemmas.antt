@@ -12,7 +12,7 @@ use Rattle.nbd_laws.specs.Bytes.{OpenBytesEndRuns, first_bytes}
 use Rattle.nbd_laws.specs.Holding.{bytes_from}
 use Rattle.nbd_laws.specs.internal.Machine.{Both, get, put}
 use Rattle.nbd_laws.proofs.machine.MachineLemmas.{Busy, Idle, IsNotBusy, Loose, Open, Walk, ended, final, get-put_same, loose, middle, opening, serving}
-use Rattle.nbd_laws.proofs.runs.BlockLemmas.{Idles, walked}
+use Rattle.nbd_laws.proofs.runs.BlockLemmas.{Idles, marked_is_walk}
 use Rattle.nbd_laws.proofs.runs.RunLemmas.{run_of}
 use Rattle.nbd_laws.proofs.runs.RunByteLemmas.{AreBytesOf, run_bytes}
 
@@ -149,7 +149,7 @@ kept_pairs {o = o} (loose s b {items = items} p is w) = left_byte s b (kept w) (
 
 pub open_bytes_end_runs : OpenBytesEndRuns
 open_bytes_end_runs items client server run =
-    let w : Walk (Unit {0}) Idles items = walked items client server (λ f. tt) (λ f. tt) run.marked in
+    let w : Walk (Unit {0}) Idles items = marked_is_walk items client server (λ f. tt) (λ f. tt) run.marked in
     let whole : IsRun (kept w) = run_of (λ x. x) (kept_walk w) (kept_obeys w start run.obeys) in
     let bytes : AreBytesOf (kept w) [] [] = run_bytes (kept w) [] [] whole in
     let c : count Client (kept w) ≡ length (bytes_of Client (completed_messages items)) = ap length (bytes.of_client ∙ append-nil (bytes_of Client (completed_messages (kept w))) ∙ ap (bytes_of Client) (kept_completed w)) in

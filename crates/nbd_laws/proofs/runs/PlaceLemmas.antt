@@ -15,7 +15,7 @@ use Rattle.nbd_wire.specs.protocol.States.{Core, start}
 use Rattle.nbd_wire.specs.protocol.Within.{BeginsNoRun, within}
 use Rattle.nbd_laws.proofs.machine.MachineLemmas.{AreHeld, IsExact, IsSound, Kept, kept_next, led, reads_held, with_byte}
 use Rattle.nbd_laws.specs.internal.Machine.{Bad, Judge, Machine, More, Reading, Whole, fresh, get, old_of, on_ok, reads, settle, step}
-use Rattle.nbd_laws.proofs.runs.BlockLemmas.{walked}
+use Rattle.nbd_laws.proofs.runs.BlockLemmas.{marked_is_walk}
 use Rattle.nbd_laws.proofs.runs.RunLemmas.{fresh_held, no_run}
 use Rattle.nbd_laws.proofs.runs.PlacingLemmas.{IsTelling, Tells, at_machine, from_held, from_machine, grown_by, last_of_pairs, to_held}
 use Rattle.nbd_laws.proofs.runs.SplitLemmas.{IsReadBefore, marks_but}
@@ -123,7 +123,7 @@ module _ (judge : Judge) (sound : IsSound judge) (exact : IsExact judge) (low : 
   -- before the last byte of a split at which no line holds before it
   pub split_read : (items : List Item) (prefix : List Pair) (p : Pair) (messages : List Message) → IsSplit items (prefix ++ p ∷ []) messages → IsClear items → IsReadBefore judge fresh items prefix p
   split_read items prefix p messages sp clear =
-      marks_but judge exact low (walked {P = Unit {0}} items (open_bytes Client items) (open_bytes Server items) (λ f. tt) (λ f. tt) sp.run.marked) fresh [] sp.run.obeys
+      marks_but judge exact low (marked_is_walk {P = Unit {0}} items (open_bytes Client items) (open_bytes Server items) (λ f. tt) (λ f. tt) sp.run.marked) fresh [] sp.run.obeys
       (elim [ Client ↦ refl | Server ↦ refl ]) (fresh_held judge) None
       (λ before more s b e t is. (
         (λ f row. (clear before more s b e).0 f (record { s = t; is_last = is; row = from_machine (λ since now bytes. Row f since now t bytes) t before row })),

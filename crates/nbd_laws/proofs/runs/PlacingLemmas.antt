@@ -11,11 +11,11 @@ use Rattle.nbd_wire.specs.protocol.Rules.{ends_at}
 use Rattle.nbd_wire.specs.protocol.Splits.{IsClear, IsPlace, IsSplit, completes_in, last_or, open_bytes, since_from}
 use Rattle.nbd_wire.specs.protocol.States.{Core, start}
 use Rattle.nbd_laws.proofs.machine.MachineLemmas.{old-filled, IsFilled-snoc, Kept, kept_next, reads_held, led, with_byte, IsMore, Tracks, get-put_same, Walk, IsSound, ended_by}
-use Rattle.nbd_laws.specs.internal.Machine.{get, put, IsFilled, Rest, Machine, Reading, More, Whole, Bad, old_of, Judge, grown, reads, fresh}
+use Rattle.nbd_laws.specs.internal.Machine.{get, put, IsFilled, Rest, Machine, Reading, More, Whole, Bad, old_of, Judge, rest_with, reads, fresh}
 use Rattle.nbd_laws.proofs.runs.TraceLemmas.{IsTrace, trace_then, more_step, at_end, IsStray}
-use Rattle.nbd_laws.proofs.runs.BlockLemmas.{marked, Idles}
+use Rattle.nbd_laws.proofs.runs.BlockLemmas.{walk_is_marked, Idles}
 use Rattle.nbd_laws.proofs.runs.RunLemmas.{fresh_held, idle_at, both_idle, fresh_canonical}
-use Rattle.nbd_laws.proofs.runs.TrackLemmas.{IsTracked, tracked, bytes_by, since_by}
+use Rattle.nbd_laws.proofs.runs.TrackLemmas.{IsTracked, machine_is_tracked, bytes_by, since_by}
 use Rattle.nbd_laws.proofs.runs.RestLemmas.{rest_of_blocks}
 
 -- a reading, by the lines R that hold and by whether the bytes are a whole message
@@ -40,7 +40,7 @@ abbrev pub IsGood : Judge → Machine → Side → Type 0
 IsGood judge machine s = ((get machine.rests s).bytes ≡ []) ⊎ IsMore judge machine s
 
 pub ends_side : (machine : Machine) (s : Side) (b : ℕ) (m : Message) → (get (led machine (Byte s b ∷ Completes s m ∷ [])).rests s).bytes ≡ []
-ends_side machine s b m = ap (λ (r : Rest). r.bytes) (get-put_same (put machine.rests s (grown machine.core (get machine.rests s) b)) s (ended_by (get (put machine.rests s (grown machine.core (get machine.rests s) b)) s)))
+ends_side machine s b m = ap (λ (r : Rest). r.bytes) (get-put_same (put machine.rests s (rest_with machine.core (get machine.rests s) b)) s (ended_by (get (put machine.rests s (rest_with machine.core (get machine.rests s) b)) s)))
 
 module _ (judge : Judge) (s : Side) (b : ℕ) (more : List Item) where
   -- after each prefix that a byte follows, the last side's rest was judged to go on, or is empty
@@ -79,7 +79,7 @@ fresh_rest Server = refl
 -- the data of a split are the machine's
 data_of : (t : Side) (items : List Item) → (open_bytes t items ≡ (get (led fresh items).rests t).bytes) × (since_from t start.core items ≡ old_of (led fresh items).core (get (led fresh items).rests t)) × ((ends_at start items).core ≡ (led fresh items).core)
 data_of t items =
-    let h : IsTracked t items fresh [] = tracked t items fresh [] in (
+    let h : IsTracked t items fresh [] = machine_is_tracked t items fresh [] in (
       sym (h.rest_is ∙ ap (λ (r : Rest). bytes_by (completes_in t items) r.bytes (open_bytes t items)) (fresh_rest t) ∙ by_bytes (completes_in t items) (open_bytes t items)),
       sym (h.since_is ∙ ap (λ (r : Rest). since_by (completes_in t items) r (since_from t start.core items)) (fresh_rest t) ∙ by_since (completes_in t items) (since_from t start.core items)),
       sym h.core_is,
@@ -142,7 +142,7 @@ pub split_of : (judge : Judge) (end : Machine) (ps : List Pair) → ArePairs ps 
 split_of judge end ps are t =
     let idle : t.open_ ≡ Idles = both_idle t.open_ (idle_at Client (get end.rests Client) (get t.open_ Client) (t.guess Client)) (idle_at Server (get end.rests Server) (get t.open_ Server) (t.guess Server)) in
     let m : (client : List ℕ) × (server : List ℕ) × IsMarkedBut t.items client server × (IsFilled client → IsStray end) × (IsFilled server → IsStray end) =
-    marked (subst (λ o. Walk (IsStray end) o t.items) idle t.walk) in
+    walk_is_marked (subst (λ o. Walk (IsStray end) o t.items) idle t.walk) in
     record {
       run = record {
         marked = subst (λ l. IsMarkedBut t.items l (open_bytes Server t.items)) (sym (rest_of_blocks Client t.items m.0 m.2.client_side))
@@ -155,7 +155,7 @@ split_of judge end ps are t =
     }
 
 abbrev pub grown_by : Machine → Pair → Rest
-grown_by machine p = grown machine.core (get machine.rests p.from) p.byte
+grown_by machine p = rest_with machine.core (get machine.rests p.from) p.byte
 
 -- a fact of the rest with one more byte, at the machine that holds it
 pub to_held : (mid : Machine) (p : Pair) (Q : Core → Core → List ℕ → Type 0) → Q (grown_by mid p).since mid.core (grown_by mid p).bytes →

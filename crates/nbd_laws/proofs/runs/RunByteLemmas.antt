@@ -14,7 +14,7 @@ use Rattle.nbd_laws.specs.Bytes.{RunsHoldEachSide}
 use Rattle.nbd_laws.specs.Holding.{bytes_from}
 use Rattle.nbd_laws.specs.internal.Machine.{Both, get}
 use Rattle.nbd_laws.proofs.machine.MachineLemmas.{Busy, Idle, Loose, Open, Walk, ended, final, loose, middle, opening, serving}
-use Rattle.nbd_laws.proofs.runs.BlockLemmas.{walked}
+use Rattle.nbd_laws.proofs.runs.BlockLemmas.{marked_is_walk}
 use Rattle.nbd_laws.proofs.runs.FollowLemmas.{Follows, IsSidedOpen, each_with, follows}
 
 abbrev pub byte_from : Side → Side → ℕ → List ℕ
@@ -138,7 +138,7 @@ pub record AreBytesOf (items : List Item) (client server : List ℕ) : Type 0 wh
 
 pub run_bytes : (items : List Item) (client server : List ℕ) → IsRunBut items client server → AreBytesOf items client server
 run_bytes items client server run =
-    let h : AreSided items = sided (walked {P = Unit {0}} items client server (λ f. tt) (λ f. tt) run.marked) start.core (follows items start run.obeys) (elim [ Client ↦ tt | Server ↦ tt ]) in
+    let h : AreSided items = sided (marked_is_walk {P = Unit {0}} items client server (λ f. tt) (λ f. tt) run.marked) start.core (follows items start run.obeys) (elim [ Client ↦ tt | Server ↦ tt ]) in
     record { of_client = side_bytes Client items client h run.marked.client_side; of_server = side_bytes Server items server h run.marked.server_side }
 
 pub runs_hold_each_side : RunsHoldEachSide

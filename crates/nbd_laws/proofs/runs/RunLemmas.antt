@@ -6,7 +6,7 @@ use Rattle.nbd_wire.specs.protocol.Marks.{Item, Byte, Starts, Completes, Serves,
 use Rattle.nbd_wire.specs.protocol.Captures.{Pair, ArePairs}
 use Rattle.nbd_wire.specs.protocol.States.{Core, start}
 use Rattle.nbd_wire.specs.protocol.Rules.{IsRun, IsRunBut, Obeys, complete, ends_at}
-use Rattle.nbd_wire.specs.protocol.Reports.{operations_of, known}
+use Rattle.nbd_wire.specs.protocol.Reports.{operations_of, known_count}
 use Rattle.nbd_laws.proofs.service.EntryLemmas.{HasNoFault}
 use Rattle.nbd_wire.specs.declared.fault.WireFault.{WireFault}
 use Rattle.nbd_laws.specs.internal.Machine.{fresh, Both, get, IsFilled, Rest, Machine, Judge, reads}
@@ -15,7 +15,7 @@ use Rattle.nbd_laws.proofs.machine.MachineLemmas.{AreHeld, none_held, Walk, Open
 use Rattle.nbd_laws.proofs.runs.TraceLemmas.{trace, IsTrace, IsCanonical, IsStray, Guess, not_empty}
 use Rattle.nbd_laws.proofs.machine.MarkLemmas.{marks, IsRead}
 use Rattle.nbd_wire.specs.protocol.Within.{within}
-use Rattle.nbd_laws.proofs.runs.BlockLemmas.{marked, walked, Idles}
+use Rattle.nbd_laws.proofs.runs.BlockLemmas.{walk_is_marked, marked_is_walk, Idles}
 use Rattle.nbd_laws.proofs.service.LatestLemmas.{placed, walk_placed, served_placed, pairs_placed, core_end, Fits, obeys_placed}
 
 pub core_end-ends_at : (core : Core) (js : List ℕ) (items : List Item) → core_end core items ≡ (ends_at (record { core = core; served = js }) items).core
@@ -32,19 +32,19 @@ empty (b ∷ bs) h = absurd (h tt)
 -- a walk without stray bytes from nothing that obeys the rules is a run
 pub run_of : {P : Type 0} {items : List Item} → (P → ⊥) → Walk P Idles items → Obeys start items → IsRun items
 run_of {P} {items} no_stray w ob =
-    let m : (client : List ℕ) × (server : List ℕ) × IsMarkedBut items client server × (IsFilled client → P) × (IsFilled server → P) = marked w in
+    let m : (client : List ℕ) × (server : List ℕ) × IsMarkedBut items client server × (IsFilled client → P) × (IsFilled server → P) = walk_is_marked w in
     record {
       marked = subst (λ c. IsMarkedBut items c []) (empty m.0 (λ f. no_stray (m.3 f))) (subst (λ s. IsMarkedBut items m.0 s) (empty m.1 (λ f. no_stray (m.4 f))) m.2);
       obeys = ob;
     }
 
 pub walk_of : {items : List Item} → IsRun items → Walk ⊥ Idles items
-walk_of {items} run = walked items [] [] (λ f. f) (λ f. f) run.marked
+walk_of {items} run = marked_is_walk items [] [] (λ f. f) (λ f. f) run.marked
 
-pub latest : (items : List Item) (order : List ℕ) → IsRun items → HasNoFault (length (operations_of items)) (known items) order →
+pub latest : (items : List Item) (order : List ℕ) → IsRun items → HasNoFault (length (operations_of items)) (known_count items) order →
     (items' : List Item) × IsRun items' × (pairs items' ≡ pairs items) × (service_order items' ≡ order)
 latest items order run fit =
-    let fits : Fits (known items) (length (operations_of items)) start.core [] order items = record {
+    let fits : Fits (known_count items) (length (operations_of items)) start.core [] order items = record {
       once = fit.once;
       apart = λ k h. absurd h;
       in_time = fit.in_time;
@@ -54,7 +54,7 @@ latest items order run fit =
       end = ap (λ (c : Core). length c.entries) (core_end-ends_at start.core [] items);
     } in (
       placed start.core order items,
-      run_of (λ x. x) (walk_placed (walk_of run) start.core order) (obeys_placed (known items) (length (operations_of items)) items start.core [] [] order run.obeys fits),
+      run_of (λ x. x) (walk_placed (walk_of run) start.core order) (obeys_placed (known_count items) (length (operations_of items)) items start.core [] [] order run.obeys fits),
       pairs_placed start.core order items,
       served_placed start.core order items,
     )
@@ -95,7 +95,7 @@ run_but_law judge sound ps end lt e =
     let t : IsTrace judge fresh end start ps = trace judge sound ps fresh end [] lt (fresh_held judge) fresh_canonical e in
     let idle : t.open_ ≡ Idles = both_idle t.open_ (idle_at Client (get end.rests Client) (get t.open_ Client) (t.guess Client)) (idle_at Server (get end.rests Server) (get t.open_ Server) (t.guess Server)) in
     let m : (client : List ℕ) × (server : List ℕ) × IsMarkedBut t.items client server × (IsFilled client → IsStray end) × (IsFilled server → IsStray end) =
-    marked (subst (λ o. Walk (IsStray end) o t.items) idle t.walk) in
+    walk_is_marked (subst (λ o. Walk (IsStray end) o t.items) idle t.walk) in
     (t.items, m.0, m.1, record { marked = m.2; obeys = t.obeys }, t.has_pairs, t.messages, m.3, m.4)
 
 -- no run's pairs begin with a list that the machine refuses

@@ -11,7 +11,7 @@ use Rattle.nbd_wire.specs.protocol.Rules.{MayComplete, complete, Obeys}
 use Rattle.nbd_wire.specs.protocol.Splits.{last_or}
 use Rattle.nbd_wire.specs.protocol.Within.{within}
 use Rattle.nbd_laws.proofs.machine.MachineLemmas.{old-filled, Kept, AreHeld, kept_next, held_more, held_whole, get-put_same, get-put_other, same_or_not, Open, Idle, Busy, Loose, Walk, ended, ended_by, serving, opening, middle, final, loose, led, with_byte, Later, at_once, behind, Later-trans, IsExact}
-use Rattle.nbd_laws.specs.internal.Machine.{Both, get, put, Rest, Machine, Reading, More, Whole, Bad, old_of, settle, Judge, grown, reads, on_ok}
+use Rattle.nbd_laws.specs.internal.Machine.{Both, get, put, Rest, Machine, Reading, More, Whole, Bad, old_of, settle, Judge, rest_with, reads, on_ok}
 use Rattle.nbd_laws.proofs.runs.FollowLemmas.{HasEnd, IsSidedOpen, completes_later, each_with, follows}
 use Rattle.nbd_laws.proofs.machine.MarkLemmas.{within_opening, within_middle}
 use Rattle.nbd_laws.proofs.runs.TraceLemmas.{IsWithin, led_whole}
@@ -123,13 +123,13 @@ some_pair (q ∷ prefix) p = (q, prefix ++ p ∷ [], refl)
 
 module _ (judge : Judge) (exact : IsExact judge) (low : IsTelling judge) where
   -- open bytes of which no line holds go on
-  open_more : (machine : Machine) (s : Side) (b : ℕ) → Kept judge s (grown machine.core (get machine.rests s) b).since machine.core (grown machine.core (get machine.rests s) b).bytes →
-      HasNone (grown machine.core (get machine.rests s) b).since machine.core s (grown machine.core (get machine.rests s) b).bytes →
-      judge (grown machine.core (get machine.rests s) b).since machine.core s (grown machine.core (get machine.rests s) b).bytes ≡ More
+  open_more : (machine : Machine) (s : Side) (b : ℕ) → Kept judge s (rest_with machine.core (get machine.rests s) b).since machine.core (rest_with machine.core (get machine.rests s) b).bytes →
+      HasNone (rest_with machine.core (get machine.rests s) b).since machine.core s (rest_with machine.core (get machine.rests s) b).bytes →
+      judge (rest_with machine.core (get machine.rests s) b).since machine.core s (rest_with machine.core (get machine.rests s) b).bytes ≡ More
   open_more machine s b k none = go (judge rest.since machine.core s rest.bytes) refl (low.tells k)
     where
       rest : Rest
-      rest = grown machine.core (get machine.rests s) b
+      rest = rest_with machine.core (get machine.rests s) b
 
       go : (r : Reading) → judge rest.since machine.core s rest.bytes ≡ r → Tells (λ f. Row f rest.since machine.core s rest.bytes) (IsWhole rest.since machine.core s rest.bytes) r → judge rest.since machine.core s rest.bytes ≡ More
       go More e t = e
@@ -138,11 +138,11 @@ module _ (judge : Judge) (exact : IsExact judge) (low : IsTelling judge) where
 
   -- a byte that goes on, and what follows it
   on_more : {items : List Item} (machine : Machine) (s : Side) (b : ℕ) (prefix : List Pair) (p : Pair) →
-      judge (grown machine.core (get machine.rests s) b).since machine.core s (grown machine.core (get machine.rests s) b).bytes ≡ More →
+      judge (rest_with machine.core (get machine.rests s) b).since machine.core s (rest_with machine.core (get machine.rests s) b).bytes ≡ More →
       IsReadBefore judge (with_byte machine s b) items prefix p → IsReadBefore judge machine (Byte s b ∷ items) (record { from = s; byte = b } ∷ prefix) p
   on_more machine s b prefix p j r = record {
     end = r.end;
-    reads_it = ap (λ x. on_ok (settle machine s (grown machine.core (get machine.rests s) b) x) (λ next. reads judge next prefix)) j ∙ r.reads_it;
+    reads_it = ap (λ x. on_ok (settle machine s (rest_with machine.core (get machine.rests s) b) x) (λ next. reads judge next prefix)) j ∙ r.reads_it;
     messages_are = r.messages_are;
     leads = r.leads;
   }
@@ -184,13 +184,13 @@ module _ (judge : Judge) (exact : IsExact judge) (low : IsTelling judge) where
       let q_is : record { from = s; byte = b } ≡ q = cc in
       let b_lt : b < 256 = subst (λ (x : Pair). x.byte < 256) (sym q_is) lt.0 in
       let e' : pairs items ≡ prefix ++ p ∷ [] = cc in
-      let i : InStep machine.core (grown machine.core (get machine.rests s) b) s (Busy m left) =
+      let i : InStep machine.core (rest_with machine.core (get machine.rests s) b) s (Busy m left) =
       within_opening machine.core (get machine.rests s) s m b left (subst (InStep machine.core (get machine.rests s) s) is (st s)) f g ob.0.0 ob.0.1 ob.0.2 in
       let end : HasEnd s machine.core m = completes_later w machine.core (follows items (record { core = machine.core; served = js }) ob.1.1) (each_with IsSidedOpen o s (Busy m left) (in_step_sided machine o st) ob.0.0) s m left (get-put_same o s (Busy m left)) in
-      let j : judge (grown machine.core (get machine.rests s) b).since machine.core s (grown machine.core (get machine.rests s) b).bytes ≡ More =
-      judged_more machine.core (grown machine.core (get machine.rests s) b) s m left i end (kept_next judge machine.core s (get machine.rests s) b b_lt (hd s)) in
+      let j : judge (rest_with machine.core (get machine.rests s) b).since machine.core s (rest_with machine.core (get machine.rests s) b).bytes ≡ More =
+      judged_more machine.core (rest_with machine.core (get machine.rests s) b) s m left i end (kept_next judge machine.core s (get machine.rests s) b b_lt (hd s)) in
       let r = on_more machine s b prefix p j
-      (marks_but w _ js ob.1.1 (in_step_with machine o s (grown machine.core (get machine.rests s) b) (Busy m left) st i) (held_more judge machine s b b_lt hd j) (Some s)
+      (marks_but w _ js ob.1.1 (in_step_with machine o s (rest_with machine.core (get machine.rests s) b) (Busy m left) st i) (held_more judge machine s b b_lt hd j) (Some s)
       (clear_byte machine last s b items (clear_starts machine last s m (Byte s b ∷ items) clear)) prefix p lt.1 e') in
       subst (λ x. IsReadBefore judge machine (Starts s m ∷ Byte s b ∷ items) (x ∷ prefix) p) q_is
       (record { end = r.end; reads_it = r.reads_it; messages_are = r.messages_are; leads = r.leads })
@@ -203,13 +203,13 @@ module _ (judge : Judge) (exact : IsExact judge) (low : IsTelling judge) where
       let b_lt : b < 256 = subst (λ (x : Pair). x.byte < 256) (sym q_is) lt.0 in
       let e' : pairs items ≡ prefix ++ p ∷ [] = cc in
       let i0 : InStep machine.core (get machine.rests s) s (Busy m (b ∷ left)) = subst (InStep machine.core (get machine.rests s) s) is (st s) in
-      let i : InStep machine.core (grown machine.core (get machine.rests s) b) s (Busy m left) = within_middle machine.core (get machine.rests s) s m b left i0 g in
+      let i : InStep machine.core (rest_with machine.core (get machine.rests s) b) s (Busy m left) = within_middle machine.core (get machine.rests s) s m b left i0 g in
       let end : HasEnd s machine.core m = completes_later w machine.core (follows items (record { core = machine.core; served = js }) ob.1) (each_with IsSidedOpen o s (Busy m left) (in_step_sided machine o st) i0.0.sided) s m left (get-put_same o s (Busy m left)) in
-      let j : judge (grown machine.core (get machine.rests s) b).since machine.core s (grown machine.core (get machine.rests s) b).bytes ≡ More =
-      judged_more machine.core (grown machine.core (get machine.rests s) b) s m left i end (kept_next judge machine.core s (get machine.rests s) b b_lt (hd s)) in
+      let j : judge (rest_with machine.core (get machine.rests s) b).since machine.core s (rest_with machine.core (get machine.rests s) b).bytes ≡ More =
+      judged_more machine.core (rest_with machine.core (get machine.rests s) b) s m left i end (kept_next judge machine.core s (get machine.rests s) b b_lt (hd s)) in
       subst (λ x. IsReadBefore judge machine (Byte s b ∷ items) (x ∷ prefix) p) q_is
       (on_more machine s b prefix p j
-      (marks_but w _ js ob.1 (in_step_with machine o s (grown machine.core (get machine.rests s) b) (Busy m left) st i) (held_more judge machine s b b_lt hd j) (Some s) (clear_byte machine last s b items clear) prefix p lt.1 e'))
+      (marks_but w _ js ob.1 (in_step_with machine o s (rest_with machine.core (get machine.rests s) b) (Busy m left) st i) (held_more judge machine s b b_lt hd j) (Some s) (clear_byte machine last s b items clear) prefix p lt.1 e'))
   marks_but (final s m b {items = items} is w) machine js ob st hd last clear [] p lt e =
       let p_is : record { from = s; byte = b } ≡ p = cc in
       let none : pairs items ≡ [] = cc in
@@ -228,13 +228,13 @@ module _ (judge : Judge) (exact : IsExact judge) (low : IsTelling judge) where
       let i0 : InStep machine.core (get machine.rests s) s (Busy m (b ∷ [])) = subst (InStep machine.core (get machine.rests s) s) is (st s) in
       let j = judged_whole machine.core (get machine.rests s) s m b i0 ob.1.0 (kept_next judge machine.core s (get machine.rests s) b b_lt (hd s)) in
       let clear' = clear_completes (with_byte machine s b) (Some s) s m items (clear_byte machine last s b (Completes s m ∷ items) clear) in
-      let next : Machine = record { core = complete machine.core m; rests = put machine.rests s (record (grown machine.core (get machine.rests s) b) { bytes = [] }); messages = machine.messages ++ m ∷ [] } in
+      let next : Machine = record { core = complete machine.core m; rests = put machine.rests s (record (rest_with machine.core (get machine.rests s) b) { bytes = [] }); messages = machine.messages ++ m ∷ [] } in
       let r = marks_but w next js ob.1.1 (in_step_completed machine o s m _ (machine.messages ++ m ∷ []) st i0.0.sided ob.1.0 refl) (held_whole judge machine s m _ refl hd i0.0.sided i0.0.sendable ob.1.0) (Some s)
       (subst (λ x. IsClearFrom x (Some s) items) (led_whole machine s b m) clear') prefix p lt.1 e' in
       subst (λ x. IsReadBefore judge machine (Byte s b ∷ Completes s m ∷ items) (x ∷ prefix) p) q_is
       (record {
         end = r.end;
-        reads_it = ap (λ x. on_ok (settle machine s (grown machine.core (get machine.rests s) b) x) (λ next. reads judge next prefix)) j ∙ r.reads_it;
+        reads_it = ap (λ x. on_ok (settle machine s (rest_with machine.core (get machine.rests s) b) x) (λ next. reads judge next prefix)) j ∙ r.reads_it;
         messages_are = r.messages_are ∙ append_assoc machine.messages (m ∷ []) (within (length prefix) items);
         leads = subst (λ x. (led x items ≡ with_byte r.end p.from p.byte) ⊎ ((get (led x items).rests p.from).bytes ≡ [])) (sym (led_whole machine s b m)) r.leads;
       })
@@ -249,11 +249,11 @@ module _ (judge : Judge) (exact : IsExact judge) (low : IsTelling judge) where
       let x = some_pair prefix p in
       let h = first_left w x.0 x.1 (e' ∙ x.2) (with_byte machine s b) (Some s) in
       let none = clear (Byte s b ∷ h.before) h.more h.s h.b (ap (λ l. Byte s b ∷ l) h.parts) s h.last_is in
-      let here : HasNone (grown machine.core (get machine.rests s) b).since machine.core s (grown machine.core (get machine.rests s) b).bytes =
+      let here : HasNone (rest_with machine.core (get machine.rests s) b).since machine.core s (rest_with machine.core (get machine.rests s) b).bytes =
       from_held machine (record { from = s; byte = b }) (λ since now bytes. HasNone since now s bytes)
       (subst (λ (y : Machine). HasNone (old_of y.core (get y.rests s)) y.core s (get y.rests s).bytes) h.leads none) in
       let k = kept_next judge machine.core s (get machine.rests s) b b_lt (hd s) in
       let j = open_more machine s b k here in
       subst (λ y. IsReadBefore judge machine (Byte s b ∷ items) (y ∷ prefix) p) q_is
       (on_more machine s b prefix p j
-      (marks_but w _ js ob.1 (in_step_with machine o s (grown machine.core (get machine.rests s) b) Loose st tt) (held_more judge machine s b b_lt hd j) (Some s) (clear_byte machine last s b items clear) prefix p lt.1 e'))
+      (marks_but w _ js ob.1 (in_step_with machine o s (rest_with machine.core (get machine.rests s) b) Loose st tt) (held_more judge machine s b b_lt hd j) (Some s) (clear_byte machine last s b items clear) prefix p lt.1 e'))

@@ -13,7 +13,7 @@ use Rattle.nbd_wire.specs.protocol.States.{Core, State, Names, target, target_fr
 use Rattle.nbd_wire.specs.protocol.Sendable.{IsSendable}
 use Rattle.nbd_wire.specs.protocol.Rules.{MayStart, complete, reply_to, core_with_request, Obeys, request_of_reply, IsServedFor}
 use Rattle.nbd_laws.proofs.machine.MachineLemmas.{old-empty, old-filled, IsFilled-snoc, IsMoreAt, AreHeld, kept_next, held_more, held_whole, led, ended_by, with_byte, IsMore, Tracks, get-put_same, get-put_other, put-put, same_or_not, Open, Idle, Busy, Loose, IsNotBusy, Walk, ended, serving, opening, middle, final, loose, IsSoundAt, IsSound}
-use Rattle.nbd_laws.specs.internal.Machine.{Both, get, put, IsFilled, Rest, Machine, Reading, More, Whole, Bad, settle, Judge, grown, reads, on_ok}
+use Rattle.nbd_laws.specs.internal.Machine.{Both, get, put, IsFilled, Rest, Machine, Reading, More, Whole, Bad, settle, Judge, rest_with, reads, on_ok}
 
 -- each request that has completed was served, and no other
 pub record IsCanonical (state : State) : Type 0 where
@@ -208,10 +208,10 @@ put-again p Client a c = refl
 put-again p Server a c = refl
 
 pub led_whole : (machine : Machine) (s : Side) (b : ℕ) (m : Message) → led machine (Byte s b ∷ Completes s m ∷ [])
-    ≡ record { core = complete machine.core m; rests = put machine.rests s (record (grown machine.core (get machine.rests s) b) { bytes = [] }); messages = machine.messages ++ m ∷ [] }
+    ≡ record { core = complete machine.core m; rests = put machine.rests s (record (rest_with machine.core (get machine.rests s) b) { bytes = [] }); messages = machine.messages ++ m ∷ [] }
 led_whole machine s b m =
     ap (λ (r : Both Rest). let x : Machine = record { core = complete machine.core m; rests = r; messages = machine.messages ++ m ∷ [] } in x)
-    (ap (λ (r : Rest). put (put machine.rests s (grown machine.core (get machine.rests s) b)) s (ended_by r)) (get-put_same machine.rests s (grown machine.core (get machine.rests s) b))
+    (ap (λ (r : Rest). put (put machine.rests s (rest_with machine.core (get machine.rests s) b)) s (ended_by r)) (get-put_same machine.rests s (rest_with machine.core (get machine.rests s) b))
     ∙ put-again machine.rests s _ _)
 
 led_service : (old new : Core) (g : IsGrown old new) (machine : Machine) (items : List Item) → led machine (service old new g ++ items) ≡ led machine items
@@ -234,7 +234,7 @@ module _ (judge : Judge) (machine end : Machine) (js : List ℕ) (canonical : Is
   rest_of = get machine.rests s
 
   abbrev more_of : Rest
-  more_of = grown machine.core rest_of b
+  more_of = rest_with machine.core rest_of b
 
   abbrev Goal : Type 0
   Goal = IsTrace judge machine end (record { core = machine.core; served = js }) (record { from = s; byte = b } ∷ ps)
@@ -347,16 +347,16 @@ module _ (judge : Judge) (machine end : Machine) (js : List ℕ) (canonical : Is
 
 trace_by : (judge : Judge) → IsSound judge → (machine mid end : Machine) (js : List ℕ) → AreHeld judge machine → IsCanonical (record { core = machine.core; served = js }) → (p : Pair) (ps qs : List Pair) → p.byte < 256 →
     ((next : Machine) (js' : List ℕ) → AreHeld judge next → IsCanonical (record { core = next.core; served = js' }) → reads judge next ps ≡ Ok mid → IsTrace judge next end (record { core = next.core; served = js' }) (ps ++ qs)) →
-    (r : Reading) → judge (grown machine.core (get machine.rests p.from) p.byte).since machine.core p.from (grown machine.core (get machine.rests p.from) p.byte).bytes ≡ r →
-    on_ok (settle machine p.from (grown machine.core (get machine.rests p.from) p.byte) r) (λ next. reads judge next ps) ≡ Ok mid →
+    (r : Reading) → judge (rest_with machine.core (get machine.rests p.from) p.byte).since machine.core p.from (rest_with machine.core (get machine.rests p.from) p.byte).bytes ≡ r →
+    on_ok (settle machine p.from (rest_with machine.core (get machine.rests p.from) p.byte) r) (λ next. reads judge next ps) ≡ Ok mid →
     IsTrace judge machine end (record { core = machine.core; served = js }) (p ∷ ps ++ qs)
 trace_by judge sound machine mid end js held canonical p ps qs lt ih More is h = more_step judge machine end js canonical p.from p.byte (ps ++ qs) (ih _ js (held_more judge machine p.from p.byte lt held is) canonical h) (λ x xs e. (is, kept_next judge machine.core p.from (get machine.rests p.from) p.byte lt (held p.from)))
 trace_by judge sound machine mid end js held canonical p ps qs lt ih (Whole m) is h =
     let grow : IsGrown machine.core (complete machine.core m) = length-complete machine.core m in
-    let ok : IsSoundAt (grown machine.core (get machine.rests p.from) p.byte).since machine.core p.from (grown machine.core (get machine.rests p.from) p.byte).bytes m =
+    let ok : IsSoundAt (rest_with machine.core (get machine.rests p.from) p.byte).since machine.core p.from (rest_with machine.core (get machine.rests p.from) p.byte).bytes m =
     sound _ _ _ _ m (kept_next judge machine.core p.from (get machine.rests p.from) p.byte lt (held p.from)) is in
     whole_step judge machine end js canonical p.from p.byte (ps ++ qs) m grow ok
-    (ih _ _ (held_whole judge machine p.from m (record (grown machine.core (get machine.rests p.from) p.byte) { bytes = [] }) refl held ok.sided ok.sendable ok.completes) (canonical_serviced machine.core (complete machine.core m) grow js canonical) h)
+    (ih _ _ (held_whole judge machine p.from m (record (rest_with machine.core (get machine.rests p.from) p.byte) { bytes = [] }) refl held ok.sided ok.sendable ok.completes) (canonical_serviced machine.core (complete machine.core m) grow js canonical) h)
 trace_by judge sound machine mid end js held canonical p ps qs lt ih (Bad f) is h = absurd (cc)
 
 -- what was read without a fault is a run, but for the rests, and what comes then

@@ -9,7 +9,7 @@ use Rattle.nbd_wire.specs.protocol.States.{Core}
 use Rattle.nbd_wire.specs.protocol.Rules.{complete, ends_at}
 use Rattle.nbd_wire.specs.protocol.Splits.{completes_in, open_bytes, since_from}
 use Rattle.nbd_laws.proofs.machine.MachineLemmas.{led, ended_by, get-put_same, get-put_other, same_or_not}
-use Rattle.nbd_laws.specs.internal.Machine.{Both, get, put, Rest, Machine, grown, old_of, old_by}
+use Rattle.nbd_laws.specs.internal.Machine.{Both, get, put, Rest, Machine, rest_with, old_of, old_by}
 
 abbrev pub bytes_by : Bool → List ℕ → List ℕ → List ℕ
 bytes_by true before bytes = bytes
@@ -40,8 +40,8 @@ abbrev since_if : Bool → Core → Core → Core
 since_if c core later = if c then core else later
 
 module _ (s : Side) (b : ℕ) (items : List Item) (rests : Both Rest) (core : Core) (js : List ℕ) where
-  rest_same : bytes_by (completes_in s items) (get (put rests s (grown core (get rests s) b)) s).bytes (open_bytes s items) ≡ bytes_by (completes_in s items) (get rests s).bytes (open_bytes s (Byte s b ∷ items))
-  rest_same = ap (λ (r : Rest). bytes_by (completes_in s items) r.bytes (open_bytes s items)) (get-put_same rests s (grown core (get rests s) b))
+  rest_same : bytes_by (completes_in s items) (get (put rests s (rest_with core (get rests s) b)) s).bytes (open_bytes s items) ≡ bytes_by (completes_in s items) (get rests s).bytes (open_bytes s (Byte s b ∷ items))
+  rest_same = ap (λ (r : Rest). bytes_by (completes_in s items) r.bytes (open_bytes s items)) (get-put_same rests s (rest_with core (get rests s) b))
       ∙ go (completes_in s items) (open_bytes s items)
       ∙ ap (λ z. bytes_by (completes_in s items) (get rests s).bytes (rest_if (z && not (completes_in s items)) b (open_bytes s items))) (sym (same_self s))
     where
@@ -49,23 +49,23 @@ module _ (s : Side) (b : ℕ) (items : List Item) (rests : Both Rest) (core : Co
       go true bs = refl
       go false bs = append_assoc (get rests s).bytes (b ∷ []) bs
 
-  rest_other : (t : Side) → (t ≡ s → ⊥) → bytes_by (completes_in s items) (get (put rests t (grown core (get rests t) b)) s).bytes (open_bytes s items) ≡ bytes_by (completes_in s items) (get rests s).bytes (open_bytes s (Byte t b ∷ items))
-  rest_other t ne = ap (λ (r : Rest). bytes_by (completes_in s items) r.bytes (open_bytes s items)) (get-put_other rests t s (grown core (get rests t) b) ne)
+  rest_other : (t : Side) → (t ≡ s → ⊥) → bytes_by (completes_in s items) (get (put rests t (rest_with core (get rests t) b)) s).bytes (open_bytes s items) ≡ bytes_by (completes_in s items) (get rests s).bytes (open_bytes s (Byte t b ∷ items))
+  rest_other t ne = ap (λ (r : Rest). bytes_by (completes_in s items) r.bytes (open_bytes s items)) (get-put_other rests t s (rest_with core (get rests t) b) ne)
       ∙ ap (λ z. bytes_by (completes_in s items) (get rests s).bytes (rest_if (z && not (completes_in s items)) b (open_bytes s items))) (sym (same_other s t ne))
 
-  since_same : since_by (completes_in s items) (get (put rests s (grown core (get rests s) b)) s) (since_from s core items)
+  since_same : since_by (completes_in s items) (get (put rests s (rest_with core (get rests s) b)) s) (since_from s core items)
       ≡ since_by (completes_in s items) (get rests s) (since_from s core (Byte s b ∷ items))
-  since_same = ap (λ (r : Rest). since_by (completes_in s items) r (since_from s core items)) (get-put_same rests s (grown core (get rests s) b))
+  since_same = ap (λ (r : Rest). since_by (completes_in s items) r (since_from s core items)) (get-put_same rests s (rest_with core (get rests s) b))
       ∙ go (completes_in s items) (since_from s core items)
       ∙ ap (λ z. since_by (completes_in s items) (get rests s) (since_if (z && not (completes_in s items)) core (since_from s core items))) (sym (same_self s))
     where
-      go : (c : Bool) (later : Core) → since_by c (grown core (get rests s) b) later ≡ since_by c (get rests s) (since_if (true && not c) core later)
+      go : (c : Bool) (later : Core) → since_by c (rest_with core (get rests s) b) later ≡ since_by c (get rests s) (since_if (true && not c) core later)
       go true later = refl
       go false later = old_snoc (get rests s).bytes b later (old_of core (get rests s))
 
-  since_other : (t : Side) → (t ≡ s → ⊥) → since_by (completes_in s items) (get (put rests t (grown core (get rests t) b)) s) (since_from s core items)
+  since_other : (t : Side) → (t ≡ s → ⊥) → since_by (completes_in s items) (get (put rests t (rest_with core (get rests t) b)) s) (since_from s core items)
       ≡ since_by (completes_in s items) (get rests s) (since_from s core (Byte t b ∷ items))
-  since_other t ne = ap (λ (r : Rest). since_by (completes_in s items) r (since_from s core items)) (get-put_other rests t s (grown core (get rests t) b) ne)
+  since_other t ne = ap (λ (r : Rest). since_by (completes_in s items) r (since_from s core items)) (get-put_other rests t s (rest_with core (get rests t) b) ne)
       ∙ ap (λ z. since_by (completes_in s items) (get rests s) (since_if (z && not (completes_in s items)) core (since_from s core items))) (sym (same_other s t ne))
 
 -- the machine's data of a side, from those of the items
@@ -83,17 +83,17 @@ module _ (s : Side) (m : Message) (items : List Item) (old : Rest) where
   ended_since true past core = refl
   ended_since false past core = refl
 
-pub tracked : (s : Side) (items : List Item) (machine : Machine) (js : List ℕ) → IsTracked s items machine js
-tracked s [] machine js = record { rest_is = sym (append-nil (get machine.rests s).bytes); since_is = refl; core_is = refl }
-tracked s (Starts t m ∷ items) machine js = let h : IsTracked s items machine js = tracked s items machine js in record { rest_is = h.rest_is; since_is = h.since_is; core_is = h.core_is }
-tracked s (Serves k ∷ items) machine js = let h : IsTracked s items machine (js ++ k ∷ []) = tracked s items machine _ in record { rest_is = h.rest_is; since_is = h.since_is; core_is = h.core_is }
-tracked s (Byte t b ∷ items) machine js =
-    let next : Machine = record machine { rests = put machine.rests t (grown machine.core (get machine.rests t) b) } in
-    let h : IsTracked s items next js = tracked s items next js in
+pub machine_is_tracked : (s : Side) (items : List Item) (machine : Machine) (js : List ℕ) → IsTracked s items machine js
+machine_is_tracked s [] machine js = record { rest_is = sym (append-nil (get machine.rests s).bytes); since_is = refl; core_is = refl }
+machine_is_tracked s (Starts t m ∷ items) machine js = let h : IsTracked s items machine js = machine_is_tracked s items machine js in record { rest_is = h.rest_is; since_is = h.since_is; core_is = h.core_is }
+machine_is_tracked s (Serves k ∷ items) machine js = let h : IsTracked s items machine (js ++ k ∷ []) = machine_is_tracked s items machine _ in record { rest_is = h.rest_is; since_is = h.since_is; core_is = h.core_is }
+machine_is_tracked s (Byte t b ∷ items) machine js =
+    let next : Machine = record machine { rests = put machine.rests t (rest_with machine.core (get machine.rests t) b) } in
+    let h : IsTracked s items next js = machine_is_tracked s items next js in
     elim (same_or_not t s) [
       | inl q ↦ record {
-        rest_is = h.rest_is ∙ subst (λ u. bytes_by (completes_in s items) (get (put machine.rests u (grown machine.core (get machine.rests u) b)) s).bytes (open_bytes s items) ≡ bytes_by (completes_in s items) (get machine.rests s).bytes (open_bytes s (Byte u b ∷ items))) (sym q) (rest_same s b items machine.rests machine.core js);
-        since_is = h.since_is ∙ subst (λ u. since_by (completes_in s items) (get (put machine.rests u (grown machine.core (get machine.rests u) b)) s) (since_from s machine.core items) ≡ since_by (completes_in s items) (get machine.rests s) (since_from s machine.core (Byte u b ∷ items))) (sym q) (since_same s b items machine.rests machine.core js);
+        rest_is = h.rest_is ∙ subst (λ u. bytes_by (completes_in s items) (get (put machine.rests u (rest_with machine.core (get machine.rests u) b)) s).bytes (open_bytes s items) ≡ bytes_by (completes_in s items) (get machine.rests s).bytes (open_bytes s (Byte u b ∷ items))) (sym q) (rest_same s b items machine.rests machine.core js);
+        since_is = h.since_is ∙ subst (λ u. since_by (completes_in s items) (get (put machine.rests u (rest_with machine.core (get machine.rests u) b)) s) (since_from s machine.core items) ≡ since_by (completes_in s items) (get machine.rests s) (since_from s machine.core (Byte u b ∷ items))) (sym q) (since_same s b items machine.rests machine.core js);
         core_is = h.core_is;
       }
       | inr ne ↦ record {
@@ -102,10 +102,10 @@ tracked s (Byte t b ∷ items) machine js =
         core_is = h.core_is;
       }
     ]
-tracked s (Completes t m ∷ items) machine js =
+machine_is_tracked s (Completes t m ∷ items) machine js =
     let gone : Rest = ended_by (get machine.rests t) in
     let next : Machine = record { core = complete machine.core m; rests = put machine.rests t gone; messages = machine.messages ++ m ∷ [] } in
-    let h : IsTracked s items next js = tracked s items next js in
+    let h : IsTracked s items next js = machine_is_tracked s items next js in
     let c : Bool = completes_in s items in
     let later : Core = since_from s (complete machine.core m) items in
     elim (same_or_not t s) [

@@ -5,7 +5,7 @@ use Rattle.nbd_wire.specs.declared.message.Message.{Message}
 use Rattle.nbd_wire.specs.protocol.Marks.{Item, Byte, Starts, Completes, Serves, service_order}
 use Rattle.nbd_wire.specs.protocol.States.{Core, start, Names}
 use Rattle.nbd_wire.specs.protocol.Rules.{IsRun, Obeys, complete, request_of_reply}
-use Rattle.nbd_wire.specs.protocol.Reports.{operations_of, known, known_from, known_if, first_known}
+use Rattle.nbd_wire.specs.protocol.Reports.{operations_of, known_count, known_from, known_if, first_known}
 use Rattle.nbd_laws.proofs.service.EntryLemmas.{HasNoFault, IsOnce, IsInTime}
 use Rattle.nbd_laws.proofs.runs.TraceLemmas.{Names-push, Names-left, Names-push_cases, length-complete}
 use Rattle.nbd_laws.proofs.service.LatestLemmas.{core_end, entries_grow, same_number}
@@ -85,19 +85,19 @@ ordered (Serves j ∷ items) core js ob =
     }
 
 -- the numbers that a run serves have no order fault
-pub order_of_run : (items : List Item) → IsRun items → HasNoFault (length (operations_of items)) (known items) (service_order items)
+pub order_of_run : (items : List Item) → IsRun items → HasNoFault (length (operations_of items)) (known_count items) (service_order items)
 order_of_run items run =
     let h : IsOrdered start.core [] items = ordered items start.core [] run.obeys in
     let same : length (core_end start.core items).entries ≡ length (operations_of items) = ap (λ (c : Core). length c.entries) (core_end-ends_at start.core [] items) in
     record {
       named = λ k n. (let q : (0 < k) × (k ≤ length (core_end start.core items).entries) = h.named k n in omega arith);
       once = h.once;
-      in_time = h.in_time (known items) (λ k n. refl);
+      in_time = h.in_time (known_count items) (λ k n. refl);
       all = λ k n p l e. elim (h.answered k n e) [ inl a ↦ absurd a | inr r ↦ r ];
     }
 
 -- a request that is answered is one of the run's
-pub known_within : (items : List Item) → IsRun items → (k n : ℕ) → known items k ≡ Some n → (0 < k) × (k ≤ length (operations_of items))
+pub known_within : (items : List Item) → IsRun items → (k n : ℕ) → known_count items k ≡ Some n → (0 < k) × (k ≤ length (operations_of items))
 known_within items run k n e =
-    let h : HasNoFault (length (operations_of items)) (known items) (service_order items) = order_of_run items run in
+    let h : HasNoFault (length (operations_of items)) (known_count items) (service_order items) = order_of_run items run in
     elim ((ordered items start.core [] run.obeys).answered k n e) [ inl a ↦ absurd a | inr r ↦ h.named k r ]

@@ -1,7 +1,7 @@
 -- What a run leads to and states does not depend on the moments of service.
 use Rattle.std.proofs.Common.{◌≡◌, ℕ, List, [], ◌∷◌, refl, sym, ◌∙◌, ap, Option}
 use Rattle.nbd_wire.specs.declared.message.Side.TheVariants.{Client, Server}
-use Rattle.nbd_wire.specs.protocol.Reports.{export_in, Report, first_known, known, known_from, report, asked_list}
+use Rattle.nbd_wire.specs.protocol.Reports.{export_in, Report, first_known, known_count, known_from, report, asked_list}
 use Rattle.nbd_wire.specs.protocol.Marks.{Item, Byte, Starts, Completes, Serves, without_service}
 use Rattle.nbd_wire.specs.protocol.Rules.{request_of_reply, complete, ends_at}
 use Rattle.nbd_wire.specs.protocol.States.{Core, start}
@@ -32,7 +32,7 @@ core_of_unserved items items' e =
     sym (core_end-ends_at start.core [] items) ∙ core_end_unserved start.core items ∙ ap (core_end start.core) e
     ∙ sym (core_end_unserved start.core items') ∙ core_end-ends_at start.core [] items'
 
-pub known_of_unserved : (items items' : List Item) → without_service items ≡ without_service items' → known items ≡ known items'
+pub known_of_unserved : (items items' : List Item) → without_service items ≡ without_service items' → known_count items ≡ known_count items'
 known_of_unserved items items' e = λ i k. (known_unserved start.core k items ∙ ap (known_from start.core k) e ∙ sym (known_unserved start.core k items')) i
 
 abbrev report_by : Core → (ℕ → Option ℕ) → Report
@@ -41,7 +41,7 @@ report_by core known_at = record { export = export_in core.phase; asked = asked_
 pub reports_ignore_service : ReportsIgnoreService
 unfolding report
 reports_ignore_service items items' e =
-    ap (λ core. report_by core (known items)) (core_of_unserved items items' e) ∙ ap (report_by (ends_at start items').core) (known_of_unserved items items' e)
+    ap (λ core. report_by core (known_count items)) (core_of_unserved items items' e) ∙ ap (report_by (ends_at start items').core) (known_of_unserved items items' e)
 
 pub same_marks : SameMarks
 same_marks items items' run run' e =

@@ -170,19 +170,19 @@ abbrev pub names : List ℕ → ℕ → Bool
 names [] k = false
 names (j ∷ js) k = (j == k) || names js k
 
-pub named : (js : List ℕ) (k : ℕ) → IsTrue (names js k) → Names js k
-named [] k e = absurd (cc)
-named (j ∷ js) k e = elim (one (j == k) (names js k) e) [ inl h ↦ inl (eqb-true j k h) | inr h ↦ inr (named js k h) ]
+pub true_names : (js : List ℕ) (k : ℕ) → IsTrue (names js k) → Names js k
+true_names [] k e = absurd (cc)
+true_names (j ∷ js) k e = elim (one (j == k) (names js k) e) [ inl h ↦ inl (eqb-true j k h) | inr h ↦ inr (true_names js k h) ]
 
 abbrev pub is_unnamed : List ℕ → ℕ → Bool
 is_unnamed [] k = true
 is_unnamed (j ∷ js) k = not (j == k) && is_unnamed js k
 
-pub unnamed : (js : List ℕ) (k : ℕ) → IsTrue (is_unnamed js k) → Names js k → ⊥
-unnamed [] k e n = n
-unnamed (j ∷ js) k e n =
+pub true_is_unnamed : (js : List ℕ) (k : ℕ) → IsTrue (is_unnamed js k) → Names js k → ⊥
+true_is_unnamed [] k e n = n
+true_is_unnamed (j ∷ js) k e n =
     let h = both (not (j == k)) (is_unnamed js k) e in
-    elim n [ inl q ↦ eqb-false j k (was_false (j == k) h.0) q | inr m ↦ unnamed js k h.1 m ]
+    elim n [ inl q ↦ eqb-false j k (was_false (j == k) h.0) q | inr m ↦ true_is_unnamed js k h.1 m ]
 
 abbrev pub served_for : List ℕ → Option ℕ → Bool
 served_for js (Some k) = names js k
@@ -197,7 +197,7 @@ serves state Client m e = tt
 serves state Server m e = λ k q. go (request_of_reply state.core m) k q e
   where
     go : (o : Option ℕ) (k : ℕ) → o ≡ Some k → IsTrue (served_for state.served o) → Names state.served k
-    go (Some j) k q e = (let h : j ≡ k = cc in subst (Names state.served) h (named state.served j e))
+    go (Some j) k q e = (let h : j ≡ k = cc in subst (Names state.served) h (true_names state.served j e))
     go None k q e = absurd (cc)
 
 abbrev pub is_info : Option Info → Bool

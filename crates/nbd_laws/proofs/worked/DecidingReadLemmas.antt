@@ -13,10 +13,10 @@ agrees None read = true
 agrees (Some b) (Some c) = c == b
 agrees (Some b) None = false
 
-pub agreed : (byte read : Option ℕ) (b : ℕ) → IsTrue (agrees byte read) → byte ≡ Some b → (read ≡ Some b → ⊥) → ⊥
-agreed None read b h e ne = absurd (cc)
-agreed (Some c) (Some d) b h e ne = ne (ap Some (eqb-true d c h) ∙ e)
-agreed (Some c) None b h e ne = absurd (cc)
+pub true_agrees : (byte read : Option ℕ) (b : ℕ) → IsTrue (agrees byte read) → byte ≡ Some b → (read ≡ Some b → ⊥) → ⊥
+true_agrees None read b h e ne = absurd (cc)
+true_agrees (Some c) (Some d) b h e ne = ne (ap Some (eqb-true d c h) ∙ e)
+true_agrees (Some c) None b h e ne = absurd (cc)
 
 abbrev pub reads_right : (byte : ℕ → Option ℕ) → Option Effect → Bool
 reads_right byte (Some e) = not ((e.command == commands.READ) && e.succeeded) || all_in e.offset e.length (λ x. agrees (byte x) (e.read x))
@@ -32,7 +32,7 @@ right byte (Some d) e x h q w =
     let w' : IsWrongIn d byte x = subst (λ y. IsWrongIn y byte x) (sym s) w in
     let all = then_too ((d.command == commands.READ) && d.succeeded) _ h (ap (λ b. b && d.succeeded) (eq-eqb d.command commands.READ w'.0) ∙ w'.1) in
     let r = in_range d.offset d.length x w'.2 in
-    agreed (byte x) (d.read x) w'.3.0 (all_at d.offset d.length (λ x. agrees (byte x) (d.read x)) all x r.0 r.1) w'.3.1 w'.3.2
+    true_agrees (byte x) (d.read x) w'.3.0 (all_at d.offset d.length (λ x. agrees (byte x) (d.read x)) all x r.0 r.1) w'.3.1 w'.3.2
 right byte None e x h q w = absurd (cc)
 
 -- where each request that the order names passes the test, no byte is wrong

@@ -18,7 +18,7 @@ use Rattle.nbd_wire.specs.protocol.Rules.{Allows, IsRun, MayAsk, MayComplete, Ob
 use Rattle.nbd_wire.specs.protocol.Sides.{same_side, side}
 use Rattle.nbd_laws.specs.Prefixes.{ended_messages}
 use Rattle.nbd_wire.specs.protocol.States.{Core, Phase, State, Greet, Flags, Choosing, Naming, Aborting, Answering, Transmission, start, target}
-use Rattle.nbd_laws.proofs.worked.DecidingLemmas.{answers_it, are_equal, both, empty, equal_bools, is_empty, is_sendable, is_served_for, is_unnamed, may_answer, may_start_in, one, same_sides, sendable, serves, starts_in, then_too, unnamed}
+use Rattle.nbd_laws.proofs.worked.DecidingLemmas.{answers_it, are_equal, both, empty, equal_bools, is_empty, is_sendable, is_served_for, is_unnamed, may_answer, may_start_in, one, same_sides, sendable, serves, starts_in, then_too, true_is_unnamed}
 use Rattle.nbd_laws.proofs.worked.DecidingReplyLemmas.{answers_one, answers_target, none_is}
 
 abbrev pub may_ask : Bool → Core → (cookie offset len : ℕ) → Bool
@@ -79,27 +79,27 @@ allows state (Starts s m) = same_side (side m) s && (is_sendable m && (may_start
 allows state (Completes s m) = may_complete state.core state.core.phase m
 allows state (Serves k) = nat_lt 0 k && (nat_le k (length state.core.entries) && is_unnamed state.served k)
 
-pub allowed : (state : State) (item : Item) → IsTrue (allows state item) → Allows state item
-allowed state (Byte s b) h = tt
-allowed state (Starts s m) h =
+pub true_allows : (state : State) (item : Item) → IsTrue (allows state item) → Allows state item
+true_allows state (Byte s b) h = tt
+true_allows state (Starts s m) h =
     let a = both (same_side (side m) s) _ h in
     let b = both (is_sendable m) _ a.1 in
     let c = both (may_start_in state.core.phase state.core s m) (is_served_for state s m) b.1 in
     (same_sides (side m) s a.0, sendable m b.0, starts_in state.core.phase state.core s m c.0, serves state s m c.1)
-allowed state (Completes s m) h = completes state.core state.core.phase m h
-allowed state (Serves k) h =
+true_allows state (Completes s m) h = completes state.core state.core.phase m h
+true_allows state (Serves k) h =
     let a = both (nat_lt 0 k) _ h in
     let b = both (nat_le k (length state.core.entries)) (is_unnamed state.served k) a.1 in
-    (ltb-true 0 k a.0, leb-true k (length state.core.entries) b.0, unnamed state.served k b.1)
+    (ltb-true 0 k a.0, leb-true k (length state.core.entries) b.0, true_is_unnamed state.served k b.1)
 
 -- each item passes the test where it stands
 abbrev pub obeys : State → List Item → Bool
 obeys state [] = true
 obeys state (item ∷ items) = allows state item && obeys (after state item) items
 
-pub obeyed : (items : List Item) (state : State) → IsTrue (obeys state items) → Obeys state items
-obeyed [] state h = tt
-obeyed (item ∷ items) state h = (let a = both (allows state item) (obeys (after state item) items) h in (allowed state item a.0, obeyed items (after state item) a.1))
+pub true_obeys : (items : List Item) (state : State) → IsTrue (obeys state items) → Obeys state items
+true_obeys [] state h = tt
+true_obeys (item ∷ items) state h = (let a = both (allows state item) (obeys (after state item) items) h in (true_allows state item a.0, true_obeys items (after state item) a.1))
 
 abbrev pub is_byte_of : Side → Item → Bool
 is_byte_of s (Byte t b) = same_side s t
@@ -143,5 +143,5 @@ is_run items c s t o = record {
     server_side = record { messages = ended_messages Server items; blocks = s };
     tight = tight items t;
   };
-  obeys = obeyed items start o;
+  obeys = true_obeys items start o;
 }

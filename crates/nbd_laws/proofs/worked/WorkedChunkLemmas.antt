@@ -17,7 +17,7 @@ use Rattle.nbd_laws.specs.captures.Chunks as captures
 use Rattle.nbd_laws.specs.Explaining.{IsNo, IsYes}
 use Rattle.nbd_laws.proofs.worked.DecidingReadLemmas.{none_wrong, wrong}
 use Rattle.nbd_laws.proofs.worked.DecidingRunLemmas.{is_run}
-use Rattle.nbd_laws.proofs.service.ExplainingLemmas.{counts_of, refused}
+use Rattle.nbd_laws.proofs.service.ExplainingLemmas.{counts_of, failing_is_no}
 use Rattle.nbd_laws.proofs.worked.SessionLemmas.{broken, content, done, gone, greeted, hole, read, sends, structured, write}
 
 structured_read_items : List Item
@@ -50,7 +50,7 @@ later_piece_run = is_run later_piece_items refl refl refl refl
 
 pub later_piece : IsNo (flat captures.later_piece) (1 ∷ 2 ∷ []) Zeroes
 unfolding later_piece_items enc head tail complete next_phase target has has_only is_proper is_proper_option info_of is_listed is_go content_of failure_of ends_reply is_failing piece_of report
-later_piece = refused later_piece_items (flat captures.later_piece) (1 ∷ 2 ∷ []) Zeroes later_piece_run refl (λ p. p.reads 2 3 (inr (inl refl)) (wrong (effects (report later_piece_items)) (1 ∷ 2 ∷ []) (start_byte Zeroes) 2 3 refl))
+later_piece = failing_is_no later_piece_items (flat captures.later_piece) (1 ∷ 2 ∷ []) Zeroes later_piece_run refl (λ p. p.reads 2 3 (inr (inl refl)) (wrong (effects (report later_piece_items)) (1 ∷ 2 ∷ []) (start_byte Zeroes) 2 3 refl))
 
 empty_read_items : List Item
 empty_read_items = sends (greeted ++ structured ++ gone ++ read 1 0 0 ∷ []) ++ Serves 1 ∷ sends (done 1 ∷ [])

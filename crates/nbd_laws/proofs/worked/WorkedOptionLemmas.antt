@@ -94,9 +94,9 @@ aborted_run : IsRun aborted_items
 unfolding aborted_items enc head tail complete next_phase target has has_only is_proper is_proper_option info_of is_listed is_go content_of failure_of ends_reply is_failing piece_of report
 aborted_run = is_run aborted_items refl refl refl refl
 
-pub aborted : IsYes (flat captures.aborted) [] Zeroes 0 0 0
+pub abort_acknowledged : IsYes (flat captures.abort_acknowledged) [] Zeroes 0 0 0
 unfolding aborted_items enc head tail complete next_phase target has has_only is_proper is_proper_option info_of is_listed is_go content_of failure_of ends_reply is_failing piece_of report
-aborted = record {
+abort_acknowledged = record {
   explained = record {
     items = aborted_items;
     is_run = aborted_run;
@@ -105,7 +105,7 @@ aborted = record {
     fits_image = tt;
     reads = none_wrong (effects (report aborted_items)) [] (start_byte Zeroes) [] refl;
   };
-  counts = counts_of aborted_items (flat captures.aborted) 0 0 0 aborted_run refl refl refl refl;
+  counts = counts_of aborted_items (flat captures.abort_acknowledged) 0 0 0 aborted_run refl refl refl refl;
 }
 
 listed_items : List Item
@@ -115,9 +115,9 @@ listed_run : IsRun listed_items
 unfolding listed_items enc head tail complete next_phase target has has_only is_proper is_proper_option info_of is_listed is_go content_of failure_of ends_reply is_failing piece_of report
 listed_run = is_run listed_items refl refl refl refl
 
-pub listed : IsYes (flat captures.listed) [] Zeroes 0 0 0
+pub export_list : IsYes (flat captures.export_list) [] Zeroes 0 0 0
 unfolding listed_items enc head tail complete next_phase target has has_only is_proper is_proper_option info_of is_listed is_go content_of failure_of ends_reply is_failing piece_of report
-listed = record {
+export_list = record {
   explained = record {
     items = listed_items;
     is_run = listed_run;
@@ -126,7 +126,7 @@ listed = record {
     fits_image = tt;
     reads = none_wrong (effects (report listed_items)) [] (start_byte Zeroes) [] refl;
   };
-  counts = counts_of listed_items (flat captures.listed) 0 0 0 listed_run refl refl refl refl;
+  counts = counts_of listed_items (flat captures.export_list) 0 0 0 listed_run refl refl refl refl;
 }
 
 unnamed_items : List Item
@@ -136,9 +136,9 @@ unnamed_run : IsRun unnamed_items
 unfolding unnamed_items enc head tail complete next_phase target has has_only is_proper is_proper_option info_of is_listed is_go content_of failure_of ends_reply is_failing piece_of report
 unnamed_run = is_run unnamed_items refl refl refl refl
 
-pub unnamed : IsYes (flat captures.unnamed) [] Zeroes 0 0 0
+pub export_name_alone : IsYes (flat captures.export_name_alone) [] Zeroes 0 0 0
 unfolding unnamed_items enc head tail complete next_phase target has has_only is_proper is_proper_option info_of is_listed is_go content_of failure_of ends_reply is_failing piece_of report
-unnamed = record {
+export_name_alone = record {
   explained = record {
     items = unnamed_items;
     is_run = unnamed_run;
@@ -147,5 +147,5 @@ unnamed = record {
     fits_image = tt;
     reads = none_wrong (effects (report unnamed_items)) [] (start_byte Zeroes) [] refl;
   };
-  counts = counts_of unnamed_items (flat captures.unnamed) 0 0 0 unnamed_run refl refl refl refl;
+  counts = counts_of unnamed_items (flat captures.export_name_alone) 0 0 0 unnamed_run refl refl refl refl;
 }

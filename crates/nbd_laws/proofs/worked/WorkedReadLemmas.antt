@@ -17,7 +17,7 @@ use Rattle.nbd_laws.specs.captures.Reads as captures
 use Rattle.nbd_laws.specs.Explaining.{IsNo, IsYes}
 use Rattle.nbd_laws.proofs.worked.DecidingReadLemmas.{none_wrong, wrong}
 use Rattle.nbd_laws.proofs.worked.DecidingRunLemmas.{is_run}
-use Rattle.nbd_laws.proofs.service.ExplainingLemmas.{counts_of, refused}
+use Rattle.nbd_laws.proofs.service.ExplainingLemmas.{counts_of, failing_is_no}
 use Rattle.nbd_laws.proofs.worked.SessionLemmas.{disconnect, fails, gives, gone, greeted, read, sends, succeeds, trim, within, write, zero_out}
 
 -- the order 1 does not name 2
@@ -69,7 +69,7 @@ write_and_read = record {
 
 pub write_and_read_missing : IsNo (flat captures.write_and_read) (1 ∷ []) Zeroes
 unfolding write_and_read_items enc head tail complete next_phase target has has_only is_proper is_proper_option info_of is_listed is_go content_of failure_of ends_reply is_failing piece_of report
-write_and_read_missing = refused write_and_read_items (flat captures.write_and_read) (1 ∷ []) Zeroes write_and_read_run refl (λ p. p.faultless.none_missing 2 (lit< tt, lit≤ tt, (2, refl), one_entry))
+write_and_read_missing = failing_is_no write_and_read_items (flat captures.write_and_read) (1 ∷ []) Zeroes write_and_read_run refl (λ p. p.faultless.none_missing 2 (lit< tt, lit≤ tt, (2, refl), one_entry))
 
 write_and_misread_items : List Item
 write_and_misread_items = sends (greeted ++ gone ++ write 1 0 (171 ∷ 205 ∷ []) ∷ []) ++ Serves 1 ∷ sends (succeeds 1 ∷ read 2 0 4 ∷ []) ++ Serves 2 ∷ sends (gives 2 (171 ∷ 206 ∷ 0 ∷ 0 ∷ []) ∷ [])
@@ -80,7 +80,7 @@ write_and_misread_run = is_run write_and_misread_items refl refl refl refl
 
 pub write_and_misread : IsNo (flat captures.write_and_misread) (1 ∷ 2 ∷ []) Zeroes
 unfolding write_and_misread_items enc head tail complete next_phase target has has_only is_proper is_proper_option info_of is_listed is_go content_of failure_of ends_reply is_failing piece_of report
-write_and_misread = refused write_and_misread_items (flat captures.write_and_misread) (1 ∷ 2 ∷ []) Zeroes write_and_misread_run refl (λ p. p.reads 2 1 (inr (inl refl)) (wrong (effects (report write_and_misread_items)) (1 ∷ 2 ∷ []) (start_byte Zeroes) 2 1 refl))
+write_and_misread = failing_is_no write_and_misread_items (flat captures.write_and_misread) (1 ∷ 2 ∷ []) Zeroes write_and_misread_run refl (λ p. p.reads 2 1 (inr (inl refl)) (wrong (effects (report write_and_misread_items)) (1 ∷ 2 ∷ []) (start_byte Zeroes) 2 1 refl))
 
 read_before_reply_items : List Item
 read_before_reply_items = sends (greeted ++ gone ++ write 1 0 (171 ∷ 205 ∷ []) ∷ read 2 0 2 ∷ []) ++ Serves 1 ∷ Serves 2 ∷ sends (gives 2 (171 ∷ 205 ∷ []) ∷ succeeds 1 ∷ [])
@@ -133,7 +133,7 @@ ignored_write_run = is_run ignored_write_items refl refl refl refl
 
 pub ignored_write : IsNo (flat captures.ignored_write) (1 ∷ 2 ∷ []) Zeroes
 unfolding ignored_write_items enc head tail complete next_phase target has has_only is_proper is_proper_option info_of is_listed is_go content_of failure_of ends_reply is_failing piece_of report
-ignored_write = refused ignored_write_items (flat captures.ignored_write) (1 ∷ 2 ∷ []) Zeroes ignored_write_run refl (λ p. p.reads 2 0 (inr (inl refl)) (wrong (effects (report ignored_write_items)) (1 ∷ 2 ∷ []) (start_byte Zeroes) 2 0 refl))
+ignored_write = failing_is_no ignored_write_items (flat captures.ignored_write) (1 ∷ 2 ∷ []) Zeroes ignored_write_run refl (λ p. p.reads 2 0 (inr (inl refl)) (wrong (effects (report ignored_write_items)) (1 ∷ 2 ∷ []) (start_byte Zeroes) 2 0 refl))
 
 overwritten_items : List Item
 overwritten_items = sends (greeted ++ gone ++ write 1 0 (170 ∷ []) ∷ []) ++ Serves 1 ∷ sends (succeeds 1 ∷ write 2 0 (187 ∷ []) ∷ []) ++ Serves 2 ∷ sends (succeeds 2 ∷ read 3 0 1 ∷ []) ++ Serves 3 ∷ sends (gives 3 (187 ∷ []) ∷ [])
@@ -200,7 +200,7 @@ two_reads = record {
 
 pub two_reads_late : IsNo (flat captures.two_reads) (2 ∷ 1 ∷ []) Zeroes
 unfolding two_reads_items enc head tail complete next_phase target has has_only is_proper is_proper_option info_of is_listed is_go content_of failure_of ends_reply is_failing piece_of report
-two_reads_late = refused two_reads_items (flat captures.two_reads) (2 ∷ 1 ∷ []) Zeroes two_reads_run refl (λ p. p.faultless.none_late 0 (1, 1, lit≤ tt, lit< tt, refl, lit< tt))
+two_reads_late = failing_is_no two_reads_items (flat captures.two_reads) (2 ∷ 1 ∷ []) Zeroes two_reads_run refl (λ p. p.faultless.none_late 0 (1, 1, lit≤ tt, lit< tt, refl, lit< tt))
 
 odd_byte_items : List Item
 odd_byte_items = sends (greeted ++ gone ++ read 1 0 1 ∷ []) ++ Serves 1 ∷ sends (gives 1 (255 ∷ []) ∷ [])
@@ -211,7 +211,7 @@ odd_byte_run = is_run odd_byte_items refl refl refl refl
 
 pub odd_byte_zeroes : IsNo (flat captures.odd_byte) (1 ∷ []) Zeroes
 unfolding odd_byte_items enc head tail complete next_phase target has has_only is_proper is_proper_option info_of is_listed is_go content_of failure_of ends_reply is_failing piece_of report
-odd_byte_zeroes = refused odd_byte_items (flat captures.odd_byte) (1 ∷ []) Zeroes odd_byte_run refl (λ p. p.reads 1 0 (inl refl) (wrong (effects (report odd_byte_items)) (1 ∷ []) (start_byte Zeroes) 1 0 refl))
+odd_byte_zeroes = failing_is_no odd_byte_items (flat captures.odd_byte) (1 ∷ []) Zeroes odd_byte_run refl (λ p. p.reads 1 0 (inl refl) (wrong (effects (report odd_byte_items)) (1 ∷ []) (start_byte Zeroes) 1 0 refl))
 
 pub odd_byte_unknown : IsYes (flat captures.odd_byte) (1 ∷ []) Unknown 1 1 0
 unfolding odd_byte_items enc head tail complete next_phase target has has_only is_proper is_proper_option info_of is_listed is_go content_of failure_of ends_reply is_failing piece_of report
@@ -264,7 +264,7 @@ pending_write = record {
 
 pub pending_write_unserved : IsNo (flat captures.pending_write) (2 ∷ []) Zeroes
 unfolding pending_write_items enc head tail complete next_phase target has has_only is_proper is_proper_option info_of is_listed is_go content_of failure_of ends_reply is_failing piece_of report
-pending_write_unserved = refused pending_write_items (flat captures.pending_write) (2 ∷ []) Zeroes pending_write_run refl (λ p. p.reads 2 0 (inl refl) (wrong (effects (report pending_write_items)) (2 ∷ []) (start_byte Zeroes) 2 0 refl))
+pending_write_unserved = failing_is_no pending_write_items (flat captures.pending_write) (2 ∷ []) Zeroes pending_write_run refl (λ p. p.reads 2 0 (inl refl) (wrong (effects (report pending_write_items)) (2 ∷ []) (start_byte Zeroes) 2 0 refl))
 
 trimmed_read_items : List Item
 trimmed_read_items = sends (greeted ++ gone ++ trim 1 0 8 ∷ []) ++ Serves 1 ∷ sends (succeeds 1 ∷ read 2 0 8 ∷ []) ++ Serves 2 ∷ sends (gives 2 (1 ∷ 2 ∷ 3 ∷ 4 ∷ 5 ∷ 6 ∷ 7 ∷ 8 ∷ []) ∷ [])
@@ -296,7 +296,7 @@ zeroed_read_run = is_run zeroed_read_items refl refl refl refl
 
 pub zeroed_read : IsNo (flat captures.zeroed_read) (1 ∷ 2 ∷ []) Unknown
 unfolding zeroed_read_items enc head tail complete next_phase target has has_only is_proper is_proper_option info_of is_listed is_go content_of failure_of ends_reply is_failing piece_of report
-zeroed_read = refused zeroed_read_items (flat captures.zeroed_read) (1 ∷ 2 ∷ []) Unknown zeroed_read_run refl (λ p. p.reads 2 0 (inr (inl refl)) (wrong (effects (report zeroed_read_items)) (1 ∷ 2 ∷ []) (start_byte Unknown) 2 0 refl))
+zeroed_read = failing_is_no zeroed_read_items (flat captures.zeroed_read) (1 ∷ 2 ∷ []) Unknown zeroed_read_run refl (λ p. p.reads 2 0 (inr (inl refl)) (wrong (effects (report zeroed_read_items)) (1 ∷ 2 ∷ []) (start_byte Unknown) 2 0 refl))
 
 shared_cookie_items : List Item
 shared_cookie_items = sends (greeted ++ gone ++ read 1 0 1 ∷ []) ++ Serves 1 ∷ within (write 1 4 (171 ∷ [])) (sends (gives 1 (0 ∷ []) ∷ [])) ++ Serves 2 ∷ sends (succeeds 1 ∷ [])
@@ -326,9 +326,9 @@ disconnected_run : IsRun disconnected_items
 unfolding disconnected_items enc head tail complete next_phase target has has_only is_proper is_proper_option info_of is_listed is_go content_of failure_of ends_reply is_failing piece_of report
 disconnected_run = is_run disconnected_items refl refl refl refl
 
-pub disconnected : IsYes (flat captures.disconnected) (1 ∷ 2 ∷ []) Zeroes 2 2 0
+pub disconnection : IsYes (flat captures.disconnection) (1 ∷ 2 ∷ []) Zeroes 2 2 0
 unfolding disconnected_items enc head tail complete next_phase target has has_only is_proper is_proper_option info_of is_listed is_go content_of failure_of ends_reply is_failing piece_of report
-disconnected = record {
+disconnection = record {
   explained = record {
     items = disconnected_items;
     is_run = disconnected_run;
@@ -337,5 +337,5 @@ disconnected = record {
     fits_image = tt;
     reads = none_wrong (effects (report disconnected_items)) (1 ∷ 2 ∷ []) (start_byte Zeroes) (1 ∷ 2 ∷ []) refl;
   };
-  counts = counts_of disconnected_items (flat captures.disconnected) 2 2 0 disconnected_run refl refl refl refl;
+  counts = counts_of disconnected_items (flat captures.disconnection) 2 2 0 disconnected_run refl refl refl refl;
 }

@@ -18,7 +18,7 @@ use Rattle.nbd_laws.specs.captures.Openings as captures
 use Rattle.nbd_laws.specs.Explaining.{IsNo}
 use Rattle.nbd_laws.proofs.runs.BlockLemmas.{Idles}
 use Rattle.nbd_laws.proofs.worked.DecidingRunLemmas.{is_run}
-use Rattle.nbd_laws.proofs.service.ExplainingLemmas.{refused}
+use Rattle.nbd_laws.proofs.service.ExplainingLemmas.{failing_is_no}
 use Rattle.nbd_laws.proofs.runs.FollowLemmas.{Follows, IsBegun, bare, follows, follows_unserved, pairs_unserved, walk_unserved}
 use Rattle.nbd_laws.proofs.service.MomentLemmas.{orders_are_faultless}
 use Rattle.nbd_laws.proofs.runs.RunLemmas.{walk_of}
@@ -34,7 +34,7 @@ opening_run = is_run opening_items refl refl refl refl
 
 pub wrong_image : (bytes : List ℕ) → length bytes ≡ 9 → IsNo (flat captures.opening) [] (Image bytes)
 unfolding opening_items enc head tail complete next_phase target has has_only is_proper is_proper_option info_of is_listed is_go content_of failure_of ends_reply is_failing piece_of report
-wrong_image bytes e = refused opening_items (flat captures.opening) [] (Image bytes) opening_run refl (λ p. (let q : length bytes ≡ 8 = p.fits_image in absurd (omega arith)))
+wrong_image bytes e = failing_is_no opening_items (flat captures.opening) [] (Image bytes) opening_run refl (λ p. (let q : length bytes ≡ 8 = p.fits_image in absurd (omega arith)))
 
 -- whatever the capture, no run serves a request twice
 pub named_twice : (capture : List Pair) (initial : Start) → IsNo capture (1 ∷ 1 ∷ []) initial

@@ -37,8 +37,8 @@ refused_tls =
     ∷ []
 
 -- ABORT and its ACK
-abbrev pub aborted : Chunks
-aborted =
+abbrev pub abort_acknowledged : Chunks
+abort_acknowledged =
     server 18 0x4e42444d4147494349484156454f50540003
     ∷ client 4 0x00000003
     ∷ client 16 0x49484156454f50540000000200000000
@@ -46,8 +46,8 @@ aborted =
     ∷ []
 
 -- LIST, one answer and its ACK
-abbrev pub listed : Chunks
-listed =
+abbrev pub export_list : Chunks
+export_list =
     server 18 0x4e42444d4147494349484156454f50540003
     ∷ client 4 0x00000003
     ∷ client 16 0x49484156454f50540000000300000000
@@ -56,8 +56,8 @@ listed =
     ∷ []
 
 -- EXPORT_NAME, whose answer never came
-abbrev pub unnamed : Chunks
-unnamed =
+abbrev pub export_name_alone : Chunks
+export_name_alone =
     server 18 0x4e42444d4147494349484156454f50540003
     ∷ client 4 0x00000003
     ∷ client 20 0x49484156454f505400000001000000046469736b

@@ -141,8 +141,8 @@ shared_cookie =
     ∷ [])
 
 -- a WRITE, a READ, a DISC, and the replies after it
-abbrev pub disconnected : Chunks
-disconnected =
+abbrev pub disconnection : Chunks
+disconnection =
     opening
     ++ (client 29 0x25609513000000010000000000000001000000000000000000000001ab
     ∷ client 28 0x25609513000000000000000000000002000000000000000400000001

@@ -56,12 +56,12 @@ settle machine s rest (Bad fault) = Err fault
 abbrev pub Judge : Type 0
 Judge = Core → Core → Side → List ℕ → Reading
 
-abbrev pub grown : Core → Rest → ℕ → Rest
-grown core rest b = record { bytes = rest.bytes ++ b ∷ []; since = old_of core rest }
+abbrev pub rest_with : Core → Rest → ℕ → Rest
+rest_with core rest b = record { bytes = rest.bytes ++ b ∷ []; since = old_of core rest }
 
 abbrev pub step : Judge → Machine → Side → ℕ → Result Machine WireFault
 step judge machine s b =
-    let rest : Rest = grown machine.core (get machine.rests s) b in
+    let rest : Rest = rest_with machine.core (get machine.rests s) b in
     settle machine s rest (judge rest.since machine.core s rest.bytes)
 
 abbrev pub on_ok : Result Machine WireFault → (Machine → Result Machine WireFault) → Result Machine WireFault

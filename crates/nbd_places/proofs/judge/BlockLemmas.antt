@@ -6,7 +6,7 @@ use Rattle.nbd_wire.specs.protocol.Captures.{Pair, side_pairs}
 use Rattle.nbd_wire.specs.protocol.Rules.{complete}
 use Rattle.nbd_wire.specs.protocol.States.{Core}
 use Rattle.nbd_wire.specs.declared.fault.WireFault.{WireFault}
-use Rattle.nbd_laws.specs.internal.Machine.{Both, get, put, Rest, Machine, Reading, More, Whole, Bad, old_of, IsFilled, settle, Judge, grown, step, reads, on_ok}
+use Rattle.nbd_laws.specs.internal.Machine.{Both, get, put, Rest, Machine, Reading, More, Whole, Bad, old_of, IsFilled, settle, Judge, rest_with, step, reads, on_ok}
 use Rattle.nbd_laws.proofs.machine.MachineLemmas.{get-put_same, old-filled, IsFilled-snoc, Later}
 
 -- no longer list of these bytes and more is judged before it has n of them
@@ -64,8 +64,8 @@ module _ (judge : Judge) (machine : Machine) (s : Side) (old : Core) (n : ℕ) w
   one_step : (rest : Rest) (b : ℕ) → old_of machine.core rest ≡ old →
       step judge (with_rest machine s rest) s b ≡ settle machine s (next_rest rest (b ∷ [])) (judge old machine.core s (rest.bytes ++ b ∷ []))
   one_step rest b o =
-      ap (λ r. settle (with_rest machine s rest) s (grown machine.core r b) (judge (grown machine.core r b).since machine.core s (grown machine.core r b).bytes)) (get-put_same machine.rests s rest)
-      ∙ settle_with machine s rest (grown machine.core rest b) (judge (grown machine.core rest b).since machine.core s (grown machine.core rest b).bytes)
+      ap (λ r. settle (with_rest machine s rest) s (rest_with machine.core r b) (judge (rest_with machine.core r b).since machine.core s (rest_with machine.core r b).bytes)) (get-put_same machine.rests s rest)
+      ∙ settle_with machine s rest (rest_with machine.core rest b) (judge (rest_with machine.core rest b).since machine.core s (rest_with machine.core rest b).bytes)
       ∙ ap (λ c. settle machine s (record { bytes = rest.bytes ++ b ∷ []; since = c }) (judge c machine.core s (rest.bytes ++ b ∷ []))) o
 
   in_one : (rest : Rest) (b : ℕ) (more : List ℕ) → old_of machine.core rest ≡ old → length (rest.bytes ++ b ∷ more) ≤ n → GoesOn judge old machine.core s rest.bytes n →

@@ -4,7 +4,7 @@ use Rattle.nbd_wire.specs.declared.message.Message.{Message}
 use Rattle.nbd_wire.specs.declared.fault.WireFault.{WireFault}
 use Rattle.nbd_places.specs.internal.Decisions.{fault_if}
 use Rattle.nbd_places.specs.internal.JudgeNegotiation.{are_zeroes, unless_error}
-use Rattle.nbd_places.specs.internal.Concrete.{staged_by, staged, ended}
+use Rattle.nbd_places.specs.internal.Concrete.{staged_reading_by, staged_reading, last_reading}
 use Rattle.nbd_laws.specs.internal.Machine.{Reading, Whole}
 
 pub not_false : (c : Bool) → not c ≡ false → c ≡ true
@@ -31,13 +31,13 @@ pub and_false : (a b : Bool) → (a && b) ≡ false → a ≡ true → b ≡ fal
 and_false true b e h = e
 and_false false b e h = absurd (cc)
 
-pub staged_whole : (b : Bool) (fault : Option WireFault) (w : Bool) (end : Reading) (m : Message) → staged_by b fault w end ≡ Whole m → (fault ≡ None) × (w ≡ true) × (end ≡ Whole m)
+pub staged_whole : (b : Bool) (fault : Option WireFault) (w : Bool) (end : Reading) (m : Message) → staged_reading_by b fault w end ≡ Whole m → (fault ≡ None) × (w ≡ true) × (end ≡ Whole m)
 staged_whole true fault w end m e = absurd (cc)
 staged_whole false (Some f) w end m e = absurd (cc)
 staged_whole false None true end m e = (refl, refl, e)
 staged_whole false None false end m e = absurd (cc)
 
-pub whole_at : (h p : ℕ) (bytes : List ℕ) (fault : Option WireFault) (end : Reading) (m : Message) → staged h p bytes fault end ≡ Whole m → (length bytes ≡ h + p) × (fault ≡ None) × (end ≡ Whole m)
+pub whole_at : (h p : ℕ) (bytes : List ℕ) (fault : Option WireFault) (end : Reading) (m : Message) → staged_reading h p bytes fault end ≡ Whole m → (length bytes ≡ h + p) × (fault ≡ None) × (end ≡ Whole m)
 whole_at h p bytes fault end m e =
     let w : (fault ≡ None) × ((length bytes == h + p) ≡ true) × (end ≡ Whole m) = staged_whole (nat_lt (length bytes) h) fault (length bytes == h + p) end m e in
     (eqb-true _ _ w.1, w.0, w.2)
@@ -46,7 +46,7 @@ pub fault_none : (c : Bool) (f : WireFault) (rest : Option WireFault) → fault_
 fault_none true f rest e = absurd (cc)
 fault_none false f rest e = (refl, e)
 
-pub ended_whole : (f : Option WireFault) (m n : Message) → ended f m ≡ Whole n → (f ≡ None) × (m ≡ n)
+pub ended_whole : (f : Option WireFault) (m n : Message) → last_reading f m ≡ Whole n → (f ≡ None) × (m ≡ n)
 ended_whole (Some f) m n e = absurd (cc)
 ended_whole None m n e = (refl, (cc))
 

@@ -97,8 +97,8 @@ total-counted offset len (p ∷ ps) i a =
     omega arith
 
 -- what is covered, by the sizes
-pub covered : (offset len : ℕ) (ps : List Piece) → AreInside offset len ps → AreApart ps → total ps ≡ len → (x : ℕ) → offset ≤ x → x < offset + len → IsTrue (has_byte ps x)
-covered offset len ps i a e = all-counted (has_byte ps) offset len (total-counted offset len ps i a ∙ e)
+pub full_total_covers : (offset len : ℕ) (ps : List Piece) → AreInside offset len ps → AreApart ps → total ps ≡ len → (x : ℕ) → offset ≤ x → x < offset + len → IsTrue (has_byte ps x)
+full_total_covers offset len ps i a e = all-counted (has_byte ps) offset len (total-counted offset len ps i a ∙ e)
 
 pub covered_total : (offset len : ℕ) (ps : List Piece) → AreInside offset len ps → AreApart ps → ((x : ℕ) → offset ≤ x → x < offset + len → IsTrue (has_byte ps x)) → total ps ≡ len
 covered_total offset len ps i a c = sym (total-counted offset len ps i a) ∙ counted-all (has_byte ps) offset len c

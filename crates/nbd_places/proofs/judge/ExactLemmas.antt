@@ -19,11 +19,11 @@ use Rattle.nbd_wire.specs.protocol.Sides.{side}
 use Rattle.nbd_wire.specs.protocol.States.{Core, Phase, Greet, Flags, Choosing, Naming, Aborting, Answering, Transmission, operation, target}
 use Rattle.nbd_wire.specs.declared.fault.WireFault.{WireFault}
 use Rattle.nbd_places.specs.internal.Decisions.{Decision}
-use Rattle.nbd_places.specs.internal.Judge.{decided, request_unless}
-use Rattle.nbd_places.specs.internal.JudgeNegotiation.{abort_answer, answer, choice, client_flags, exported, greeting}
+use Rattle.nbd_places.specs.internal.Judge.{decision, request_unless}
+use Rattle.nbd_places.specs.internal.JudgeNegotiation.{abort_answer, answer, choice, client_flags, export_answer, greeting}
 use Rattle.nbd_places.specs.internal.JudgeTransmission.{chunk_to, operation_if, operation_of, request, simple_to}
 use Rattle.nbd_places.proofs.judge.AwaitedLemmas.{in_head, in_payload}
-use Rattle.nbd_places.specs.internal.Concrete.{concrete, ended, judged, read_by, staged_by}
+use Rattle.nbd_places.specs.internal.Concrete.{concrete, last_reading, reading_by_decision, read_by, staged_reading_by}
 use Rattle.nbd_places.proofs.judge.ExactNegotiationLemmas.{Accepts, HasHead, HasLast, abort_accepts, answer_accepts, choice_accepts, exported_accepts, flags_accepts, greeting_accepts}
 use Rattle.nbd_places.proofs.judge.ExactTransmissionLemmas.{AcceptsChunk, chunk_accepts, chunk_begins, cookie_of_chunk, cookie_of_simple, request_accepts, simple_accepts, simple_begins}
 use Rattle.nbd_laws.proofs.machine.MachineLemmas.{IsExact, Later, Later-trans}
@@ -64,15 +64,15 @@ request_taken : (core : Core) (b : Bool) (bytes : List ℕ) (m : Message) → b 
 request_taken core true bytes m e a = absurd (cc)
 request_taken core false bytes m e a = taken (request core bytes) core m a
 
-taken_in : (phase : Phase) (old now : Core) (m : Message) → IsSendable m → Began phase old now m → MayComplete now phase m → IsTaken (decided phase old now (side m) (enc m)) now m
+taken_in : (phase : Phase) (old now : Core) (m : Message) → IsSendable m → Began phase old now m → MayComplete now phase m → IsTaken (decision phase old now (side m) (enc m)) now m
 unfolding MayComplete IsSendable
 taken_in Greet old now (Greeting flags) sn b ok = taken (greeting (enc (Greeting flags))) now _ (greeting_accepts flags sn ok)
 taken_in Flags old now (ClientFlags flags) sn b ok = taken (client_flags now.offered (enc (ClientFlags flags))) now _ (flags_accepts now.offered flags sn ok)
 taken_in Choosing old now (Choice id payload) sn b ok = taken (choice (enc (Choice id payload))) now _ (choice_accepts id payload sn.0 sn.1.0)
 taken_in Naming old now (Exported size flags padded) sn b ok =
     let no_zeroes : Bool = has now.client_flags handshake.C_NO_ZEROES in
-    subst (λ p. IsTaken (Some (exported no_zeroes (enc (Exported size flags p)))) now (Exported size flags p)) (sym ok.1)
-    (taken (exported no_zeroes (enc (Exported size flags (not no_zeroes)))) now _ (exported_accepts size flags no_zeroes sn.0 sn.1 ok.0 ok.2))
+    subst (λ p. IsTaken (Some (export_answer no_zeroes (enc (Exported size flags p)))) now (Exported size flags p)) (sym ok.1)
+    (taken (export_answer no_zeroes (enc (Exported size flags (not no_zeroes)))) now _ (exported_accepts size flags no_zeroes sn.0 sn.1 ok.0 ok.2))
 taken_in Aborting old now (Answer option kind payload) sn b ok = taken (abort_answer (enc (Answer option kind payload))) now _ (abort_accepts option kind payload sn.0 sn.1 sn.2.0 ok)
 taken_in (Answering asked given info) old now (Answer option kind payload) sn b ok =
     subst (λ o. IsTaken (Some (answer asked (is_proper_option asked given) info (enc (Answer o kind payload)))) now (Answer o kind payload)) (sym ok.0)
@@ -172,7 +172,7 @@ read_whole d m a b =
     let long : length (enc m) ≡ d.head_length + d.payload_length = a.long in
     let past : nat_lt (length (enc m)) d.head_length ≡ false = le-ltb (length (enc m)) d.head_length (omega (arith, long)) in
     let there : (length (enc m) == d.head_length + d.payload_length) ≡ true = eq-eqb _ _ long in
-    λ i. staged_by (past i) (a.clean i) (there i) (ended (b.clean i) (b.is i))
+    λ i. staged_reading_by (past i) (a.clean i) (there i) (last_reading (b.clean i) (b.is i))
 
 -- what is decided of an encoding, by the side's decisions
 record IsTakenBy (F : Core → List ℕ → Decision) (now : Core) (m : Message) : Type 0 where
@@ -181,8 +181,8 @@ record IsTakenBy (F : Core → List ℕ → Decision) (now : Core) (m : Message)
 
 taken_by : (old now : Core) (s : Side) (m : Message) (d : IsDeciding s old) → (l : Later s old now) → side m ≡ s → IsSendable m → MayStart old s m → MayComplete now now.phase m → IsTakenBy d.F now m
 taken_by old now s m d l sd sn st ok =
-    let t : IsTaken (decided now.phase old now (side m) (enc m)) now m = taken_in now.phase old now m sn (began_at old now m s sd l st) ok in
-    let q : Some t.d ≡ Some (d.F now (enc m)) = sym t.is ∙ ap (λ u. decided now.phase old now u (enc m)) sd ∙ d.decides now l (enc m) in
+    let t : IsTaken (decision now.phase old now (side m) (enc m)) now m = taken_in now.phase old now m sn (began_at old now m s sd l st) ok in
+    let q : Some t.d ≡ Some (d.F now (enc m)) = sym t.is ∙ ap (λ u. decision now.phase old now u (enc m)) sd ∙ d.decides now l (enc m) in
     let same : t.d ≡ d.F now (enc m) = cc in
     record { at_head = subst (λ x. HasHead x m) same t.at_head; at_last = λ tidied. subst (λ x. HasLast x m) same (t.at_last tidied) }
 
@@ -194,13 +194,13 @@ exact_more old now later s m bytes left l l' sd sn st ok e f =
     let long : length (bytes ++ left) ≡ (d.F later (bytes ++ left)).head_length + (d.F later (bytes ++ left)).payload_length =
     subst (λ bs. length bs ≡ (d.F later bs).head_length + (d.F later bs).payload_length) e t.at_head.long in
     let clean : (d.F later (bytes ++ left)).head_fault ≡ None = subst (λ bs. (d.F later bs).head_fault ≡ None) e t.at_head.clean in
-    ap (λ o. judged o bytes) (d.decides now l bytes) ∙ part_goes_on s now later d.F (d.steady now l) l' bytes left f long clean
+    ap (λ o. reading_by_decision o bytes) (d.decides now l bytes) ∙ part_goes_on s now later d.F (d.steady now l) l' bytes left f long clean
 
 exact_whole : (old now : Core) (s : Side) (m : Message) → Later s old now → side m ≡ s → IsSendable m → MayStart old s m → MayComplete now now.phase m → AreTidy now.entries → concrete old now s (enc m) ≡ Whole m
 exact_whole old now s m l sd sn st ok tidied =
     let d : IsDeciding s old = deciding_of old.phase s old m refl st in
     let t : IsTakenBy d.F now m = taken_by old now s m d l sd sn st ok in
-    ap (λ o. judged o (enc m)) (d.decides now l (enc m)) ∙ read_whole (d.F now (enc m)) m t.at_head (t.at_last tidied)
+    ap (λ o. reading_by_decision o (enc m)) (d.decides now l (enc m)) ∙ read_whole (d.F now (enc m)) m t.at_head (t.at_last tidied)
 
 pub exact : IsExact concrete
 exact = record {

@@ -21,7 +21,7 @@ use Rattle.nbd_wire.specs.protocol.Rules.{AreClientFlags, MayEnd}
 use Rattle.nbd_wire.specs.declared.fault.WireFault.{WireFault}
 use Rattle.nbd_wire.specs.declared.fault.WireFault.TheVariants.{NotFixedNewstyle, BadClientFlags, WrongOption, BadReplyKind, OutOfProfile, BadReplyPayload, BadExport, ExportTooLarge, SuccessOfImproper}
 use Rattle.nbd_places.specs.internal.Decisions.{Decision, fault_if}
-use Rattle.nbd_places.specs.internal.JudgeNegotiation.{abort_answer, abort_fault, ack_fault, answer, answer_fault, answers_option, are_zeroes, at_ack, choice, choice_fault, client_flags, client_flags_fault, export_fault, exported, greeting, greeting_fault, info_fault, is_bad_payload, is_followed, is_good_info, padding_fault, payload_fault, sets_more, success_fault, unless_error}
+use Rattle.nbd_places.specs.internal.JudgeNegotiation.{abort_answer, abort_fault, ack_fault, answer, answer_fault, answers_option, are_zeroes, at_ack, choice, choice_fault, client_flags, client_flags_fault, export_fault, export_answer, greeting, greeting_fault, info_fault, is_bad_payload, is_followed, is_good_info, padding_fault, payload_fault, sets_more, success_fault, unless_error}
 
 -- the head of an encoding has no fault and states its length
 pub record HasHead (d : Decision) (m : Message) : Type 0 where
@@ -38,8 +38,8 @@ pub record Accepts (d : Decision) (m : Message) : Type 0 where
   pub at_last : HasLast d m
 
 -- a fault whose condition does not hold
-pub cleared : (c : Bool) (fault : WireFault) (next : Option WireFault) → c ≡ false → next ≡ None → fault_if c fault next ≡ None
-cleared c fault next e h = ap (λ b. fault_if b fault next) e ∙ h
+pub no_fault_if : (c : Bool) (fault : WireFault) (next : Option WireFault) → c ≡ false → next ≡ None → fault_if c fault next ≡ None
+no_fault_if c fault next e h = ap (λ b. fault_if b fault next) e ∙ h
 
 pub not_so : (b : Bool) → b ≡ true → not b ≡ false
 not_so b e = ap not e
@@ -62,7 +62,7 @@ greeting_accepts flags h ok =
     record {
       at_head = record {
         long = greeting_long flags;
-        clean = (λ i. greeting_fault (n.0 i) (n.1 i) (n.2 i)) ∙ cleared (not (has flags handshake.FIXED_NEWSTYLE)) NotFixedNewstyle None (not_so _ ok) refl;
+        clean = (λ i. greeting_fault (n.0 i) (n.1 i) (n.2 i)) ∙ no_fault_if (not (has flags handshake.FIXED_NEWSTYLE)) NotFixedNewstyle None (not_so _ ok) refl;
       };
       at_last = record { clean = refl; is = ap Greeting n.2 };
     }
@@ -91,7 +91,7 @@ flags_accepts offered flags h ok =
       at_head = record {
         long = flags_long flags;
         clean = ap (client_flags_fault offered) n
-            ∙ cleared (not (has flags handshake.C_FIXED_NEWSTYLE)) NotFixedNewstyle _ (not_so _ ok.0) (cleared (sets_more offered flags) BadClientFlags None (sets_none offered flags ok) refl);
+            ∙ no_fault_if (not (has flags handshake.C_FIXED_NEWSTYLE)) NotFixedNewstyle _ (not_so _ ok.0) (no_fault_if (sets_more offered flags) BadClientFlags None (sets_none offered flags ok) refl);
       };
       at_last = record { clean = refl; is = ap ClientFlags n };
     }
@@ -137,10 +137,10 @@ padding size flags = refl
 
 export_clean : (size flags : ℕ) → IsTrue (has flags transmission.HAS_FLAGS) → size ≤ EXPORT_SIZE → export_fault size flags ≡ None
 export_clean size flags h l =
-    cleared (not (has flags transmission.HAS_FLAGS)) BadExport _ (not_so _ h) (cleared (nat_lt EXPORT_SIZE size) ExportTooLarge None (le-ltb EXPORT_SIZE size l) refl)
+    no_fault_if (not (has flags transmission.HAS_FLAGS)) BadExport _ (not_so _ h) (no_fault_if (nat_lt EXPORT_SIZE size) ExportTooLarge None (le-ltb EXPORT_SIZE size l) refl)
 
 pub exported_accepts : (size flags : ℕ) (no_zeroes : Bool) → size < 2 ^ 64 → flags < 2 ^ 16 → IsTrue (has flags transmission.HAS_FLAGS) → size ≤ EXPORT_SIZE →
-    Accepts (exported no_zeroes (enc (Exported size flags (not no_zeroes)))) (Exported size flags (not no_zeroes))
+    Accepts (export_answer no_zeroes (enc (Exported size flags (not no_zeroes)))) (Exported size flags (not no_zeroes))
 exported_accepts size flags true h l ok fits =
     let n : (number_at 0 8 (enc (Exported size flags false)) ≡ size) × (number_at 8 2 (enc (Exported size flags false)) ≡ flags) × (drop 10 (enc (Exported size flags false)) ≡ tail (Exported size flags false)) = exported_numbers size flags false h l in
     record {
@@ -152,7 +152,7 @@ exported_accepts size flags false h l ok fits =
     record {
       at_head = record { long = (exported_long size flags).1; clean = (λ i. export_fault (n.0 i) (n.1 i)) ∙ export_clean size flags ok fits };
       at_last = record {
-        clean = ap padding_fault n.2 ∙ cleared (not (are_zeroes (tail (Exported size flags true)))) BadExport None (not_so _ (padding size flags)) refl;
+        clean = ap padding_fault n.2 ∙ no_fault_if (not (are_zeroes (tail (Exported size flags true)))) BadExport None (not_so _ (padding size flags)) refl;
         is = λ i. Exported (n.0 i) (n.1 i) true;
       };
     }
@@ -177,7 +177,7 @@ is_answer option kind payload h k l = record {
 }
 
 answer_clean : (option : ℕ) (by_kind : Option WireFault) → by_kind ≡ None → answer_fault option ANSWER_MAGIC option by_kind ≡ None
-answer_clean option by_kind h = cleared (not (option == option)) WrongOption by_kind (not_so _ (eq-eqb option option refl)) h
+answer_clean option by_kind h = no_fault_if (not (option == option)) WrongOption by_kind (not_so _ (eq-eqb option option refl)) h
 
 -- no error is an ACK
 error_no_ack : (kind : ℕ) → IsTrue (is_error kind) → (kind == answers.ACK) ≡ false
@@ -200,10 +200,10 @@ ack_clean kind payload next empty h = go (kind == answers.ACK) refl
 
 abort_clean : (option kind : ℕ) (payload : List ℕ) → MayEnd option kind payload → abort_fault kind (length payload) ≡ None
 abort_clean option kind payload (is, inl error) =
-    cleared (not (is_error kind) && not (kind == answers.ACK)) BadReplyKind _ (ap (λ b. not b && not (kind == answers.ACK)) error)
+    no_fault_if (not (is_error kind) && not (kind == answers.ACK)) BadReplyKind _ (ap (λ b. not b && not (kind == answers.ACK)) error)
     (ack_clean kind payload None (λ q. absurd (let w : true ≡ false = sym (eq-eqb kind answers.ACK q) ∙ error_no_ack kind error in (cc))) refl)
 abort_clean option kind payload (is, inr (ack, empty)) =
-    cleared (not (is_error kind) && not (kind == answers.ACK)) BadReplyKind _ (no_other (is_error kind) (kind == answers.ACK) (eq-eqb kind answers.ACK ack)) (ack_clean kind payload None (λ q. empty) refl)
+    no_fault_if (not (is_error kind) && not (kind == answers.ACK)) BadReplyKind _ (no_other (is_error kind) (kind == answers.ACK) (eq-eqb kind answers.ACK ack)) (ack_clean kind payload None (λ q. empty) refl)
   where
     no_other : (a b : Bool) → b ≡ true → (not a && not b) ≡ false
     no_other true b e = refl
@@ -238,7 +238,7 @@ info_clean option proper (Some x) (inr (inr (inl h))) = subst (λ o. info_fault 
 info_clean option proper (Some x) (inr (inr (inr (q, (on, is, fits))))) =
     let same : on ≡ x = cc in
     let low : x.size ≤ EXPORT_SIZE = subst (λ (e : Exporting). e.size ≤ EXPORT_SIZE) same fits in
-    subst (λ o. info_fault o proper (Some x) ≡ None) (sym q) (cleared (nat_lt EXPORT_SIZE x.size) ExportTooLarge None (le-ltb EXPORT_SIZE x.size low) refl)
+    subst (λ o. info_fault o proper (Some x) ≡ None) (sym q) (no_fault_if (nat_lt EXPORT_SIZE x.size) ExportTooLarge None (le-ltb EXPORT_SIZE x.size low) refl)
 
 -- a success of a kind that its option takes
 record IsGood (option : ℕ) (proper : Bool) (info : Option Exporting) (kind : ℕ) (payload : List ℕ) : Type 0 where
@@ -291,11 +291,11 @@ good option given info kind payload e (inr (inr (inr (p, is, o, ok)))) = subst (
 
 success_clean : (option : ℕ) (proper : Bool) (info : Option Exporting) (kind : ℕ) (payload : List ℕ) → IsGood option proper info kind payload → success_fault option proper info kind (length payload) ≡ None
 success_clean option proper info kind payload g =
-    cleared (is_followed option && not (answers_option option kind)) BadReplyKind _ ((λ i. g.is_followed_one i && not (g.takes i)))
-    (cleared (not (is_followed option)) OutOfProfile _ (not_so _ g.is_followed_one) g.ack)
+    no_fault_if (is_followed option && not (answers_option option kind)) BadReplyKind _ ((λ i. g.is_followed_one i && not (g.takes i)))
+    (no_fault_if (not (is_followed option)) OutOfProfile _ (not_so _ g.is_followed_one) g.ack)
 
 payload_clean : (option : ℕ) (proper : Bool) (info : Option Exporting) (kind : ℕ) (payload : List ℕ) → IsGood option proper info kind payload → payload_fault proper kind payload ≡ None
-payload_clean option proper info kind payload g = cleared (is_bad_payload kind payload) BadReplyPayload _ g.has_form (cleared (not proper) SuccessOfImproper None (not_so _ g.is_proper) refl)
+payload_clean option proper info kind payload g = no_fault_if (is_bad_payload kind payload) BadReplyPayload _ g.has_form (no_fault_if (not proper) SuccessOfImproper None (not_so _ g.is_proper) refl)
 
 unless_clean : (b : Bool) (fault : Option WireFault) → (b ≡ false → fault ≡ None) → unless_error b fault ≡ None
 unless_clean true fault h = refl

@@ -27,7 +27,7 @@ use Rattle.nbd_places.specs.internal.Decisions.{Decision, fault_if}
 use Rattle.nbd_places.specs.internal.Decisions.{is_none_yet}
 use Rattle.nbd_places.specs.internal.JudgeTransmission.{begins, chunk_fault, chunk_of, chunk_to, content_fault, cookie_fault, done_fault, finish_fault, fits_failure, fits_read, is_no_piece, request, request_fault, request_payload_length, simple_fault, simple_last_fault, simple_to, total}
 use Rattle.nbd_places.proofs.judge.CoverLemmas.{ArePositive, covered_total, shares-apart_from}
-use Rattle.nbd_places.proofs.judge.ExactNegotiationLemmas.{Accepts, HasHead, HasLast, cleared, not_so}
+use Rattle.nbd_places.proofs.judge.ExactNegotiationLemmas.{Accepts, HasHead, HasLast, no_fault_if, not_so}
 use Rattle.nbd_places.proofs.judge.TidyLemmas.{IsTidy, failure_kind, no_content, none_content, tidy_reply}
 
 record IsRequest (flags command cookie offset len : ℕ) (payload bytes : List ℕ) : Type 0 where
@@ -113,9 +113,9 @@ simple_begins error cookie payload = begins_with SIMPLE_MAGIC (enc (Simple error
 simple_clean : (structured : Bool) (export : Exporting) (e : Operation) (error : ℕ) (payload : List ℕ) → IsSimpleReply structured export e error payload →
     (simple_fault structured (Some e) ≡ None) × (simple_last_fault export (Some e) error ≡ None)
 simple_clean structured export e error payload (none, plain, len, proper) = (
-  cleared (not (is_none_yet e.replies) || ((e.command == commands.READ) && structured)) SimpleForbidden None
+  no_fault_if (not (is_none_yet e.replies) || ((e.command == commands.READ) && structured)) SimpleForbidden None
       ((λ i. not (is_none_yet (none i)) || ((e.command == commands.READ) && structured)) ∙ not_both (e.command == commands.READ) structured (λ q. plain (eqb-true _ _ q))) refl,
-  cleared ((error == 0) && not (is_proper export e)) SuccessOfImproper None (not_improper (error == 0) (is_proper export e) (λ q. proper (eqb-true _ _ q))) refl,
+  no_fault_if ((error == 0) && not (is_proper export e)) SuccessOfImproper None (not_improper (error == 0) (is_proper export e) (λ q. proper (eqb-true _ _ q))) refl,
 )
   where
     not_both : (a b : Bool) → (a ≡ true → b ≡ false) → (a && b) ≡ false
@@ -216,7 +216,7 @@ finish_clean export e t (inr (proper, covers)) = go (has_failed e)
 
     go : (b : Bool) → finish_fault export e b (pieces e) ≡ None
     go true = refl
-    go false = cleared _ IncompleteRead _ (incomplete (e.command == commands.READ) refl) (cleared _ SuccessOfImproper None (not_so _ proper) refl)
+    go false = no_fault_if _ IncompleteRead _ (incomplete (e.command == commands.READ) refl) (no_fault_if _ SuccessOfImproper None (not_so _ proper) refl)
 
 done_clean : (export : Exporting) (e : Operation) (b : Bool) → IsTidy e → (IsTrue b → MayFinish export e) → done_fault b export e ≡ None
 done_clean export e true t h = finish_clean export e t (h refl)
@@ -231,13 +231,13 @@ module _ (export : Exporting) (e f : Operation) (flags kind : ℕ) (payload : Li
       ((piece : Piece) × (content_of kind payload ≡ Some piece) × IsContent export e piece) ⊎ ((failure : Failure) × (failure_of kind payload ≡ Some failure) × IsFailure e failure) → content_fault export e c g next ≡ None
   content_clean (Some p) g next n is_c is_g (inl (piece, is, ok)) =
       let same : piece ≡ p = (let q : Some piece ≡ Some p = sym is ∙ is_c in (cc)) in
-      cleared _ BadContent next (not_so _ (fits export e kind payload p is_c (subst (IsContent export e) same ok))) n
+      no_fault_if _ BadContent next (not_so _ (fits export e kind payload p is_c (subst (IsContent export e) same ok))) n
   content_clean (Some p) g next n is_c is_g (inr (failure, is, ok)) =
       absurd (let q : None ≡ Some p = sym (no_content kind payload failure is) ∙ is_c in (cc))
   content_clean None (Some g) next n is_c is_g (inl (piece, is, ok)) = absurd (let q : None ≡ Some piece = sym is_c ∙ is in (cc))
   content_clean None (Some g) next n is_c is_g (inr (failure, is, ok)) =
       let same : failure ≡ g = (let q : Some failure ≡ Some g = sym is ∙ is_g in (cc)) in
-      cleared _ BadContent next (not_so _ (failure_fits e g.offset (subst (IsFailure e) same ok))) n
+      no_fault_if _ BadContent next (not_so _ (failure_fits e g.offset (subst (IsFailure e) same ok))) n
   content_clean None None next n is_c is_g (inl (piece, is, ok)) = absurd (let q : None ≡ Some piece = sym is_c ∙ is in (cc))
   content_clean None None next n is_c is_g (inr (failure, is, ok)) = absurd (let q : None ≡ Some failure = sym is_g ∙ is in (cc))
 
@@ -259,7 +259,7 @@ module _ (export : Exporting) (e f : Operation) (flags kind : ℕ) (payload : Li
   chunk_clean : IsTidy f → IsChunk export e flags kind payload → (IsTrue (has flags chunks.DONE) → MayFinish export f) → chunk_fault (kind == chunks.NONE) export e f flags kind payload ≡ None
   chunk_clean t (inl (none, empty, done)) finish =
       ap (λ b. chunk_fault b export e f flags kind payload) (eq-eqb kind chunks.NONE none)
-      ∙ cleared _ BadChunk _ ((λ i. not (length (empty i) == 0) || not (done i))) (done_clean export f (has flags chunks.DONE) t finish)
+      ∙ no_fault_if _ BadChunk _ ((λ i. not (length (empty i) == 0) || not (done i))) (done_clean export f (has flags chunks.DONE) t finish)
   chunk_clean t (inr h) finish =
       ap (λ b. chunk_fault b export e f flags kind payload) (no_none h)
       ∙ content_clean (content_of kind payload) (failure_of kind payload) _ (done_clean export f (has flags chunks.DONE) t finish) refl refl h
@@ -295,7 +295,7 @@ chunk_accepts core export e flags kind cookie payload sn may =
     let n : IsChunkOf flags kind cookie payload (enc m) = is_chunk_of flags kind cookie payload sn.0 sn.1 sn.2 sn.3.0 in
     let m_is : chunk_of (enc m) ≡ m = λ i. Chunk (n.flags_is i) (n.kind_is i) (n.cookie_is i) (n.payload_is i) in
     record {
-      at_head = record { long = n.long ∙ ap (λ x. 20 + x) (sym n.length_is); clean = cleared _ ChunkForbidden None (not_so _ may.0) refl };
+      at_head = record { long = n.long ∙ ap (λ x. 20 + x) (sym n.length_is); clean = no_fault_if _ ChunkForbidden None (not_so _ may.0) refl };
       at_last = λ t. record {
         clean = (λ i. chunk_fault (n.kind_is i == chunks.NONE) export e (with_reply e (m_is i)) (n.flags_is i) (n.kind_is i) (n.payload_is i))
             ∙ chunk_clean export e (with_reply e m) flags kind payload (tidy_reply core.structured export e m t may) may.1 may.2;

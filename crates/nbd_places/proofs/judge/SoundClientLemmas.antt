@@ -16,7 +16,7 @@ use Rattle.nbd_places.specs.internal.Decisions.{fault_if}
 use Rattle.nbd_places.specs.internal.Judge.{request_unless}
 use Rattle.nbd_places.specs.internal.JudgeTransmission.{request, request_payload_length, request_of}
 use Rattle.nbd_places.proofs.judge.BoolLemmas.{not_false, and_true, fault_none}
-use Rattle.nbd_places.specs.internal.Concrete.{judged}
+use Rattle.nbd_places.specs.internal.Concrete.{reading_by_decision}
 use Rattle.nbd_laws.specs.internal.Machine.{Whole}
 use Rattle.nbd_places.proofs.judge.SoundNegotiationLemmas.{IsFit, IsWhole, whole, magic_there}
 
@@ -48,7 +48,7 @@ pub record IsAsked (now : Core) (export : Exporting) (bytes : List ℕ) (m : Mes
   pub is : request_of bytes ≡ m
   pub open_still : now.disconnected ≡ false
 
-pub request_sound : (now : Core) (export : Exporting) (d : Bool) (bytes : List ℕ) (m : Message) → now.disconnected ≡ d → AreBytes bytes → judged (request_unless d now bytes) bytes ≡ Whole m → IsAsked now export bytes m
+pub request_sound : (now : Core) (export : Exporting) (d : Bool) (bytes : List ℕ) (m : Message) → now.disconnected ≡ d → AreBytes bytes → reading_by_decision (request_unless d now bytes) bytes ≡ Whole m → IsAsked now export bytes m
 unfolding MayComplete
 request_sound now export true bytes m is_d a e = absurd (cc)
 request_sound now export false bytes m is_d a e =

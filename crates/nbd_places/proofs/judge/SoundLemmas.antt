@@ -62,8 +62,8 @@ pub opened_by : (old now : Core) (s : Side) (bytes : List ℕ) (r : Reading) →
 opened_by old now s bytes r e n = elim (in_turn now.phase old now s bytes) [ inl q ↦ absurd (n (sym e ∙ q)) | inr o ↦ o ]
 
 -- a side's bytes that were not refused began in its turn, or in transmission
-pub opened : {s : Side} {old now : Core} {bytes : List ℕ} (r : Reading) → Kept concrete s old now bytes → concrete old now s bytes ≡ r → (r ≡ Bad OutOfTurn → ⊥) → (turn old.phase ≡ Some s) ⊎ IsTransmitting old.phase
-opened {s} {old} {now} {bytes} r k e n = elim (kept_first k) [
+pub turn_of_reading : {s : Side} {old now : Core} {bytes : List ℕ} (r : Reading) → Kept concrete s old now bytes → concrete old now s bytes ≡ r → (r ≡ Bad OutOfTurn → ⊥) → (turn old.phase ≡ Some s) ⊎ IsTransmitting old.phase
+turn_of_reading {s} {old} {now} {bytes} r k e n = elim (kept_first k) [
   | inl (same, (c, is)) ↦ opened_by old old s bytes r (ap (λ x. concrete old x s bytes) same ∙ e) n
   | inr (c, m) ↦ opened_by old old s (c ∷ []) More m (λ q. (cc))
 ]
@@ -108,7 +108,7 @@ sound_in_transmission old now Server bytes m export l r a t0 t1 e =
     }
 
 pub sound : IsSound concrete
-sound old now s bytes m k e = elim (opened (Whole m) k e (λ q. (cc))) [
+sound old now s bytes m k e = elim (turn_of_reading (Whole m) k e (λ q. (cc))) [
   | inl t ↦ (let same : old ≡ now = Later-turn (kept_later k) t in
       subst (λ c. IsSoundAt c now s bytes m) (sym same) (sound_in_turn now s bytes m (kept_bytes k) (subst (λ (c : Core). turn c.phase ≡ Some s) same t) (subst (λ c. concrete c now s bytes ≡ Whole m) same e)))
   | inr (export, t0) ↦ (let t1 : now.phase ≡ Transmission export = Later-transmission (kept_later k) export t0 in

@@ -26,9 +26,9 @@ use Rattle.nbd_wire.specs.protocol.States.{Phase, Greet, Flags, Choosing, Naming
 use Rattle.nbd_wire.specs.declared.fault.WireFault.{WireFault}
 use Rattle.nbd_wire.specs.declared.fault.WireFault.TheVariants.{BadMagic, NotFixedNewstyle, BadClientFlags, WrongOption, OutOfProfile, BadReplyPayload, BadExport, ExportTooLarge, SuccessOfImproper}
 use Rattle.nbd_places.specs.internal.Decisions.{Decision, fault_if}
-use Rattle.nbd_places.specs.internal.JudgeNegotiation.{greeting, sets_more, client_flags, choice, are_zeroes, export_fault, exported, answer_of, ack_fault, abort_fault, abort_answer, answers_option, is_followed, info_fault, at_ack, unless_error, success_fault, is_good_info, is_bad_payload, payload_fault, answer}
+use Rattle.nbd_places.specs.internal.JudgeNegotiation.{greeting, sets_more, client_flags, choice, are_zeroes, export_fault, export_answer, answer_of, ack_fault, abort_fault, abort_answer, answers_option, is_followed, info_fault, at_ack, unless_error, success_fault, is_good_info, is_bad_payload, payload_fault, answer}
 use Rattle.nbd_places.proofs.judge.BoolLemmas.{not_false, or_false, or_true, and_true, and_false, whole_at, fault_none, ended_whole, are_zeroes-replicate}
-use Rattle.nbd_places.specs.internal.Concrete.{read_by, ended, judge_in}
+use Rattle.nbd_places.specs.internal.Concrete.{read_by, last_reading, judge_in}
 use Rattle.nbd_laws.specs.internal.Machine.{Whole}
 
 pub record IsFit (now : Core) (phase : Phase) (s : Side) (bytes : List ℕ) (m : Message) : Type 0 where
@@ -46,7 +46,7 @@ pub record IsWhole (d : Decision) (bytes : List ℕ) (m : Message) : Type 0 wher
 
 pub whole : (d : Decision) (bytes : List ℕ) (m : Message) → read_by d bytes ≡ Whole m → IsWhole d bytes m
 whole d bytes m e =
-    let w : (length bytes ≡ d.head_length + d.payload_length) × (d.head_fault ≡ None) × (ended d.last_fault d.message ≡ Whole m) = whole_at d.head_length d.payload_length bytes d.head_fault (ended d.last_fault d.message) m e in
+    let w : (length bytes ≡ d.head_length + d.payload_length) × (d.head_fault ≡ None) × (last_reading d.last_fault d.message ≡ Whole m) = whole_at d.head_length d.payload_length bytes d.head_fault (last_reading d.last_fault d.message) m e in
     let f : (d.last_fault ≡ None) × (d.message ≡ m) = ended_whole d.last_fault d.message m w.2 in
     record { long = w.0; at_head = w.1; at_last = f.0; is = f.1 }
 
@@ -130,10 +130,10 @@ exported_head size flags e =
     let g : (nat_lt EXPORT_SIZE size ≡ false) × (None ≡ None) = fault_none _ ExportTooLarge None f.1 in
     (not_false _ f.0, ltb-false EXPORT_SIZE size g.0)
 
-exported_sound : (now : Core) (c : Bool) (bytes : List ℕ) (m : Message) → has now.client_flags handshake.C_NO_ZEROES ≡ c → AreBytes bytes → read_by (exported c bytes) bytes ≡ Whole m → IsFit now Naming Server bytes m
+exported_sound : (now : Core) (c : Bool) (bytes : List ℕ) (m : Message) → has now.client_flags handshake.C_NO_ZEROES ≡ c → AreBytes bytes → read_by (export_answer c bytes) bytes ≡ Whole m → IsFit now Naming Server bytes m
 unfolding MayComplete IsSendable tail
 exported_sound now true bytes m is_c a e =
-    let w : IsWhole (exported true bytes) bytes m = whole (exported true bytes) bytes m e in
+    let w : IsWhole (export_answer true bytes) bytes m = whole (export_answer true bytes) bytes m e in
     let long : length bytes ≡ 10 = w.long in
     let h : (has (number_at 8 2 bytes) transmission.HAS_FLAGS ≡ true) × (number_at 0 8 bytes ≤ EXPORT_SIZE) = exported_head _ _ w.at_head in
     subst (IsFit now Naming Server bytes) w.is (record {
@@ -143,7 +143,7 @@ exported_sound now true bytes m is_c a e =
       completes = (h.0, sym (ap not is_c), h.1);
     })
 exported_sound now false bytes m is_c a e =
-    let w : IsWhole (exported false bytes) bytes m = whole (exported false bytes) bytes m e in
+    let w : IsWhole (export_answer false bytes) bytes m = whole (export_answer false bytes) bytes m e in
     let long : length bytes ≡ 10 + 124 = w.long in
     let h : (has (number_at 8 2 bytes) transmission.HAS_FLAGS ≡ true) × (number_at 0 8 bytes ≤ EXPORT_SIZE) = exported_head _ _ w.at_head in
     let g : (not (are_zeroes (drop 10 bytes)) ≡ false) × (None ≡ None) = fault_none _ BadExport None w.at_last in

@@ -25,7 +25,7 @@ use Rattle.nbd_places.specs.internal.Decisions.{is_none_yet}
 use Rattle.nbd_places.specs.internal.JudgeTransmission.{begins, chunk_fault, chunk_of, chunk_to, content_fault, done_fault, operation_if, operation_of, finish_fault, fits_failure, fits_read, is_apart_from, is_inside, is_no_piece, no_reply, reply, reply_by, simple_of, simple_to, total}
 use Rattle.nbd_places.proofs.judge.BoolLemmas.{not_false, not_true, or_false, or_true, and_true, and_false, fault_none}
 use Rattle.nbd_places.specs.internal.Concrete.{read_by}
-use Rattle.nbd_places.proofs.judge.CoverLemmas.{covered, apart_from-shares}
+use Rattle.nbd_places.proofs.judge.CoverLemmas.{full_total_covers, apart_from-shares}
 use Rattle.nbd_laws.specs.internal.Machine.{Whole}
 use Rattle.nbd_laws.proofs.machine.MachineLemmas.{Later}
 use Rattle.nbd_places.proofs.judge.PhaseLemmas.{IsAppended, Later-appended, target-append}
@@ -43,8 +43,8 @@ pub record IsFound (old now : Core) (cookie : ℕ) (e : Operation) : Type 0 wher
   pub still : target cookie now.entries ≡ Some k
   pub is : operation k now.entries ≡ Some e
 
-pub found : (old now : Core) (cookie : ℕ) (e : Operation) → IsAppended old now → operation_of old now cookie ≡ Some e → IsFound old now cookie e
-found old now cookie e a h = go (target cookie old.entries) refl h
+pub operation_is_found : (old now : Core) (cookie : ℕ) (e : Operation) → IsAppended old now → operation_of old now cookie ≡ Some e → IsFound old now cookie e
+operation_is_found old now cookie e a h = go (target cookie old.entries) refl h
   where
     go : (o : Option ℕ) → target cookie old.entries ≡ o → operation_if o now.entries ≡ Some e → IsFound old now cookie e
     go (Some k) q h = record { k = k; was = q; still = ap (target cookie) a.entries_are ∙ target-append cookie old.entries a.more k q; is = h }
@@ -95,7 +95,7 @@ simple_sound old now export bytes None m is_o ap_ t a mg eq = absurd (let q : So
 simple_sound old now export bytes (Some e) m is_o ap_ t a mg eq =
     let w : IsWhole (simple_to export now (Some e) bytes) bytes m = whole (simple_to export now (Some e) bytes) bytes m eq in
     let long : length bytes ≡ 16 + simple_length e (number_at 4 4 bytes) = w.long in
-    let is : IsFound old now (number_at 8 8 bytes) e = found old now (number_at 8 8 bytes) e ap_ is_o in
+    let is : IsFound old now (number_at 8 8 bytes) e = operation_is_found old now (number_at 8 8 bytes) e ap_ is_o in
     let may : MayReply now.structured export e (simple_of bytes) = simple_may now.structured export e bytes long (fault_none _ SimpleForbidden None w.at_head).0 (fault_none _ SuccessOfImproper None w.at_last).0 in
     subst (IsReplying old now export bytes) w.is (record {
       fit = record { encodes = simple_is bytes a (omega (arith, long)) mg; sided = refl; sendable = simple_sendable bytes e a long (tidy_entry is.k now.entries e t is.is); completes = simple_complete old now export bytes e is may };
@@ -138,7 +138,7 @@ fits export e piece h =
 pub covers : (e : Operation) → IsTidy e → total (pieces e) ≡ e.length → Covers e (pieces e)
 covers e t s x i =
     let h : (nat_le e.offset x ≡ true) × (nat_lt x (e.offset + e.length) ≡ true) = and_true _ _ i in
-    covered e.offset e.length (pieces e) t.inside t.apart s x (leb-true _ _ h.0) (ltb-true _ _ h.1)
+    full_total_covers e.offset e.length (pieces e) t.inside t.apart s x (leb-true _ _ h.0) (ltb-true _ _ h.1)
 
 finish_may : (export : Exporting) (e : Operation) (b : Bool) → has_failed e ≡ b → IsTidy e → finish_fault export e b (pieces e) ≡ None → MayFinish export e
 finish_may export e true is t h = inl is
@@ -190,7 +190,7 @@ chunk_sound old now export bytes (Some e) m is_o ap_ t a mg eq =
     let kind : ℕ = number_at 6 2 bytes in
     let f : Operation = with_reply e (chunk_of bytes) in
     let w : IsWhole (chunk_to export now (Some e) bytes) bytes m = whole (chunk_to export now (Some e) bytes) bytes m eq in
-    let is : IsFound old now (number_at 8 8 bytes) e = found old now (number_at 8 8 bytes) e ap_ is_o in
+    let is : IsFound old now (number_at 8 8 bytes) e = operation_is_found old now (number_at 8 8 bytes) e ap_ is_o in
     let form : IsChunk export e flags kind (drop 20 bytes) × (done_fault (has flags chunks.DONE) export f ≡ None) = form_of export e f flags kind (drop 20 bytes) (kind == chunks.NONE) refl w.at_last in
     let tidied : IsTidy f = tidy_chunk export e flags kind (number_at 8 8 bytes) (drop 20 bytes) (tidy_entry is.k now.entries e t is.is) form.0 in
     let may : MayReply now.structured export e (chunk_of bytes) = chunk_may now.structured export e bytes (not_false _ (fault_none _ ChunkForbidden None w.at_head).0) form.0 (done_may export f (has flags chunks.DONE) form.1 tidied) in

@@ -14,8 +14,8 @@ use Rattle.nbd_wire.specs.protocol.Flags.{has}
 use Rattle.nbd_wire.specs.protocol.States.{Phase, Greet, Flags, Choosing, Naming, Aborting, Answering, Transmission, Core, operation, target}
 use Rattle.nbd_wire.specs.declared.fault.WireFault.TheVariants.{BadMagic, UnknownCookie}
 use Rattle.nbd_places.specs.internal.Decisions.{Decision}
-use Rattle.nbd_places.specs.internal.Judge.{decided, request_unless}
-use Rattle.nbd_places.specs.internal.JudgeNegotiation.{abort_answer, abort_fault, answer, answer_fault, choice, choice_fault, client_flags, client_flags_fault, export_fault, exported, greeting, greeting_fault, success_fault, unless_error}
+use Rattle.nbd_places.specs.internal.Judge.{decision, request_unless}
+use Rattle.nbd_places.specs.internal.JudgeNegotiation.{abort_answer, abort_fault, answer, answer_fault, choice, choice_fault, client_flags, client_flags_fault, export_fault, export_answer, greeting, greeting_fault, success_fault, unless_error}
 use Rattle.nbd_places.specs.internal.JudgeTransmission.{begins, chunk_to, operation_if, operation_of, no_reply, reply, reply_by, request, request_fault, request_payload_length, simple_payload_length, simple_to, simple_fault, chunk_head_fault}
 use Rattle.nbd_laws.proofs.machine.MachineLemmas.{Later}
 use Rattle.nbd_places.proofs.judge.SoundServerLemmas.{magic_of}
@@ -38,7 +38,7 @@ pub record IsSteady (s : Side) (now : Core) (F : Core → List ℕ → Decision)
 -- a side's decisions from its first byte on
 pub record IsDeciding (s : Side) (old : Core) : Type 0 where
   pub F : Core → List ℕ → Decision
-  pub decides : (now : Core) → Later s old now → (bytes : List ℕ) → decided now.phase old now s bytes ≡ Some (F now bytes)
+  pub decides : (now : Core) → Later s old now → (bytes : List ℕ) → decision now.phase old now s bytes ≡ Some (F now bytes)
   pub steady : (now : Core) → Later s old now → IsSteady s now F
 
 -- a head of one length
@@ -58,10 +58,10 @@ fixed_steady s now h F two is same = record {
 }
 
 -- in negotiation nothing completes meanwhile
-in_negotiation : (s : Side) (old : Core) (h : ℕ) (G : List ℕ → Decision) → turn old.phase ≡ Some s → ((bytes : List ℕ) → decided old.phase old old s bytes ≡ Some (G bytes)) → IsFixed h G → IsDeciding s old
+in_negotiation : (s : Side) (old : Core) (h : ℕ) (G : List ℕ → Decision) → turn old.phase ≡ Some s → ((bytes : List ℕ) → decision old.phase old old s bytes ≡ Some (G bytes)) → IsFixed h G → IsDeciding s old
 in_negotiation s old h G t d f = record {
   F = λ c. G;
-  decides = λ now l bytes. subst (λ (c : Core). decided c.phase old c s bytes ≡ Some (G bytes)) (Later-turn l t) (d bytes);
+  decides = λ now l bytes. subst (λ (c : Core). decision c.phase old c s bytes ≡ Some (G bytes)) (Later-turn l t) (d bytes);
   steady = λ now l. fixed_steady s now h (λ c. G) f.two (λ c. f.is) (λ c d. f.same);
 }
 
@@ -101,7 +101,7 @@ choice_fixed = record {
   };
 }
 
-exported_fixed : (no_zeroes : Bool) → IsFixed 10 (exported no_zeroes)
+exported_fixed : (no_zeroes : Bool) → IsFixed 10 (export_answer no_zeroes)
 exported_fixed true = record {
   two = omega arith;
   is = λ bytes. refl;
@@ -155,7 +155,7 @@ in_requests : (old : Core) (export : Exporting) → old.phase ≡ Transmission e
 in_requests old export t d = record {
   F = request;
   decides = λ now l bytes. (
-      ap (λ p. decided p old now Client bytes) (Later-transmission l export t)
+      ap (λ p. decision p old now Client bytes) (Later-transmission l export t)
       ∙ ap (λ b. request_unless b now bytes) (Later-disconnected l ∙ d));
   steady = λ now l. fixed_steady Client now 28 request (omega arith) (λ c bytes. refl) request_same;
 }
@@ -191,8 +191,8 @@ pub data IsBegun (bytes : List ℕ) : Type 0 where
   as_simple : begins CHUNK_MAGIC bytes ≡ false → begins SIMPLE_MAGIC bytes ≡ true → IsBegun bytes
   as_neither : begins CHUNK_MAGIC bytes ≡ false → begins SIMPLE_MAGIC bytes ≡ false → IsBegun bytes
 
-pub begun : (bytes : List ℕ) → IsBegun bytes
-begun bytes = go (begins CHUNK_MAGIC bytes) (begins SIMPLE_MAGIC bytes) refl refl
+pub bytes_are_begun : (bytes : List ℕ) → IsBegun bytes
+bytes_are_begun bytes = go (begins CHUNK_MAGIC bytes) (begins SIMPLE_MAGIC bytes) refl refl
   where
     go : (c s : Bool) → begins CHUNK_MAGIC bytes ≡ c → begins SIMPLE_MAGIC bytes ≡ s → IsBegun bytes
     go true s c_is s_is = as_chunk c_is
@@ -344,13 +344,13 @@ module _ (export : Exporting) (old now next : Core) (bytes more : List ℕ) wher
 in_replies : (old : Core) (export : Exporting) → old.phase ≡ Transmission export → IsDeciding Server old
 in_replies old export t = record {
   F = reply export old;
-  decides = λ now l bytes. ap (λ p. decided p old now Server bytes) (Later-transmission l export t);
+  decides = λ now l bytes. ap (λ p. decision p old now Server bytes) (Later-transmission l export t);
   steady = λ now l. record {
     two = λ bytes. (let h : 4 ≤ (reply export old now bytes).head_length = reply_two (begins CHUNK_MAGIC bytes) (begins SIMPLE_MAGIC bytes) export now (operation_of old now (number_at 8 8 bytes)) bytes in omega (arith, h));
-    below = λ next k bytes more low. reply_below export old now next bytes more (begun bytes) low;
-    grows = λ next k bytes more. reply_grows export old now next bytes more (begun bytes);
-    beyond = λ next k bytes more long clean. reply_beyond export old now next bytes more (Later-appended k export (Later-transmission l export t)) (begun bytes) long clean;
-    back = λ next k bytes more long clean. reply_back export old now next bytes more (Later-appended l export t) (Later-appended k export (Later-transmission l export t)) (begun bytes) long clean;
+    below = λ next k bytes more low. reply_below export old now next bytes more (bytes_are_begun bytes) low;
+    grows = λ next k bytes more. reply_grows export old now next bytes more (bytes_are_begun bytes);
+    beyond = λ next k bytes more long clean. reply_beyond export old now next bytes more (Later-appended k export (Later-transmission l export t)) (bytes_are_begun bytes) long clean;
+    back = λ next k bytes more long clean. reply_back export old now next bytes more (Later-appended l export t) (Later-appended k export (Later-transmission l export t)) (bytes_are_begun bytes) long clean;
   };
 }
 
@@ -359,15 +359,15 @@ by_disconnected old export true bytes d t is h = absurd (cc)
 by_disconnected old export false bytes d t is h = in_requests old export t is
 
 -- where something is decided of a side's bytes, it goes on as it began
-pub deciding : (phase : Phase) (s : Side) (old : Core) (bytes : List ℕ) (d : Decision) → old.phase ≡ phase → decided phase old old s bytes ≡ Some d → IsDeciding s old
-deciding Greet Server old bytes d p h = in_negotiation Server old 18 greeting (ap turn p) (λ bytes. ap (λ p. decided p old old Server bytes) p) greeting_fixed
-deciding Flags Client old bytes d p h = in_negotiation Client old 4 (client_flags old.offered) (ap turn p) (λ bytes. ap (λ p. decided p old old Client bytes) p) (client_flags_fixed old.offered)
-deciding Choosing Client old bytes d p h = in_negotiation Client old 16 choice (ap turn p) (λ bytes. ap (λ p. decided p old old Client bytes) p) choice_fixed
+pub deciding : (phase : Phase) (s : Side) (old : Core) (bytes : List ℕ) (d : Decision) → old.phase ≡ phase → decision phase old old s bytes ≡ Some d → IsDeciding s old
+deciding Greet Server old bytes d p h = in_negotiation Server old 18 greeting (ap turn p) (λ bytes. ap (λ p. decision p old old Server bytes) p) greeting_fixed
+deciding Flags Client old bytes d p h = in_negotiation Client old 4 (client_flags old.offered) (ap turn p) (λ bytes. ap (λ p. decision p old old Client bytes) p) (client_flags_fixed old.offered)
+deciding Choosing Client old bytes d p h = in_negotiation Client old 16 choice (ap turn p) (λ bytes. ap (λ p. decision p old old Client bytes) p) choice_fixed
 deciding Naming Server old bytes d p h =
-    in_negotiation Server old 10 (exported (has old.client_flags handshake.C_NO_ZEROES)) (ap turn p) (λ bytes. ap (λ p. decided p old old Server bytes) p) (exported_fixed (has old.client_flags handshake.C_NO_ZEROES))
-deciding Aborting Server old bytes d p h = in_negotiation Server old 20 abort_answer (ap turn p) (λ bytes. ap (λ p. decided p old old Server bytes) p) abort_fixed
+    in_negotiation Server old 10 (export_answer (has old.client_flags handshake.C_NO_ZEROES)) (ap turn p) (λ bytes. ap (λ p. decision p old old Server bytes) p) (exported_fixed (has old.client_flags handshake.C_NO_ZEROES))
+deciding Aborting Server old bytes d p h = in_negotiation Server old 20 abort_answer (ap turn p) (λ bytes. ap (λ p. decision p old old Server bytes) p) abort_fixed
 deciding (Answering option given info) Server old bytes d p h =
-    in_negotiation Server old 20 (answer option (is_proper_option option given) info) (ap turn p) (λ bytes. ap (λ p. decided p old old Server bytes) p) (answer_fixed option (is_proper_option option given) info)
+    in_negotiation Server old 20 (answer option (is_proper_option option given) info) (ap turn p) (λ bytes. ap (λ p. decision p old old Server bytes) p) (answer_fixed option (is_proper_option option given) info)
 deciding (Transmission export) Client old bytes d p h = by_disconnected old export old.disconnected bytes d p refl h
 deciding (Transmission export) Server old bytes d p h = in_replies old export p
 deciding phase s old bytes d p h = absurd (cc)

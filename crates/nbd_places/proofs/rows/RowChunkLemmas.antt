@@ -22,7 +22,7 @@ use Rattle.nbd_wire.specs.protocol.States.{Core, Transmission, target, with_repl
 use Rattle.nbd_places.specs.internal.Decisions.{fault_if}
 use Rattle.nbd_places.specs.internal.JudgeTransmission.{chunk_fault, chunk_head_fault, chunk_last_fault, chunk_to, content_fault, done_fault, operation_of, finish_fault, fits_failure, fits_read, is_apart, is_apart_from, is_inside, is_no_piece, total}
 use Rattle.nbd_places.proofs.judge.BoolLemmas.{and_true, not_false, not_true}
-use Rattle.nbd_places.proofs.judge.CoverLemmas.{ArePositive, covered, covered_total, no_overlap}
+use Rattle.nbd_places.proofs.judge.CoverLemmas.{ArePositive, full_total_covers, covered_total, no_overlap}
 use Rattle.nbd_places.proofs.judge.ExactTransmissionLemmas.{content_positive, pieces_positive}
 use Rattle.nbd_places.proofs.judge.PhaseLemmas.{IsAppended}
 use Rattle.nbd_places.proofs.judge.SoundServerLemmas.{fits, in_range}
@@ -124,7 +124,7 @@ gap_link e t = record {
   ];
   no = λ q h. (let s : total (pieces e) ≡ e.length = eqb-true (total (pieces e)) e.length (not_false _ q) in
       let i : (nat_le e.offset h.0 ≡ true) × (nat_lt h.0 (e.offset + e.length) ≡ true) = and_true _ _ h.1 in
-      let c : IsTrue (is_some (byte_at (pieces e) h.0)) = covered e.offset e.length (pieces e) t.inside t.apart s h.0 (leb-true _ _ i.0) (ltb-true _ _ i.1) in
+      let c : IsTrue (is_some (byte_at (pieces e) h.0)) = full_total_covers e.offset e.length (pieces e) t.inside t.apart s h.0 (leb-true _ _ i.0) (ltb-true _ _ i.1) in
       let w : false ≡ true = sym (ap is_some h.2) ∙ c in cc);
 }
 

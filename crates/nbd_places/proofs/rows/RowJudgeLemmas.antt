@@ -17,9 +17,9 @@ use Rattle.nbd_wire.specs.protocol.Rows.RowIn.{wrong_magic, neither_magic, not_f
 use Rattle.nbd_wire.specs.protocol.States.{Core, Phase, Greet, Flags, Choosing, Naming, Aborting, Answering, Ended, Transmission, target}
 use Rattle.nbd_laws.specs.internal.Machine.{Bad, More}
 use Rattle.nbd_laws.proofs.machine.MachineLemmas.{Kept, Later, Later-trans, at_once, begun, kept}
-use Rattle.nbd_places.specs.internal.Concrete.{concrete, judged, read_by}
+use Rattle.nbd_places.specs.internal.Concrete.{concrete, reading_by_decision, read_by}
 use Rattle.nbd_places.specs.internal.Decisions.{Decision}
-use Rattle.nbd_places.specs.internal.Judge.{decided, request_unless}
+use Rattle.nbd_places.specs.internal.Judge.{decision, request_unless}
 use Rattle.nbd_places.specs.internal.JudgeTransmission.{begins, operation_if, operation_of, no_reply, reply, request}
 use Rattle.nbd_places.proofs.judge.AwaitedLemmas.{GoesBy, decision_of, first_more, goes_by, some_decided}
 use Rattle.nbd_places.proofs.judge.PhaseLemmas.{IsAppended, Later-appended, Later-turn}
@@ -36,7 +36,7 @@ use Rattle.nbd_places.proofs.rows.RowStartLemmas.{choice_tied, export_tied, flag
 use Rattle.nbd_places.proofs.judge.TidyLemmas.{AreTidy, IsTidy, tidy, tidy_entry}
 
 -- the head's length is 2 at least
-head_two : (s : Side) (old : Core) (b : ℕ) (d : Decision) → decided old.phase old old s (b ∷ []) ≡ Some d → 2 ≤ d.head_length
+head_two : (s : Side) (old : Core) (b : ℕ) (d : Decision) → decision old.phase old old s (b ∷ []) ≡ Some d → 2 ≤ d.head_length
 head_two s old b d e =
     let x : IsDeciding s old = deciding old.phase s old (b ∷ []) d refl e in
     let q : Some d ≡ Some (x.F old (b ∷ [])) = sym e ∙ x.decides old at_once (b ∷ []) in
@@ -44,14 +44,14 @@ head_two s old b d e =
     subst (λ (y : Decision). 2 ≤ y.head_length) (sym same) ((x.steady old at_once).two (b ∷ []))
 
 -- after a head its fault was judged
-behind_clean : {s : Side} {since now : Core} {bytes : List ℕ} → Kept concrete s since now bytes → (d : Decision) → decided now.phase since now s bytes ≡ Some d → d.head_length < length bytes → d.head_fault ≡ None
+behind_clean : {s : Side} {since now : Core} {bytes : List ℕ} → Kept concrete s since now bytes → (d : Decision) → decision now.phase since now s bytes ≡ Some d → d.head_length < length bytes → d.head_fault ≡ None
 behind_clean {s} {since} (begun b lt r) d e l = let two : 2 ≤ d.head_length = head_two s since b d e in absurd (omega (arith, two, l))
 behind_clean {s} {since} {now = next} (kept {now = now} {bytes = bytes} b lt k m l r) d e long =
     let x : IsDeciding s since = decision_of k m in
     let before : Later s since now = kept_later k in
     let q : Some d ≡ Some (x.F next (bytes ++ b ∷ [])) = sym e ∙ x.decides next (Later-trans before l) (bytes ++ b ∷ []) in
     let same : d ≡ x.F next (bytes ++ b ∷ []) = cc in
-    let goes : GoesBy (x.F now bytes) bytes = goes_by (x.F now bytes) bytes (sym (ap (λ o. judged o bytes) (x.decides now before bytes)) ∙ m) in
+    let goes : GoesBy (x.F now bytes) bytes = goes_by (x.F now bytes) bytes (sym (ap (λ o. reading_by_decision o bytes) (x.decides now before bytes)) ∙ m) in
     go x before same goes
   where
     go : (x : IsDeciding s since) (before : Later s since now) → d ≡ x.F next (bytes ++ b ∷ []) → GoesBy (x.F now bytes) bytes → d.head_fault ≡ None
@@ -87,7 +87,7 @@ unless_none : (b : Bool) (now : Core) (bytes : List ℕ) → request_unless b no
 unless_none true now bytes e = refl
 unless_none false now bytes e = absurd (cc)
 
-out_of : (phase : Phase) (s : Side) (since now : Core) (bytes : List ℕ) → decided phase since now s bytes ≡ None → IsOutOfTurn phase now s
+out_of : (phase : Phase) (s : Side) (since now : Core) (bytes : List ℕ) → decision phase since now s bytes ≡ None → IsOutOfTurn phase now s
 out_of Greet Client since now bytes e = λ q. (cc)
 out_of Greet Server since now bytes e = absurd (cc)
 out_of Flags Client since now bytes e = absurd (cc)
@@ -105,7 +105,7 @@ out_of (Transmission export) Client since now bytes e = unless_none now.disconne
 out_of (Transmission export) Server since now bytes e = absurd (cc)
 
 -- nothing is decided of a side's first byte alone
-one_byte : {s : Side} {since now : Core} {bytes : List ℕ} → Kept concrete s since now bytes → decided now.phase since now s bytes ≡ None → length bytes ≡ 1
+one_byte : {s : Side} {since now : Core} {bytes : List ℕ} → Kept concrete s since now bytes → decision now.phase since now s bytes ≡ None → length bytes ≡ 1
 one_byte (begun b lt r) e = refl
 one_byte {s} {since} {now = next} (kept {now = now} {bytes = bytes} b lt k m l r) e =
     let x : IsDeciding s since = decision_of k m in
@@ -186,7 +186,7 @@ module _ (since now : Core) (export : Exporting) (bytes : List ℕ) where
       (tied_tells _ _ bytes _ _ _ (no_reply_tied c s) (behind _ q))
 
 -- which phases decide on a server's bytes
-server_phase : (phase : Phase) (since now : Core) (bytes : List ℕ) (d : Decision) → decided phase since now Server bytes ≡ Some d → (turn phase ≡ Some Server) ⊎ ((export : Exporting) × (phase ≡ Transmission export))
+server_phase : (phase : Phase) (since now : Core) (bytes : List ℕ) (d : Decision) → decision phase since now Server bytes ≡ Some d → (turn phase ≡ Some Server) ⊎ ((export : Exporting) × (phase ≡ Transmission export))
 server_phase Greet since now bytes d e = inl refl
 server_phase Flags since now bytes d e = absurd (cc)
 server_phase Choosing since now bytes d e = absurd (cc)
@@ -201,20 +201,20 @@ kept_appended : {s : Side} {since now : Core} {bytes : List ℕ} → Kept concre
 kept_appended {s} {since} (begun b lt r) is export p = record { more = []; entries_are = sym (append-nil since.entries); structured_is = refl }
 kept_appended {s} {since} {now = next} (kept {now = now} {bytes = bytes} b lt k m l r) is export p =
     let f : (c : ℕ) × (concrete since since s (c ∷ []) ≡ More) = first_more k m in
-    let d : (d : Decision) × (decided since.phase since since s (f.0 ∷ []) ≡ Some d) = some_decided (decided since.phase since since s (f.0 ∷ [])) (f.0 ∷ []) f.1 in
+    let d : (d : Decision) × (decision since.phase since since s (f.0 ∷ []) ≡ Some d) = some_decided (decision since.phase since since s (f.0 ∷ [])) (f.0 ∷ []) f.1 in
     let later : Later Server since next = subst (λ u. Later u since next) is (Later-trans (kept_later k) l) in
-    elim (server_phase since.phase since since (f.0 ∷ []) d.0 (subst (λ u. decided since.phase since since u (f.0 ∷ []) ≡ Some d.0) is d.1)) [
+    elim (server_phase since.phase since since (f.0 ∷ []) d.0 (subst (λ u. decision since.phase since since u (f.0 ∷ []) ≡ Some d.0) is d.1)) [
       | inl t ↦ absurd (let q : turn next.phase ≡ Some Server = ap (λ (c : Core). turn c.phase) (sym (Later-turn later t)) ∙ t in let z : turn next.phase ≡ None = ap turn p in cc)
       | inr h ↦ Later-appended later h.0 h.1
     ]
 
-module _ (since now : Core) (bytes : List ℕ) (phase : Phase) (s : Side) (one : decided phase since now s bytes ≡ None → length bytes ≡ 1) where
-  out_tells : decided phase since now s bytes ≡ None → Tells (λ f. RowIn since now bytes f phase s) (IsWholeIn since now bytes phase s) (Bad OutOfTurn)
+module _ (since now : Core) (bytes : List ℕ) (phase : Phase) (s : Side) (one : decision phase since now s bytes ≡ None → length bytes ≡ 1) where
+  out_tells : decision phase since now s bytes ≡ None → Tells (λ f. RowIn since now bytes f phase s) (IsWholeIn since now bytes phase s) (Bad OutOfTurn)
   out_tells e = (out_of_turn (one e) (out_of phase s since now bytes e), none_first since now bytes phase s (one e))
 
-tells_in : (since now : Core) (bytes : List ℕ) (phase : Phase) (s : Side) → (decided phase since now s bytes ≡ None → length bytes ≡ 1) →
-    ((d : Decision) → decided phase since now s bytes ≡ Some d → d.head_length < length bytes → d.head_fault ≡ None) → AreTidy now.entries → (s ≡ Server → (export : Exporting) → phase ≡ Transmission export → IsAppended since now) →
-    Tells (λ f. RowIn since now bytes f phase s) (IsWholeIn since now bytes phase s) (judged (decided phase since now s bytes) bytes)
+tells_in : (since now : Core) (bytes : List ℕ) (phase : Phase) (s : Side) → (decision phase since now s bytes ≡ None → length bytes ≡ 1) →
+    ((d : Decision) → decision phase since now s bytes ≡ Some d → d.head_length < length bytes → d.head_fault ≡ None) → AreTidy now.entries → (s ≡ Server → (export : Exporting) → phase ≡ Transmission export → IsAppended since now) →
+    Tells (λ f. RowIn since now bytes f phase s) (IsWholeIn since now bytes phase s) (reading_by_decision (decision phase since now s bytes) bytes)
 tells_in since now bytes Greet Client one behind t a = out_tells since now bytes Greet Client one refl
 tells_in since now bytes Greet Server one behind t a = tied_tells _ _ bytes _ _ _ (greeting_tied since now bytes) (behind _ refl)
 tells_in since now bytes Flags Client one behind t a = tied_tells _ _ bytes _ _ _ (flags_tied since now bytes) (behind _ refl)
@@ -231,15 +231,15 @@ tells_in since now bytes Ended Client one behind t a = out_tells since now bytes
 tells_in since now bytes Ended Server one behind t a = out_tells since now bytes Ended Server one refl
 tells_in since now bytes (Transmission export) Client one behind t a = go now.disconnected refl
   where
-    go : (b : Bool) → now.disconnected ≡ b → Tells (λ f. RowIn since now bytes f (Transmission export) Client) (IsWholeIn since now bytes (Transmission export) Client) (judged (request_unless now.disconnected now bytes) bytes)
+    go : (b : Bool) → now.disconnected ≡ b → Tells (λ f. RowIn since now bytes f (Transmission export) Client) (IsWholeIn since now bytes (Transmission export) Client) (reading_by_decision (request_unless now.disconnected now bytes) bytes)
     go true e =
         let none : request_unless now.disconnected now bytes ≡ None = ap (λ b. request_unless b now bytes) e in
-        subst (λ o. Tells (λ f. RowIn since now bytes f (Transmission export) Client) (IsWholeIn since now bytes (Transmission export) Client) (judged o bytes)) (sym none) (out_tells since now bytes (Transmission export) Client one none)
+        subst (λ o. Tells (λ f. RowIn since now bytes f (Transmission export) Client) (IsWholeIn since now bytes (Transmission export) Client) (reading_by_decision o bytes)) (sym none) (out_tells since now bytes (Transmission export) Client one none)
     go false e =
         let some : request_unless now.disconnected now bytes ≡ Some (request now bytes) = ap (λ b. request_unless b now bytes) e in
-        subst (λ o. Tells (λ f. RowIn since now bytes f (Transmission export) Client) (IsWholeIn since now bytes (Transmission export) Client) (judged o bytes)) (sym some)
+        subst (λ o. Tells (λ f. RowIn since now bytes f (Transmission export) Client) (IsWholeIn since now bytes (Transmission export) Client) (reading_by_decision o bytes)) (sym some)
         (tied_tells _ _ bytes _ _ _ (request_tied since now export bytes e) (behind (request now bytes) some))
-tells_in since now bytes (Transmission export) Server one behind t a = reply_tells since now export bytes (a refl export refl) t (λ d e. behind d (ap Some e)) (steady.begun bytes)
+tells_in since now bytes (Transmission export) Server one behind t a = reply_tells since now export bytes (a refl export refl) t (λ d e. behind d (ap Some e)) (steady.bytes_are_begun bytes)
 
 -- the judge says this fault exactly where it is the lowest line that holds, whole exactly where the message is whole and no line holds, and else more
 pub tells : {s : Side} {since now : Core} {bytes : List ℕ} → Kept concrete s since now bytes → Tells (λ f. Row f since now s bytes) (IsWhole since now s bytes) (concrete since now s bytes)

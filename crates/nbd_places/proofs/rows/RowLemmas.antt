@@ -4,7 +4,7 @@ use Rattle.std.proofs.lemmas.Bool.{ltb-true, ltb-false, lt-ltb, eqb-false}
 use Rattle.nbd_wire.specs.declared.fault.WireFault.{WireFault}
 use Rattle.nbd_wire.specs.protocol.Rows.{rank}
 use Rattle.nbd_laws.proofs.runs.PlacingLemmas.{Tells}
-use Rattle.nbd_places.specs.internal.Concrete.{ended, read_by, staged_by}
+use Rattle.nbd_places.specs.internal.Concrete.{last_reading, read_by, staged_reading_by}
 use Rattle.nbd_places.specs.internal.Decisions.{Decision, fault_if}
 use Rattle.nbd_places.specs.internal.JudgeNegotiation.{at_ack, unless_error}
 
@@ -124,7 +124,7 @@ module _ (R : WireFault → Type 0) (W : Type 0) (bytes : List ℕ) (d : Decisio
   tied_tells = go (nat_lt (length bytes) d.head_length) refl d.head_fault refl (length bytes == d.head_length + d.payload_length) refl d.last_fault refl
     where
       go : (low : Bool) → nat_lt (length bytes) d.head_length ≡ low → (at : Option WireFault) → d.head_fault ≡ at → (whole : Bool) → (length bytes == d.head_length + d.payload_length) ≡ whole →
-          (last : Option WireFault) → d.last_fault ≡ last → Tells R W (staged_by low at whole (ended last d.message))
+          (last : Option WireFault) → d.last_fault ≡ last → Tells R W (staged_reading_by low at whole (last_reading last d.message))
       go true low at a whole w last b =
           let short : length bytes < d.head_length = ltb-true (length bytes) d.head_length low in
           ((λ f r. elim (t.rows f r) [ inl h ↦ (let q = h.0 in omega (arith, short, q)) | inr h ↦ (let q = h.0 in omega (arith, short, q)) ]), λ h. (let q = t.whole_is h in omega (arith, short, q)))

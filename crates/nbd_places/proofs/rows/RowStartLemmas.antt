@@ -13,7 +13,7 @@ use Rattle.nbd_wire.specs.protocol.Rows.{IsWholeIn, Lacks, RowIn, SetsMore}
 use Rattle.nbd_wire.specs.protocol.Rows.IsWholeIn.{whole_greeting, whole_flags, whole_choice, whole_export}
 use Rattle.nbd_wire.specs.protocol.Rows.RowIn.{wrong_magic, not_fixed_newstyle, bad_client_flags, out_of_turn, wrong_option, bad_reply_kind, ack_with_payload, no_has_flags, bad_padding, export_too_large, success_of_improper}
 use Rattle.nbd_wire.specs.protocol.States.{Core, Greet, Flags, Choosing, Naming}
-use Rattle.nbd_places.specs.internal.JudgeNegotiation.{are_zeroes, choice, client_flags, exported, greeting}
+use Rattle.nbd_places.specs.internal.JudgeNegotiation.{are_zeroes, choice, client_flags, export_answer, greeting}
 use Rattle.nbd_places.proofs.judge.BoolLemmas.{are_zeroes-replicate}
 use Rattle.nbd_places.proofs.rows.RowLemmas.{IsLeast, IsTied, Link, above_if, above_none, least_if, least_none, link_and, link_eq, link_lt, link_neg, link_or, link_true}
 
@@ -165,7 +165,7 @@ module _ (since now : Core) (bytes : List ℕ) where
   export_whole : IsWholeIn since now bytes Naming Server → length bytes ≡ 10 + (if has now.client_flags handshake.C_NO_ZEROES then 0 else 124)
   export_whole (whole_export l) = l
 
-  export_head : IsLeast (exported true bytes).head_fault ExportHead
+  export_head : IsLeast (export_answer true bytes).head_fault ExportHead
   export_head = least_if BadExport (link_neg (link_true (has (number_at 8 2 bytes) transmission.HAS_FLAGS)))
       (least_if ExportTooLarge (link_lt EXPORT_SIZE (number_at 0 8 bytes)) least_none (above_none 11))
       (above_if 10 ExportTooLarge (EXPORT_SIZE < number_at 0 8 bytes) (λ f. ⊥) (omega arith) (above_none 10))
@@ -177,7 +177,7 @@ module _ (since now : Core) (bytes : List ℕ) where
   })
 
   pub export_tied : (no_zeroes : Bool) → has now.client_flags handshake.C_NO_ZEROES ≡ no_zeroes →
-      IsTied (λ f. RowIn since now bytes f Naming Server) (IsWholeIn since now bytes Naming Server) (length bytes) (exported no_zeroes bytes) ExportHead (ExportLast (not no_zeroes))
+      IsTied (λ f. RowIn since now bytes f Naming Server) (IsWholeIn since now bytes Naming Server) (length bytes) (export_answer no_zeroes bytes) ExportHead (ExportLast (not no_zeroes))
   export_tied true e = record {
     rows = export_rows true e;
     whole_is = λ w. export_whole w ∙ ap (λ (b : Bool). 10 + (if b then 0 else 124)) e;

@@ -16,12 +16,12 @@ use Rattle.nbd_wire.specs.protocol.Rules.{complete}
 use Rattle.nbd_wire.specs.protocol.Splits.{IsPlace}
 use Rattle.nbd_wire.specs.protocol.States.{target}
 use Rattle.nbd_laws.specs.captures.Openings.{hasty_client}
-use Rattle.nbd_laws.specs.internal.Machine.{Bad, Machine, Reading, More, Whole, Rest, fresh, get, grown, on_ok, reads, settle}
+use Rattle.nbd_laws.specs.internal.Machine.{Bad, Machine, Reading, More, Whole, Rest, fresh, get, rest_with, on_ok, reads, settle}
 use Rattle.nbd_laws.proofs.runs.PlacingLemmas.{place_law}
 use Rattle.nbd_laws.proofs.runs.PlaceLemmas.{are_prefix, are_last}
 use Rattle.nbd_places.specs.internal.Concrete.{concrete}
 use Rattle.nbd_places.specs.captures.Refused as refused
-use Rattle.nbd_places.specs.captures.Messages.{opened}
+use Rattle.nbd_places.specs.captures.Messages.{opening_messages}
 use Rattle.nbd_places.proofs.judge.BlockLemmas.{reads-append}
 use Rattle.nbd_places.proofs.judge.BoolLemmas.{and_true}
 use Rattle.nbd_places.proofs.judge.SoundLemmas.{sound}
@@ -55,7 +55,7 @@ worked prefix p messages fault bytes read refused = go (reads concrete fresh pre
         let are : ArePairs (prefix ++ p ∷ []) = are_pairs (prefix ++ p ∷ []) bytes in
         let same : mid.messages ≡ messages = cc in
         subst (λ ms. IsPlace (prefix ++ p ∷ []) ms fault) same
-        (place_law concrete sound telling prefix mid p (are_prefix prefix (p ∷ []) are) (are_last prefix p are) e fault (bad_of mid p (grown mid.core (get mid.rests p.from) p.byte) _ fault r))
+        (place_law concrete sound telling prefix mid p (are_prefix prefix (p ∷ []) are) (are_last prefix p are) e fault (bad_of mid p (rest_with mid.core (get mid.rests p.from) p.byte) _ fault r))
 
 at : (ps : List Pair) (n : ℕ) (p : Pair) (messages : List Message) (fault : WireFault) → take n ps ++ p ∷ [] ≡ ps → are_bytes ps ≡ true → messages_in (reads concrete fresh (take n ps)) ≡ Some messages → reads concrete fresh ps ≡ Err fault →
     IsPlace ps messages fault
@@ -86,10 +86,10 @@ pub strange_client : IsPlace (flat refused.strange_client) (Greeting 3 ∷ []) N
 unfolding complete next_phase target has has_only is_proper is_proper_option info_of is_listed is_go content_of failure_of ends_reply is_failing piece_of
 strange_client = at (flat refused.strange_client) 21 (record { from = Client; byte = 4 }) (Greeting 3 ∷ []) NotFixedNewstyle refl refl refl refl
 
-pub unasked_reply : IsPlace (flat refused.unasked_reply) opened UnknownCookie
+pub unasked_reply : IsPlace (flat refused.unasked_reply) opening_messages UnknownCookie
 unfolding complete next_phase target has has_only is_proper is_proper_option info_of is_listed is_go content_of failure_of ends_reply is_failing piece_of
-unasked_reply = at (flat refused.unasked_reply) 111 (record { from = Server; byte = 1 }) opened UnknownCookie refl refl refl refl
+unasked_reply = at (flat refused.unasked_reply) 111 (record { from = Server; byte = 1 }) opening_messages UnknownCookie refl refl refl refl
 
-pub long_disconnect : IsPlace (flat refused.long_disconnect) opened BadDisconnect
+pub long_disconnect : IsPlace (flat refused.long_disconnect) opening_messages BadDisconnect
 unfolding complete next_phase target has has_only is_proper is_proper_option info_of is_listed is_go content_of failure_of ends_reply is_failing piece_of
-long_disconnect = at (flat refused.long_disconnect) 123 (record { from = Client; byte = 1 }) opened BadDisconnect refl refl refl refl
+long_disconnect = at (flat refused.long_disconnect) 123 (record { from = Client; byte = 1 }) opening_messages BadDisconnect refl refl refl refl

@@ -7,8 +7,8 @@ use Rattle.nbd_wire.specs.declared.message.Message.TheVariants.{Answer, Choice, 
 use Rattle.nbd_wire.specs.declared.options.TheConstants as options
 
 -- a negotiation by GO of an export of 8 bytes
-abbrev pub opened : List Message
-opened =
+abbrev pub opening_messages : List Message
+opening_messages =
     Greeting 3
     ∷ ClientFlags 3
     ∷ Choice options.GO (big_bytes 6 0)

@@ -6,32 +6,32 @@ use Rattle.nbd_wire.specs.protocol.States.{Phase, Core}
 use Rattle.nbd_wire.specs.declared.fault.WireFault.{WireFault}
 use Rattle.nbd_wire.specs.declared.fault.WireFault.TheVariants.{OutOfTurn}
 use Rattle.nbd_places.specs.internal.Decisions.{Decision}
-use Rattle.nbd_places.specs.internal.Judge.{decided}
+use Rattle.nbd_places.specs.internal.Judge.{decision}
 use Rattle.nbd_laws.specs.internal.Machine.{Reading, More, Whole, Bad, Judge}
 
-abbrev pub staged_by : Bool → Option WireFault → Bool → Reading → Reading
-staged_by true fault whole end = More
-staged_by false (Some f) whole end = Bad f
-staged_by false None true end = end
-staged_by false None false end = More
+abbrev pub staged_reading_by : Bool → Option WireFault → Bool → Reading → Reading
+staged_reading_by true fault whole end = More
+staged_reading_by false (Some f) whole end = Bad f
+staged_reading_by false None true end = end
+staged_reading_by false None false end = More
 
 -- after a head of h bytes stand p bytes
-abbrev pub staged : ℕ → ℕ → List ℕ → Option WireFault → Reading → Reading
-staged h p bytes fault end = staged_by (nat_lt (length bytes) h) fault (length bytes == h + p) end
+abbrev pub staged_reading : ℕ → ℕ → List ℕ → Option WireFault → Reading → Reading
+staged_reading h p bytes fault end = staged_reading_by (nat_lt (length bytes) h) fault (length bytes == h + p) end
 
-abbrev pub ended : Option WireFault → Message → Reading
-ended (Some f) m = Bad f
-ended None m = Whole m
+abbrev pub last_reading : Option WireFault → Message → Reading
+last_reading (Some f) m = Bad f
+last_reading None m = Whole m
 
 abbrev pub read_by : Decision → List ℕ → Reading
-read_by d bytes = staged d.head_length d.payload_length bytes d.head_fault (ended d.last_fault d.message)
+read_by d bytes = staged_reading d.head_length d.payload_length bytes d.head_fault (last_reading d.last_fault d.message)
 
-abbrev pub judged : Option Decision → List ℕ → Reading
-judged None bytes = Bad OutOfTurn
-judged (Some d) bytes = read_by d bytes
+abbrev pub reading_by_decision : Option Decision → List ℕ → Reading
+reading_by_decision None bytes = Bad OutOfTurn
+reading_by_decision (Some d) bytes = read_by d bytes
 
 abbrev pub judge_in : Phase → (old now : Core) → Side → List ℕ → Reading
-judge_in phase old now s bytes = judged (decided phase old now s bytes) bytes
+judge_in phase old now s bytes = reading_by_decision (decision phase old now s bytes) bytes
 
 abbrev pub concrete : Judge
 concrete old now s bytes = judge_in now.phase old now s bytes

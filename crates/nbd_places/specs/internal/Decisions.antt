@@ -19,9 +19,9 @@ fault_if false fault next = next
 
 -- the next length at which something is decided of these bytes; a side that may not send is refused
 -- at its first byte
-abbrev pub awaited_by : Option Decision → List ℕ → ℕ
-awaited_by None bytes = 1
-awaited_by (Some d) bytes = if nat_lt (length bytes) d.head_length then d.head_length else d.head_length + d.payload_length
+abbrev pub awaited_length_by : Option Decision → List ℕ → ℕ
+awaited_length_by None bytes = 1
+awaited_length_by (Some d) bytes = if nat_lt (length bytes) d.head_length then d.head_length else d.head_length + d.payload_length
 
 -- no reply message has come
 abbrev pub is_none_yet : List Message → Bool

@@ -8,8 +8,8 @@ use Rattle.nbd_wire.specs.protocol.Options.{is_proper_option}
 use Rattle.nbd_wire.specs.protocol.Operations.{Operation}
 use Rattle.nbd_wire.specs.protocol.Flags.{has}
 use Rattle.nbd_wire.specs.protocol.States.{Phase, Greet, Flags, Choosing, Naming, Aborting, Answering, Transmission, Core}
-use Rattle.nbd_places.specs.internal.Decisions.{Decision, awaited_by}
-use Rattle.nbd_places.specs.internal.JudgeNegotiation.{greeting, client_flags, choice, exported, abort_answer, answer}
+use Rattle.nbd_places.specs.internal.Decisions.{Decision, awaited_length_by}
+use Rattle.nbd_places.specs.internal.JudgeNegotiation.{greeting, client_flags, choice, export_answer, abort_answer, answer}
 use Rattle.nbd_places.specs.internal.JudgeTransmission.{operation_counted, operation_of, reply_with, request}
 
 abbrev pub request_unless : (disconnected : Bool) → Core → List ℕ → Option Decision
@@ -17,27 +17,24 @@ request_unless true now bytes = None
 request_unless false now bytes = Some (request now bytes)
 
 -- by phase and side; none where the side may not send
-abbrev pub decided_with : Phase → (to : ℕ → Option Operation) → (now : Core) → Side → List ℕ → Option Decision
-decided_with Greet to now Server bytes = Some (greeting bytes)
-decided_with Flags to now Client bytes = Some (client_flags now.offered bytes)
-decided_with Choosing to now Client bytes = Some (choice bytes)
-decided_with Naming to now Server bytes = Some (exported (has now.client_flags handshake.C_NO_ZEROES) bytes)
-decided_with Aborting to now Server bytes = Some (abort_answer bytes)
-decided_with (Answering option given info) to now Server bytes = Some (answer option (is_proper_option option given) info bytes)
-decided_with (Transmission export) to now Client bytes = request_unless now.disconnected now bytes
-decided_with (Transmission export) to now Server bytes = Some (reply_with export to now bytes)
-decided_with phase to now s bytes = None
+abbrev pub decision_with : Phase → (to : ℕ → Option Operation) → (now : Core) → Side → List ℕ → Option Decision
+decision_with Greet to now Server bytes = Some (greeting bytes)
+decision_with Flags to now Client bytes = Some (client_flags now.offered bytes)
+decision_with Choosing to now Client bytes = Some (choice bytes)
+decision_with Naming to now Server bytes = Some (export_answer (has now.client_flags handshake.C_NO_ZEROES) bytes)
+decision_with Aborting to now Server bytes = Some (abort_answer bytes)
+decision_with (Answering option given info) to now Server bytes = Some (answer option (is_proper_option option given) info bytes)
+decision_with (Transmission export) to now Client bytes = request_unless now.disconnected now bytes
+decision_with (Transmission export) to now Server bytes = Some (reply_with export to now bytes)
+decision_with phase to now s bytes = None
 
-abbrev pub decided : Phase → (old now : Core) → Side → List ℕ → Option Decision
-decided phase old now s bytes = decided_with phase (operation_of old now) now s bytes
+abbrev pub decision : Phase → (old now : Core) → Side → List ℕ → Option Decision
+decision phase old now s bytes = decision_with phase (operation_of old now) now s bytes
 
 -- the same, by how many requests had completed before the first byte
-abbrev pub decided_counted : (count : ℕ) → (now : Core) → Side → List ℕ → Option Decision
-decided_counted count now s bytes = decided_with now.phase (operation_counted count now) now s bytes
+abbrev pub decision_by_count : (count : ℕ) → (now : Core) → Side → List ℕ → Option Decision
+decision_by_count count now s bytes = decision_with now.phase (operation_counted count now) now s bytes
 
 -- the next length at which something is decided of a side's bytes
-abbrev pub awaited : (old now : Core) → Side → List ℕ → ℕ
-awaited old now s bytes = awaited_by (decided now.phase old now s bytes) bytes
-
-abbrev pub awaited_counted : (count : ℕ) → (now : Core) → Side → List ℕ → ℕ
-awaited_counted count now s bytes = awaited_by (decided_counted count now s bytes) bytes
+abbrev pub awaited_length : (old now : Core) → Side → List ℕ → ℕ
+awaited_length old now s bytes = awaited_length_by (decision now.phase old now s bytes) bytes

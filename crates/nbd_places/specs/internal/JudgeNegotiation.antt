@@ -83,15 +83,15 @@ abbrev pub padding_fault : List ℕ → Option WireFault
 padding_fault padding = fault_if (not (are_zeroes padding)) BadExport None
 
 -- the answer to EXPORT_NAME, by whether the client took NO_ZEROES
-abbrev pub exported : (no_zeroes : Bool) → List ℕ → Decision
-exported true bytes = record {
+abbrev pub export_answer : (no_zeroes : Bool) → List ℕ → Decision
+export_answer true bytes = record {
   head_length = 10;
   head_fault = export_fault (number_at 0 8 bytes) (number_at 8 2 bytes);
   payload_length = 0;
   last_fault = None;
   message = Exported (number_at 0 8 bytes) (number_at 8 2 bytes) false;
 }
-exported false bytes = record {
+export_answer false bytes = record {
   head_length = 10;
   head_fault = export_fault (number_at 0 8 bytes) (number_at 8 2 bytes);
   payload_length = 124;

@@ -8,13 +8,13 @@ use Rattle.nbd_session.specs.declared.fault.SessionFault.{SessionFault}
 use Rattle.nbd_session.specs.declared.held.Held.{Held}
 use Rattle.nbd_places.specs.internal.Concrete.{concrete}
 use Rattle.nbd_session.specs.internal.Holdings.{holding_of}
-use Rattle.nbd_session.specs.internal.Logging.{logged}
+use Rattle.nbd_session.specs.internal.Logging.{log_of_pairs}
 use Rattle.nbd_laws.specs.internal.Machine.{fresh, get}
-use Rattle.nbd_session.specs.Sessions.{AddsPrefix, IsOfRun, Recorded, pairs_of}
+use Rattle.nbd_session.specs.Sessions.{AddsPrefix, IsOfRun, SessionView, pairs_of}
 use Rattle.nbd_state.specs.Shows.{AreKnown, Shows}
-use Rattle.nbd_session.specs.internal.Standing.{Holding, IsReadTo, pairs_held, rest_of}
+use Rattle.nbd_session.specs.internal.Standing.{Holding, IsReadTo, held_pairs, rest_of}
 use Rattle.nbd_session.specs.internal.Steps.{HoldsRun, IsKept, Stands}
-use Rattle.nbd_session.specs.Views.{recorded}
+use Rattle.nbd_session.specs.Views.{session_view}
 use Rattle.nbd_session.proofs.judge.PieceLemmas.{standing_run}
 
 abbrev empty : Holding
@@ -27,7 +27,7 @@ rest_empty Server = refl
 read_empty : IsReadTo empty fresh
 read_empty = record { are_pairs = tt; reads_it = refl; messages_are = refl; rests_are = rest_empty; count_is = λ f. absurd f; are_spans = record { of_client = refl; of_server = refl } }
 
-none_known : (xs : List Exchange) → xs ≡ [] → AreKnown (logged concrete fresh []) xs
+none_known : (xs : List Exchange) → xs ≡ [] → AreKnown (log_of_pairs concrete fresh []) xs
 none_known [] e place x at = absurd (cc)
 none_known (y ∷ xs) e place x at = absurd (cc)
 
@@ -36,8 +36,8 @@ begins held shows holds none zero = record {
   machine = fresh;
   read_to = subst (λ h. IsReadTo h fresh) (sym holds) read_empty;
   shows = shows;
-  known = subst (λ h. AreKnown (logged concrete fresh (pairs_held h)) held.state.exchanges.items) (sym holds) (none_known held.state.exchanges.items none);
-  taken_is = zero ∙ sym (ap (λ h. length (pairs_held h)) holds);
+  known = subst (λ h. AreKnown (log_of_pairs concrete fresh (held_pairs h)) held.state.exchanges.items) (sym holds) (none_known held.state.exchanges.items none);
+  taken_is = zero ∙ sym (ap (λ h. length (held_pairs h)) holds);
 }
 
 -- what is held is of a run, whether it stands or is closed
@@ -45,9 +45,9 @@ kept_run : (held : Held) (closed : Option SessionFault) → IsKept held closed �
 kept_run held None st = standing_run held st
 kept_run held (Some fault) shut = shut.run
 
-pub told_run : (held : Held) (closed : Option SessionFault) (r : Recorded) → IsKept held closed → recorded held closed ≡ r → IsOfRun r
+pub told_run : (held : Held) (closed : Option SessionFault) (r : SessionView) → IsKept held closed → session_view held closed ≡ r → IsOfRun r
 told_run held closed r kept e = subst IsOfRun e (kept_run held closed kept)
 
 -- nothing is added
-pub adds_nothing : (r : Recorded) (s : Side) (piece : List ℕ) → AddsPrefix r r s piece
+pub adds_nothing : (r : SessionView) (s : Side) (piece : List ℕ) → AddsPrefix r r s piece
 adds_nothing r s piece = (piece, record { prefix = []; more = []; parts = refl; has_pairs = sym (append-nil (pairs_of r)); has_messages = sym (append-nil r.messages) })

@@ -12,13 +12,13 @@ use Rattle.nbd_session.specs.declared.fault.SessionFault.TheVariants.{Memory}
 use Rattle.nbd_session.specs.declared.held.Held.{Held}
 use Rattle.nbd_session.specs.internal.Holdings.{holding_of}
 use Rattle.nbd_session.specs.Views.{spans_of}
-use Rattle.nbd_places.specs.internal.Judge.{awaited}
+use Rattle.nbd_places.specs.internal.Judge.{awaited_length}
 use Rattle.nbd_laws.specs.internal.Machine.{IsFilled, Machine, fresh, get, old_of}
 use Rattle.nbd_session.specs.Sessions.{Adds}
 use Rattle.nbd_places.specs.internal.Concrete.{concrete}
-use Rattle.nbd_session.specs.internal.Logging.{logged}
+use Rattle.nbd_session.specs.internal.Logging.{log_of_pairs}
 use Rattle.nbd_state.specs.Shows.{AreKnown, Shows}
-use Rattle.nbd_session.specs.internal.Standing.{AreSpansOf, IsReadTo, pairs_held, rest_of, span_total, with_taken}
+use Rattle.nbd_session.specs.internal.Standing.{AreSpansOf, IsReadTo, held_pairs, rest_of, span_total, with_bytes}
 use Rattle.nbd_session.specs.internal.Steps.{AddsHeld, HoldsRun, IsRefused, IsSame, IsShut, IsTaken, Stands}
 use Rattle.nbd_places.proofs.judge.AwaitedLemmas.{held_short}
 use Rattle.nbd_state.proofs.PlacedLemmas.{shown_length}
@@ -51,17 +51,17 @@ side_total Server spans = omega arith
 pub total_fits : (held : Held) (s : Side) → Stands held → span_total s (spans_of held.stretches.items) ≤ held.taken
 total_fits held s st =
     let one : span_total s (spans_of held.stretches.items) ≤ span_total Client (spans_of held.stretches.items) + span_total Server (spans_of held.stretches.items) = side_total s (spans_of held.stretches.items) in
-    let all : length (pairs_held (holding_of held)) ≡ span_total Client (spans_of held.stretches.items) + span_total Server (spans_of held.stretches.items) =
+    let all : length (held_pairs (holding_of held)) ≡ span_total Client (spans_of held.stretches.items) + span_total Server (spans_of held.stretches.items) =
     length-mixed (spans_of held.stretches.items) (bytes_of Client held.messages.items ++ held.client.items) (bytes_of Server held.messages.items ++ held.server.items) st.read_to.are_spans in
     omega (arith, one, all, st.taken_is)
 
-pub awaits_some : (held : Held) (s : Side) (n : ℕ) → Stands held → ((machine : Machine) → IsReadTo (holding_of held) machine → Shows held.state machine.core → n ≡ awaited (old_of machine.core (get machine.rests s)) machine.core s (rest_of (holding_of held) s)) →
+pub awaits_some : (held : Held) (s : Side) (n : ℕ) → Stands held → ((machine : Machine) → IsReadTo (holding_of held) machine → Shows held.state machine.core → n ≡ awaited_length (old_of machine.core (get machine.rests s)) machine.core s (rest_of (holding_of held) s)) →
     length (rest_of (holding_of held) s) < n
 awaits_some held s n st is =
     let short = (held_short (held_of (holding_of held) st.machine st.read_to s)).short in
     let same : length (get st.machine.rests s).bytes ≡ length (rest_of (holding_of held) s) = ap length (st.read_to.rests_are s) in
-    let n_is : n ≡ awaited (old_of st.machine.core (get st.machine.rests s)) st.machine.core s (get st.machine.rests s).bytes =
-    is st.machine st.read_to st.shows ∙ sym (ap (awaited (old_of st.machine.core (get st.machine.rests s)) st.machine.core s) (st.read_to.rests_are s)) in
+    let n_is : n ≡ awaited_length (old_of st.machine.core (get st.machine.rests s)) st.machine.core s (get st.machine.rests s).bytes =
+    is st.machine st.read_to st.shows ∙ sym (ap (awaited_length (old_of st.machine.core (get st.machine.rests s)) st.machine.core s) (st.read_to.rests_are s)) in
     omega (arith, short, same, n_is)
 
 are_bytes : (bytes : List ℕ) → ((i : ℕ) → Fits w8 (slice_index_or bytes i 0)) → AreBytes bytes
@@ -83,26 +83,26 @@ length-sent s bytes = length-map bytes (λ b. record { from = s; byte = b })
 
 -- the prefix of a piece was taken
 module _ (held taken : Held) (s : Side) (left : List ℕ) (count : ℕ) (st : Stands held) (some : 0 < count) (within : count ≤ length left)
-    (holding_is : holding_of taken ≡ with_taken (holding_of held) s (take count left) (length held.state.exchanges.items)) where
-  counts : holding_of taken ≡ with_taken (holding_of held) s (take count left) (length st.machine.core.entries)
-  counts = holding_is ∙ ap (with_taken (holding_of held) s (take count left)) (sym (shown_length _ st.machine.core.entries held.state.exchanges.items st.shows.are_shown))
+    (holding_is : holding_of taken ≡ with_bytes (holding_of held) s (take count left) (length held.state.exchanges.items)) where
+  counts : holding_of taken ≡ with_bytes (holding_of held) s (take count left) (length st.machine.core.entries)
+  counts = holding_is ∙ ap (with_bytes (holding_of held) s (take count left)) (sym (shown_length _ st.machine.core.entries held.state.exchanges.items st.shows.are_shown))
 
-  pub pairs_added : pairs_held (holding_of taken) ≡ pairs_held (holding_of held) ++ side_pairs s (take count left)
-  pairs_added = ap pairs_held counts ∙ pairs-taken (holding_of held) s (take count left) (length st.machine.core.entries) st.read_to.are_spans
+  pub pairs_added : held_pairs (holding_of taken) ≡ held_pairs (holding_of held) ++ side_pairs s (take count left)
+  pairs_added = ap held_pairs counts ∙ pairs-taken (holding_of held) s (take count left) (length st.machine.core.entries) st.read_to.are_spans
 
-  pub taken_counts : taken.taken ≡ held.taken + length (take count left) → taken.taken ≡ length (pairs_held (holding_of taken))
+  pub taken_counts : taken.taken ≡ held.taken + length (take count left) → taken.taken ≡ length (held_pairs (holding_of taken))
   taken_counts e =
-      let n : length (pairs_held (holding_of taken)) ≡ length (pairs_held (holding_of held)) + length (take count left) =
-      ap length pairs_added ∙ length-append (pairs_held (holding_of held)) (side_pairs s (take count left)) ∙ ap (λ k. length (pairs_held (holding_of held)) + k) (length-sent s (take count left)) in
+      let n : length (held_pairs (holding_of taken)) ≡ length (held_pairs (holding_of held)) + length (take count left) =
+      ap length pairs_added ∙ length-append (held_pairs (holding_of held)) (side_pairs s (take count left)) ∙ ap (λ k. length (held_pairs (holding_of held)) + k) (length-sent s (take count left)) in
       omega (arith, e, n, st.taken_is)
 
   pub is_taken : taken.state ≡ held.state → taken.taken ≡ held.taken + length (take count left) → ((i : ℕ) → Fits w8 (slice_index_or left i 0)) →
-      (n : ℕ) → ((machine : Machine) → IsReadTo (holding_of held) machine → Shows held.state machine.core → n ≡ awaited (old_of machine.core (get machine.rests s)) machine.core s (rest_of (holding_of held) s)) →
+      (n : ℕ) → ((machine : Machine) → IsReadTo (holding_of held) machine → Shows held.state machine.core → n ≡ awaited_length (old_of machine.core (get machine.rests s)) machine.core s (rest_of (holding_of held) s)) →
       length (rest_of (holding_of held) s) + count ≤ n → IsTaken taken s
   is_taken state_is e fits n is up =
       let same : length (get st.machine.rests s).bytes ≡ length (rest_of (holding_of held) s) = ap length (st.read_to.rests_are s) in
-      let n_is : n ≡ awaited (old_of st.machine.core (get st.machine.rests s)) st.machine.core s (get st.machine.rests s).bytes =
-      is st.machine st.read_to st.shows ∙ sym (ap (awaited (old_of st.machine.core (get st.machine.rests s)) st.machine.core s) (st.read_to.rests_are s)) in
+      let n_is : n ≡ awaited_length (old_of st.machine.core (get st.machine.rests s)) st.machine.core s (get st.machine.rests s).bytes =
+      is st.machine st.read_to st.shows ∙ sym (ap (awaited_length (old_of st.machine.core (get st.machine.rests s)) st.machine.core s) (st.read_to.rests_are s)) in
       let len : length (take count left) ≡ count = length-take-le count left within in
       record {
         before = holding_of held;
@@ -114,7 +114,7 @@ module _ (held taken : Held) (s : Side) (left : List ℕ) (count : ℕ) (st : St
         up_to = omega (arith, up, n_is, same, len, length-append (get st.machine.rests s).bytes (take count left));
         holding_is = counts;
         shows = subst (λ state. Shows state st.machine.core) (sym state_is) st.shows;
-        known = subst (λ state. AreKnown (logged concrete fresh (pairs_held (holding_of held))) state.exchanges.items) (sym state_is) st.known;
+        known = subst (λ state. AreKnown (log_of_pairs concrete fresh (held_pairs (holding_of held))) state.exchanges.items) (sym state_is) st.known;
         taken_is = taken_counts e;
       }
 
@@ -127,7 +127,7 @@ module _ (held taken : Held) (s : Side) (left : List ℕ) (count : ℕ) (st : St
     has_messages = ap (λ h. h.messages) holding_is ∙ messages_kept s ∙ sym (append-nil held.messages.items);
   }
     where
-      messages_kept : (u : Side) → (with_taken (holding_of held) u (take count left) (length held.state.exchanges.items)).messages ≡ held.messages.items
+      messages_kept : (u : Side) → (with_bytes (holding_of held) u (take count left) (length held.state.exchanges.items)).messages ≡ held.messages.items
       messages_kept u = refl
 
 -- a piece and what came of its rest
@@ -156,13 +156,13 @@ same_left a b m n s left x = record {
 
 pub settled_added : (held taken new : Held) (s : Side) (piece left : List ℕ) → AddsHeld held taken s piece left → IsSame taken new → AddsHeld held new s piece left
 settled_added held taken new s piece left x same =
-    added_then (pairs_held (holding_of held)) (pairs_held (holding_of taken)) (pairs_held (holding_of new)) held.messages.items taken.messages.items new.messages.items s piece left left x
-    (same_left (pairs_held (holding_of taken)) (pairs_held (holding_of new)) taken.messages.items new.messages.items s left (same.adds s))
+    added_then (held_pairs (holding_of held)) (held_pairs (holding_of taken)) (held_pairs (holding_of new)) held.messages.items taken.messages.items new.messages.items s piece left left x
+    (same_left (held_pairs (holding_of taken)) (held_pairs (holding_of new)) taken.messages.items new.messages.items s left (same.adds s))
 
 -- what stands is of a run
 pub standing_run : (held : Held) → Stands held → HoldsRun (holding_of held)
 standing_run held st =
-    let r = read_is_run_but (pairs_held (holding_of held)) st.machine held.messages.items held.client.items held.server.items st.read_to.are_pairs st.read_to.reads_it
+    let r = read_is_run_but (held_pairs (holding_of held)) st.machine held.messages.items held.client.items held.server.items st.read_to.are_pairs st.read_to.reads_it
     st.read_to.messages_are (st.read_to.rests_are Client) (st.read_to.rests_are Server) in
     record { items = r.0; is_run = r.1; has_pairs = r.2; has_messages = r.3 }
 
@@ -174,12 +174,12 @@ refused_memory held new s piece st holding same = record {
     prefix = [];
     more = [];
     parts = refl;
-    has_pairs = ap pairs_held holding ∙ sym (append-nil (pairs_held (holding_of held)));
+    has_pairs = ap held_pairs holding ∙ sym (append-nil (held_pairs (holding_of held)));
     has_messages = ap (λ h. h.messages) holding ∙ sym (append-nil held.messages.items);
   };
   shut = record {
     run = subst HoldsRun (sym holding) (standing_run held st);
-    taken_is = same ∙ st.taken_is ∙ sym (ap (λ h. length (pairs_held h)) holding);
+    taken_is = same ∙ st.taken_is ∙ sym (ap (λ h. length (held_pairs h)) holding);
     cause = tt;
   };
 }
@@ -191,6 +191,6 @@ refused_settling held taken new s piece left fault x same shut = record { left =
 pub refused_then : (held mid new : Held) (s : Side) (piece left : List ℕ) (fault : SessionFault) → AddsHeld held mid s piece left → IsRefused mid new s left fault → IsRefused held new s piece fault
 refused_then held mid new s piece left fault x r = record {
   left = r.left;
-  adds = added_then (pairs_held (holding_of held)) (pairs_held (holding_of mid)) (pairs_held (holding_of new)) held.messages.items mid.messages.items new.messages.items s piece left r.left x r.adds;
+  adds = added_then (held_pairs (holding_of held)) (held_pairs (holding_of mid)) (held_pairs (holding_of new)) held.messages.items mid.messages.items new.messages.items s piece left r.left x r.adds;
   shut = r.shut;
 }

@@ -12,7 +12,7 @@ use Rattle.nbd_wire.specs.protocol.Within.{CompletesExactly, IsOfNoRun, within}
 use Rattle.nbd_wire.specs.declared.fault.WireFault.{WireFault}
 use Rattle.nbd_wire.specs.declared.fault.WireFault.TheVariants.{Unfinished}
 use Rattle.nbd_laws.proofs.machine.MachineLemmas.{AreHeld}
-use Rattle.nbd_laws.specs.internal.Machine.{Bad, IsFilled, Machine, More, Reading, Rest, Whole, fresh, get, grown, old_of, on_ok, reads, settle, step}
+use Rattle.nbd_laws.specs.internal.Machine.{Bad, IsFilled, Machine, More, Reading, Rest, Whole, fresh, get, rest_with, old_of, on_ok, reads, settle, step}
 use Rattle.nbd_laws.proofs.machine.MarkLemmas.{IsRead}
 use Rattle.nbd_laws.proofs.runs.RunLemmas.{marks_law}
 use Rattle.nbd_session.specs.declared.fault.SessionFault.{SessionFault}
@@ -20,16 +20,16 @@ use Rattle.nbd_session.specs.declared.fault.SessionFault.TheVariants.{Memory, Wi
 use Rattle.nbd_session.specs.declared.held.Held.{Held}
 use Rattle.nbd_places.specs.internal.Concrete.{concrete}
 use Rattle.nbd_session.specs.internal.Holdings.{holding_of}
-use Rattle.nbd_places.specs.internal.Judge.{awaited}
+use Rattle.nbd_places.specs.internal.Judge.{awaited_length}
 use Rattle.nbd_wire.specs.protocol.Splits.{IsPlace}
 use Rattle.nbd_laws.proofs.runs.PlacingLemmas.{place_law}
 use Rattle.nbd_laws.proofs.runs.PlaceLemmas.{read_no_place}
 use Rattle.nbd_places.proofs.rows.RowJudgeLemmas.{telling}
 use Rattle.nbd_session.specs.Refusals.{EndsIn, HasNoPlace, IsComplete, IsOpenEnd, IsRefusal, IsWireFault, Refuses}
-use Rattle.nbd_session.specs.Sessions.{HasRun, Recorded, fault_at_end, fault_of, pairs_of, taken, unfinished}
-use Rattle.nbd_session.specs.internal.Standing.{Holding, IsReadTo, pairs_held, with_taken}
+use Rattle.nbd_session.specs.Sessions.{HasRun, SessionView, fault_at_end, fault_of, pairs_of, bytes_taken, open_end_fault}
+use Rattle.nbd_session.specs.internal.Standing.{Holding, IsReadTo, held_pairs, with_bytes}
 use Rattle.nbd_session.specs.internal.Steps.{IsKept, IsShut, Stands}
-use Rattle.nbd_session.specs.Views.{recorded}
+use Rattle.nbd_session.specs.Views.{session_view}
 use Rattle.nbd_session.specs.internal.Stopped.{IsStopped}
 use Rattle.nbd_places.proofs.judge.AwaitedLemmas.{reads_below}
 use Rattle.nbd_places.proofs.judge.BlockLemmas.{extended, reads-append, with_rest}
@@ -62,7 +62,7 @@ record GoesTo (machine : Machine) (s : Side) (bytes : List ℕ) : Type 0 where
   messages_are : next.messages ≡ machine.messages
 
 goes_to : (machine : Machine) (s : Side) (bytes : List ℕ) → AreHeld concrete machine →
-    length ((get machine.rests s).bytes ++ bytes) < awaited (old_of machine.core (get machine.rests s)) machine.core s (get machine.rests s).bytes → GoesTo machine s bytes
+    length ((get machine.rests s).bytes ++ bytes) < awaited_length (old_of machine.core (get machine.rests s)) machine.core s (get machine.rests s).bytes → GoesTo machine s bytes
 goes_to machine s [] held l = record { next = machine; reads_it = refl; messages_are = refl }
 goes_to machine s (b ∷ bytes) held l = record {
   next = with_rest machine s (extended machine.core (get machine.rests s) (b ∷ bytes));
@@ -76,23 +76,23 @@ step_of (Err other) fault e = e
 
 -- bytes of a side that were taken and refused
 module _ (h : Holding) (machine : Machine) (r : IsReadTo h machine) (s : Side) (more : List ℕ) (entries : ℕ) (filled : IsFilled more)
-    (are_pairs : ArePairs (pairs_held (with_taken h s more entries)))
-    (up_to : length ((get machine.rests s).bytes ++ more) ≤ awaited (old_of machine.core (get machine.rests s)) machine.core s (get machine.rests s).bytes) where
-  pub stopped : (fault : WireFault) → reads concrete fresh (pairs_held (with_taken h s more entries)) ≡ Err fault → IsStopped (with_taken h s more entries) fault
+    (are_pairs : ArePairs (held_pairs (with_bytes h s more entries)))
+    (up_to : length ((get machine.rests s).bytes ++ more) ≤ awaited_length (old_of machine.core (get machine.rests s)) machine.core s (get machine.rests s).bytes) where
+  pub stopped : (fault : WireFault) → reads concrete fresh (held_pairs (with_bytes h s more entries)) ≡ Err fault → IsStopped (with_bytes h s more entries) fault
   stopped fault e =
       let l : HasLast more = some_last more filled in
       let last : Pair = record { from = s; byte = l.last } in
       let longer : length ((get machine.rests s).bytes ++ more) ≡ length ((get machine.rests s).bytes ++ l.before) + 1 =
       ap (λ bs. length ((get machine.rests s).bytes ++ bs)) l.parts ∙ ap length (sym (append_assoc (get machine.rests s).bytes l.before (l.last ∷ []))) ∙ length-append ((get machine.rests s).bytes ++ l.before) (l.last ∷ []) in
       let g : GoesTo machine s l.before = goes_to machine s l.before (held_of h machine r) (omega (arith, longer, up_to)) in
-      let prefix : List Pair = pairs_held h ++ side_pairs s l.before in
-      let parts : pairs_held (with_taken h s more entries) ≡ prefix ++ last ∷ [] =
+      let prefix : List Pair = held_pairs h ++ side_pairs s l.before in
+      let parts : held_pairs (with_bytes h s more entries) ≡ prefix ++ last ∷ [] =
       pairs-taken h s more entries r.are_spans
-      ∙ ap (λ bs. pairs_held h ++ side_pairs s bs) l.parts
-      ∙ ap (λ ps. pairs_held h ++ ps) (sent-append s l.before (l.last ∷ []))
-      ∙ sym (append_assoc (pairs_held h) (side_pairs s l.before) (last ∷ [])) in
+      ∙ ap (λ bs. held_pairs h ++ side_pairs s bs) l.parts
+      ∙ ap (λ ps. held_pairs h ++ ps) (sent-append s l.before (l.last ∷ []))
+      ∙ sym (append_assoc (held_pairs h) (side_pairs s l.before) (last ∷ [])) in
       let prefix_is : reads concrete fresh prefix ≡ Ok g.next =
-      reads-append concrete fresh (pairs_held h) (side_pairs s l.before) ∙ ap (λ o. on_ok o (λ next. reads concrete next (side_pairs s l.before))) r.reads_it ∙ g.reads_it in
+      reads-append concrete fresh (held_pairs h) (side_pairs s l.before) ∙ ap (λ o. on_ok o (λ next. reads concrete next (side_pairs s l.before))) r.reads_it ∙ g.reads_it in
       let refused : on_ok (step concrete g.next last.from last.byte) (λ next. Ok next) ≡ Err fault =
       sym (ap (λ o. on_ok o (λ next. reads concrete next (last ∷ []))) prefix_is)
       ∙ sym (reads-append concrete fresh prefix (last ∷ []))
@@ -133,7 +133,7 @@ but_last (x ∷ ps) (y ∷ qs) p q e =
     let rest : ps ++ p ∷ [] ≡ qs ++ q ∷ [] = cc in
     ap (λ z. z ∷ ps) same ∙ ap (λ l. y ∷ l) (but_last ps qs p q rest)
 
-pub stopped_reads : (h : Holding) (fault : WireFault) (st : IsStopped h fault) → reads concrete fresh (pairs_held h) ≡ Err fault
+pub stopped_reads : (h : Holding) (fault : WireFault) (st : IsStopped h fault) → reads concrete fresh (held_pairs h) ≡ Err fault
 stopped_reads h fault st =
     ap (reads concrete fresh) st.parts
     ∙ reads-append concrete fresh st.prefix (st.last ∷ [])
@@ -150,23 +150,23 @@ last_byte [] p a = a.0
 last_byte (q ∷ ps) p a = last_byte ps p a.1
 
 -- where a session was stopped is the place
-stopped_place : (h : Holding) (fault : WireFault) → IsStopped h fault → IsPlace (pairs_held h) h.messages fault
+stopped_place : (h : Holding) (fault : WireFault) → IsStopped h fault → IsPlace (held_pairs h) h.messages fault
 stopped_place h fault st =
     let are : ArePairs (st.prefix ++ st.last ∷ []) = subst ArePairs st.parts st.are_pairs in
     subst (λ ps. IsPlace ps h.messages fault) (sym st.parts)
     (subst (λ ms. IsPlace (st.prefix ++ st.last ∷ []) ms fault) st.messages_are
     (place_law concrete sound telling st.prefix st.machine st.last (are_prefix st.prefix (st.last ∷ []) are) (last_byte st.prefix st.last are) st.reads_it fault
-    (bad_of st.machine st.last.from (grown st.machine.core (get st.machine.rests st.last.from) st.last.byte) _ fault st.refused)))
+    (bad_of st.machine st.last.from (rest_with st.machine.core (get st.machine.rests st.last.from) st.last.byte) _ fault st.refused)))
 
 -- no prefix of what was read without a fault has a place
 placeless : (ps : List Pair) (end : Machine) → reads concrete fresh ps ≡ Ok end → HasNoPlace ps
 placeless ps end e prefix rest messages fault parts place = read_no_place concrete sound exact telling prefix rest end (ap (reads concrete fresh) parts ∙ e) messages fault place
 
 -- a session that was stopped was refused
-pub refusal : (h : Holding) (fault : WireFault) → IsStopped h fault → IsRefusal (pairs_held h) h.messages fault
+pub refusal : (h : Holding) (fault : WireFault) → IsStopped h fault → IsRefusal (held_pairs h) h.messages fault
 refusal h fault st = record {
   place = stopped_place h fault st;
-  none = λ items run begins. none_refused items run (pairs_held h) begins.0 st.are_pairs begins.1 fault (stopped_reads h fault st);
+  none = λ items run begins. none_refused items run (held_pairs h) begins.0 st.are_pairs begins.1 fault (stopped_reads h fault st);
   before = λ prefix last parts.
       (let same : st.prefix ≡ prefix = but_last st.prefix prefix st.last last (sym st.parts ∙ parts) in
       subst (λ ps. CompletesExactly ps h.messages) same
@@ -174,16 +174,16 @@ refusal h fault st = record {
 }
 
 -- a session that answers a fault was refused
-pub refuses : (held : Held) (fault : SessionFault) → IsShut held fault → Refuses (recorded held (Some fault)) fault
+pub refuses : (held : Held) (fault : SessionFault) → IsShut held fault → Refuses (session_view held (Some fault)) fault
 refuses held Memory shut = tt
 refuses held (Wire at fault) shut = refusal (holding_of held) fault shut.cause.1
 
 -- the messages of a session under way are all that complete within its bytes
-pub stands_exactly : (held : Held) (closed : Option SessionFault) → Stands held → CompletesExactly (pairs_of (recorded held closed)) held.messages.items
-stands_exactly held closed st = completes_exactly (pairs_held (holding_of held)) st.machine held.messages.items st.read_to.are_pairs st.read_to.reads_it st.read_to.messages_are
+pub stands_exactly : (held : Held) (closed : Option SessionFault) → Stands held → CompletesExactly (pairs_of (session_view held closed)) held.messages.items
+stands_exactly held closed st = completes_exactly (held_pairs (holding_of held)) st.machine held.messages.items st.read_to.are_pairs st.read_to.reads_it st.read_to.messages_are
 
-pub stands_placeless : (held : Held) (closed : Option SessionFault) → Stands held → HasNoPlace (pairs_of (recorded held closed))
-stands_placeless held closed st = placeless (pairs_held (holding_of held)) st.machine st.read_to.reads_it
+pub stands_placeless : (held : Held) (closed : Option SessionFault) → Stands held → HasNoPlace (pairs_of (session_view held closed))
+stands_placeless held closed st = placeless (held_pairs (holding_of held)) st.machine st.read_to.reads_it
 
 within_all : (items : List Item) → within (length (pairs items)) items ≡ completed_messages items
 within_all [] = refl
@@ -193,9 +193,9 @@ within_all (Completes s m ∷ items) = ap (λ l. m ∷ l) (within_all items)
 within_all (Serves k ∷ items) = within_all items
 
 -- a run with exactly the bytes of a session leaves no byte after its messages
-none_behind : (held : Held) → Stands held → (items : List Item) → IsRun items → pairs items ≡ pairs_held (holding_of held) → (held.client.items ≡ []) × (held.server.items ≡ [])
+none_behind : (held : Held) → Stands held → (items : List Item) → IsRun items → pairs items ≡ held_pairs (holding_of held) → (held.client.items ≡ []) × (held.server.items ≡ [])
 none_behind held st items run has =
-    let ps : List Pair = pairs_held (holding_of held) in
+    let ps : List Pair = held_pairs (holding_of held) in
     let all : within (length ps) items ≡ held.messages.items = stands_exactly held None st items run ([], has ∙ sym (append-nil ps)) in
     let are : completed_messages items ≡ held.messages.items = sym (within_all items) ∙ ap (λ n. within n items) (ap length has) ∙ all in
     let of_run : AreBytesOf items [] [] = run_bytes items [] [] run in
@@ -206,16 +206,16 @@ none_behind held st items run has =
         append_cancel_left (bytes_of s held.messages.items) rest []
         (ap (λ l. bytes_of s held.messages.items ++ l) (sym is)
         ∙ ap (λ ms. bytes_of s ms ++ (get st.machine.rests s).bytes) (sym st.read_to.messages_are)
-        ∙ sym (fresh_bytes concrete sound s (pairs_held (holding_of held)) st.machine st.read_to.are_pairs st.read_to.reads_it)
+        ∙ sym (fresh_bytes concrete sound s (held_pairs (holding_of held)) st.machine st.read_to.are_pairs st.read_to.reads_it)
         ∙ ap (bytes_from s) (sym has)
         ∙ e
         ∙ ap (λ ms. bytes_of s ms ++ []) are)
 
 unfinished_end : (held : Held) → Stands held → (client server : List ℕ) → held.client.items ≡ client → held.server.items ≡ server → (at : ℕ) (fault : SessionFault) →
-    at ≡ length (pairs_held (holding_of held)) → unfinished client server at ≡ Some fault → EndsIn (recorded held None) fault
+    at ≡ length (held_pairs (holding_of held)) → open_end_fault client server at ≡ Some fault → EndsIn (session_view held None) fault
 unfinished_end held st client server c s at Memory n e = absurd (no_memory client server e)
   where
-    no_memory : (client server : List ℕ) → unfinished client server at ≡ Some Memory → ⊥
+    no_memory : (client server : List ℕ) → open_end_fault client server at ≡ Some Memory → ⊥
     no_memory [] [] e = (cc)
     no_memory (b ∷ client) server e = (cc)
     no_memory [] (b ∷ server) e = (cc)
@@ -230,40 +230,40 @@ unfinished_end held st [] (b ∷ server) c s at (Wire place fault) n e =
     inr (sym f, sym p ∙ n, record { placeless = stands_placeless held None st; none = λ items run has. absurd (let q : b ∷ server ≡ [] = sym s ∙ (none_behind held st items run has).1 in cc); all = stands_exactly held None st })
 
 -- why a session ends in a fault
-pub ends_in : (held : Held) (closed : Option SessionFault) → IsKept held closed → (fault : SessionFault) → fault_at_end (recorded held closed) ≡ Some fault → EndsIn (recorded held closed) fault
-ends_in held None st fault e = unfinished_end held st held.client.items held.server.items refl refl (taken (recorded held None)) fault refl e
-ends_in held (Some Memory) shut fault e = subst (EndsIn (recorded held (Some Memory))) (let q : Memory ≡ fault = cc in q) tt
+pub ends_in : (held : Held) (closed : Option SessionFault) → IsKept held closed → (fault : SessionFault) → fault_at_end (session_view held closed) ≡ Some fault → EndsIn (session_view held closed) fault
+ends_in held None st fault e = unfinished_end held st held.client.items held.server.items refl refl (bytes_taken (session_view held None)) fault refl e
+ends_in held (Some Memory) shut fault e = subst (EndsIn (session_view held (Some Memory))) (let q : Memory ≡ fault = cc in q) tt
 ends_in held (Some (Wire at fault)) shut other e =
-    subst (EndsIn (recorded held (Some (Wire at fault)))) (let q : Wire at fault ≡ other = cc in q)
+    subst (EndsIn (session_view held (Some (Wire at fault)))) (let q : Wire at fault ≡ other = cc in q)
     (inl (record {
-      prefix = pairs_held (holding_of held);
+      prefix = held_pairs (holding_of held);
       rest = [];
-      parts = append-nil (pairs_held (holding_of held));
+      parts = append-nil (held_pairs (holding_of held));
       at_is = shut.cause.0 ∙ shut.taken_is;
       refusal = refusal (holding_of held) fault shut.cause.1;
     }))
 
 -- a session that is closed ends in the fault that closed it
-pub closed_end : (held : Held) (closed : Option SessionFault) (r : Recorded) (fault : SessionFault) → IsKept held closed → recorded held closed ≡ r → closed ≡ Some fault → EndsIn r fault
+pub closed_end : (held : Held) (closed : Option SessionFault) (r : SessionView) (fault : SessionFault) → IsKept held closed → session_view held closed ≡ r → closed ≡ Some fault → EndsIn r fault
 closed_end held closed r fault kept same is =
-    subst (λ x. EndsIn x fault) (ap (recorded held) (sym is) ∙ same) (ends_in held (Some fault) (subst (IsKept held) is kept) fault refl)
+    subst (λ x. EndsIn x fault) (ap (session_view held) (sym is) ∙ same) (ends_in held (Some fault) (subst (IsKept held) is kept) fault refl)
 
 -- any other ends where a message is open
-pub open_end : {A : Type 0} (held : Held) (closed : Option SessionFault) (r : Recorded) (result : Result A SessionFault) → IsKept held closed → recorded held closed ≡ r → closed ≡ None →
-    fault_of result ≡ fault_at_end (recorded held None) → IfErr result (EndsIn r)
+pub open_end : {A : Type 0} (held : Held) (closed : Option SessionFault) (r : SessionView) (result : Result A SessionFault) → IsKept held closed → session_view held closed ≡ r → closed ≡ None →
+    fault_of result ≡ fault_at_end (session_view held None) → IfErr result (EndsIn r)
 open_end held closed r (Ok a) kept same is e = tt
 open_end held closed r (Err fault) kept same is e =
-    subst (λ x. EndsIn x fault) (ap (recorded held) (sym is) ∙ same) (ends_in held None (subst (IsKept held) is kept) fault (sym e))
+    subst (λ x. EndsIn x fault) (ap (session_view held) (sym is) ∙ same) (ends_in held None (subst (IsKept held) is kept) fault (sym e))
 
 -- a closed session refuses again
-pub refuses_again : (held : Held) (closed : Option SessionFault) (r : Recorded) (fault : SessionFault) → IsKept held closed → recorded held closed ≡ r → closed ≡ Some fault → Refuses r fault
+pub refuses_again : (held : Held) (closed : Option SessionFault) (r : SessionView) (fault : SessionFault) → IsKept held closed → session_view held closed ≡ r → closed ≡ Some fault → Refuses r fault
 refuses_again held closed r fault kept same is =
-    subst (λ x. Refuses x fault) (ap (recorded held) (sym is) ∙ same) (refuses held fault (subst (IsKept held) is kept))
+    subst (λ x. Refuses x fault) (ap (session_view held) (sym is) ∙ same) (refuses held fault (subst (IsKept held) is kept))
 
-pub is_complete : (held : Held) (closed : Option SessionFault) (r : Recorded) → IsKept held closed → recorded held closed ≡ r → IsComplete r
+pub is_complete : (held : Held) (closed : Option SessionFault) (r : SessionView) → IsKept held closed → session_view held closed ≡ r → IsComplete r
 is_complete held closed r kept same = subst IsComplete same (go closed kept)
   where
-    go : (closed : Option SessionFault) → IsKept held closed → IsComplete (recorded held closed)
+    go : (closed : Option SessionFault) → IsKept held closed → IsComplete (session_view held closed)
     go None st = (stands_exactly held None st, stands_placeless held None st)
     go (Some fault) shut = refuses held fault shut
 

@@ -20,8 +20,8 @@ past d bytes h = sym (ap (λ b. unless_before b d.head_length (behind_head d.hea
     le-ltb' : d.head_length ≤ length bytes → nat_lt (length bytes) d.head_length ≡ false
     le-ltb' h = le-ltb (length bytes) d.head_length h
 
-pub refused : (d : Decision) (bytes : List ℕ) (fault : WireFault) → d.head_length ≤ length bytes → d.head_fault ≡ Some fault → Err fault ≡ reading_of d bytes
-refused d bytes fault h e =
+pub reads_head_fault : (d : Decision) (bytes : List ℕ) (fault : WireFault) → d.head_length ≤ length bytes → d.head_fault ≡ Some fault → Err fault ≡ reading_of d bytes
+reads_head_fault d bytes fault h e =
     sym (ap (λ f. behind_head f (at_end (length bytes == d.head_length + d.payload_length) (d.head_length + d.payload_length) d.last_fault)) e) ∙ past d bytes h
 
 behind : (d : Decision) (bytes : List ℕ) → d.head_length ≤ length bytes → d.head_fault ≡ None →

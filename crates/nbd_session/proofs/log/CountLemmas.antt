@@ -5,14 +5,18 @@ use Rattle.nbd_wire.specs.declared.message.Side.{Side}
 use Rattle.nbd_wire.specs.declared.message.Side.TheVariants.{Client, Server}
 use Rattle.nbd_wire.specs.protocol.Operations.{Operation, Exporting}
 use Rattle.nbd_wire.specs.protocol.States.{Core, Phase, Greet, Flags, Choosing, Naming, Aborting, Answering, Ended, Transmission, is_awaiting, target, target_from}
-use Rattle.nbd_places.specs.internal.Decisions.{awaited_by}
-use Rattle.nbd_places.specs.internal.Judge.{awaited, awaited_counted, decided, decided_counted, decided_with}
+use Rattle.nbd_places.specs.internal.Decisions.{awaited_length_by}
+use Rattle.nbd_places.specs.internal.Judge.{awaited_length, decision, decision_by_count, decision_with}
 use Rattle.nbd_places.specs.internal.JudgeTransmission.{operation_counted, operation_if, operation_of, within}
 use Rattle.nbd_places.specs.internal.Concrete.{concrete}
 use Rattle.nbd_laws.proofs.machine.MachineLemmas.{Held, Kept, Later, Later-trans, none_held, old-empty, old-filled, some_held}
 use Rattle.nbd_laws.specs.internal.Machine.{More, Rest, old_of}
 use Rattle.nbd_places.proofs.judge.PhaseLemmas.{IsAppended, Later-appended, Later-turn}
-use Rattle.nbd_places.proofs.judge.SoundLemmas.{kept_later, opened}
+use Rattle.nbd_places.proofs.judge.SoundLemmas.{kept_later, turn_of_reading}
+
+-- the next length at which something is decided, by how many requests had completed before the first byte
+abbrev pub awaited_length_by_count : (count : ℕ) → (now : Core) → Side → List ℕ → ℕ
+awaited_length_by_count count now s bytes = awaited_length_by (decision_by_count count now s bytes) bytes
 
 above : (n cookie : ℕ) (es : List Operation) (j : ℕ) → target_from n cookie es ≡ Some j → n < j
 above n cookie [] j h = absurd (cc)
@@ -50,8 +54,8 @@ entry_is_counted old now a cookie =
 
 -- the decisions of a server's bytes are those by the count; no other decision looks at it
 pub decided_is_counted : (phase : Phase) (old now : Core) (s : Side) (bytes : List ℕ) → ((export : Exporting) → phase ≡ Transmission export → s ≡ Server → IsAppended old now) →
-    decided phase old now s bytes ≡ decided_with phase (operation_counted (length old.entries) now) now s bytes
-decided_is_counted (Transmission export) old now Server bytes h = ap (λ to. decided_with (Transmission export) to now Server bytes) (λ i cookie. entry_is_counted old now (h export refl refl) cookie i)
+    decision phase old now s bytes ≡ decision_with phase (operation_counted (length old.entries) now) now s bytes
+decided_is_counted (Transmission export) old now Server bytes h = ap (λ to. decision_with (Transmission export) to now Server bytes) (λ i cookie. entry_is_counted old now (h export refl refl) cookie i)
 decided_is_counted (Transmission export) old now Client bytes h = refl
 decided_is_counted Greet old now Server bytes h = refl
 decided_is_counted Greet old now Client bytes h = refl
@@ -75,7 +79,7 @@ none_added core = record { more = []; entries_are = sym (append-nil core.entries
 kept_appended : {old now next : Core} {bytes : List ℕ} → Kept concrete Server old now bytes → concrete old now Server bytes ≡ More → Later Server now next → IsAppended old next
 kept_appended {old} {now} {next} k m l =
     let later : Later Server old next = Later-trans (kept_later k) l in
-    elim (opened More k m (λ q. (cc))) [
+    elim (turn_of_reading More k m (λ q. (cc))) [
       | inl t ↦ subst (IsAppended old) (Later-turn later t) (none_added old)
       | inr (export, t) ↦ Later-appended later export t
     ]
@@ -89,8 +93,8 @@ abbrev pub count_of : Core → Rest → ℕ
 count_of core rest = length (old_of core rest).entries
 
 -- what is decided of a machine's rest, by the count
-pub held_counted : {core : Core} {s : Side} {rest : Rest} → Held concrete core s rest → (bytes : List ℕ) → decided core.phase (old_of core rest) core s bytes ≡ decided_counted (count_of core rest) core s bytes
+pub held_counted : {core : Core} {s : Side} {rest : Rest} → Held concrete core s rest → (bytes : List ℕ) → decision core.phase (old_of core rest) core s bytes ≡ decision_by_count (count_of core rest) core s bytes
 held_counted {core} {s} {rest} h bytes = decided_is_counted core.phase (old_of core rest) core s bytes (λ export t q. held_appended (subst (λ u. Held concrete core u rest) q h))
 
-pub awaited_held : {core : Core} {s : Side} {rest : Rest} → Held concrete core s rest → (bytes : List ℕ) → awaited (old_of core rest) core s bytes ≡ awaited_counted (count_of core rest) core s bytes
-awaited_held h bytes = ap (λ o. awaited_by o bytes) (held_counted h bytes)
+pub awaited_held : {core : Core} {s : Side} {rest : Rest} → Held concrete core s rest → (bytes : List ℕ) → awaited_length (old_of core rest) core s bytes ≡ awaited_length_by_count (count_of core rest) core s bytes
+awaited_held h bytes = ap (λ o. awaited_length_by o bytes) (held_counted h bytes)

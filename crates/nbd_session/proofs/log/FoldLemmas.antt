@@ -5,8 +5,12 @@ use Rattle.nbd_wire.specs.protocol.Marks.{Item, Byte, Starts, Completes, Serves,
 use Rattle.nbd_wire.specs.protocol.Captures.{Pair}
 use Rattle.nbd_wire.specs.protocol.Rules.{after, complete, ends_at}
 use Rattle.nbd_wire.specs.protocol.States.{Core, State, start}
-use Rattle.nbd_state.specs.Folded.{core_from, core_of}
-use Rattle.nbd_laws.specs.internal.Machine.{Bad, Judge, Machine, More, Reading, Rest, Whole, get, grown, on_ok, reads, settle, fresh}
+use Rattle.nbd_state.specs.Completions.{core_from}
+use Rattle.nbd_laws.specs.internal.Machine.{Bad, Judge, Machine, More, Reading, Rest, Whole, get, rest_with, on_ok, reads, settle, fresh}
+
+-- what messages lead to from the start
+abbrev pub core_of : List Message → Core
+core_of messages = core_from start.core messages
 
 pub core_from-snoc : (core : Core) (messages : List Message) (m : Message) → core_from core (messages ++ m ∷ []) ≡ complete (core_from core messages) m
 core_from-snoc core [] m = refl
@@ -21,7 +25,7 @@ reads_folded judge [] machine end f e = let q : machine ≡ end = cc in subst Is
 reads_folded judge (p ∷ ps) machine end f e = go (judge rest.since machine.core p.from rest.bytes) (λ next g h. reads_folded judge ps next end g h) e
   where
     rest : Rest
-    rest = grown machine.core (get machine.rests p.from) p.byte
+    rest = rest_with machine.core (get machine.rests p.from) p.byte
 
     go : (r : Reading) → ((next : Machine) → IsFolded next → reads judge next ps ≡ Ok end → IsFolded end) → on_ok (settle machine p.from rest r) (λ next. reads judge next ps) ≡ Ok end → IsFolded end
     go More ih e = ih _ f e

@@ -6,13 +6,13 @@ use Rattle.nbd_wire.specs.declared.message.Message.{Message}
 use Rattle.nbd_wire.specs.declared.message.Message.TheVariants.{Greeting, ClientFlags, Choice, Answer, Exported, Request, Simple, Chunk}
 use Rattle.nbd_wire.specs.protocol.Marks.{Item}
 use Rattle.nbd_wire.specs.protocol.Options.{turn}
-use Rattle.nbd_wire.specs.protocol.Reports.{first_known, known, known_from, known_if as known_as}
+use Rattle.nbd_wire.specs.protocol.Reports.{first_known, known_count, known_from, known_if as known_as}
 use Rattle.nbd_wire.specs.protocol.Operations.{Operation, Exporting}
 use Rattle.nbd_wire.specs.protocol.Rules.{IsRun, MayComplete, MayStartIn, request_of_reply, complete, cookie_of, target_of}
 use Rattle.nbd_wire.specs.protocol.Sides.{side}
 use Rattle.nbd_wire.specs.protocol.States.{Core, Phase, Greet, Flags, Choosing, Naming, Aborting, Answering, Ended, Transmission, start, target}
-use Rattle.nbd_state.specs.Logged.{known_by, known_here, known_if}
-use Rattle.nbd_session.specs.internal.Logging.{log_from, log_of}
+use Rattle.nbd_state.specs.Logs.{known_by, known_here, known_if}
+use Rattle.nbd_session.proofs.log.Logs.{log_from, log_of}
 use Rattle.nbd_laws.specs.internal.Machine.{Both, get, put}
 use Rattle.nbd_laws.proofs.machine.MachineLemmas.{Busy, Idle, IsNotBusy, Later, Later-trans, Loose, Open, Walk, at_once, behind, ended, final, get-put_other, get-put_same, loose, middle, opening, same_or_not, serving}
 use Rattle.nbd_laws.proofs.runs.FollowLemmas.{Follows, IsBegun, each_with, follows}
@@ -137,5 +137,5 @@ known_walk {o} (final Server m b {items = items} i w) core f all since k =
 known_walk (loose s b p i w) core f all since k = absurd p
 
 -- what a run knows is what its log knows
-pub known-log : (items : List Item) → IsRun items → (k : ℕ) → known items k ≡ known_by start.core k (log_of items)
+pub known-log : (items : List Item) → IsRun items → (k : ℕ) → known_count items k ≡ known_by start.core k (log_of items)
 known-log items run k = sym (known_walk (walk_of run) start.core (follows items start run.obeys) (elim [ Client ↦ tt | Server ↦ tt ]) (record { client = 0; server = 0 }) k)

@@ -6,10 +6,10 @@ use Rattle.nbd_wire.specs.protocol.Captures.{Pair, side_pairs}
 use Rattle.nbd_wire.specs.protocol.Rules.{request_of_reply}
 use Rattle.nbd_wire.specs.protocol.States.{Core, start}
 use Rattle.nbd_places.specs.internal.Concrete.{concrete}
-use Rattle.nbd_state.specs.Folded.{core_from}
-use Rattle.nbd_places.specs.internal.Judge.{awaited}
-use Rattle.nbd_state.specs.Logged.{Logged, known_by, messages_of}
-use Rattle.nbd_session.specs.internal.Logging.{log_with, logged}
+use Rattle.nbd_state.specs.Completions.{core_from}
+use Rattle.nbd_places.specs.internal.Judge.{awaited_length}
+use Rattle.nbd_state.specs.Logs.{LogEntry, known_by, messages_of}
+use Rattle.nbd_session.specs.internal.Logging.{log_with, log_of_pairs}
 use Rattle.nbd_laws.proofs.machine.MachineLemmas.{AreHeld}
 use Rattle.nbd_laws.specs.internal.Machine.{IsFilled, Judge, Machine, More, Whole, fresh, get, old_of, reads}
 use Rattle.nbd_places.proofs.judge.BlockLemmas.{extended}
@@ -19,38 +19,38 @@ use Rattle.nbd_state.proofs.KnownLemmas.{known_by-within, known_here-other, know
 use Rattle.nbd_session.proofs.log.LogStepLemmas.{known-next, logged-piece, logged_messages}
 
 -- of a request that has not completed nothing is known
-pub known_fresh : (judge : Judge) (ps : List Pair) (machine : Machine) (k : ℕ) → reads judge fresh ps ≡ Ok machine → length machine.core.entries < k → known_by start.core k (logged judge fresh ps) ≡ None
-known_fresh judge ps machine k e l = go (known_by start.core k (logged judge fresh ps)) refl
+pub known_fresh : (judge : Judge) (ps : List Pair) (machine : Machine) (k : ℕ) → reads judge fresh ps ≡ Ok machine → length machine.core.entries < k → known_by start.core k (log_of_pairs judge fresh ps) ≡ None
+known_fresh judge ps machine k e l = go (known_by start.core k (log_of_pairs judge fresh ps)) refl
   where
-    core_same : core_from start.core (messages_of (logged judge fresh ps)) ≡ machine.core
+    core_same : core_from start.core (messages_of (log_of_pairs judge fresh ps)) ≡ machine.core
     core_same = ap (core_from start.core) (logged_messages judge ps fresh machine e) ∙ sym (core_is judge ps machine e)
 
-    go : (o : Option ℕ) → known_by start.core k (logged judge fresh ps) ≡ o → known_by start.core k (logged judge fresh ps) ≡ None
+    go : (o : Option ℕ) → known_by start.core k (log_of_pairs judge fresh ps) ≡ o → known_by start.core k (log_of_pairs judge fresh ps) ≡ None
     go None is = is
     go (Some n) is =
-        let w : (0 < k) × (k ≤ length (core_from start.core (messages_of (logged judge fresh ps))).entries) = known_by-within start.core k n (logged judge fresh ps) is in
+        let w : (0 < k) × (k ≤ length (core_from start.core (messages_of (log_of_pairs judge fresh ps))).entries) = known_by-within start.core k n (log_of_pairs judge fresh ps) is in
         let at : k ≤ length machine.core.entries = subst (λ (c : Core). k ≤ length c.entries) core_same w.1 in
         absurd (omega (arith, l, at))
 
 -- one more message that answers request k: what was known of it stays, or its count is known
-pub known-answered : (judge : Judge) (ps : List Pair) (machine : Machine) (k : ℕ) (l : Logged) → reads judge fresh ps ≡ Ok machine → request_of_reply machine.core l.message ≡ Some k →
-    known_by start.core k (logged judge fresh ps ++ l ∷ []) ≡ (if is_some (known_by start.core k (logged judge fresh ps)) then known_by start.core k (logged judge fresh ps) else Some l.known)
+pub known-answered : (judge : Judge) (ps : List Pair) (machine : Machine) (k : ℕ) (l : LogEntry) → reads judge fresh ps ≡ Ok machine → request_of_reply machine.core l.message ≡ Some k →
+    known_by start.core k (log_of_pairs judge fresh ps ++ l ∷ []) ≡ (if is_some (known_by start.core k (log_of_pairs judge fresh ps)) then known_by start.core k (log_of_pairs judge fresh ps) else Some l.known)
 known-answered judge ps machine k l e a =
-    known-next judge ps machine k l e ∙ ap (known_or (known_by start.core k (logged judge fresh ps))) (known_here-same (request_of_reply machine.core l.message) l.known k a) ∙ or_is (known_by start.core k (logged judge fresh ps)) l.known
+    known-next judge ps machine k l e ∙ ap (known_or (known_by start.core k (log_of_pairs judge fresh ps))) (known_here-same (request_of_reply machine.core l.message) l.known k a) ∙ or_is (known_by start.core k (log_of_pairs judge fresh ps)) l.known
 
 -- one that does not changes nothing of it
-pub known-unanswered : (judge : Judge) (ps : List Pair) (machine : Machine) (k : ℕ) (l : Logged) → reads judge fresh ps ≡ Ok machine → (request_of_reply machine.core l.message ≡ Some k → ⊥) →
-    known_by start.core k (logged judge fresh ps ++ l ∷ []) ≡ known_by start.core k (logged judge fresh ps)
+pub known-unanswered : (judge : Judge) (ps : List Pair) (machine : Machine) (k : ℕ) (l : LogEntry) → reads judge fresh ps ≡ Ok machine → (request_of_reply machine.core l.message ≡ Some k → ⊥) →
+    known_by start.core k (log_of_pairs judge fresh ps ++ l ∷ []) ≡ known_by start.core k (log_of_pairs judge fresh ps)
 known-unanswered judge ps machine k l e ne =
-    known-next judge ps machine k l e ∙ ap (known_or (known_by start.core k (logged judge fresh ps))) (known_here-other (request_of_reply machine.core l.message) l.known k ne) ∙ or_none (known_by start.core k (logged judge fresh ps))
+    known-next judge ps machine k l e ∙ ap (known_or (known_by start.core k (log_of_pairs judge fresh ps))) (known_here-other (request_of_reply machine.core l.message) l.known k ne) ∙ or_none (known_by start.core k (log_of_pairs judge fresh ps))
 
 module _ (ps : List Pair) (machine : Machine) (s : Side) (more : List ℕ) (e : reads concrete fresh ps ≡ Ok machine) (held : AreHeld concrete machine) (f : IsFilled more)
-    (l : length ((get machine.rests s).bytes ++ more) ≤ awaited (old_of machine.core (get machine.rests s)) machine.core s (get machine.rests s).bytes) where
+    (l : length ((get machine.rests s).bytes ++ more) ≤ awaited_length (old_of machine.core (get machine.rests s)) machine.core s (get machine.rests s).bytes) where
   -- a piece that completes a message
   pub logged-whole : (m : Message) → concrete (old_of machine.core (get machine.rests s)) machine.core s ((get machine.rests s).bytes ++ more) ≡ Whole m →
-      logged concrete fresh (ps ++ side_pairs s more) ≡ logged concrete fresh ps ++ record { message = m; known = count_of machine.core (get machine.rests s) } ∷ []
-  logged-whole m is = logged-piece ps machine s more e held f l ∙ ap (λ r. logged concrete fresh ps ++ log_with (extended machine.core (get machine.rests s) more) r) is
+      log_of_pairs concrete fresh (ps ++ side_pairs s more) ≡ log_of_pairs concrete fresh ps ++ record { message = m; known = count_of machine.core (get machine.rests s) } ∷ []
+  logged-whole m is = logged-piece ps machine s more e held f l ∙ ap (λ r. log_of_pairs concrete fresh ps ++ log_with (extended machine.core (get machine.rests s) more) r) is
 
   -- a piece that is kept
-  pub logged-kept : concrete (old_of machine.core (get machine.rests s)) machine.core s ((get machine.rests s).bytes ++ more) ≡ More → logged concrete fresh (ps ++ side_pairs s more) ≡ logged concrete fresh ps
-  logged-kept is = logged-piece ps machine s more e held f l ∙ ap (λ r. logged concrete fresh ps ++ log_with (extended machine.core (get machine.rests s) more) r) is ∙ append-nil (logged concrete fresh ps)
+  pub logged-kept : concrete (old_of machine.core (get machine.rests s)) machine.core s ((get machine.rests s).bytes ++ more) ≡ More → log_of_pairs concrete fresh (ps ++ side_pairs s more) ≡ log_of_pairs concrete fresh ps
+  logged-kept is = logged-piece ps machine s more e held f l ∙ ap (λ r. log_of_pairs concrete fresh ps ++ log_with (extended machine.core (get machine.rests s) more) r) is ∙ append-nil (log_of_pairs concrete fresh ps)

@@ -6,14 +6,15 @@ use Rattle.nbd_wire.specs.declared.message.Message.{Message}
 use Rattle.nbd_wire.specs.protocol.Encoding.{enc}
 use Rattle.nbd_wire.specs.protocol.Captures.{ArePairs, Pair}
 use Rattle.nbd_wire.specs.protocol.Marks.{Item, completed_messages, pairs}
-use Rattle.nbd_wire.specs.protocol.Reports.{Report, export_in, known, report, asked_list}
+use Rattle.nbd_wire.specs.protocol.Reports.{Report, export_in, known_count, report, asked_list}
 use Rattle.nbd_wire.specs.protocol.Rules.{IsRun, MayComplete, complete, ends_at}
 use Rattle.nbd_wire.specs.protocol.States.{Core, Names, start}
-use Rattle.nbd_state.specs.Folded.{core_of}
-use Rattle.nbd_state.specs.Logged.{Logged, known_by}
-use Rattle.nbd_session.specs.internal.Logging.{log_from, log_of, log_with, logged, logged_on, report_by}
+use Rattle.nbd_session.proofs.log.FoldLemmas.{core_of}
+use Rattle.nbd_state.specs.Logs.{LogEntry, known_by}
+use Rattle.nbd_session.specs.internal.Logging.{log_with, log_of_pairs, log_of_rest}
+use Rattle.nbd_session.proofs.log.Logs.{log_from, log_of, report_by}
 use Rattle.nbd_laws.proofs.machine.MachineLemmas.{AreHeld, Busy, Idle, IsFilled-snoc, IsSound, IsSoundAt, Loose, Open, Walk, at_once, ended, final, get-put_same, held_more, held_whole, kept_next, loose, middle, old-empty, old-filled, opening, serving, with_byte}
-use Rattle.nbd_laws.specs.internal.Machine.{Bad, Both, IsFilled, Judge, Machine, More, Reading, Rest, Whole, fresh, get, grown, old_of, on_ok, put, reads, settle}
+use Rattle.nbd_laws.specs.internal.Machine.{Bad, Both, IsFilled, Judge, Machine, More, Reading, Rest, Whole, fresh, get, rest_with, old_of, on_ok, put, reads, settle}
 use Rattle.nbd_session.proofs.log.FoldLemmas.{core_is, ends_folded}
 use Rattle.nbd_laws.proofs.runs.FollowLemmas.{Follows, HasEnd, IsBegun, IsSidedOpen, completes_later, each_with, follows}
 use Rattle.nbd_laws.proofs.runs.PrefixLemmas.{IsSame, same_message}
@@ -40,8 +41,8 @@ put_back rests Client = refl
 put_back rests Server = refl
 
 -- a rest that begins, and one that goes on
-counts_begun : (core : Core) (rests : Both Rest) (s : Side) (b : ℕ) → (get rests s).bytes ≡ [] → put (counts_of rests) s (length core.entries) ≡ counts_of (put rests s (grown core (get rests s) b))
-counts_begun core rests s b e = ap (λ (c : Core). put (counts_of rests) s (length c.entries)) (sym (old-empty core (get rests s) e)) ∙ sym (counts_put rests s (grown core (get rests s) b))
+counts_begun : (core : Core) (rests : Both Rest) (s : Side) (b : ℕ) → (get rests s).bytes ≡ [] → put (counts_of rests) s (length core.entries) ≡ counts_of (put rests s (rest_with core (get rests s) b))
+counts_begun core rests s b e = ap (λ (c : Core). put (counts_of rests) s (length c.entries)) (sym (old-empty core (get rests s) e)) ∙ sym (counts_put rests s (rest_with core (get rests s) b))
 
 counts_kept : (core : Core) (rests : Both Rest) (s : Side) (bytes : List ℕ) → IsFilled (get rests s).bytes → counts_of rests ≡ counts_of (put rests s (record { bytes = bytes; since = old_of core (get rests s) }))
 counts_kept core rests s bytes f =
@@ -106,7 +107,7 @@ ends_later judge sd ps machine end lt held e none s f =
     }
     go t Loose is g = absurd (not_empty (get end.rests s).bytes g.1 (none s))
 
-abbrev logged_at : Message → ℕ → Logged
+abbrev logged_at : Message → ℕ → LogEntry
 logged_at m n = record { message = m; known = n }
 
 begun_in : (core : Core) (rest : Rest) (s : Side) (m : Message) (left : List ℕ) → InStep core rest s (Busy m left) → IsBegun rest.since s m
@@ -114,7 +115,7 @@ begun_in core rest s m left i = record { sided = i.0.sided; sendable = i.0.senda
 
 module _ (judge : Judge) (sd : IsSound judge) (end : Machine) (none : (s : Side) → (get end.rests s).bytes ≡ []) where
   abbrev next_rest : Machine → Side → ℕ → Rest
-  next_rest machine s b = grown machine.core (get machine.rests s) b
+  next_rest machine s b = rest_with machine.core (get machine.rests s) b
 
   abbrev verdict : Machine → Side → ℕ → Reading
   verdict machine s b = judge (next_rest machine s b).since machine.core s (next_rest machine s b).bytes
@@ -122,8 +123,8 @@ module _ (judge : Judge) (sd : IsSound judge) (end : Machine) (none : (s : Side)
   abbrev ReadsOn : Machine → Side → ℕ → List Pair → Reading → Type 0
   ReadsOn machine s b ps r = on_ok (settle machine s (next_rest machine s b) r) (λ next. reads judge next ps) ≡ Ok end
 
-  abbrev logs_on : Machine → Side → ℕ → List Pair → Reading → List Logged
-  logs_on machine s b ps r = log_with (next_rest machine s b) r ++ logged_on (settle machine s (next_rest machine s b) r) (λ next. logged judge next ps)
+  abbrev logs_on : Machine → Side → ℕ → List Pair → Reading → List LogEntry
+  logs_on machine s b ps r = log_with (next_rest machine s b) r ++ log_of_rest (settle machine s (next_rest machine s b) r) (λ next. log_of_pairs judge next ps)
 
   sound_at : (machine : Machine) (s : Side) (b : ℕ) (n : Message) → b < 256 → AreHeld judge machine → verdict machine s b ≡ Whole n →
       IsSoundAt (next_rest machine s b).since machine.core s (next_rest machine s b).bytes n
@@ -177,7 +178,7 @@ module _ (judge : Judge) (sd : IsSound judge) (end : Machine) (none : (s : Side)
   last_whole machine s m b ps lt lts hd i fits (Bad fault) is h = absurd (cc)
 
   logs : {o : Both Open} {items : List Item} → Walk ⊥ o items → (machine : Machine) → Follows machine.core items → AreInStep machine o → AreHeld judge machine → ArePairs (pairs items) →
-      reads judge machine (pairs items) ≡ Ok end → log_from machine.core (counts_of machine.rests) items ≡ logged judge machine (pairs items)
+      reads judge machine (pairs items) ≡ Ok end → log_from machine.core (counts_of machine.rests) items ≡ log_of_pairs judge machine (pairs items)
   logs (ended c d) machine f st hd lt e = refl
   logs (serving k w) machine f st hd lt e = logs w machine f st hd lt e
   logs {o} (opening s m b left {items = items} i g h w) machine f st hd lt e =
@@ -212,31 +213,31 @@ module _ (judge : Judge) (sd : IsSound judge) (end : Machine) (none : (s : Side)
 
 -- the log of any run with the pairs that the machine read to their end
 pub run_log : (judge : Judge) → IsSound judge → (ps : List Pair) (end : Machine) → ArePairs ps → reads judge fresh ps ≡ Ok end → ((s : Side) → (get end.rests s).bytes ≡ []) →
-    (items : List Item) → IsRun items → pairs items ≡ ps → log_of items ≡ logged judge fresh ps
+    (items : List Item) → IsRun items → pairs items ≡ ps → log_of items ≡ log_of_pairs judge fresh ps
 run_log judge sd ps end lt e none items run has =
     logs judge sd end none (walk_of run) fresh (follows items start run.obeys) (elim [ Client ↦ refl | Server ↦ refl ]) (fresh_held judge) (subst ArePairs (sym has) lt) (subst (λ q. reads judge fresh q ≡ Ok end) (sym has) e)
-    ∙ ap (logged judge fresh) has
+    ∙ ap (log_of_pairs judge fresh) has
 
 -- what such a run knows
 pub run_known : (judge : Judge) → IsSound judge → (ps : List Pair) (end : Machine) → ArePairs ps → reads judge fresh ps ≡ Ok end → ((s : Side) → (get end.rests s).bytes ≡ []) →
-    (items : List Item) → IsRun items → pairs items ≡ ps → (k : ℕ) → known items k ≡ known_by start.core k (logged judge fresh ps)
+    (items : List Item) → IsRun items → pairs items ≡ ps → (k : ℕ) → known_count items k ≡ known_by start.core k (log_of_pairs judge fresh ps)
 run_known judge sd ps end lt e none items run has k = known-log items run k ∙ ap (known_by start.core k) (run_log judge sd ps end lt e none items run has)
 
 abbrev reported : Core → (ℕ → Option ℕ) → Report
 reported core known_at = record { export = export_in core.phase; asked = asked_list 0 (export_in core.phase) known_at core.entries }
 
 report_of : (judge : Judge) → IsSound judge → (ps : List Pair) (end : Machine) → ArePairs ps → reads judge fresh ps ≡ Ok end → ((s : Side) → (get end.rests s).bytes ≡ []) →
-    (items : List Item) → IsRun items → pairs items ≡ ps → completed_messages items ≡ end.messages → report items ≡ report_by end.core (logged judge fresh ps)
+    (items : List Item) → IsRun items → pairs items ≡ ps → completed_messages items ≡ end.messages → report items ≡ report_by end.core (log_of_pairs judge fresh ps)
 unfolding report
 report_of judge sd ps end lt e none items run has messages =
-    let log : List Logged = logged judge fresh ps in
+    let log : List LogEntry = log_of_pairs judge fresh ps in
     let core_same : (ends_at start items).core ≡ end.core = ends_folded items start ∙ ap core_of messages ∙ sym (core_is judge ps end e) in
     ap (λ known_at. reported (ends_at start items).core known_at) (λ j k. run_known judge sd ps end lt e none items run has k j)
     ∙ ap (λ core. report_by core log) core_same
 
 -- the report of any run with these pairs
 pub run_report : (judge : Judge) → IsSound judge → (ps : List Pair) (end : Machine) → ArePairs ps → reads judge fresh ps ≡ Ok end → ((s : Side) → (get end.rests s).bytes ≡ []) →
-    (items : List Item) → IsRun items → pairs items ≡ ps → report items ≡ report_by end.core (logged judge fresh ps)
+    (items : List Item) → IsRun items → pairs items ≡ ps → report items ≡ report_by end.core (log_of_pairs judge fresh ps)
 run_report judge sd ps end lt e none items run has =
     let r : (there : List Item) × IsRun there × (pairs there ≡ ps) × (completed_messages there ≡ end.messages) = run_law judge sd ps end lt e none in
     same_reports items r.0 run r.1 (has ∙ sym r.2) ∙ report_of judge sd ps end lt e none r.0 r.1 r.2 r.3

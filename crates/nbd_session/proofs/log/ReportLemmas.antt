@@ -12,17 +12,18 @@ use Rattle.nbd_session.specs.declared.held.Held.{Held}
 use Rattle.nbd_state.specs.declared.state.State.{State}
 use Rattle.nbd_places.specs.internal.Concrete.{concrete}
 use Rattle.nbd_session.specs.internal.Holdings.{holding_of}
-use Rattle.nbd_state.specs.Logged.{Logged, known_by}
-use Rattle.nbd_session.specs.internal.Logging.{logged, report_by}
+use Rattle.nbd_state.specs.Logs.{LogEntry, known_by}
+use Rattle.nbd_session.specs.internal.Logging.{log_of_pairs}
+use Rattle.nbd_session.proofs.log.Logs.{report_by}
 use Rattle.nbd_laws.specs.internal.Machine.{fresh, get}
 use Rattle.nbd_session.specs.Sessions.{IsReported}
 use Rattle.nbd_state.specs.Showing.{IsShown, exporting_if}
 use Rattle.nbd_state.specs.Shows.{AreKnown, AreShown, Shows, phase_shown}
 use Rattle.nbd_laws.specs.Soundness.{IsSoundReport}
-use Rattle.nbd_session.specs.internal.Standing.{pairs_held}
+use Rattle.nbd_session.specs.internal.Standing.{held_pairs}
 use Rattle.nbd_session.specs.internal.Steps.{HoldsRun, Stands}
-use Rattle.nbd_session.specs.Views.{recorded}
-use Rattle.nbd_state.specs.Transcripts.{asked_told, export_of, report_told}
+use Rattle.nbd_session.specs.Views.{session_view}
+use Rattle.nbd_state.specs.Transcripts.{report_of_request, export_of, transcript_report}
 use Rattle.nbd_session.proofs.log.LogStepLemmas.{read_report}
 use Rattle.nbd_session.proofs.judge.PieceLemmas.{standing_run}
 use Rattle.nbd_laws.proofs.requests.SoundnessLemmas.{reports_are_sound}
@@ -37,7 +38,7 @@ export_same (Answering option payload info) = refl
 export_same Ended = refl
 export_same (Transmission export) = refl
 
-one_told : (export : Exporting) (e : Operation) (x : Exchange) (known : Option ℕ) → IsShown export e x → x.asked.known_at ≡ known → asked_told x.asked ≡ asked_of (Some export) known e
+one_told : (export : Exporting) (e : Operation) (x : Exchange) (known : Option ℕ) → IsShown export e x → x.asked.known_at ≡ known → report_of_request x.asked ≡ asked_of (Some export) known e
 one_told export e x known s k = λ i. record {
   flags = s.flags i;
   command = s.command i;
@@ -52,7 +53,7 @@ one_told export e x known s k = λ i. record {
 }
 
 all_told : (n : ℕ) (export : Option Exporting) (known : ℕ → Option ℕ) (es : List Operation) (xs : List Exchange) → AreShown export es xs →
-    ((place : ℕ) (x : Exchange) → slice_get xs place ≡ Some x → x.asked.known_at ≡ known (suc (n + place))) → map (λ (x : Exchange). asked_told x.asked) xs ≡ asked_list n export known es
+    ((place : ℕ) (x : Exchange) → slice_get xs place ≡ Some x → x.asked.known_at ≡ known (suc (n + place))) → map (λ (x : Exchange). report_of_request x.asked) xs ≡ asked_list n export known es
 all_told n export known [] [] s k = refl
 all_told n (Some export) known (e ∷ es) (x ∷ xs) s k =
     (λ i. one_told export e x (known (suc n)) s.0 (k 0 x refl ∙ ap (λ m. known (suc m)) (no_more n)) i
@@ -69,13 +70,13 @@ all_told n None known [] (x ∷ xs) s k = absurd s
 all_told n (Some export) known (e ∷ es) [] s k = absurd s
 all_told n None known (e ∷ es) [] s k = absurd s
 
-by_place : (log : List Logged) (xs : List Exchange) → AreKnown log xs → (place : ℕ) (x : Exchange) → slice_get xs place ≡ Some x → x.asked.known_at ≡ known_by start.core (suc (0 + place)) log
+by_place : (log : List LogEntry) (xs : List Exchange) → AreKnown log xs → (place : ℕ) (x : Exchange) → slice_get xs place ≡ Some x → x.asked.known_at ≡ known_by start.core (suc (0 + place)) log
 by_place log xs known place x at = known place x at ∙ ap (λ k. known_by start.core k log) (next place)
   where
     next : (place : ℕ) → place + 1 ≡ suc (0 + place)
     next place = omega arith
 
-told_by_log : (state : State) (core : Core) (log : List Logged) → Shows state core → AreKnown log state.exchanges.items → report_told (export_of state.phase) state.exchanges.items ≡ report_by core log
+told_by_log : (state : State) (core : Core) (log : List LogEntry) → Shows state core → AreKnown log state.exchanges.items → transcript_report (export_of state.phase) state.exchanges.items ≡ report_by core log
 told_by_log state core log shows known = λ i. record {
   export = (ap (λ phase. exporting_if (export_of phase)) shows.phase_is ∙ export_same core.phase) i;
   asked = all_told 0 (export_in core.phase) (λ k. known_by start.core k log) core.entries state.exchanges.items shows.are_shown (by_place log state.exchanges.items known) i;
@@ -87,20 +88,20 @@ module _ (held : Held) (st : Stands held) (client : held.client.items ≡ []) (s
   none_left Server = st.read_to.rests_are Server ∙ server
 
   -- any run with these bytes has what is told as its report
-  told_of : (items : List Item) → IsRun items → pairs items ≡ pairs_held (holding_of held) → report items ≡ report_told (export_of held.state.phase) held.state.exchanges.items
+  told_of : (items : List Item) → IsRun items → pairs items ≡ held_pairs (holding_of held) → report items ≡ transcript_report (export_of held.state.phase) held.state.exchanges.items
   told_of items run has =
-      read_report (pairs_held (holding_of held)) st.machine st.read_to.are_pairs st.read_to.reads_it none_left items run has
-      ∙ sym (told_by_log held.state st.machine.core (logged concrete fresh (pairs_held (holding_of held))) st.shows st.known)
+      read_report (held_pairs (holding_of held)) st.machine st.read_to.are_pairs st.read_to.reads_it none_left items run has
+      ∙ sym (told_by_log held.state st.machine.core (log_of_pairs concrete fresh (held_pairs (holding_of held))) st.shows st.known)
 
   whole_run : (run : HoldsRun (holding_of held)) → IsRun run.items
   whole_run run = subst (λ c. IsRunBut run.items c []) client (subst (λ s. IsRunBut run.items held.client.items s) server run.is_run)
 
-  pub sound_told : IsSoundReport (report_told (export_of held.state.phase) held.state.exchanges.items)
+  pub sound_told : IsSoundReport (transcript_report (export_of held.state.phase) held.state.exchanges.items)
   sound_told =
       let run = standing_run held st in
       subst IsSoundReport (told_of run.items (whole_run run) run.has_pairs) (reports_are_sound run.items (whole_run run))
 
-  pub reported : IsReported (recorded held None) (report_told (export_of held.state.phase) held.state.exchanges.items)
+  pub reported : IsReported (session_view held None) (transcript_report (export_of held.state.phase) held.state.exchanges.items)
   reported =
       let run = standing_run held st in
       record {

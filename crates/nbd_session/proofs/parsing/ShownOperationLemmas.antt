@@ -13,13 +13,13 @@ use Rattle.nbd_state.specs.declared.state.State.{State}
 use Rattle.nbd_session.specs.internal.Asking.{ShownIf}
 use Rattle.nbd_places.specs.internal.JudgeTransmission.{operation_counted, operation_if, within}
 use Rattle.nbd_state.specs.Shows.{Shows}
-use Rattle.nbd_state.proofs.PlacedLemmas.{placed}
+use Rattle.nbd_state.proofs.PlacedLemmas.{place_shows_operation}
 
 -- what a cookie finds of the requests up to a number
 pub within_count : (state : State) (core : Core) (export : Exporting) (cookie counted place : ℕ) (o : Option Exchange) → Shows state core → core.phase ≡ Transmission export →
     get nat_cmp state.outstanding cookie ≡ Some place → place < counted → o ≡ slice_get state.exchanges.items place → ShownIf export (operation_counted counted core cookie) o
 within_count state core export cookie counted place o s p g l is =
-    let a = placed state core export cookie place s p g in
+    let a = place_shows_operation state core export cookie place s p g in
     let low : suc place ≤ counted = omega arith in
     let named : operation_counted counted core cookie ≡ Some a.e =
     ap (λ t. operation_if (within counted t) core.entries) a.found ∙ ap (λ b. operation_if (if b then Some (suc place) else None) core.entries) (le-leb (suc place) counted low) ∙ a.numbered in
@@ -28,7 +28,7 @@ within_count state core export cookie counted place o s p g l is =
 pub beyond_count : (state : State) (core : Core) (export : Exporting) (cookie counted place : ℕ) → Shows state core → core.phase ≡ Transmission export →
     get nat_cmp state.outstanding cookie ≡ Some place → counted ≤ place → ShownIf export (operation_counted counted core cookie) None
 beyond_count state core export cookie counted place s p g l =
-    let a = placed state core export cookie place s p g in
+    let a = place_shows_operation state core export cookie place s p g in
     let high : counted < suc place = omega arith in
     let named : operation_counted counted core cookie ≡ None =
     ap (λ t. operation_if (within counted t) core.entries) a.found ∙ ap (λ b. operation_if (if b then Some (suc place) else None) core.entries) (lt-leb (suc place) counted high) in

@@ -11,7 +11,7 @@ use Rattle.nbd_state.specs.declared.state.Chosen.{Chosen}
 use Rattle.nbd_state.specs.declared.state.Export.{Export}
 use Rattle.nbd_state.specs.declared.state.Phase.TheVariants.{Greet, Answering, Transmission}
 use Rattle.nbd_places.specs.internal.Decisions.{Decision}
-use Rattle.nbd_places.specs.internal.Judge.{decided_with}
+use Rattle.nbd_places.specs.internal.Judge.{decision_with}
 use Rattle.nbd_wire.specs.protocol.Options.{is_proper_option}
 use Rattle.nbd_wire.specs.protocol.Payloads.{number_at}
 use Rattle.nbd_places.specs.internal.JudgeTransmission.{begins, chunk_of, reply_by, simple_of}
@@ -27,7 +27,7 @@ message_if bytes None = simple_of bytes
 
 module _ (to : ℕ → Option Operation) (core : Core) (bytes : List ℕ) (d : Decision) where
   -- in the phase of the greeting
-  pub greeting_long : (p : definitions.Phase) → phase_shown p ≡ Greet → decided_with p to core Server bytes ≡ Some d → reading_of d bytes ≡ Ok Whole → HasGreeting bytes
+  pub greeting_long : (p : definitions.Phase) → phase_shown p ≡ Greet → decision_with p to core Server bytes ≡ Some d → reading_of d bytes ≡ Ok Whole → HasGreeting bytes
   greeting_long definitions.Greet q e w = whole_greeting bytes (ap (λ o. reading_if o bytes) e ∙ w)
   greeting_long definitions.Flags q e w = absurd (cc)
   greeting_long definitions.Choosing q e w = absurd (cc)
@@ -38,7 +38,7 @@ module _ (to : ℕ → Option Operation) (core : Core) (bytes : List ℕ) (d : D
   greeting_long (definitions.Transmission export) q e w = absurd (cc)
 
   -- in the phase of an answer
-  pub answer_long : (chosen : Chosen) (p : definitions.Phase) → phase_shown p ≡ Answering chosen → decided_with p to core Server bytes ≡ Some d → reading_of d bytes ≡ Ok Whole → HasHead 20 8 ANSWER_MAGIC bytes
+  pub answer_long : (chosen : Chosen) (p : definitions.Phase) → phase_shown p ≡ Answering chosen → decision_with p to core Server bytes ≡ Some d → reading_of d bytes ≡ Ok Whole → HasHead 20 8 ANSWER_MAGIC bytes
   answer_long chosen (definitions.Answering option given info) q e w = whole_answer option (is_proper_option option given) info bytes (ap (λ o. reading_if o bytes) e ∙ w)
   answer_long chosen definitions.Greet q e w = absurd (cc)
   answer_long chosen definitions.Flags q e w = absurd (cc)
@@ -49,7 +49,7 @@ module _ (to : ℕ → Option Operation) (core : Core) (bytes : List ℕ) (d : D
   answer_long chosen (definitions.Transmission export) q e w = absurd (cc)
 
   -- in transmission
-  pub reply_named : (export : Export) (p : definitions.Phase) → phase_shown p ≡ Transmission export → decided_with p to core Server bytes ≡ Some d → reply_of bytes ≡ d.message
+  pub reply_named : (export : Export) (p : definitions.Phase) → phase_shown p ≡ Transmission export → decision_with p to core Server bytes ≡ Some d → reply_of bytes ≡ d.message
   reply_named shown (definitions.Transmission export) q e = named export (to (number_at 8 8 bytes)) (begins CHUNK_MAGIC bytes) (begins SIMPLE_MAGIC bytes) ∙ ap (message_if bytes) e
     where
       named : (export : Exporting) (entry : Option Operation) (a b : Bool) → (if a then chunk_of bytes else simple_of bytes) ≡ (reply_by a b export core entry bytes).message

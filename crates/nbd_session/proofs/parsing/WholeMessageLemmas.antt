@@ -8,7 +8,7 @@ use Rattle.nbd_wire.specs.protocol.States.{Core}
 use Rattle.nbd_wire.specs.declared.fault.WireFault.{WireFault}
 use Rattle.nbd_session.specs.declared.reading.Reading.TheVariants.{Whole}
 use Rattle.nbd_places.specs.internal.Decisions.{Decision, fault_if}
-use Rattle.nbd_places.specs.internal.JudgeNegotiation.{abort_answer, answer, choice, client_flags, exported, greeting}
+use Rattle.nbd_places.specs.internal.JudgeNegotiation.{abort_answer, answer, choice, client_flags, export_answer, greeting}
 use Rattle.nbd_places.specs.internal.JudgeTransmission.{begins, chunk_to, request, simple_to}
 use Rattle.nbd_session.specs.internal.Leading.{HasHead, HasGreeting}
 use Rattle.nbd_session.specs.internal.Readings.{at_end, behind_head, unless_before, reading_of}
@@ -66,9 +66,9 @@ whole_choice bytes e =
     let w : IsWhole (choice bytes) bytes = is_whole (choice bytes) bytes e in
     record { long = w.long; magic_is = eqb-true _ _ (passed (number_at 0 8 bytes == OPTION_MAGIC) _ _ w.head_is_good) }
 
-pub whole_exported : (no_zeroes : Bool) (bytes : List ℕ) → reading_of (exported no_zeroes bytes) bytes ≡ Ok Whole → 10 ≤ length bytes
-whole_exported true bytes e = (is_whole (exported true bytes) bytes e).long
-whole_exported false bytes e = (is_whole (exported false bytes) bytes e).long
+pub whole_exported : (no_zeroes : Bool) (bytes : List ℕ) → reading_of (export_answer no_zeroes bytes) bytes ≡ Ok Whole → 10 ≤ length bytes
+whole_exported true bytes e = (is_whole (export_answer true bytes) bytes e).long
+whole_exported false bytes e = (is_whole (export_answer false bytes) bytes e).long
 
 pub whole_abort_answer : (bytes : List ℕ) → reading_of (abort_answer bytes) bytes ≡ Ok Whole → HasHead 20 8 ANSWER_MAGIC bytes
 whole_abort_answer bytes e =

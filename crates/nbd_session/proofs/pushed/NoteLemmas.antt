@@ -9,7 +9,7 @@ use Rattle.nbd_wire.specs.protocol.Sides.{same_side}
 use Rattle.nbd_session.specs.declared.held.Stretch.{Stretch}
 use Rattle.nbd_session.specs.internal.Holdings.{is_of}
 use Rattle.nbd_session.specs.Views.{span_of, spans_of}
-use Rattle.nbd_session.specs.internal.Standing.{noted, span_total}
+use Rattle.nbd_session.specs.internal.Standing.{spans_with, span_total}
 use Rattle.nbd_session.proofs.pushed.StretchLemmas.{EndsWith, ends_with, longer, noted-set, noted-push, noted-push_first}
 
 get_or_there : (items : List Stretch) (i : ℕ) (d : Stretch) → i < length items → get_or items i d ≡ get_or items i (get_or items i d)
@@ -36,20 +36,20 @@ module _ (items : List Stretch) (i : ℕ) (last : Stretch) (s : Side) (n : ℕ) 
       subst (λ l. last.length ≤ span_total s l) (sym is) (within_total e.before (span_of last) s t)
 
   -- it grows
-  pub noted_grown : same_side s last.from ≡ true → spans_of (slice_set items i (record { from = last.from; length = last.length + n })) ≡ noted (spans_of items) s n
+  pub noted_grown : same_side s last.from ≡ true → spans_of (slice_set items i (record { from = last.from; length = last.length + n })) ≡ spans_with (spans_of items) s n
   noted_grown t =
       map-set span_of items i (record { from = last.from; length = last.length + n })
       ∙ sym (noted-set (spans_of items) i (span_of last) s n spans_long (ap (λ x. same_side s x.from) as_span ∙ t)
       ∙ ap (λ x. slice_set (spans_of items) i (longer x n)) as_span)
 
   -- or another one is pushed
-  pub noted_pushed : same_side s last.from ≡ false → spans_of (items ++ record { from = s; length = n } ∷ []) ≡ noted (spans_of items) s n
+  pub noted_pushed : same_side s last.from ≡ false → spans_of (items ++ record { from = s; length = n } ∷ []) ≡ spans_with (spans_of items) s n
   noted_pushed f =
       map-append span_of items (record { from = s; length = n } ∷ [])
       ∙ sym (noted-push (spans_of items) i (span_of last) s n spans_long (ap (λ x. same_side s x.from) as_span ∙ f))
 
 -- the last one is of the other side, or there is none
-pub noted_behind : (items : List Stretch) (s : Side) (n : ℕ) → is_of s (slice_get items (length items - 1)) ≡ false → spans_of (items ++ record { from = s; length = n } ∷ []) ≡ noted (spans_of items) s n
+pub noted_behind : (items : List Stretch) (s : Side) (n : ℕ) → is_of s (slice_get items (length items - 1)) ≡ false → spans_of (items ++ record { from = s; length = n } ∷ []) ≡ spans_with (spans_of items) s n
 noted_behind [] s n f = refl
 noted_behind (x ∷ xs) s n f =
     let there : slice_get (x ∷ xs) (length xs) ≡ Some (get_or (x ∷ xs) (length xs) x) = slice_get-get_or (x ∷ xs) (length xs) x (omega arith) in
@@ -66,6 +66,6 @@ is_last_of items last s i long there t =
     ∙ ap (λ j. is_of s (slice_get items j)) at ∙ t
 
 -- the first one
-pub noted_first : (items : List Stretch) (s : Side) (n : ℕ) → length items ≡ 0 → spans_of (items ++ record { from = s; length = n } ∷ []) ≡ noted (spans_of items) s n
+pub noted_first : (items : List Stretch) (s : Side) (n : ℕ) → length items ≡ 0 → spans_of (items ++ record { from = s; length = n } ∷ []) ≡ spans_with (spans_of items) s n
 noted_first items s n e =
     map-append span_of items (record { from = s; length = n } ∷ []) ∙ sym (noted-push_first (spans_of items) s n (length-map items span_of ∙ e))

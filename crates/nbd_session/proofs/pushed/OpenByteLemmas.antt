@@ -13,8 +13,8 @@ use Rattle.nbd_wire.specs.protocol.Sides.{side, same_side}
 use Rattle.nbd_wire.specs.protocol.States.{State, start}
 use Rattle.nbd_places.specs.internal.Concrete.{concrete}
 use Rattle.nbd_laws.proofs.machine.MachineLemmas.{AreHeld, IsSound, IsSoundAt, Open, Walk, ended, final, held_more, held_whole, kept_next, loose, middle, opening, serving, with_byte}
-use Rattle.nbd_laws.specs.internal.Machine.{Bad, Both, Judge, Machine, More, Reading, Rest, Whole, fresh, get, grown, on_ok, put, reads, settle}
-use Rattle.nbd_laws.proofs.runs.BlockLemmas.{IsCalm, byte_other, byte_same, walked}
+use Rattle.nbd_laws.specs.internal.Machine.{Bad, Both, Judge, Machine, More, Reading, Rest, Whole, fresh, get, rest_with, on_ok, put, reads, settle}
+use Rattle.nbd_laws.proofs.runs.BlockLemmas.{IsCalm, byte_other, byte_same, marked_is_walk}
 use Rattle.nbd_session.specs.internal.Standing.{with_more}
 use Rattle.nbd_laws.specs.Holding.{bytes_from}
 use Rattle.nbd_laws.proofs.runs.RunLemmas.{fresh_held, run_but_law}
@@ -38,21 +38,21 @@ bytes_of-snoc s (n ∷ messages) m = go (same_side s (side n)) (bytes_of-snoc s 
     go true ih = ap (λ l. enc n ++ l) ih ∙ sym (append_assoc (enc n) (bytes_of s messages) (if same_side s (side m) then enc m else []))
     go false ih = ih
 
-bytes_more : (s t : Side) (b : ℕ) (machine : Machine) → held_bytes s (record machine { rests = put machine.rests t (grown machine.core (get machine.rests t) b) }) ≡ held_bytes s machine ++ byte_from s t b
+bytes_more : (s t : Side) (b : ℕ) (machine : Machine) → held_bytes s (record machine { rests = put machine.rests t (rest_with machine.core (get machine.rests t) b) }) ≡ held_bytes s machine ++ byte_from s t b
 bytes_more Client Client b machine = sym (append_assoc (bytes_of Client machine.messages) machine.rests.client.bytes (b ∷ []))
 bytes_more Client Server b machine = sym (append-nil (held_bytes Client machine))
 bytes_more Server Client b machine = sym (append-nil (held_bytes Server machine))
 bytes_more Server Server b machine = sym (append_assoc (bytes_of Server machine.messages) machine.rests.server.bytes (b ∷ []))
 
 abbrev emptied : Machine → Side → ℕ → Message → Machine
-emptied machine t b m = record { core = complete machine.core m; rests = put machine.rests t (record (grown machine.core (get machine.rests t) b) { bytes = [] }); messages = machine.messages ++ m ∷ [] }
+emptied machine t b m = record { core = complete machine.core m; rests = put machine.rests t (record (rest_with machine.core (get machine.rests t) b) { bytes = [] }); messages = machine.messages ++ m ∷ [] }
 
-bytes_whole : (s t : Side) (b : ℕ) (m : Message) (machine : Machine) → side m ≡ t → (grown machine.core (get machine.rests t) b).bytes ≡ enc m → held_bytes s (emptied machine t b m) ≡ held_bytes s machine ++ byte_from s t b
+bytes_whole : (s t : Side) (b : ℕ) (m : Message) (machine : Machine) → side m ≡ t → (rest_with machine.core (get machine.rests t) b).bytes ≡ enc m → held_bytes s (emptied machine t b m) ≡ held_bytes s machine ++ byte_from s t b
 bytes_whole s t b m machine sd e =
     ap (λ l. l ++ (get (emptied machine t b m).rests s).bytes) (bytes_of-snoc s machine.messages m ∙ ap (λ u. bytes_of s machine.messages ++ (if same_side s u then enc m else [])) sd)
     ∙ go s t e
   where
-    go : (s t : Side) → (grown machine.core (get machine.rests t) b).bytes ≡ enc m →
+    go : (s t : Side) → (rest_with machine.core (get machine.rests t) b).bytes ≡ enc m →
         (bytes_of s machine.messages ++ (if same_side s t then enc m else [])) ++ (get (emptied machine t b m).rests s).bytes ≡ held_bytes s machine ++ byte_from s t b
     go Client Client e = append-nil (bytes_of Client machine.messages ++ enc m) ∙ ap (λ l. bytes_of Client machine.messages ++ l) (sym e) ∙ sym (append_assoc (bytes_of Client machine.messages) machine.rests.client.bytes (b ∷ []))
     go Server Server e = append-nil (bytes_of Server machine.messages ++ enc m) ∙ ap (λ l. bytes_of Server machine.messages ++ l) (sym e) ∙ sym (append_assoc (bytes_of Server machine.messages) machine.rests.server.bytes (b ∷ []))
@@ -66,7 +66,7 @@ reads_bytes judge sd s [] machine end lt held e = let q : machine ≡ end = cc i
 reads_bytes judge sd s (p ∷ ps) machine end lt held e = go (judge rest.since machine.core p.from rest.bytes) refl (λ next hd h. reads_bytes judge sd s ps next end lt.1 hd h) e
   where
     rest : Rest
-    rest = grown machine.core (get machine.rests p.from) p.byte
+    rest = rest_with machine.core (get machine.rests p.from) p.byte
 
     joined : (next : Machine) → held_bytes s next ≡ held_bytes s machine ++ byte_from s p.from p.byte → held_bytes s next ++ bytes_from s ps ≡ held_bytes s end → held_bytes s machine ++ bytes_from s (p ∷ ps) ≡ held_bytes s end
     joined next is ih =
@@ -238,7 +238,7 @@ run_but_more items client server s more run = record {
   marked = record {
     client_side = sided_with s Client items client more run.marked.client_side;
     server_side = sided_with s Server items server more run.marked.server_side;
-    tight = tight_tail (Serves 0) (items ++ bytes_items s more) (tight_more (walked {P = Unit {0}} items client server (λ f. tt) (λ f. tt) run.marked) (Serves 0) tt s more);
+    tight = tight_tail (Serves 0) (items ++ bytes_items s more) (tight_more (marked_is_walk {P = Unit {0}} items client server (λ f. tt) (λ f. tt) run.marked) (Serves 0) tt s more);
   };
   obeys = obeys_more items start s more run.obeys;
 }

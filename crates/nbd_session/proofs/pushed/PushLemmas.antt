@@ -9,7 +9,7 @@ use Rattle.nbd_wire.specs.protocol.Encoding.{enc}
 use Rattle.nbd_wire.specs.protocol.Captures.{side_pairs}
 use Rattle.nbd_wire.specs.Pushed.{Span, bytes_of, of_two, bytes_after_span, mixture}
 use Rattle.nbd_wire.specs.protocol.Sides.{side, same_side}
-use Rattle.nbd_session.specs.internal.Standing.{span_total, AreSpansOf, noted, with_more}
+use Rattle.nbd_session.specs.internal.Standing.{span_total, AreSpansOf, spans_with, with_more}
 
 no_length : (xs : List ℕ) → 0 ≡ length xs → xs ≡ []
 no_length [] e = refl
@@ -105,7 +105,7 @@ mixed_other s t n more client server h =
     (no_length (bytes_after_span Client (record { from = t; length = n }) client) rest.of_client) (no_length (bytes_after_span Server (record { from = t; length = n }) server) rest.of_server))
 
 mixed_one : (s t : Side) (n : ℕ) (more client server : List ℕ) → AreSpansOf (record { from = t; length = n } ∷ []) client server →
-    mixture (noted (record { from = t; length = n } ∷ []) s (length more)) (with_more s Client more client) (with_more s Server more server)
+    mixture (spans_with (record { from = t; length = n } ∷ []) s (length more)) (with_more s Client more client) (with_more s Server more server)
     ≡ mixture (record { from = t; length = n } ∷ []) client server ++ side_pairs s more
 mixed_one Client Client n more client server h = mixed_last Client n more client server h
 mixed_one Client Server n more client server h = mixed_other Client Server n more client server h
@@ -114,14 +114,14 @@ mixed_one Server Server n more client server h = mixed_last Server n more client
 
 -- one more piece of a side
 pub mixed-noted : (spans : List Span) (client server : List ℕ) (s : Side) (more : List ℕ) → AreSpansOf spans client server →
-    mixture (noted spans s (length more)) (with_more s Client more client) (with_more s Server more server) ≡ mixture spans client server ++ side_pairs s more
+    mixture (spans_with spans s (length more)) (with_more s Client more client) (with_more s Server more server) ≡ mixture spans client server ++ side_pairs s more
 mixed-noted [] client server s more h = mixed_first s more client server (no_length client h.of_client) (no_length server h.of_server)
 mixed-noted (span ∷ []) client server s more h = mixed_one s span.from span.length more client server h
 mixed-noted (span ∷ next ∷ spans) client server s more h =
-    mixed_behind s span.from span.length more client server (next ∷ spans) (noted (next ∷ spans) s (length more)) h
+    mixed_behind s span.from span.length more client server (next ∷ spans) (spans_with (next ∷ spans) s (length more)) h
     (mixed-noted (next ∷ spans) (bytes_after_span Client span client) (bytes_after_span Server span server) s more (left_spans span.from span.length (next ∷ spans) client server h))
 
-total-one : (u s t : Side) (n m : ℕ) → span_total u (noted (record { from = t; length = n } ∷ []) s m) ≡ span_total u (record { from = t; length = n } ∷ []) + (if same_side u s then m else 0)
+total-one : (u s t : Side) (n m : ℕ) → span_total u (spans_with (record { from = t; length = n } ∷ []) s m) ≡ span_total u (record { from = t; length = n } ∷ []) + (if same_side u s then m else 0)
 total-one Client Client Client n m = omega arith
 total-one Client Client Server n m = omega arith
 total-one Client Server Client n m = omega arith
@@ -131,7 +131,7 @@ total-one Server Client Server n m = omega arith
 total-one Server Server Client n m = omega arith
 total-one Server Server Server n m = omega arith
 
-total-noted : (u : Side) (spans : List Span) (s : Side) (m : ℕ) → span_total u (noted spans s m) ≡ span_total u spans + (if same_side u s then m else 0)
+total-noted : (u : Side) (spans : List Span) (s : Side) (m : ℕ) → span_total u (spans_with spans s m) ≡ span_total u spans + (if same_side u s then m else 0)
 total-noted u [] s m = omega arith
 total-noted u (span ∷ []) s m = total-one u s span.from span.length m
 total-noted u (span ∷ next ∷ spans) s m =
@@ -146,7 +146,7 @@ length-with_more Server Server more bytes = omega (arith, length-append bytes mo
 
 -- they are the spans of the longer bytes
 pub spans-noted : (spans : List Span) (client server : List ℕ) (s : Side) (more : List ℕ) → AreSpansOf spans client server →
-    AreSpansOf (noted spans s (length more)) (with_more s Client more client) (with_more s Server more server)
+    AreSpansOf (spans_with spans s (length more)) (with_more s Client more client) (with_more s Server more server)
 spans-noted spans client server s more h = record {
   of_client = total-noted Client spans s (length more) ∙ ap (λ n. n + (if same_side Client s then length more else 0)) h.of_client ∙ sym (length-with_more Client s more client);
   of_server = total-noted Server spans s (length more) ∙ ap (λ n. n + (if same_side Server s then length more else 0)) h.of_server ∙ sym (length-with_more Server s more server);

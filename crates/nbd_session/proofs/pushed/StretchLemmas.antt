@@ -5,7 +5,7 @@ use Rattle.nbd_wire.specs.declared.message.Side.{Side}
 use Rattle.nbd_wire.specs.declared.message.Side.TheVariants.{Client, Server}
 use Rattle.nbd_wire.specs.Pushed.{Span}
 use Rattle.nbd_wire.specs.protocol.Sides.{same_side}
-use Rattle.nbd_session.specs.internal.Standing.{noted}
+use Rattle.nbd_session.specs.internal.Standing.{spans_with}
 
 pub same_side-true : (s t : Side) → s ≡ t → same_side s t ≡ true
 same_side-true Client Client e = refl
@@ -27,15 +27,15 @@ abbrev pub span_of : Side → ℕ → Span
 span_of s n = record { from = s; length = n }
 
 -- only the last span counts
-pub noted-last : (xs : List Span) (last : Span) (s : Side) (n : ℕ) → noted (xs ++ last ∷ []) s n ≡ xs ++ (if same_side s last.from then longer last n ∷ [] else last ∷ span_of s n ∷ [])
+pub noted-last : (xs : List Span) (last : Span) (s : Side) (n : ℕ) → spans_with (xs ++ last ∷ []) s n ≡ xs ++ (if same_side s last.from then longer last n ∷ [] else last ∷ span_of s n ∷ [])
 noted-last [] last s n = refl
 noted-last (x ∷ []) last s n = refl
 noted-last (x ∷ y ∷ xs) last s n = ap (λ l. x ∷ l) (noted-last (y ∷ xs) last s n)
 
-pub noted-last_same : (xs : List Span) (last : Span) (s : Side) (n : ℕ) → same_side s last.from ≡ true → noted (xs ++ last ∷ []) s n ≡ xs ++ longer last n ∷ []
+pub noted-last_same : (xs : List Span) (last : Span) (s : Side) (n : ℕ) → same_side s last.from ≡ true → spans_with (xs ++ last ∷ []) s n ≡ xs ++ longer last n ∷ []
 noted-last_same xs last s n e = noted-last xs last s n ∙ ap (λ (b : Bool). xs ++ (if b then longer last n ∷ [] else last ∷ span_of s n ∷ [])) e
 
-pub noted-last_other : (xs : List Span) (last : Span) (s : Side) (n : ℕ) → same_side s last.from ≡ false → noted (xs ++ last ∷ []) s n ≡ xs ++ last ∷ span_of s n ∷ []
+pub noted-last_other : (xs : List Span) (last : Span) (s : Side) (n : ℕ) → same_side s last.from ≡ false → spans_with (xs ++ last ∷ []) s n ≡ xs ++ last ∷ span_of s n ∷ []
 noted-last_other xs last s n e = noted-last xs last s n ∙ ap (λ (b : Bool). xs ++ (if b then longer last n ∷ [] else last ∷ span_of s n ∷ [])) e
 
 -- a list with an element at i and nothing after it
@@ -57,28 +57,28 @@ set_at_end : (spans : List Span) (i : ℕ) (last new : Span) (h : EndsWith spans
 set_at_end spans i last new h =
     ap (λ l. slice_set l i new) h.is ∙ ap (λ j. slice_set (h.before ++ last ∷ []) j new) (sym h.length_is) ∙ set-append_seam h.before last [] new
 
-noted-set_by : (spans : List Span) (i : ℕ) (last : Span) (s : Side) (n : ℕ) → EndsWith spans i last → same_side s last.from ≡ true → noted spans s n ≡ slice_set spans i (longer last n)
-noted-set_by spans i last s n h e = ap (λ l. noted l s n) h.is ∙ noted-last_same h.before last s n e ∙ sym (set_at_end spans i last (longer last n) h)
+noted-set_by : (spans : List Span) (i : ℕ) (last : Span) (s : Side) (n : ℕ) → EndsWith spans i last → same_side s last.from ≡ true → spans_with spans s n ≡ slice_set spans i (longer last n)
+noted-set_by spans i last s n h e = ap (λ l. spans_with l s n) h.is ∙ noted-last_same h.before last s n e ∙ sym (set_at_end spans i last (longer last n) h)
 
-noted-push_by : (spans : List Span) (i : ℕ) (last : Span) (s : Side) (n : ℕ) → EndsWith spans i last → same_side s last.from ≡ false → noted spans s n ≡ spans ++ span_of s n ∷ []
+noted-push_by : (spans : List Span) (i : ℕ) (last : Span) (s : Side) (n : ℕ) → EndsWith spans i last → same_side s last.from ≡ false → spans_with spans s n ≡ spans ++ span_of s n ∷ []
 noted-push_by spans i last s n h e =
-    ap (λ l. noted l s n) h.is ∙ noted-last_other h.before last s n e ∙ sym (ap (λ l. l ++ span_of s n ∷ []) h.is ∙ behind h.before)
+    ap (λ l. spans_with l s n) h.is ∙ noted-last_other h.before last s n e ∙ sym (ap (λ l. l ++ span_of s n ∷ []) h.is ∙ behind h.before)
   where
     behind : (xs : List Span) → (xs ++ last ∷ []) ++ span_of s n ∷ [] ≡ xs ++ last ∷ span_of s n ∷ []
     behind [] = refl
     behind (x ∷ xs) = ap (λ l. x ∷ l) (behind xs)
 
 -- no span yet: one is pushed
-pub noted-push_first : (spans : List Span) (s : Side) (n : ℕ) → length spans ≡ 0 → noted spans s n ≡ spans ++ span_of s n ∷ []
+pub noted-push_first : (spans : List Span) (s : Side) (n : ℕ) → length spans ≡ 0 → spans_with spans s n ≡ spans ++ span_of s n ∷ []
 noted-push_first [] s n e = refl
 noted-push_first (x ∷ xs) s n e = absurd (omega (arith, e))
 
 -- the last span is of this side: a write at its place
-pub noted-set : (spans : List Span) (i : ℕ) (d : Span) (s : Side) (n : ℕ) → length spans ≡ i + 1 → same_side s (get_or spans i d).from ≡ true → noted spans s n ≡ slice_set spans i (longer (get_or spans i d) n)
+pub noted-set : (spans : List Span) (i : ℕ) (d : Span) (s : Side) (n : ℕ) → length spans ≡ i + 1 → same_side s (get_or spans i d).from ≡ true → spans_with spans s n ≡ slice_set spans i (longer (get_or spans i d) n)
 noted-set spans i d s n l e = noted-set_by spans i (get_or spans i d) s n (ends_with spans i d l) e
 
 -- it is of the other side: one more is pushed
-pub noted-push : (spans : List Span) (i : ℕ) (d : Span) (s : Side) (n : ℕ) → length spans ≡ i + 1 → same_side s (get_or spans i d).from ≡ false → noted spans s n ≡ spans ++ span_of s n ∷ []
+pub noted-push : (spans : List Span) (i : ℕ) (d : Span) (s : Side) (n : ℕ) → length spans ≡ i + 1 → same_side s (get_or spans i d).from ≡ false → spans_with spans s n ≡ spans ++ span_of s n ∷ []
 noted-push spans i d s n l e = noted-push_by spans i (get_or spans i d) s n (ends_with spans i d l) e
 
 -- the same where the last span was found at its place
@@ -90,8 +90,8 @@ found (x ∷ xs) (suc i) last l e =
     let ih : EndsWith xs i last = found xs i last (omega (arith, l)) e in
     record { before = x ∷ ih.before; is = ap (λ m. x ∷ m) ih.is; length_is = ap suc ih.length_is }
 
-pub noted-set_found : (spans : List Span) (i : ℕ) (last : Span) (s : Side) (n : ℕ) → length spans ≡ i + 1 → slice_get spans i ≡ Some last → same_side s last.from ≡ true → noted spans s n ≡ slice_set spans i (longer last n)
+pub noted-set_found : (spans : List Span) (i : ℕ) (last : Span) (s : Side) (n : ℕ) → length spans ≡ i + 1 → slice_get spans i ≡ Some last → same_side s last.from ≡ true → spans_with spans s n ≡ slice_set spans i (longer last n)
 noted-set_found spans i last s n l e t = noted-set_by spans i last s n (found spans i last l e) t
 
-pub noted-push_found : (spans : List Span) (i : ℕ) (last : Span) (s : Side) (n : ℕ) → length spans ≡ i + 1 → slice_get spans i ≡ Some last → same_side s last.from ≡ false → noted spans s n ≡ spans ++ span_of s n ∷ []
+pub noted-push_found : (spans : List Span) (i : ℕ) (last : Span) (s : Side) (n : ℕ) → length spans ≡ i + 1 → slice_get spans i ≡ Some last → same_side s last.from ≡ false → spans_with spans s n ≡ spans ++ span_of s n ∷ []
 noted-push_found spans i last s n l e t = noted-push_by spans i last s n (found spans i last l e) t

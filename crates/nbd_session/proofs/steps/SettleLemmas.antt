@@ -11,12 +11,12 @@ use Rattle.nbd_session.specs.declared.reading.Reading.TheVariants.{Await}
 use Rattle.nbd_wire.specs.protocol.States.{Core}
 use Rattle.nbd_places.specs.internal.Concrete.{concrete}
 use Rattle.nbd_session.specs.internal.Holdings.{holding_of}
-use Rattle.nbd_places.specs.internal.Judge.{decided_counted}
-use Rattle.nbd_session.specs.internal.Logging.{logged}
+use Rattle.nbd_places.specs.internal.Judge.{decision_by_count}
+use Rattle.nbd_session.specs.internal.Logging.{log_of_pairs}
 use Rattle.nbd_laws.specs.internal.Machine.{Machine, More, fresh, get, old_of, put}
 use Rattle.nbd_session.specs.internal.Readings.{reading_if}
 use Rattle.nbd_state.specs.Shows.{AreKnown, Shows}
-use Rattle.nbd_session.specs.internal.Standing.{Holding, IsReadTo, counted_at, pairs_held, rest_of, with_taken}
+use Rattle.nbd_session.specs.internal.Standing.{Holding, IsReadTo, count_at_server, held_pairs, rest_of, with_bytes}
 use Rattle.nbd_session.specs.internal.Steps.{HoldsRun, IsSame, IsShut, IsTaken, Stands}
 use Rattle.nbd_session.specs.internal.Stopped.{IsStopped}
 use Rattle.nbd_places.proofs.judge.BlockLemmas.{extended}
@@ -28,21 +28,21 @@ use Rattle.nbd_session.proofs.steps.TakeLemmas.{judged_more}
 
 pub same_held : (held : Held) → IsSame held held
 same_held held = record {
-  adds = λ s. record { prefix = []; more = []; parts = refl; has_pairs = sym (append-nil (pairs_held (holding_of held))); has_messages = sym (append-nil held.messages.items) };
+  adds = λ s. record { prefix = []; more = []; parts = refl; has_pairs = sym (append-nil (held_pairs (holding_of held))); has_messages = sym (append-nil held.messages.items) };
   taken_is = refl;
 }
 
 -- the program's answer on what was taken
 abbrev pub IsRead : Held → Side → Result program.Reading WireFault → Type 0
-IsRead held s answer = (core : Core) → Shows held.state core → reading_if (decided_counted held.counted core s (rest_of (holding_of held) s)) (rest_of (holding_of held) s) ≡ answer
+IsRead held s answer = (core : Core) → Shows held.state core → reading_if (decision_by_count held.counted core s (rest_of (holding_of held) s)) (rest_of (holding_of held) s) ≡ answer
 
 module _ (held : Held) (s : Side) (t : IsTaken held s) where
   abbrev after : Holding
-  after = with_taken t.before s t.more (length t.machine.core.entries)
+  after = with_bytes t.before s t.more (length t.machine.core.entries)
 
   answers : (answer : Result program.Reading WireFault) → IsRead held s answer →
-      reading_if (decided_counted (counted_at s t.before.server t.before.counted (length t.machine.core.entries)) t.machine.core s (rest_of after s)) (rest_of after s) ≡ answer
-  answers answer e = subst (λ (h : Holding). reading_if (decided_counted h.counted t.machine.core s (rest_of h s)) (rest_of h s) ≡ answer) t.holding_is (e t.machine.core t.shows)
+      reading_if (decision_by_count (count_at_server s t.before.server t.before.counted (length t.machine.core.entries)) t.machine.core s (rest_of after s)) (rest_of after s) ≡ answer
+  answers answer e = subst (λ (h : Holding). reading_if (decision_by_count h.counted t.machine.core s (rest_of h s)) (rest_of h s) ≡ answer) t.holding_is (e t.machine.core t.shows)
 
   pub settled_more : (n : ℕ) → IsRead held s (Ok (Await n)) → Stands held
   settled_more n e =
@@ -50,22 +50,22 @@ module _ (held : Held) (s : Side) (t : IsTaken held s) where
       let answer = answers (Ok (Await n)) e in
       let judged_so : concrete (old_of t.machine.core (get t.machine.rests s)) t.machine.core s ((get t.machine.rests s).bytes ++ t.more) ≡ More =
       says t.before t.machine t.read_to s t.more t.filled t.are_bytes t.up_to More
-      (judged_more (decided_counted (counted_at s t.before.server t.before.counted (length t.machine.core.entries)) t.machine.core s (rest_of after s)) (rest_of after s) n answer) in
-      let log : logged concrete fresh (pairs_held after) ≡ logged concrete fresh (pairs_held t.before) =
-      ap (logged concrete fresh) (pairs-taken t.before s t.more (length t.machine.core.entries) t.read_to.are_spans)
-      ∙ logged-kept (pairs_held t.before) t.machine s t.more t.read_to.reads_it (held_of t.before t.machine t.read_to) t.filled t.up_to judged_so in
+      (judged_more (decision_by_count (count_at_server s t.before.server t.before.counted (length t.machine.core.entries)) t.machine.core s (rest_of after s)) (rest_of after s) n answer) in
+      let log : log_of_pairs concrete fresh (held_pairs after) ≡ log_of_pairs concrete fresh (held_pairs t.before) =
+      ap (log_of_pairs concrete fresh) (pairs-taken t.before s t.more (length t.machine.core.entries) t.read_to.are_spans)
+      ∙ logged-kept (held_pairs t.before) t.machine s t.more t.read_to.reads_it (held_of t.before t.machine t.read_to) t.filled t.up_to judged_so in
       record {
         machine = machine;
         read_to = subst (λ h. IsReadTo h machine) (sym t.holding_is) (more_taken t.before t.machine t.read_to s t.more t.filled t.are_bytes t.up_to n answer);
         shows = t.shows;
-        known = subst (λ h. AreKnown (logged concrete fresh (pairs_held h)) held.state.exchanges.items) (sym t.holding_is)
+        known = subst (λ h. AreKnown (log_of_pairs concrete fresh (held_pairs h)) held.state.exchanges.items) (sym t.holding_is)
             (subst (λ log. AreKnown log held.state.exchanges.items) (sym log) t.known);
         taken_is = t.taken_is;
       }
 
   pub taken_run : HoldsRun (holding_of held)
   taken_run =
-      let r = more_is_run_but (pairs_held t.before) t.machine t.before.messages t.before.client t.before.server s t.more t.read_to.are_pairs t.read_to.reads_it
+      let r = more_is_run_but (held_pairs t.before) t.machine t.before.messages t.before.client t.before.server s t.more t.read_to.are_pairs t.read_to.reads_it
       t.read_to.messages_are (t.read_to.rests_are Client) (t.read_to.rests_are Server) in
       subst HoldsRun (sym t.holding_is) (record {
         items = r.0;
@@ -89,7 +89,7 @@ module _ (held : Held) (s : Side) (t : IsTaken held s) where
   pub shut_memory : (new : Held) → holding_of new ≡ holding_of held → new.taken ≡ held.taken → IsShut new Memory
   shut_memory new holding same = record {
     run = subst HoldsRun (sym holding) taken_run;
-    taken_is = same ∙ t.taken_is ∙ sym (ap (λ h. length (pairs_held h)) holding);
+    taken_is = same ∙ t.taken_is ∙ sym (ap (λ h. length (held_pairs h)) holding);
     cause = tt;
   }
 

@@ -11,13 +11,13 @@ use Rattle.nbd_wire.specs.protocol.Sides.{side, same_side}
 use Rattle.nbd_wire.specs.protocol.States.{Core, Phase, Greet, Flags, Choosing, Naming, Aborting, Answering, Ended, Transmission}
 use Rattle.nbd_wire.specs.declared.fault.WireFault.{WireFault}
 use Rattle.nbd_session.specs.declared.reading.Reading.TheVariants as program
-use Rattle.nbd_places.specs.internal.Concrete.{concrete, judged}
+use Rattle.nbd_places.specs.internal.Concrete.{concrete, reading_by_decision}
 use Rattle.nbd_places.specs.internal.Decisions.{Decision}
-use Rattle.nbd_places.specs.internal.Judge.{decided, decided_counted, decided_with, awaited}
+use Rattle.nbd_places.specs.internal.Judge.{decision, decision_by_count, decision_with, awaited_length}
 use Rattle.nbd_places.specs.internal.JudgeTransmission.{operation_counted}
 use Rattle.nbd_laws.specs.internal.Machine.{Machine, Rest, Reading, More, Whole, Bad, get, put, reads, fresh, old_of, settle, on_ok, IsFilled}
 use Rattle.nbd_laws.proofs.machine.MachineLemmas.{IsSoundAt, AreHeld, reads_held, old-empty, old-filled}
-use Rattle.nbd_session.specs.internal.Standing.{Holding, IsReadTo, AreSpansOf, noted, pairs_held, rest_of, with_message, with_more, with_taken, counted_at}
+use Rattle.nbd_session.specs.internal.Standing.{Holding, IsReadTo, AreSpansOf, spans_with, held_pairs, rest_of, with_more, with_bytes, count_at_server}
 use Rattle.nbd_session.specs.internal.Readings.{reading_if}
 use Rattle.nbd_places.proofs.judge.AwaitedLemmas.{reads_up_to}
 use Rattle.nbd_places.proofs.judge.BlockLemmas.{judged_at_once, extended, reads-append}
@@ -27,6 +27,11 @@ use Rattle.nbd_laws.proofs.runs.RunLemmas.{fresh_held}
 use Rattle.nbd_places.proofs.judge.SoundLemmas.{sound}
 use Rattle.nbd_session.proofs.steps.TakeLemmas.{judged_bad, judged_more, judged_whole, kept_more}
 
+-- with a message of a side whose bytes were its rest
+abbrev pub with_message : Holding → Side → Message → Holding
+with_message h Client m = record h { messages = h.messages ++ m ∷ []; client = [] }
+with_message h Server m = record h { messages = h.messages ++ m ∷ []; server = [] }
+
 behind : (s u : Side) (more prefix bytes : List ℕ) → prefix ++ with_more s u more bytes ≡ with_more s u more (prefix ++ bytes)
 behind Client Client more prefix bytes = sym (append_assoc prefix bytes more)
 behind Client Server more prefix bytes = refl
@@ -34,17 +39,17 @@ behind Server Client more prefix bytes = refl
 behind Server Server more prefix bytes = sym (append_assoc prefix bytes more)
 
 pub pairs-taken : (h : Holding) (s : Side) (more : List ℕ) (entries : ℕ) → AreSpansOf h.spans (bytes_of Client h.messages ++ h.client) (bytes_of Server h.messages ++ h.server) →
-    pairs_held (with_taken h s more entries) ≡ pairs_held h ++ side_pairs s more
+    held_pairs (with_bytes h s more entries) ≡ held_pairs h ++ side_pairs s more
 pairs-taken h s more entries are =
-    ap (λ l. mixture (noted h.spans s (length more)) l (bytes_of Server h.messages ++ with_more s Server more h.server)) (behind s Client more (bytes_of Client h.messages) h.client)
-    ∙ ap (λ l. mixture (noted h.spans s (length more)) (with_more s Client more (bytes_of Client h.messages ++ h.client)) l) (behind s Server more (bytes_of Server h.messages) h.server)
+    ap (λ l. mixture (spans_with h.spans s (length more)) l (bytes_of Server h.messages ++ with_more s Server more h.server)) (behind s Client more (bytes_of Client h.messages) h.client)
+    ∙ ap (λ l. mixture (spans_with h.spans s (length more)) (with_more s Client more (bytes_of Client h.messages ++ h.client)) l) (behind s Server more (bytes_of Server h.messages) h.server)
     ∙ mixed-noted h.spans (bytes_of Client h.messages ++ h.client) (bytes_of Server h.messages ++ h.server) s more are
 
 pub spans-taken : (h : Holding) (s : Side) (more : List ℕ) (entries : ℕ) → AreSpansOf h.spans (bytes_of Client h.messages ++ h.client) (bytes_of Server h.messages ++ h.server) →
-    AreSpansOf (noted h.spans s (length more)) (bytes_of Client h.messages ++ with_more s Client more h.client) (bytes_of Server h.messages ++ with_more s Server more h.server)
+    AreSpansOf (spans_with h.spans s (length more)) (bytes_of Client h.messages ++ with_more s Client more h.client) (bytes_of Server h.messages ++ with_more s Server more h.server)
 spans-taken h s more entries are =
-    subst (λ l. AreSpansOf (noted h.spans s (length more)) l (bytes_of Server h.messages ++ with_more s Server more h.server)) (sym (behind s Client more (bytes_of Client h.messages) h.client))
-    (subst (λ l. AreSpansOf (noted h.spans s (length more)) (with_more s Client more (bytes_of Client h.messages ++ h.client)) l) (sym (behind s Server more (bytes_of Server h.messages) h.server))
+    subst (λ l. AreSpansOf (spans_with h.spans s (length more)) l (bytes_of Server h.messages ++ with_more s Server more h.server)) (sym (behind s Client more (bytes_of Client h.messages) h.client))
+    (subst (λ l. AreSpansOf (spans_with h.spans s (length more)) (with_more s Client more (bytes_of Client h.messages ++ h.client)) l) (sym (behind s Server more (bytes_of Server h.messages) h.server))
     (spans-noted h.spans (bytes_of Client h.messages ++ h.client) (bytes_of Server h.messages ++ h.server) s more are))
 
 -- a side's bytes are the same when its rest becomes a message
@@ -77,7 +82,7 @@ spans_message : (h : Holding) (s : Side) (m : Message) → (with_message h s m).
 spans_message h Client m = refl
 spans_message h Server m = refl
 
-pub pairs-message : (h : Holding) (s : Side) (m : Message) → rest_of h s ≡ enc m → side m ≡ s → pairs_held (with_message h s m) ≡ pairs_held h
+pub pairs-message : (h : Holding) (s : Side) (m : Message) → rest_of h s ≡ enc m → side m ≡ s → held_pairs (with_message h s m) ≡ held_pairs h
 pairs-message h s m e sd =
     let both = both-completed h s m e sd in
     ap (λ spans. mixture spans (bytes_of Client (with_message h s m).messages ++ (with_message h s m).client) (bytes_of Server (with_message h s m).messages ++ (with_message h s m).server)) (spans_message h s m)
@@ -94,35 +99,35 @@ are_pairs-sent s (b ∷ bytes) a = (a.0, are_pairs-sent s bytes a.1)
 
 -- what the machine has read is held as it keeps it
 pub held_of : (h : Holding) (machine : Machine) → IsReadTo h machine → AreHeld concrete machine
-held_of h machine r = reads_held concrete sound (pairs_held h) fresh machine r.are_pairs (fresh_held concrete) r.reads_it
+held_of h machine r = reads_held concrete sound (held_pairs h) fresh machine r.are_pairs (fresh_held concrete) r.reads_it
 
 -- the machine's rest of a side, with these bytes after it
 module _ (h : Holding) (machine : Machine) (r : IsReadTo h machine) (s : Side) (more : List ℕ) (filled : IsFilled more) (bytes : AreBytes more)
-    (up_to : length ((get machine.rests s).bytes ++ more) ≤ awaited (old_of machine.core (get machine.rests s)) machine.core s (get machine.rests s).bytes) where
+    (up_to : length ((get machine.rests s).bytes ++ more) ≤ awaited_length (old_of machine.core (get machine.rests s)) machine.core s (get machine.rests s).bytes) where
   abbrev taken : Holding
-  taken = with_taken h s more (length machine.core.entries)
+  taken = with_bytes h s more (length machine.core.entries)
 
   abbrev rest : Rest
   rest = get machine.rests s
 
-  pub reads_taken : reads concrete fresh (pairs_held taken) ≡ judged_at_once concrete machine s more
+  pub reads_taken : reads concrete fresh (held_pairs taken) ≡ judged_at_once concrete machine s more
   reads_taken =
       ap (reads concrete fresh) (pairs-taken h s more (length machine.core.entries) r.are_spans)
-      ∙ reads-append concrete fresh (pairs_held h) (side_pairs s more)
+      ∙ reads-append concrete fresh (held_pairs h) (side_pairs s more)
       ∙ ap (λ o. on_ok o (λ next. reads concrete next (side_pairs s more))) r.reads_it
       ∙ reads_up_to machine s more (held_of h machine r) filled up_to
 
-  pub pairs_taken : ArePairs (pairs_held taken)
-  pairs_taken = subst ArePairs (sym (pairs-taken h s more (length machine.core.entries) r.are_spans)) (are_pairs-append (pairs_held h) (side_pairs s more) r.are_pairs (are_pairs-sent s more bytes))
+  pub pairs_taken : ArePairs (held_pairs taken)
+  pairs_taken = subst ArePairs (sym (pairs-taken h s more (length machine.core.entries) r.are_spans)) (are_pairs-append (held_pairs h) (side_pairs s more) r.are_pairs (are_pairs-sent s more bytes))
 
 -- the count at the first byte of the server's rest
 pub count_at : (server : List ℕ) (rest : Rest) (core : Core) (counted : ℕ) → rest.bytes ≡ server → (IsFilled server → counted ≡ length rest.since.entries) →
-    counted_at Server server counted (length core.entries) ≡ count_of core rest
+    count_at_server Server server counted (length core.entries) ≡ count_of core rest
 count_at [] rest core counted e h = ap (λ c. length c.entries) (sym (old-empty core rest e))
 count_at (b ∷ bytes) rest core counted e h = h tt ∙ ap (λ c. length c.entries) (sym (old-filled core rest (subst IsFilled (sym e) tt)))
 
 -- no decision of a client's bytes looks at the count
-client_alike : (phase : Phase) (a b : ℕ) (core : Core) (bytes : List ℕ) → decided_with phase (operation_counted a core) core Client bytes ≡ decided_with phase (operation_counted b core) core Client bytes
+client_alike : (phase : Phase) (a b : ℕ) (core : Core) (bytes : List ℕ) → decision_with phase (operation_counted a core) core Client bytes ≡ decision_with phase (operation_counted b core) core Client bytes
 client_alike Greet a b core bytes = refl
 client_alike Flags a b core bytes = refl
 client_alike Choosing a b core bytes = refl
@@ -134,58 +139,58 @@ client_alike (Transmission export) a b core bytes = refl
 
 -- what is decided of a side's bytes, by the count that is held
 pub decided_held : (h : Holding) (machine : Machine) (s : Side) → IsReadTo h machine → (bytes : List ℕ) →
-    decided machine.core.phase (old_of machine.core (get machine.rests s)) machine.core s bytes
-    ≡ decided_counted (counted_at s h.server h.counted (length machine.core.entries)) machine.core s bytes
+    decision machine.core.phase (old_of machine.core (get machine.rests s)) machine.core s bytes
+    ≡ decision_by_count (count_at_server s h.server h.counted (length machine.core.entries)) machine.core s bytes
 decided_held h machine Client r bytes =
     held_counted (held_of h machine r Client) bytes
     ∙ client_alike machine.core.phase (count_of machine.core machine.rests.client) h.counted machine.core bytes
 decided_held h machine Server r bytes =
     held_counted (held_of h machine r Server) bytes
-    ∙ ap (λ n. decided_counted n machine.core Server bytes) (sym (count_at h.server machine.rests.server machine.core h.counted (r.rests_are Server) r.count_is))
+    ∙ ap (λ n. decision_by_count n machine.core Server bytes) (sym (count_at h.server machine.rests.server machine.core h.counted (r.rests_are Server) r.count_is))
 
 rest_taken : (h : Holding) (machine : Machine) (s u : Side) (more : List ℕ) (entries : ℕ) → IsReadTo h machine →
-    (get (put machine.rests s (extended machine.core (get machine.rests s) more)) u).bytes ≡ rest_of (with_taken h s more entries) u
+    (get (put machine.rests s (extended machine.core (get machine.rests s) more)) u).bytes ≡ rest_of (with_bytes h s more entries) u
 rest_taken h machine Client Client more entries r = ap (λ l. l ++ more) (r.rests_are Client)
 rest_taken h machine Client Server more entries r = r.rests_are Server
 rest_taken h machine Server Client more entries r = r.rests_are Client
 rest_taken h machine Server Server more entries r = ap (λ l. l ++ more) (r.rests_are Server)
 
 count_taken : (h : Holding) (machine : Machine) (s : Side) (more : List ℕ) → IsReadTo h machine → IsFilled (with_more s Server more h.server) →
-    counted_at s h.server h.counted (length machine.core.entries) ≡ length (get (put machine.rests s (extended machine.core (get machine.rests s) more)) Server).since.entries
+    count_at_server s h.server h.counted (length machine.core.entries) ≡ length (get (put machine.rests s (extended machine.core (get machine.rests s) more)) Server).since.entries
 count_taken h machine Client more r f = r.count_is f
 count_taken h machine Server more r f = count_at h.server machine.rests.server machine.core h.counted (r.rests_are Server) r.count_is
 
 -- the bytes of a side with more
-pub bytes_taken : (h : Holding) (machine : Machine) (s : Side) (more : List ℕ) (entries : ℕ) → IsReadTo h machine → (get machine.rests s).bytes ++ more ≡ rest_of (with_taken h s more entries) s
+pub bytes_taken : (h : Holding) (machine : Machine) (s : Side) (more : List ℕ) (entries : ℕ) → IsReadTo h machine → (get machine.rests s).bytes ++ more ≡ rest_of (with_bytes h s more entries) s
 bytes_taken h machine Client more entries r = ap (λ l. l ++ more) (r.rests_are Client)
 bytes_taken h machine Server more entries r = ap (λ l. l ++ more) (r.rests_are Server)
 
 module _ (h : Holding) (machine : Machine) (r : IsReadTo h machine) (s : Side) (more : List ℕ) (filled : IsFilled more) (bytes : AreBytes more)
-    (up_to : length ((get machine.rests s).bytes ++ more) ≤ awaited (old_of machine.core (get machine.rests s)) machine.core s (get machine.rests s).bytes) where
+    (up_to : length ((get machine.rests s).bytes ++ more) ≤ awaited_length (old_of machine.core (get machine.rests s)) machine.core s (get machine.rests s).bytes) where
   abbrev after : Holding
-  after = with_taken h s more (length machine.core.entries)
+  after = with_bytes h s more (length machine.core.entries)
 
   abbrev counted : ℕ
-  counted = counted_at s h.server h.counted (length machine.core.entries)
+  counted = count_at_server s h.server h.counted (length machine.core.entries)
 
   -- what the judge says of the side's bytes with these, by what the program answers
-  pub says : (reading : Reading) → judged (decided_counted counted machine.core s (rest_of after s)) (rest_of after s) ≡ reading →
+  pub says : (reading : Reading) → reading_by_decision (decision_by_count counted machine.core s (rest_of after s)) (rest_of after s) ≡ reading →
       concrete (old_of machine.core (get machine.rests s)) machine.core s ((get machine.rests s).bytes ++ more) ≡ reading
   says reading e =
       ap (λ l. concrete (old_of machine.core (get machine.rests s)) machine.core s l) (bytes_taken h machine s more (length machine.core.entries) r)
-      ∙ ap (λ o. judged o (rest_of after s)) (decided_held h machine s r (rest_of after s))
+      ∙ ap (λ o. reading_by_decision o (rest_of after s)) (decided_held h machine s r (rest_of after s))
       ∙ e
 
-  settled : (reading : Reading) → judged (decided_counted counted machine.core s (rest_of after s)) (rest_of after s) ≡ reading →
-      reads concrete fresh (pairs_held after) ≡ settle machine s (extended machine.core (get machine.rests s) more) reading
+  settled : (reading : Reading) → reading_by_decision (decision_by_count counted machine.core s (rest_of after s)) (rest_of after s) ≡ reading →
+      reads concrete fresh (held_pairs after) ≡ settle machine s (extended machine.core (get machine.rests s) more) reading
   settled reading e = reads_taken h machine r s more filled bytes up_to ∙ ap (settle machine s (extended machine.core (get machine.rests s) more)) (says reading e)
 
   -- more is awaited
-  pub more_taken : (n : ℕ) → reading_if (decided_counted counted machine.core s (rest_of after s)) (rest_of after s) ≡ Ok (program.Await n) →
+  pub more_taken : (n : ℕ) → reading_if (decision_by_count counted machine.core s (rest_of after s)) (rest_of after s) ≡ Ok (program.Await n) →
       IsReadTo after (record machine { rests = put machine.rests s (extended machine.core (get machine.rests s) more) })
   more_taken n e = record {
     are_pairs = pairs_taken h machine r s more filled bytes up_to;
-    reads_it = settled More (judged_more (decided_counted counted machine.core s (rest_of after s)) (rest_of after s) n e);
+    reads_it = settled More (judged_more (decision_by_count counted machine.core s (rest_of after s)) (rest_of after s) n e);
     messages_are = r.messages_are;
     rests_are = λ u. rest_taken h machine s u more (length machine.core.entries) r;
     count_is = count_taken h machine s more r;
@@ -193,13 +198,13 @@ module _ (h : Holding) (machine : Machine) (r : IsReadTo h machine) (s : Side) (
   }
 
   -- the bytes are refused
-  pub refused_taken : (fault : WireFault) → reading_if (decided_counted counted machine.core s (rest_of after s)) (rest_of after s) ≡ Err fault →
-      reads concrete fresh (pairs_held after) ≡ Err fault
-  refused_taken fault e = settled (Bad fault) (judged_bad (decided_counted counted machine.core s (rest_of after s)) (rest_of after s) fault e)
+  pub refused_taken : (fault : WireFault) → reading_if (decision_by_count counted machine.core s (rest_of after s)) (rest_of after s) ≡ Err fault →
+      reads concrete fresh (held_pairs after) ≡ Err fault
+  refused_taken fault e = settled (Bad fault) (judged_bad (decision_by_count counted machine.core s (rest_of after s)) (rest_of after s) fault e)
 
 -- a message's bytes are no longer a rest
 rest_message : (h : Holding) (machine : Machine) (s u : Side) (m : Message) (more : List ℕ) (entries : ℕ) → IsReadTo h machine →
-    (get (put machine.rests s (record (extended machine.core (get machine.rests s) more) { bytes = [] })) u).bytes ≡ rest_of (with_message (with_taken h s more entries) s m) u
+    (get (put machine.rests s (record (extended machine.core (get machine.rests s) more) { bytes = [] })) u).bytes ≡ rest_of (with_message (with_bytes h s more entries) s m) u
 rest_message h machine Client Client m more entries r = refl
 rest_message h machine Client Server m more entries r = r.rests_are Server
 rest_message h machine Server Client m more entries r = r.rests_are Client
@@ -209,15 +214,15 @@ messages_message : (h : Holding) (s : Side) (m : Message) → (with_message h s 
 messages_message h Client m = refl
 messages_message h Server m = refl
 
-count_message : (h : Holding) (machine : Machine) (s : Side) (m : Message) (more : List ℕ) (entries : ℕ) → IsReadTo h machine → IsFilled (with_message (with_taken h s more entries) s m).server →
-    (with_message (with_taken h s more entries) s m).counted ≡ length (get (put machine.rests s (record (extended machine.core (get machine.rests s) more) { bytes = [] })) Server).since.entries
+count_message : (h : Holding) (machine : Machine) (s : Side) (m : Message) (more : List ℕ) (entries : ℕ) → IsReadTo h machine → IsFilled (with_message (with_bytes h s more entries) s m).server →
+    (with_message (with_bytes h s more entries) s m).counted ≡ length (get (put machine.rests s (record (extended machine.core (get machine.rests s) more) { bytes = [] })) Server).since.entries
 count_message h machine Client m more entries r f = r.count_is f
 count_message h machine Server m more entries r f = absurd f
 
 -- what is held of a side whose bytes have become a whole message
 pub record IsWholeTaken (h : Holding) (machine : Machine) (s : Side) (after : Holding) (bytes : List ℕ) (counted : ℕ) : Type 0 where
   pub decision : Decision
-  pub decided_is : decided_counted counted machine.core s bytes ≡ Some decision
+  pub decided_is : decision_by_count counted machine.core s bytes ≡ Some decision
   pub at : IsSoundAt (old_of machine.core (get machine.rests s)) machine.core s bytes decision.message
   pub judged_so : concrete (old_of machine.core (get machine.rests s)) machine.core s bytes ≡ Whole decision.message
   pub next : Rest
@@ -225,19 +230,19 @@ pub record IsWholeTaken (h : Holding) (machine : Machine) (s : Side) (after : Ho
       (record { core = complete machine.core decision.message; rests = put machine.rests s next; messages = machine.messages ++ decision.message ∷ [] })
 
 module _ (h : Holding) (machine : Machine) (r : IsReadTo h machine) (s : Side) (more : List ℕ) (filled : IsFilled more) (bytes : AreBytes more)
-    (up_to : length ((get machine.rests s).bytes ++ more) ≤ awaited (old_of machine.core (get machine.rests s)) machine.core s (get machine.rests s).bytes) where
-  pub whole_taken : reading_if (decided_counted (counted h machine r s more filled bytes up_to) machine.core s (rest_of (after h machine r s more filled bytes up_to) s)) (rest_of (after h machine r s more filled bytes up_to) s) ≡ Ok program.Whole →
+    (up_to : length ((get machine.rests s).bytes ++ more) ≤ awaited_length (old_of machine.core (get machine.rests s)) machine.core s (get machine.rests s).bytes) where
+  pub whole_taken : reading_if (decision_by_count (counted h machine r s more filled bytes up_to) machine.core s (rest_of (after h machine r s more filled bytes up_to) s)) (rest_of (after h machine r s more filled bytes up_to) s) ≡ Ok program.Whole →
       IsWholeTaken h machine s (after h machine r s more filled bytes up_to) (rest_of (after h machine r s more filled bytes up_to) s) (counted h machine r s more filled bytes up_to)
   whole_taken e =
       let held : Holding = after h machine r s more filled bytes up_to in
-      let w = judged_whole (decided_counted (counted h machine r s more filled bytes up_to) machine.core s (rest_of held s)) (rest_of held s) e in
+      let w = judged_whole (decision_by_count (counted h machine r s more filled bytes up_to) machine.core s (rest_of held s)) (rest_of held s) e in
       let m : Message = w.0.message in
       let b = bytes_taken h machine s more (length machine.core.entries) r in
       let judged_so : concrete (old_of machine.core (get machine.rests s)) machine.core s ((get machine.rests s).bytes ++ more) ≡ Whole m = says h machine r s more filled bytes up_to (Whole m) w.2 in
       let good : IsSoundAt (old_of machine.core (get machine.rests s)) machine.core s ((get machine.rests s).bytes ++ more) m =
       sound _ _ _ _ m (kept_more machine.core s (get machine.rests s) more (held_of h machine r s) filled bytes up_to) judged_so in
       let at : IsSoundAt (old_of machine.core (get machine.rests s)) machine.core s (rest_of held s) m = subst (λ l. IsSoundAt (old_of machine.core (get machine.rests s)) machine.core s l m) b good in
-      let same : pairs_held (with_message held s m) ≡ pairs_held held = pairs-message held s m at.encodes at.sided in
+      let same : held_pairs (with_message held s m) ≡ held_pairs held = pairs-message held s m at.encodes at.sided in
       let both = both-completed held s m at.encodes at.sided in
       record {
         decision = w.0;

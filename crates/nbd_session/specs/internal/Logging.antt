@@ -6,38 +6,22 @@ use Rattle.nbd_wire.specs.protocol.Reports.{Report, export_in, asked_list}
 use Rattle.nbd_wire.specs.protocol.Rules.{complete}
 use Rattle.nbd_wire.specs.protocol.States.{Core, start}
 use Rattle.nbd_wire.specs.declared.fault.WireFault.{WireFault}
-use Rattle.nbd_laws.specs.internal.Machine.{Bad, Both, Judge, Machine, More, Reading, Rest, Whole, get, grown, put, step}
-use Rattle.nbd_state.specs.Logged.{Logged, known_by}
-
--- what completes in these items, where each side's open message started when so many requests were complete
-abbrev pub log_from : Core → Both ℕ → List Item → List Logged
-log_from core since [] = []
-log_from core since (Byte s b ∷ items) = log_from core since items
-log_from core since (Starts s m ∷ items) = log_from core (put since s (length core.entries)) items
-log_from core since (Completes s m ∷ items) = record { message = m; known = get since s } ∷ log_from (complete core m) since items
-log_from core since (Serves k ∷ items) = log_from core since items
-
--- what completes in a run
-abbrev pub log_of : List Item → List Logged
-log_of items = log_from start.core (record { client = 0; server = 0 }) items
+use Rattle.nbd_laws.specs.internal.Machine.{Bad, Both, Judge, Machine, More, Reading, Rest, Whole, get, rest_with, put, step}
+use Rattle.nbd_state.specs.Logs.{LogEntry, known_by}
 
 -- what completes with a byte, by the side's bytes
-abbrev pub log_with : Rest → Reading → List Logged
+abbrev pub log_with : Rest → Reading → List LogEntry
 log_with rest More = []
 log_with rest (Whole m) = record { message = m; known = length rest.since.entries } ∷ []
 log_with rest (Bad fault) = []
 
-abbrev pub logged_on : Result Machine WireFault → (Machine → List Logged) → List Logged
-logged_on (Ok next) f = f next
-logged_on (Err fault) f = []
+abbrev pub log_of_rest : Result Machine WireFault → (Machine → List LogEntry) → List LogEntry
+log_of_rest (Ok next) f = f next
+log_of_rest (Err fault) f = []
 
 -- what completes while the machine reads these pairs
-abbrev pub logged : Judge → Machine → List Pair → List Logged
-logged judge machine [] = []
-logged judge machine (p ∷ ps) =
-    let rest : Rest = grown machine.core (get machine.rests p.from) p.byte in
-    log_with rest (judge rest.since machine.core p.from rest.bytes) ++ logged_on (step judge machine p.from p.byte) (λ next. logged judge next ps)
-
--- what a core and the log before it state
-abbrev pub report_by : Core → List Logged → Report
-report_by core log = record { export = export_in core.phase; asked = asked_list 0 (export_in core.phase) (λ k. known_by start.core k log) core.entries }
+abbrev pub log_of_pairs : Judge → Machine → List Pair → List LogEntry
+log_of_pairs judge machine [] = []
+log_of_pairs judge machine (p ∷ ps) =
+    let rest : Rest = rest_with machine.core (get machine.rests p.from) p.byte in
+    log_with rest (judge rest.since machine.core p.from rest.bytes) ++ log_of_rest (step judge machine p.from p.byte) (λ next. log_of_pairs judge next ps)

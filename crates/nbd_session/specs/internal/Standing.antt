@@ -32,46 +32,41 @@ abbrev pub rest_of : Holding → Side → List ℕ
 rest_of h Client = h.client
 rest_of h Server = h.server
 
-abbrev pub pairs_held : Holding → List Pair
-pairs_held h = pushed_pairs h.messages h.client h.server h.spans
+abbrev pub held_pairs : Holding → List Pair
+held_pairs h = pushed_pairs h.messages h.client h.server h.spans
 
 -- the machine has read what is held, without a fault
 pub record IsReadTo (h : Holding) (machine : Machine) : Type 0 where
-  pub are_pairs : ArePairs (pairs_held h)
-  pub reads_it : reads concrete fresh (pairs_held h) ≡ Ok machine
+  pub are_pairs : ArePairs (held_pairs h)
+  pub reads_it : reads concrete fresh (held_pairs h) ≡ Ok machine
   pub messages_are : machine.messages ≡ h.messages
   pub rests_are : (s : Side) → (get machine.rests s).bytes ≡ rest_of h s
   pub count_is : IsFilled h.server → h.counted ≡ length (get machine.rests Server).since.entries
   pub are_spans : AreSpansOf h.spans (bytes_of Client h.messages ++ h.client) (bytes_of Server h.messages ++ h.server)
 
 -- the spans with so many more bytes of a side
-abbrev pub noted : List Span → Side → ℕ → List Span
-noted [] s n = record { from = s; length = n } ∷ []
-noted (span ∷ []) s n =
+abbrev pub spans_with : List Span → Side → ℕ → List Span
+spans_with [] s n = record { from = s; length = n } ∷ []
+spans_with (span ∷ []) s n =
     if same_side s span.from then record { from = span.from; length = span.length + n } ∷ [] else span ∷ record { from = s; length = n } ∷ []
-noted (span ∷ next ∷ spans) s n = span ∷ noted (next ∷ spans) s n
+spans_with (span ∷ next ∷ spans) s n = span ∷ spans_with (next ∷ spans) s n
 
 -- a side's bytes with more
 abbrev pub with_more : Side → Side → List ℕ → List ℕ → List ℕ
 with_more s t more bytes = if same_side s t then bytes ++ more else bytes
 
 -- the count at the server's first byte
-abbrev pub counted_at : Side → (server : List ℕ) → (counted entries : ℕ) → ℕ
-counted_at Client server counted entries = counted
-counted_at Server [] counted entries = entries
-counted_at Server (b ∷ bytes) counted entries = counted
+abbrev pub count_at_server : Side → (server : List ℕ) → (counted entries : ℕ) → ℕ
+count_at_server Client server counted entries = counted
+count_at_server Server [] counted entries = entries
+count_at_server Server (b ∷ bytes) counted entries = counted
 
 -- with more bytes of a side, where so many requests have completed
-abbrev pub with_taken : Holding → Side → List ℕ → (entries : ℕ) → Holding
-with_taken h s more entries = record {
+abbrev pub with_bytes : Holding → Side → List ℕ → (entries : ℕ) → Holding
+with_bytes h s more entries = record {
   messages = h.messages;
   client = with_more s Client more h.client;
   server = with_more s Server more h.server;
-  counted = counted_at s h.server h.counted entries;
-  spans = noted h.spans s (length more);
+  counted = count_at_server s h.server h.counted entries;
+  spans = spans_with h.spans s (length more);
 }
-
--- with a message of a side whose bytes were its rest
-abbrev pub with_message : Holding → Side → Message → Holding
-with_message h Client m = record h { messages = h.messages ++ m ∷ []; client = [] }
-with_message h Server m = record h { messages = h.messages ++ m ∷ []; server = [] }

@@ -4,13 +4,13 @@ use Rattle.nbd_wire.specs.protocol.Captures.{Pair, ArePairs}
 use Rattle.nbd_wire.specs.declared.fault.WireFault.{WireFault}
 use Rattle.nbd_laws.specs.internal.Machine.{Machine, fresh, reads, step}
 use Rattle.nbd_places.specs.internal.Concrete.{concrete}
-use Rattle.nbd_session.specs.internal.Standing.{Holding, pairs_held}
+use Rattle.nbd_session.specs.internal.Standing.{Holding, held_pairs}
 
 pub record IsStopped (h : Holding) (fault : WireFault) : Type 0 where
-  pub are_pairs : ArePairs (pairs_held h)
+  pub are_pairs : ArePairs (held_pairs h)
   pub prefix : List Pair
   pub last : Pair
-  pub parts : pairs_held h ≡ prefix ++ last ∷ []
+  pub parts : held_pairs h ≡ prefix ++ last ∷ []
   pub machine : Machine
   pub reads_it : reads concrete fresh prefix ≡ Ok machine
   pub messages_are : machine.messages ≡ h.messages

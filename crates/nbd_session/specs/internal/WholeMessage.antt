@@ -7,7 +7,7 @@ use Rattle.nbd_wire.specs.protocol.States.{Core}
 use Rattle.nbd_session.specs.declared.reading.Reading.TheVariants.{Whole}
 use Rattle.nbd_state.specs.declared.state.State.{State}
 use Rattle.nbd_places.specs.internal.Decisions.{Decision}
-use Rattle.nbd_places.specs.internal.Judge.{decided_counted}
+use Rattle.nbd_places.specs.internal.Judge.{decision_by_count}
 use Rattle.nbd_places.specs.internal.JudgeTransmission.{begins, chunk_of, simple_of}
 use Rattle.nbd_session.specs.internal.Leading.{HasHead}
 use Rattle.nbd_session.specs.internal.Readings.{reading_of}
@@ -19,12 +19,12 @@ pub record IsWholeFor (state : State) (s : Side) (bytes : List ℕ) : Type 0 whe
   pub counted : ℕ
   pub decision : Decision
   pub shows : Shows state core
-  pub decided_is : decided_counted counted core s bytes ≡ Some decision
+  pub decided_is : decision_by_count counted core s bytes ≡ Some decision
   pub whole : reading_of decision bytes ≡ Ok Whole
 
 -- it is the message that any decision of these bytes names
 abbrev pub IsDecided : State → Side → List ℕ → Message → Type 0
-IsDecided state s bytes m = (core : Core) (counted : ℕ) (d : Decision) → Shows state core → decided_counted counted core s bytes ≡ Some d → m ≡ d.message
+IsDecided state s bytes m = (core : Core) (counted : ℕ) (d : Decision) → Shows state core → decision_by_count counted core s bytes ≡ Some d → m ≡ d.message
 
 -- bytes that are as long as a reply's head, and begin as a reply
 abbrev pub HasReply : List ℕ → Type 0

@@ -5,7 +5,7 @@ use Rattle.nbd_wire.specs.protocol.Captures.{Pair}
 use Rattle.nbd_capture.specs.Writing.{AppendsPrefix}
 use Rattle.nbd_session.specs.declared.fault.SessionFault.{SessionFault}
 use Rattle.nbd_session.specs.declared.fault.SessionFault.TheVariants as session
-use Rattle.nbd_session.specs.Sessions.{Recorded, pairs_of, taken}
+use Rattle.nbd_session.specs.Sessions.{SessionView, pairs_of, bytes_taken}
 use Rattle.nbd_judge.specs.declared.verdict.Verdict.TheVariants.{Wire}
 use Rattle.nbd_tool.specs.declared.fault.RunFault.{RunFault}
 use Rattle.nbd_tool.specs.declared.fault.RunFault.TheVariants.{Write, Memory}
@@ -17,11 +17,11 @@ IsWireAt n (session.Wire at fault) = at ≡ n
 IsWireAt n session.Memory = ⊥
 
 -- a session took all of a capture's bytes, or was closed by a wire fault at the last one that it took
-pub record IsOver (capture : List Pair) (r : Recorded) : Type 0 where
+pub record IsOver (capture : List Pair) (r : SessionView) : Type 0 where
   pub left : List Pair
   pub parts : pairs_of r ++ left ≡ capture
   pub all : r.closed ≡ None → left ≡ []
-  pub at : IfSome r.closed (IsWireAt (taken r))
+  pub at : IfSome r.closed (IsWireAt (bytes_taken r))
 
 -- the session was accepted
 abbrev pub is_accepted : Option SessionFault → Bool

@@ -31,7 +31,7 @@ HasNoWrongByte r order initial = (k x : ℕ) → Names order k → IsWrong (effe
 
 -- some run has these bytes and is served in this order, an image has the export's size, and no byte
 -- of a READ that is served is wrong (this project's choice)
-pub record Explained (capture : List Pair) (order : List ℕ) (initial : Start) : Type 0 where
+pub record IsExplained (capture : List Pair) (order : List ℕ) (initial : Start) : Type 0 where
   pub items : List Item
   pub is_run : IsRun items
   pub has_pairs : pairs items ≡ capture

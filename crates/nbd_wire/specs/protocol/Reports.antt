@@ -40,8 +40,8 @@ known_from core k (Completes s m ∷ items) = known_from (complete core m) k ite
 known_from core k (Serves j ∷ items) = known_from core k items
 
 -- how many numbered requests had completed when the first reply to request k started, if one did
-abbrev pub known : List Item → ℕ → Option ℕ
-known items k = known_from start.core k items
+abbrev pub known_count : List Item → ℕ → Option ℕ
+known_count items k = known_from start.core k items
 
 -- a numbered request as a report states it: whether it is proper, how many numbered requests had
 -- completed when its first reply started, what became of it, and the pieces of its reply
@@ -89,7 +89,7 @@ asked_list k export known_at (e ∷ entries) = asked_of export (known_at (suc k)
 
 -- the export and the numbered requests that a run leads to
 unfoldable pub report : List Item → Report
-report items = record { export = export_of items; asked = asked_list 0 (export_of items) (known items) (operations_of items) }
+report items = record { export = export_of items; asked = asked_list 0 (export_of items) (known_count items) (operations_of items) }
 
 -- request k of these, counted from 1
 abbrev pub asked_at : ℕ → List Asked → Option Asked

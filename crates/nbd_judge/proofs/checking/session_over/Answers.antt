@@ -1,7 +1,7 @@
 use Rattle.std.proofs.Common.{◌+◌, ◌≤◌, ◌++◌, ℕ, length, sym, ◌∙◌, ap, arith, take}
 use Rattle.nbd_wire.specs.protocol.Captures.{flat, side_pairs}
-use Rattle.nbd_session.specs.Sessions.{taken}
-use Rattle.nbd_judge.specs.Captures.{IsFaultOf, chunks_told}
+use Rattle.nbd_session.specs.Sessions.{bytes_taken}
+use Rattle.nbd_judge.specs.Captures.{IsFaultOf, records_of}
 use Rattle.nbd_judge.proofs.verdicts.ChunkLemmas.{finish_told, prefix_more, prefix_whole, handed_on, piece_fits}
 use Rattle.nbd_judge.proofs.verdicts.RefusalLemmas.{fault_in, finish_fault}
 use Rattle.nbd_judge.proofs.checking.session_over.Goals as goal
@@ -15,7 +15,7 @@ push-requires c =
 
 pub returns-in_err-push-clause-wire : goal.returns-in_err-push-clause-wire
 returns-in_err-push-clause-wire c =
-    handed_on c.from_residual.result c.in_err-push.field-0.0 (IsFaultOf (flat (chunks_told c.args.chunks.now))) c.from_residual.ensures.1
+    handed_on c.from_residual.result c.in_err-push.field-0.0 (IsFaultOf (flat (records_of c.args.chunks.now))) c.from_residual.ensures.1
     (fault_in c.args.chunks.now c.loop-side.side-index c.loop-side-item.result c.deref.result.now c.loop-side.session c.push.new.self c.in_err-push.field-0.0
     c.loop-side-test.true c.loop-side-item.is c.deref.ensures.value c.loop-side.invariant.took c.in_err-push.ensures.prefix
     (c.in_err-push.ensures.at c.loop-side.invariant.unclosed) c.in_err-push.ensures.wire)
@@ -25,16 +25,16 @@ loop-side-preserved c = record {
   unclosed = c.in_ok-push.ensures.open;
   took = c.in_ok-push.ensures.added
       ∙ ap (λ ps. ps ++ side_pairs c.loop-side-item.result.0 c.deref.result.now) c.loop-side.invariant.took
-      ∙ ap (λ bs. flat (chunks_told (take c.loop-side.side-index c.args.chunks.now)) ++ side_pairs c.loop-side-item.result.0 bs) c.deref.ensures.value
+      ∙ ap (λ bs. flat (records_of (take c.loop-side.side-index c.args.chunks.now)) ++ side_pairs c.loop-side-item.result.0 bs) c.deref.ensures.value
       ∙ sym (prefix_more c.args.chunks.now c.loop-side.side-index c.loop-side-item.result c.loop-side-test.true c.loop-side-item.is);
 }
 
 pub returns-clause-told : goal.returns-clause-told
 returns-clause-told c =
-    finish_told c.loop-side.session (flat (chunks_told c.args.chunks.now)) c.finish.result
-    (c.loop-side.invariant.took ∙ ap (λ cs. flat (chunks_told cs)) (prefix_whole c.args.chunks.now c.loop-side.side-index (omega arith))) c.finish.ensures.told
+    finish_told c.loop-side.session (flat (records_of c.args.chunks.now)) c.finish.result
+    (c.loop-side.invariant.took ∙ ap (λ cs. flat (records_of cs)) (prefix_whole c.args.chunks.now c.loop-side.side-index (omega arith))) c.finish.ensures.told
 
 pub returns-clause-wire : goal.returns-clause-wire
 returns-clause-wire c =
-    finish_fault c.loop-side.session (flat (chunks_told c.args.chunks.now)) c.finish.result
-    (c.loop-side.invariant.took ∙ ap (λ cs. flat (chunks_told cs)) (prefix_whole c.args.chunks.now c.loop-side.side-index (omega arith))) c.finish.ensures.wire
+    finish_fault c.loop-side.session (flat (records_of c.args.chunks.now)) c.finish.result
+    (c.loop-side.invariant.took ∙ ap (λ cs. flat (records_of cs)) (prefix_whole c.args.chunks.now c.loop-side.side-index (omega arith))) c.finish.ensures.wire

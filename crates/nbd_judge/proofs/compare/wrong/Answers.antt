@@ -1,14 +1,14 @@
 use Rattle.std.proofs.Common.{ℕ, List, Option, length, sym, subst, ◌∙◌}
 use Rattle.nbd_export.specs.Ranges.{IsLeast}
 use Rattle.nbd_wire.specs.declared.payloads.Piece.{Piece}
-use Rattle.nbd_state.specs.Transcripts.{asked_told}
+use Rattle.nbd_state.specs.Transcripts.{report_of_request}
 use Rattle.nbd_judge.specs.internal.Pieces.{DiffersInOneOf}
 use Rattle.nbd_judge.proofs.contents.CompareLemmas.{wrong_read}
 use Rattle.nbd_judge.proofs.compare.wrong.Goals as goal
 
-pub returns-then-succeeded : goal.returns-then-succeeded
-returns-then-succeeded g c =
+pub returns-then-is_success : goal.returns-then-is_success
+returns-then-is_success g c =
     let byte : ℕ → Option ℕ = g.C.Contents.byte c.args.contents.now in
-    let well = sym c.succeeded.ensures ∙ c.if-succeeded.true in
-    wrong_read (g.C.Contents.size c.args.contents.now) (asked_told c.args.one.now) byte c.if-one-eq-READ.true well c.requires c.first_difference.result
+    let well = sym c.is_success.ensures ∙ c.if-is_success.true in
+    wrong_read (g.C.Contents.size c.args.contents.now) (report_of_request c.args.one.now) byte c.if-one-eq-READ.true well c.requires c.first_difference.result
     (subst (λ (ps : List Piece). IsLeast (DiffersInOneOf byte ps (length ps)) c.first_difference.result) c.deref.ensures.value c.first_difference.ensures)

@@ -4,7 +4,7 @@ use Rattle.nbd_export.specs.Extents.{byte_of}
 use Rattle.nbd_export.specs.Ranges.{AreSameBelow}
 use Rattle.nbd_judge.specs.Beginnings.{initial_of}
 use Rattle.nbd_judge.specs.Servable.{size_of}
-use Rattle.nbd_judge.proofs.contents.StartLemmas.{concluded, exporting_of, image_fits, same_start}
+use Rattle.nbd_judge.proofs.contents.StartLemmas.{report_of_conclusion, exporting_of, image_fits, same_start}
 use Rattle.nbd_judge.proofs.concluding.verdict_on.Goals as goal
 use Rattle.nbd_judge.proofs.concluding.verdict_on.Goals.{in-Some-image_len+else-image-size, in_default-image_len}
 
@@ -22,4 +22,4 @@ returns c =
     ]) in
     let same : AreSameBelow (size_of c.args.transcript.now.export) (byte_of c.in_ok-contents-2.contents) (start_byte (initial_of c.args.start)) =
     λ x l. c.in_ok-contents-2.ensures.bytes x (subst (λ (n : ℕ). x < n) sized l) ∙ same_start c.args.start x in
-    concluded c.args.transcript.now c.count-count.ensures.facts c.args.order.now (byte_of c.in_ok-contents-2.contents) (initial_of c.args.start) fits same c.judge-2.result c.judge-2.ensures
+    report_of_conclusion c.args.transcript.now c.count-count.ensures.facts c.args.order.now (byte_of c.in_ok-contents-2.contents) (initial_of c.args.start) fits same c.judge-2.result c.judge-2.ensures

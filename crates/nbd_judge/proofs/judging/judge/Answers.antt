@@ -8,6 +8,6 @@ returns g c =
       faultless,
       none_wrong c.args.transcript.now c.args.order.now (g.C.Contents.byte c.args.contents.now) none,
       c.count-requests.ensures.count,
-      c.answered.ensures,
-      c.improper.ensures,
+      c.answered_count.ensures,
+      c.improper_count.ensures,
     )

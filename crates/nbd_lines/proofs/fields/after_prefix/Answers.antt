@@ -1,5 +1,5 @@
-use Rattle.nbd_lines.proofs.WordLemmas.{stripped}
+use Rattle.nbd_lines.proofs.WordLemmas.{strip_is_prefix}
 use Rattle.nbd_lines.proofs.fields.after_prefix.Goals as goal
 
 pub returns : goal.returns
-returns c = stripped c.args.prefix.now c.args.text.now c.strip_prefix.result c.strip_prefix.ensures.cases
+returns c = strip_is_prefix c.args.prefix.now c.args.text.now c.strip_prefix.result c.strip_prefix.ensures.cases

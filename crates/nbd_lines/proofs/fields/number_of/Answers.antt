@@ -2,7 +2,7 @@ use Rattle.std.proofs.Common.{◌≡◌, refl, true, false}
 use Rattle.std.specs.Str.{IsUtf8, IsValidUpTo, valid_up_to}
 use Rattle.std.specs.Str.Parse.{ParsesUnsigned}
 use Rattle.nbd_capture.specs.Order.{BeginsPlainly}
-use Rattle.nbd_lines.proofs.DecimalLemmas.{not_utf8, parsed, plain_as_decimal, utf8_as_decimal, utf8_text}
+use Rattle.nbd_lines.proofs.DecimalLemmas.{not_utf8, plain_digits_parse, plain_as_decimal, utf8_as_decimal, utf8_text}
 use Rattle.nbd_lines.proofs.fields.number_of.Goals as goal
 
 pub returns-then-not-begins_plainly : goal.returns-then-not-begins_plainly
@@ -17,4 +17,4 @@ returns c =
     let plain : BeginsPlainly c.args.digits.now = c.if-not-begins_plainly.ensures.0 refl in
     let same : c.in_ok-text.text.now ≡ c.args.digits.now = utf8_text (λ e. (IsUtf8 c.args.digits.now → ⊥) × IsValidUpTo c.args.digits.now (valid_up_to e)) c.args.digits.now c.from_utf8.result c.in_ok-text.text c.in_ok-text.ensures.value c.from_utf8.ensures.cases in
     let read : ParsesUnsigned 64 10 c.args.digits.now c.parse.result = rw same at c.parse.ensures.value.0 in
-    rw c.ok-2.ensures.value (parsed c.args.digits.now c.parse.result plain read)
+    rw c.ok-2.ensures.value (plain_digits_parse c.args.digits.now c.parse.result plain read)

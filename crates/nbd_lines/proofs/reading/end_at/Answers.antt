@@ -1,6 +1,6 @@
 use Rattle.std.proofs.Common.{inl, inr, sym, ◌∙◌}
 use Rattle.nbd_lines.specs.Table.{has_payload}
-use Rattle.nbd_lines.proofs.EndLemmas.{empty, nothing_at, payload_at, undecoded}
+use Rattle.nbd_lines.proofs.EndLemmas.{empty, nothing_at, payload_at, bad_digits_are_no_end}
 use Rattle.nbd_lines.proofs.reading.end_at.Goals as goal
 
 pub returns-then-not-has_payload : goal.returns-then-not-has_payload
@@ -17,5 +17,5 @@ pub returns-in_default-e : goal.returns-in_default-e
 returns-in_default-e c =
     elim c.in-Err.ensures.err [
       | inl memory ↦ absurd (c.in_default-e.not-OutOfMemory memory)
-      | inr bad ↦ undecoded (has_payload c.args.form) c.in-Some.digits.now c.args.end.now c.in-Err.e (sym c.has_payload.ensures ∙ c.if-not-has_payload.false) c.in-Some.ensures bad
+      | inr bad ↦ bad_digits_are_no_end (has_payload c.args.form) c.in-Some.digits.now c.args.end.now c.in-Err.e (sym c.has_payload.ensures ∙ c.if-not-has_payload.false) c.in-Some.ensures bad
     ]

@@ -3,7 +3,7 @@ use Rattle.std.specs.Io.KnownBytes.{Appends}
 use Rattle.nbd_capture.specs.Writing.{AppendsPrefix}
 use Rattle.nbd_wire.specs.protocol.Captures.{flat}
 use Rattle.nbd_judge.specs.Beginnings.{initial_of}
-use Rattle.nbd_judge.specs.Captures.{IsChecked, chunks_told}
+use Rattle.nbd_judge.specs.Captures.{IsChecked, records_of}
 use Rattle.nbd_tool.specs.Runs.{LeavesWritten}
 use Rattle.nbd_tool.specs.Starts.{initial_from}
 use Rattle.nbd_tool.proofs.JudgedLemmas.{verdict_on, write_alone}
@@ -12,9 +12,9 @@ use Rattle.nbd_tool.proofs.check.run_check.Goals as goal
 
 pub returns-in_err-write_whole-clause-left : goal.returns-in_err-write_whole-clause-left
 returns-in_err-write_whole-clause-left g c =
-    let checked : IsChecked (flat (chunks_told c.in_ok-chunks.chunks.items)) c.in_ok-order.order.items (initial_of c.in_ok-start.start) c.in_ok-verdict.verdict =
-    subst (λ chunks. IsChecked (flat (chunks_told chunks)) c.in_ok-order.order.items (initial_of c.in_ok-start.start) c.in_ok-verdict.verdict) c.as_slice.ensures.value
-    (subst (λ order. IsChecked (flat (chunks_told c.as_slice.result.now)) order (initial_of c.in_ok-start.start) c.in_ok-verdict.verdict) c.as_slice-2.ensures.value c.in_ok-verdict.ensures.verdict) in
+    let checked : IsChecked (flat (records_of c.in_ok-chunks.chunks.items)) c.in_ok-order.order.items (initial_of c.in_ok-start.start) c.in_ok-verdict.verdict =
+    subst (λ chunks. IsChecked (flat (records_of chunks)) c.in_ok-order.order.items (initial_of c.in_ok-start.start) c.in_ok-verdict.verdict) c.as_slice.ensures.value
+    (subst (λ order. IsChecked (flat (records_of c.as_slice.result.now)) order (initial_of c.in_ok-start.start) c.in_ok-verdict.verdict) c.as_slice-2.ensures.value c.in_ok-verdict.ensures.verdict) in
     write_alone _ c.from_residual-in_err-write_whole.result
     (LeavesWritten (g.C.Read.remaining c.args.capture) (g.O.Read.remaining c.args.order) (initial_from g.I.Read.remaining c.args.start) (g.W.Write.contents c.args.out.now) (g.W.Write.contents c.write_whole.new.out))
     c.from_residual-in_err-write_whole.ensures.1
@@ -27,9 +27,9 @@ returns-in_err-write_whole-clause-left g c =
 
 pub returns-clause-written : goal.returns-clause-written
 returns-clause-written g c =
-    let checked : IsChecked (flat (chunks_told c.in_ok-chunks.chunks.items)) c.in_ok-order.order.items (initial_of c.in_ok-start.start) c.in_ok-verdict.verdict =
-    subst (λ chunks. IsChecked (flat (chunks_told chunks)) c.in_ok-order.order.items (initial_of c.in_ok-start.start) c.in_ok-verdict.verdict) c.as_slice.ensures.value
-    (subst (λ order. IsChecked (flat (chunks_told c.as_slice.result.now)) order (initial_of c.in_ok-start.start) c.in_ok-verdict.verdict) c.as_slice-2.ensures.value c.in_ok-verdict.ensures.verdict) in
+    let checked : IsChecked (flat (records_of c.in_ok-chunks.chunks.items)) c.in_ok-order.order.items (initial_of c.in_ok-start.start) c.in_ok-verdict.verdict =
+    subst (λ chunks. IsChecked (flat (records_of chunks)) c.in_ok-order.order.items (initial_of c.in_ok-start.start) c.in_ok-verdict.verdict) c.as_slice.ensures.value
+    (subst (λ order. IsChecked (flat (records_of c.as_slice.result.now)) order (initial_of c.in_ok-start.start) c.in_ok-verdict.verdict) c.as_slice-2.ensures.value c.in_ok-verdict.ensures.verdict) in
     record {
       verdict = c.in_ok-verdict.verdict;
       is_verdict = verdict_on (g.C.Read.remaining c.args.capture) (g.O.Read.remaining c.args.order) (initial_from g.I.Read.remaining c.args.start) c.in_ok-chunks.chunks.items c.in_ok-order.order.items (initial_of c.in_ok-start.start)
@@ -55,9 +55,9 @@ returns-in_err-line-clause-yes g c = says_nothing (g.C.Read.remaining c.args.cap
 
 pub returns-in_err-write_whole-clause-yes : goal.returns-in_err-write_whole-clause-yes
 returns-in_err-write_whole-clause-yes g c =
-    let checked : IsChecked (flat (chunks_told c.in_ok-chunks.chunks.items)) c.in_ok-order.order.items (initial_of c.in_ok-start.start) c.in_ok-verdict.verdict =
-    subst (λ chunks. IsChecked (flat (chunks_told chunks)) c.in_ok-order.order.items (initial_of c.in_ok-start.start) c.in_ok-verdict.verdict) c.as_slice.ensures.value
-    (subst (λ order. IsChecked (flat (chunks_told c.as_slice.result.now)) order (initial_of c.in_ok-start.start) c.in_ok-verdict.verdict) c.as_slice-2.ensures.value c.in_ok-verdict.ensures.verdict) in
+    let checked : IsChecked (flat (records_of c.in_ok-chunks.chunks.items)) c.in_ok-order.order.items (initial_of c.in_ok-start.start) c.in_ok-verdict.verdict =
+    subst (λ chunks. IsChecked (flat (records_of chunks)) c.in_ok-order.order.items (initial_of c.in_ok-start.start) c.in_ok-verdict.verdict) c.as_slice.ensures.value
+    (subst (λ order. IsChecked (flat (records_of c.as_slice.result.now)) order (initial_of c.in_ok-start.start) c.in_ok-verdict.verdict) c.as_slice-2.ensures.value c.in_ok-verdict.ensures.verdict) in
     let on = verdict_on (g.C.Read.remaining c.args.capture) (g.O.Read.remaining c.args.order) (initial_from g.I.Read.remaining c.args.start) c.in_ok-chunks.chunks.items c.in_ok-order.order.items (initial_of c.in_ok-start.start)
     c.in_ok-verdict.verdict c.in_ok-chunks.ensures.text c.in_ok-order.ensures.text c.in_ok-start.ensures.read checked in
     says_prefix (g.C.Read.remaining c.args.capture) (g.O.Read.remaining c.args.order) (initial_from g.I.Read.remaining c.args.start) (g.W.Write.contents c.args.out.now) (g.W.Write.contents c.write_whole.new.out) c.in_ok-verdict.verdict on
@@ -65,9 +65,9 @@ returns-in_err-write_whole-clause-yes g c =
 
 pub returns-clause-yes : goal.returns-clause-yes
 returns-clause-yes g c =
-    let checked : IsChecked (flat (chunks_told c.in_ok-chunks.chunks.items)) c.in_ok-order.order.items (initial_of c.in_ok-start.start) c.in_ok-verdict.verdict =
-    subst (λ chunks. IsChecked (flat (chunks_told chunks)) c.in_ok-order.order.items (initial_of c.in_ok-start.start) c.in_ok-verdict.verdict) c.as_slice.ensures.value
-    (subst (λ order. IsChecked (flat (chunks_told c.as_slice.result.now)) order (initial_of c.in_ok-start.start) c.in_ok-verdict.verdict) c.as_slice-2.ensures.value c.in_ok-verdict.ensures.verdict) in
+    let checked : IsChecked (flat (records_of c.in_ok-chunks.chunks.items)) c.in_ok-order.order.items (initial_of c.in_ok-start.start) c.in_ok-verdict.verdict =
+    subst (λ chunks. IsChecked (flat (records_of chunks)) c.in_ok-order.order.items (initial_of c.in_ok-start.start) c.in_ok-verdict.verdict) c.as_slice.ensures.value
+    (subst (λ order. IsChecked (flat (records_of c.as_slice.result.now)) order (initial_of c.in_ok-start.start) c.in_ok-verdict.verdict) c.as_slice-2.ensures.value c.in_ok-verdict.ensures.verdict) in
     let on = verdict_on (g.C.Read.remaining c.args.capture) (g.O.Read.remaining c.args.order) (initial_from g.I.Read.remaining c.args.start) c.in_ok-chunks.chunks.items c.in_ok-order.order.items (initial_of c.in_ok-start.start)
     c.in_ok-verdict.verdict c.in_ok-chunks.ensures.text c.in_ok-order.ensures.text c.in_ok-start.ensures.read checked in
     says_line (g.C.Read.remaining c.args.capture) (g.O.Read.remaining c.args.order) (initial_from g.I.Read.remaining c.args.start) (g.W.Write.contents c.args.out.now) (g.W.Write.contents c.write_whole.new.out) c.in_ok-verdict.verdict on

@@ -1,7 +1,7 @@
 use Rattle.std.proofs.Common.{◌<◌, sym, subst, rules, arith, take, length, ap}
 use Rattle.std.specs.Io.KnownBytes.{Consumes}
 use Rattle.std.proofs.KnownBytes.{Consumes-nil, Consumes-trans}
-use Rattle.nbd_tool.proofs.EndLemmas.{all_read, filled}
+use Rattle.nbd_tool.proofs.EndLemmas.{all_read, take_of_prefix}
 use Rattle.nbd_tool.proofs.input.read_whole.Goals as goal
 
 pub loop-reader-init : goal.loop-reader-init
@@ -13,7 +13,7 @@ loop-reader-init g c = record {
 pub loop-reader-preserved : goal.loop-reader-preserved
 loop-reader-preserved g c =
     let given : Consumes (g.R.Read.remaining c.loop-reader.reader) (g.R.Read.remaining c.read.new.self) (take c.in-Ok.count c.as_slice.result.now) =
-    rw (c.as_slice.ensures.value, filled c.loop-reader.portion.len c.read.new.buf _ (omega arith)) c.in-Ok.ensures.bytes.0 in
+    rw (c.as_slice.ensures.value, take_of_prefix c.loop-reader.portion.len c.read.new.buf _ (omega arith)) c.in-Ok.ensures.bytes.0 in
     record {
       read = subst (Consumes _ _) (sym c.in_ok-extend_from_slice.ensures.items)
           (Consumes-trans (g.R.Read.remaining c.args.reader.now) (g.R.Read.remaining c.loop-reader.reader) (g.R.Read.remaining c.read.new.self) _ _ c.loop-reader.invariant.read given);
@@ -22,6 +22,6 @@ loop-reader-preserved g c =
 
 pub returns-then-count-eq0-clause-whole : goal.returns-then-count-eq0-clause-whole
 returns-then-count-eq0-clause-whole g c =
-    let filled : 0 < length c.read.new.buf = omega arith in
+    let take_of_prefix : 0 < length c.read.new.buf = omega arith in
     all_read _ (g.R.Read.remaining c.loop-reader.reader) (g.R.Read.remaining c.read.new.self) _ (take c.in-Ok.count c.read.new.buf)
-    c.loop-reader.invariant.read c.in-Ok.ensures.bytes.0 (ap (λ n. take n c.read.new.buf) c.if-count-eq0.true) (c.in-Ok.ensures.bytes.1 c.if-count-eq0.true filled)
+    c.loop-reader.invariant.read c.in-Ok.ensures.bytes.0 (ap (λ n. take n c.read.new.buf) c.if-count-eq0.true) (c.in-Ok.ensures.bytes.1 c.if-count-eq0.true take_of_prefix)

@@ -2,7 +2,7 @@ use Rattle.std.proofs.Common.{subst}
 use Rattle.std.specs.Io.KnownBytes.{Appends}
 use Rattle.nbd_capture.specs.Writing.{AppendsPrefix}
 use Rattle.nbd_wire.specs.protocol.Captures.{flat}
-use Rattle.nbd_judge.specs.Captures.{chunks_told}
+use Rattle.nbd_judge.specs.Captures.{records_of}
 use Rattle.nbd_lines.specs.Script.{message_lines}
 use Rattle.nbd_tool.specs.internal.Ends.{IsOver}
 use Rattle.nbd_tool.proofs.LastLineLemmas.{all_shown, last_stopped, stopped}
@@ -10,7 +10,7 @@ use Rattle.nbd_tool.proofs.show.run_show.Goals as goal
 
 pub returns-in_err-show-clause-left : goal.returns-in_err-show-clause-left
 returns-in_err-show-clause-left g c =
-    let over : IsOver (flat (chunks_told c.in_ok-chunks.chunks.items)) c.in_ok-session.session = subst (λ chunks. IsOver (flat (chunks_told chunks)) c.in_ok-session.session) c.as_slice.ensures.value c.in_ok-session.ensures in
+    let over : IsOver (flat (records_of c.in_ok-chunks.chunks.items)) c.in_ok-session.session = subst (λ chunks. IsOver (flat (records_of chunks)) c.in_ok-session.session) c.as_slice.ensures.value c.in_ok-session.ensures in
     let lines : AppendsPrefix (g.W.Write.contents c.args.out.now) (g.W.Write.contents c.show.new.out) (message_lines c.in_ok-session.session.messages) =
     subst (λ messages. AppendsPrefix (g.W.Write.contents c.args.out.now) (g.W.Write.contents c.show.new.out) (message_lines messages)) c.messages.ensures.messages c.in_err-show.ensures.err in
     stopped (g.C.Read.remaining c.args.capture) c.in_ok-chunks.chunks.items c.in_ok-session.session c.in_ok-chunks.ensures.text over c.messages.ensures.run c.messages.ensures.complete
@@ -18,7 +18,7 @@ returns-in_err-show-clause-left g c =
 
 pub returns-clause-written : goal.returns-clause-written
 returns-clause-written g c =
-    let over : IsOver (flat (chunks_told c.in_ok-chunks.chunks.items)) c.in_ok-session.session = subst (λ chunks. IsOver (flat (chunks_told chunks)) c.in_ok-session.session) c.as_slice.ensures.value c.in_ok-session.ensures in
+    let over : IsOver (flat (records_of c.in_ok-chunks.chunks.items)) c.in_ok-session.session = subst (λ chunks. IsOver (flat (records_of chunks)) c.in_ok-session.session) c.as_slice.ensures.value c.in_ok-session.ensures in
     let lines : Appends (g.W.Write.contents c.args.out.now) (g.W.Write.contents c.show.new.out) (message_lines c.in_ok-session.session.messages) =
     subst (λ messages. Appends (g.W.Write.contents c.args.out.now) (g.W.Write.contents c.show.new.out) (message_lines messages)) c.messages.ensures.messages c.in_ok-show.ensures.ok in
     all_shown (g.C.Read.remaining c.args.capture) c.in_ok-chunks.chunks.items c.in_ok-session.session c.in_ok-chunks.ensures.text over c.messages.ensures.run c.messages.ensures.complete
@@ -26,7 +26,7 @@ returns-clause-written g c =
 
 pub returns-clause-left : goal.returns-clause-left
 returns-clause-left g c =
-    let over : IsOver (flat (chunks_told c.in_ok-chunks.chunks.items)) c.in_ok-session.session = subst (λ chunks. IsOver (flat (chunks_told chunks)) c.in_ok-session.session) c.as_slice.ensures.value c.in_ok-session.ensures in
+    let over : IsOver (flat (records_of c.in_ok-chunks.chunks.items)) c.in_ok-session.session = subst (λ chunks. IsOver (flat (records_of chunks)) c.in_ok-session.session) c.as_slice.ensures.value c.in_ok-session.ensures in
     let lines : Appends (g.W.Write.contents c.args.out.now) (g.W.Write.contents c.show.new.out) (message_lines c.in_ok-session.session.messages) =
     subst (λ messages. Appends (g.W.Write.contents c.args.out.now) (g.W.Write.contents c.show.new.out) (message_lines messages)) c.messages.ensures.messages c.in_ok-show.ensures.ok in
     last_stopped (g.C.Read.remaining c.args.capture) c.in_ok-chunks.chunks.items c.in_ok-session.session c.in_ok-chunks.ensures.text over c.messages.ensures.run c.messages.ensures.complete

@@ -1,7 +1,7 @@
 use Rattle.std.proofs.Common.{◌++◌, sym, ◌∙◌, ap, arith, length, take}
 use Rattle.nbd_wire.specs.protocol.Captures.{flat, side_pairs}
 use Rattle.nbd_session.specs.declared.fault.SessionFault.TheVariants.{Wire}
-use Rattle.nbd_judge.specs.Captures.{chunks_told}
+use Rattle.nbd_judge.specs.Captures.{records_of}
 use Rattle.nbd_tool.proofs.OverLemmas.{prefix_more, over_closed, piece_fits}
 use Rattle.nbd_tool.proofs.show.session_over.Goals as goal
 
@@ -23,6 +23,6 @@ loop-side-preserved c = record {
   unclosed = c.in-Ok.ensures.open;
   took = c.in-Ok.ensures.added
       ∙ ap (λ ps. ps ++ side_pairs c.loop-side-item.result.0 c.deref.result.now) c.loop-side.invariant.took
-      ∙ ap (λ bs. flat (chunks_told (take c.loop-side.side-index c.args.chunks.now)) ++ side_pairs c.loop-side-item.result.0 bs) c.deref.ensures.value
+      ∙ ap (λ bs. flat (records_of (take c.loop-side.side-index c.args.chunks.now)) ++ side_pairs c.loop-side-item.result.0 bs) c.deref.ensures.value
       ∙ sym (prefix_more c.args.chunks.now c.loop-side.side-index c.loop-side-item.result c.loop-side-test.true c.loop-side-item.is);
 }

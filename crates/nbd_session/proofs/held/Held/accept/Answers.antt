@@ -2,10 +2,10 @@ use Rattle.std.proofs.Common.{◌∙◌, ◌++◌, ◌∷◌, [], ap, sym, subst
 use Rattle.nbd_wire.specs.protocol.Rules.{complete}
 use Rattle.nbd_state.specs.declared.state.State.{State}
 use Rattle.nbd_places.specs.internal.Concrete.{concrete}
-use Rattle.nbd_session.specs.internal.Logging.{logged}
+use Rattle.nbd_session.specs.internal.Logging.{log_of_pairs}
 use Rattle.nbd_laws.specs.internal.Machine.{fresh}
 use Rattle.nbd_state.specs.Shows.{AreKnown, Shows}
-use Rattle.nbd_session.specs.internal.Standing.{pairs_held}
+use Rattle.nbd_session.specs.internal.Standing.{held_pairs}
 use Rattle.nbd_session.specs.declared.held.Held.{Held}
 use Rattle.nbd_session.specs.internal.WholeMessage.{IsDecided, IsWholeFor}
 use Rattle.nbd_session.proofs.steps.AcceptLemmas.{accepted_holding, accepted_stands, is_whole_for, pairs_accepted, same_but_message}
@@ -23,8 +23,8 @@ returns-clause-stands c =
     (ap (λ (h : Held). h.messages.items) k ∙ c.in_ok-push.ensures.items) c.clear.ensures.client c.clear.ensures.server (ap (λ (h : Held). h.counted) k) (ap (λ (h : Held). h.stretches) k))
     (λ reached shows sendable completes. subst (λ state. Shows state (complete c.requires.taken.machine.core c.in_ok-message.message)) (sym (ap (λ (h : Held). h.state) k))
     (c.in_ok-complete.ensures.shown c.requires.taken.machine.core reached shows sendable completes))
-    (λ reached shows completes folded known. subst (λ (state : State). AreKnown (logged concrete fresh (pairs_held c.requires.taken.before) ++ record { message = c.in_ok-message.message; known = c.args.self.now.counted } ∷ []) state.exchanges.items) (sym (ap (λ (h : Held). h.state) k))
-    (c.in_ok-complete.ensures.known c.requires.taken.machine.core (logged concrete fresh (pairs_held c.requires.taken.before)) reached shows completes folded known))
+    (λ reached shows completes folded known. subst (λ (state : State). AreKnown (log_of_pairs concrete fresh (held_pairs c.requires.taken.before) ++ record { message = c.in_ok-message.message; known = c.args.self.now.counted } ∷ []) state.exchanges.items) (sym (ap (λ (h : Held). h.state) k))
+    (c.in_ok-complete.ensures.known c.requires.taken.machine.core (log_of_pairs concrete fresh (held_pairs c.requires.taken.before)) reached shows completes folded known))
     (ap (λ (h : Held). h.taken) k)
 
 pub returns-clause-same : goal.returns-clause-same

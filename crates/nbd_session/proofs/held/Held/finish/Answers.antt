@@ -1,6 +1,6 @@
 use Rattle.std.proofs.Common.{sym, subst, None}
 use Rattle.nbd_session.specs.Sessions.{IsReported}
-use Rattle.nbd_session.specs.Views.{recorded}
+use Rattle.nbd_session.specs.Views.{session_view}
 use Rattle.nbd_session.proofs.log.ReportLemmas.{none_in, reported, sound_told}
 use Rattle.nbd_session.proofs.held.Held.finish.Goals as goal
 
@@ -10,5 +10,5 @@ transcript-requires c =
 
 pub returns-then-is_empty-2-clause-told : goal.returns-then-is_empty-2-clause-told
 returns-then-is_empty-2-clause-told c =
-    subst (IsReported (recorded c.args.self None)) (sym c.transcript.ensures)
+    subst (IsReported (session_view c.args.self None)) (sym c.transcript.ensures)
     (reported c.args.self c.requires (none_in _ c.args.self.client.items c.args.self.client.ok.0 c.if-is_empty.ensures) (none_in _ c.args.self.server.items c.args.self.server.ok.0 c.if-is_empty-2.ensures))

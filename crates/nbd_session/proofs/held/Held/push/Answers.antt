@@ -1,6 +1,6 @@
 use Rattle.std.proofs.Common.{arith, refl, subst, sym}
 use Rattle.nbd_session.specs.internal.Holdings.{holding_of}
-use Rattle.nbd_session.specs.internal.Standing.{pairs_held}
+use Rattle.nbd_session.specs.internal.Standing.{held_pairs}
 use Rattle.nbd_session.specs.internal.Steps.{AddsHeld, IsRefused}
 use Rattle.nbd_session.proofs.judge.PieceLemmas.{added_then, refused_then}
 use Rattle.nbd_session.proofs.steps.SettleLemmas.{handed_on}
@@ -23,7 +23,7 @@ loop-left-preserved c =
     let len = c.split_at.ensures.back_len in (
       e.stands,
       omega (arith, fits, taken, within, len),
-      added_then (pairs_held (holding_of c.args.self.now)) (pairs_held (holding_of c.loop-left.self)) (pairs_held (holding_of c.step.new.self)) c.args.self.now.messages.items c.loop-left.self.messages.items c.step.new.self.messages.items c.args.side
+      added_then (held_pairs (holding_of c.args.self.now)) (held_pairs (holding_of c.loop-left.self)) (held_pairs (holding_of c.step.new.self)) c.args.self.now.messages.items c.loop-left.self.messages.items c.step.new.self.messages.items c.args.side
           c.args.piece.now c.loop-left.left.now c.split_at.result.1.now x.2
           (subst (λ later. AddsHeld c.loop-left.self c.step.new.self c.args.side c.loop-left.left.now later) (sym c.split_at.ensures.back) e.adds),
       refl,

@@ -7,7 +7,7 @@ use Rattle.nbd_session.proofs.held.Held.step.Goals as goal
 
 pub overflow_sub-missing : goal.overflow_sub-missing
 overflow_sub-missing c =
-    let short = awaits_some c.args.self.now c.args.side c.awaited.result c.requires.stands c.awaited.ensures in
+    let short = awaits_some c.args.self.now c.args.side c.awaited_length.result c.requires.stands c.awaited_length.ensures in
     let same = ap length c.rest.ensures in
     omega (arith, short, same)
 
@@ -26,18 +26,18 @@ returns-in_err-take-clause-refused c =
 
 pub settle-requires : goal.settle-requires
 settle-requires c =
-    let short = awaits_some c.args.self.now c.args.side c.awaited.result c.requires.stands c.awaited.ensures in
+    let short = awaits_some c.args.self.now c.args.side c.awaited_length.result c.requires.stands c.awaited_length.ensures in
     let same = ap length c.rest.ensures in
     let filled = c.requires.filled in
     let n = c.min-count.ensures in
     record {
       taken = is_taken c.args.self.now c.take.new.self c.args.side c.args.left.now c.min-count.result c.requires.stands (omega (arith, short, same, filled, n)) (omega (arith, n)) c.in_ok-take.ensures.taken
-          c.in_ok-take.ensures.state c.in_ok-take.ensures.count c.type_inv.left c.awaited.result c.awaited.ensures (omega (arith, short, same, n));
+          c.in_ok-take.ensures.state c.in_ok-take.ensures.count c.type_inv.left c.awaited_length.result c.awaited_length.ensures (omega (arith, short, same, n));
     }
 
 pub returns-in_err-settle-clause-refused : goal.returns-in_err-settle-clause-refused
 returns-in_err-settle-clause-refused c =
-    let short = awaits_some c.args.self.now c.args.side c.awaited.result c.requires.stands c.awaited.ensures in
+    let short = awaits_some c.args.self.now c.args.side c.awaited_length.result c.requires.stands c.awaited_length.ensures in
     let same = ap length c.rest.ensures in
     let filled = c.requires.filled in
     let n = c.min-count.ensures in
@@ -48,7 +48,7 @@ returns-in_err-settle-clause-refused c =
 
 pub returns-clause-some : goal.returns-clause-some
 returns-clause-some c =
-    let short = awaits_some c.args.self.now c.args.side c.awaited.result c.requires.stands c.awaited.ensures in
+    let short = awaits_some c.args.self.now c.args.side c.awaited_length.result c.requires.stands c.awaited_length.ensures in
     let same = ap length c.rest.ensures in
     let filled = c.requires.filled in
     let n = c.min-count.ensures in
@@ -56,7 +56,7 @@ returns-clause-some c =
 
 pub returns-clause-adds : goal.returns-clause-adds
 returns-clause-adds c =
-    let short = awaits_some c.args.self.now c.args.side c.awaited.result c.requires.stands c.awaited.ensures in
+    let short = awaits_some c.args.self.now c.args.side c.awaited_length.result c.requires.stands c.awaited_length.ensures in
     let same = ap length c.rest.ensures in
     let filled = c.requires.filled in
     let n = c.min-count.ensures in

@@ -39,9 +39,9 @@ returns-in-Choice-clause-known c = λ core log r s ok e h.
 pub returns-in-Answer-clause-shown : goal.returns-in-Answer-clause-shown
 returns-in-Answer-clause-shown c = λ core r s sn ok.
     shows_same core c.args.message.now _ c.in-Answer.is
-    (shows_answered c.args.self.now _ core s c.in-Answer.option c.in-Answer.kind c.in-Answer.payload c.answered-self.result c.grants_structured.result
+    (shows_answered c.args.self.now _ core s c.in-Answer.option c.in-Answer.kind c.in-Answer.payload c.phase_after_reply-self.result c.grants_structured.result
     (subst (λ m. MayComplete core core.phase m) c.in-Answer.is ok)
-    (c.answered-self.ensures core.phase c.in-Answer.option s.phase_is ∙ ap (λ p. phase_shown (next_phase core.phase (Answer c.in-Answer.option c.in-Answer.kind p))) c.as_slice-in-Answer.ensures)
+    (c.phase_after_reply-self.ensures core.phase c.in-Answer.option s.phase_is ∙ ap (λ p. phase_shown (next_phase core.phase (Answer c.in-Answer.option c.in-Answer.kind p))) c.as_slice-in-Answer.ensures)
     c.grants_structured.ensures refl)
 
 pub returns-in-Answer-clause-known : goal.returns-in-Answer-clause-known
@@ -51,20 +51,20 @@ returns-in-Answer-clause-known c = λ core log r s ok e h.
 pub returns-in-Exported-clause-shown : goal.returns-in-Exported-clause-shown
 returns-in-Exported-clause-shown c = λ core r s sn ok.
     shows_same core c.args.message.now _ c.in-Exported.is
-    (shows_exported c.args.self.now _ core s c.in-Exported.size c.in-Exported.flags c.in-Exported.padded c.exported-self.result (subst (λ m. MayComplete core core.phase m) c.in-Exported.is ok) c.exported-self.ensures refl)
+    (shows_exported c.args.self.now _ core s c.in-Exported.size c.in-Exported.flags c.in-Exported.padded c.phase_after_export-self.result (subst (λ m. MayComplete core core.phase m) c.in-Exported.is ok) c.phase_after_export-self.ensures refl)
 
 pub returns-in-Exported-clause-known : goal.returns-in-Exported-clause-known
 returns-in-Exported-clause-known c = λ core log r s ok e h.
     known_kept core log c.args.message.now c.args.known e c.args.self.now.exchanges.items (ap cookie_of c.in-Exported.is) h
 
 pub returns-in_default-clause-shown : goal.returns-in_default-clause-shown
-returns-in_default-clause-shown c = on c.transmitted.result (λ f core r s sn ok.
+returns-in_default-clause-shown c = on c.complete_transmission.result (λ f core r s sn ok.
     let a = transmits core core.phase c.args.message.now ok c.in_default.not-Greeting c.in_default.not-ClientFlags c.in_default.not-Choice c.in_default.not-Answer c.in_default.not-Exported in
     f core a.0 r s a.1 ok)
-    c.transmitted.ensures.shown
+    c.complete_transmission.ensures.shown
 
 pub returns-in_default-clause-known : goal.returns-in_default-clause-known
-returns-in_default-clause-known c = on c.transmitted.result (λ f core log r s ok e h.
+returns-in_default-clause-known c = on c.complete_transmission.result (λ f core log r s ok e h.
     let a = transmits core core.phase c.args.message.now ok c.in_default.not-Greeting c.in_default.not-ClientFlags c.in_default.not-Choice c.in_default.not-Answer c.in_default.not-Exported in
     f core a.0 log s a.1 ok e h)
-    c.transmitted.ensures.known
+    c.complete_transmission.ensures.known

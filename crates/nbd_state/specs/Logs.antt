@@ -6,12 +6,12 @@ use Rattle.nbd_wire.specs.protocol.Rules.{request_of_reply, complete}
 use Rattle.nbd_wire.specs.protocol.States.{Core}
 
 -- a message that has completed, and how many numbered requests had completed before its first byte
-pub record Logged : Type 0 where
+pub record LogEntry : Type 0 where
   pub message : Message
   pub known : ℕ
 
 -- the messages of a log
-abbrev pub messages_of : List Logged → List Message
+abbrev pub messages_of : List LogEntry → List Message
 messages_of log = map (λ l. l.message) log
 
 -- the count, where the message answers the request, or what a later one states
@@ -25,6 +25,6 @@ known_here (Some j) n k later = known_if (j == k) n later
 known_here None n k later = later
 
 -- the count of the first of these messages that answers request k
-abbrev pub known_by : Core → ℕ → List Logged → Option ℕ
+abbrev pub known_by : Core → ℕ → List LogEntry → Option ℕ
 known_by core k [] = None
 known_by core k (l ∷ log) = known_here (request_of_reply core l.message) l.known k (known_by (complete core l.message) k log)

@@ -2,7 +2,7 @@ use Rattle.std.proofs.Common.{◌≡◌, ◌+◌, ◌∙◌, ap, arith, fold, mi
 use Rattle.nbd_wire.specs.protocol.Pieces.{piece_size}
 use Rattle.nbd_places.specs.internal.JudgeTransmission.{total}
 use Rattle.nbd_session.proofs.judge.ChunkFaultLemmas.{fold-total}
-use Rattle.nbd_session.proofs.spans.given.Goals as goal
+use Rattle.nbd_session.proofs.spans.bytes_in.Goals as goal
 
 pub returns : goal.returns
 returns c =

@@ -1,6 +1,6 @@
 use Rattle.std.proofs.Common.{◌∙◌, sym}
 use Rattle.nbd_state.proofs.PhaseLemmas.{behind_abort, behind_none, behind_option}
-use Rattle.nbd_state.proofs.completing.answered.Goals as goal
+use Rattle.nbd_state.proofs.completing.phase_after_reply.Goals as goal
 
 pub returns-in-Aborting : goal.returns-in-Aborting
 returns-in-Aborting c = λ p option e. behind_abort p option c.args.kind c.args.payload.now (sym c.in-Aborting.is ∙ e)

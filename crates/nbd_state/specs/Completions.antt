@@ -8,7 +8,3 @@ use Rattle.nbd_wire.specs.protocol.States.{Core, start}
 abbrev pub core_from : Core → List Message → Core
 core_from core [] = core
 core_from core (m ∷ messages) = core_from (complete core m) messages
-
--- from the start
-abbrev pub core_of : List Message → Core
-core_of messages = core_from start.core messages

@@ -6,7 +6,7 @@ use Rattle.nbd_state.specs.Shows.{Shows}
 use Rattle.nbd_state.proofs.CompletionLemmas.{on}
 use Rattle.nbd_state.proofs.PhaseLemmas.{asked_in, no_other, shows_same}
 use Rattle.nbd_state.proofs.TellingLemmas.{known_added, known_told}
-use Rattle.nbd_state.proofs.state.State.transmitted.Goals as goal
+use Rattle.nbd_state.proofs.state.State.complete_transmission.Goals as goal
 
 pub returns-in-Request-clause-shown : goal.returns-in-Request-clause-shown
 unfolding complete
