@@ -1,7 +1,7 @@
 pub mod BlockLemmas
 pub mod ClearLemmas
 pub mod FollowLemmas
-pub mod HoldingLemmas
+pub mod CutLemmas
 pub mod NegotiationLemmas
 pub mod OpenByteLemmas
 pub mod PartLemmas

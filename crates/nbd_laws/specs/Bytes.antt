@@ -4,10 +4,25 @@ use Rattle.nbd_wire.specs.declared.message.Side.{Side}
 use Rattle.nbd_wire.specs.declared.message.Side.TheVariants.{Client, Server}
 use Rattle.nbd_wire.specs.protocol.Marks.{Item, completed_messages, pairs}
 use Rattle.nbd_wire.specs.protocol.Captures.{Pair}
-use Rattle.nbd_wire.specs.Pushed.{bytes_of, of_two}
+use Rattle.nbd_wire.specs.declared.message.Message.{Message}
+use Rattle.nbd_wire.specs.protocol.Encoding.{enc}
 use Rattle.nbd_wire.specs.protocol.Rules.{IsRun, IsRunBut}
-use Rattle.nbd_wire.specs.protocol.Sides.{same_side}
-use Rattle.nbd_laws.specs.Holding.{bytes_from}
+use Rattle.nbd_wire.specs.protocol.Sides.{same_side, side}
+
+-- the bytes of one side, in order
+abbrev pub bytes_from : Side → List Pair → List ℕ
+bytes_from s [] = []
+bytes_from s (p ∷ ps) = if same_side s p.from then p.byte ∷ bytes_from s ps else bytes_from s ps
+
+-- the encodings of a side's messages, in order
+abbrev pub bytes_of : Side → List Message → List ℕ
+bytes_of s [] = []
+bytes_of s (m ∷ messages) = if same_side s (side m) then enc m ++ bytes_of s messages else bytes_of s messages
+
+-- a side's bytes of two
+abbrev pub of_two : Side → (client server : List ℕ) → List ℕ
+of_two Client client server = client
+of_two Server client server = server
 
 -- each side's bytes in a run but for open bytes are the encodings of its completed messages, and the open ones after them
 abbrev pub RunsHoldEachSide : Type 0

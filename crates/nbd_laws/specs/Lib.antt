@@ -1,6 +1,6 @@
 pub mod Bytes
 pub mod Explaining
-pub mod Holding
+pub mod Cuts
 pub mod Moments
 pub mod Negotiating
 pub mod Prefixes

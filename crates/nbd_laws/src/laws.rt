@@ -2,7 +2,7 @@
 ghost use Rattle.nbd_laws.specs.Soundness.{ReportsAreSound};
 ghost use Rattle.nbd_laws.specs.Bytes.{OpenBytesEndRuns, RunsHoldEachSide};
 ghost use Rattle.nbd_laws.specs.Prefixes.{CompletionsStandAfterBytes, PrefixesAreRuns, NoProperPrefix, StartsStandBeforeBytes};
-ghost use Rattle.nbd_laws.specs.Holding.{CutsDoNotCount, PushedHoldsEachSide};
+ghost use Rattle.nbd_laws.specs.Cuts.{CutsDoNotCount};
 ghost use Rattle.nbd_laws.specs.Moments.{LatestMoments, OrdersAreFaultless};
 ghost use Rattle.nbd_laws.specs.Negotiating.{AnswersFollowChoices, HandshakesAreFair};
 ghost use Rattle.nbd_laws.specs.Replying.{RepliesAreWhole};
@@ -119,11 +119,6 @@ pub fn answers_follow_choices()
 /// A chunk cut in two leaves the flat capture as it is.
 pub fn cuts_do_not_count()
     ensures { CutsDoNotCount }
-{}
-
-/// What a session holds gives back each side's bytes: its messages' encodings and what came after them.
-pub fn pushed_holds_each_side()
-    ensures { PushedHoldsEachSide }
 {}
 
 /// The server's message that completes next is the one that started, and it still answers the same

@@ -1,3 +1,4 @@
+pub mod HoldingLemmas
 pub mod NoteLemmas
 pub mod OpenByteLemmas
 pub mod PushLemmas

@@ -1,3 +1,4 @@
+pub mod Pushed
 pub mod Refusals
 pub mod Sessions
 pub mod Views

@@ -4,7 +4,7 @@ use Rattle.nbd_wire.specs.declared.message.Message.{Message}
 use Rattle.nbd_wire.specs.declared.message.Side.{Side}
 use Rattle.nbd_wire.specs.protocol.Marks.{Item, completed_messages, pairs}
 use Rattle.nbd_wire.specs.protocol.Captures.{Pair, side_pairs}
-use Rattle.nbd_wire.specs.Pushed.{Span, pushed_pairs}
+use Rattle.nbd_session.specs.Pushed.{Stretch, pushed_pairs}
 use Rattle.nbd_wire.specs.protocol.Reports.{Report, report}
 use Rattle.nbd_wire.specs.protocol.Rules.{IsRun, IsRunBut}
 use Rattle.nbd_session.specs.declared.fault.SessionFault.{SessionFault}
@@ -12,17 +12,17 @@ use Rattle.nbd_session.specs.declared.fault.SessionFault.TheVariants.{Memory, Wi
 use Rattle.nbd_wire.specs.declared.fault.WireFault.TheVariants.{Unfinished}
 
 -- the accepted messages in the order of their completion, each side's bytes after its messages, the
--- spans of all bytes, and the fault that closed the session, if one did
+-- stretches of all bytes, and the fault that closed the session, if one did
 pub record SessionView : Type 0 where
   pub messages : List Message
   pub client : List ℕ
   pub server : List ℕ
-  pub spans : List Span
+  pub stretches : List Stretch
   pub closed : Option SessionFault
 
 -- the bytes that were taken, with their senders
 abbrev pub pairs_of : SessionView → List Pair
-pairs_of r = pushed_pairs r.messages r.client r.server r.spans
+pairs_of r = pushed_pairs r.messages r.client r.server r.stretches
 
 -- how many bytes were taken
 abbrev pub bytes_taken : SessionView → ℕ
@@ -78,7 +78,7 @@ fault_of (Err fault) = Some fault
 
 -- before the first byte
 abbrev pub empty_session : SessionView
-empty_session = record { messages = []; client = []; server = []; spans = []; closed = None }
+empty_session = record { messages = []; client = []; server = []; stretches = []; closed = None }
 
 -- some run has exactly the bytes that were taken and these messages, and the report of any such run
 -- is this one

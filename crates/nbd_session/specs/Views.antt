@@ -1,15 +1,17 @@
+-- A session as the program has it.
 use Rattle.std.specs.Prelude.{List, map, Option}
-use Rattle.nbd_wire.specs.Pushed.{Span}
-use Rattle.nbd_session.specs.declared.held.Stretch.{Stretch}
+use Rattle.nbd_session.specs.Pushed.{Stretch}
+use Rattle.nbd_session.specs.declared.held.Stretch as program
 use Rattle.nbd_session.specs.declared.fault.SessionFault.{SessionFault}
 use Rattle.nbd_session.specs.declared.held.Held.{Held}
 use Rattle.nbd_session.specs.Sessions.{SessionView}
 
-abbrev pub span_of : Stretch → Span
-span_of s = record { from = s.from; length = s.length }
+-- a stretch as the program has it
+abbrev pub stretch_of : program.Stretch → Stretch
+stretch_of s = record { from = s.from; length = s.length }
 
-abbrev pub spans_of : List Stretch → List Span
-spans_of stretches = map span_of stretches
+abbrev pub stretches_of : List program.Stretch → List Stretch
+stretches_of stretches = map stretch_of stretches
 
 -- what is held, as a session states it
 abbrev pub session_view : Held → Option SessionFault → SessionView
@@ -17,6 +19,6 @@ session_view held closed = record {
   messages = held.messages.items;
   client = held.client.items;
   server = held.server.items;
-  spans = spans_of held.stretches.items;
+  stretches = stretches_of held.stretches.items;
   closed = closed;
 }

@@ -6,13 +6,13 @@ ghost use Rattle.nbd_wire.specs.protocol.Sides.{same_side};
 ghost use Rattle.nbd_wire.specs.protocol.States.{Core, start};
 ghost use Rattle.nbd_session.specs.declared.reading.Reading.TheVariants.{Whole};
 ghost use Rattle.nbd_session.specs.internal.Holdings.{holding_of, is_of};
-ghost use Rattle.nbd_session.specs.Views.{spans_of, session_view};
+ghost use Rattle.nbd_session.specs.Views.{stretches_of, session_view};
 ghost use Rattle.nbd_places.specs.internal.Judge.{awaited_length, decision_by_count};
 ghost use Rattle.nbd_laws.specs.internal.Machine.{Machine, get, old_of};
 ghost use Rattle.nbd_session.specs.internal.Readings.{reading_if, until};
 ghost use Rattle.nbd_session.specs.Sessions.{IsReported, fault_at_end, fault_of};
 ghost use Rattle.nbd_state.specs.Shows.{Shows};
-ghost use Rattle.nbd_session.specs.internal.Standing.{IsReadTo, spans_with, rest_of, span_total, with_bytes};
+ghost use Rattle.nbd_session.specs.internal.Standing.{IsReadTo, stretches_with, rest_of, stretch_total, with_bytes};
 ghost use Rattle.nbd_session.specs.internal.Steps.{AddsHeld, IsRefused, IsSame, IsShut, IsTaken, Stands};
 
 use crate::fault::SessionFault;
@@ -57,7 +57,7 @@ impl Held {
           client = [];
           server = [];
           counted = 0;
-          spans = [];
+          stretches = [];
         } }
         ensures none { result.state.exchanges.items ≡ [] }
         ensures taken { result.taken ≡ 0 }
@@ -137,7 +137,7 @@ impl Held {
 
     /// Takes bytes of a side. After an `Err`, that memory ran out, no byte was taken.
     fn take(&mut self, side: Side, piece: &[u8]) -> Result<(), AllocError>
-        requires spans { span_total side (spans_of self.old.stretches.items) + length piece.now < 2 ^ 64 }
+        requires stretches { stretch_total side (stretches_of self.old.stretches.items) + length piece.now < 2 ^ 64 }
         requires fits { self.old.taken + length piece.now < 2 ^ 64 }
         ensures taken { OnOk result (holding_of self.new ≡ with_bytes (holding_of self.old) side piece.now
             (length self.old.state.exchanges.items)) }
@@ -233,12 +233,12 @@ fn append(
     side: Side,
     piece: &[u8],
 ) -> Result<(), AllocError>
-    requires { span_total side (spans_of stretches.old.items) + length piece.now < 2 ^ 64 }
+    requires { stretch_total side (stretches_of stretches.old.items) + length piece.now < 2 ^ 64 }
     ensures bytes { OnOk result (bytes.new.items ≡ bytes.old.items ++ piece.now) }
-    ensures spans { OnOk result (spans_of stretches.new.items ≡ spans_with (spans_of stretches.old.items) side
+    ensures stretches { OnOk result (stretches_of stretches.new.items ≡ stretches_with (stretches_of stretches.old.items) side
         (length piece.now)) }
     ensures unchanged { OnErr result ((bytes.new.items ≡ bytes.old.items)
-        × (spans_of stretches.new.items ≡ spans_of stretches.old.items)) }
+        × (stretches_of stretches.new.items ≡ stretches_of stretches.old.items)) }
 {
     bytes.reserve(piece.len())?;
     note(stretches, side, piece.len() as u64)?;
@@ -260,9 +260,9 @@ fn until(reading: Result<Reading, WireFault>, have: usize) -> usize
 
 /// So many more bytes of a side after all others. After an `Err`, that memory ran out, nothing changed.
 fn note(stretches: &mut Vec<Stretch>, side: Side, count: u64) -> Result<(), AllocError>
-    requires { span_total side (spans_of stretches.old.items) + count < 2 ^ 64 }
-    ensures noted { OnOk result (spans_of stretches.new.items ≡ spans_with (spans_of stretches.old.items) side count) }
-    ensures unchanged { OnErr result (spans_of stretches.new.items ≡ spans_of stretches.old.items) }
+    requires { stretch_total side (stretches_of stretches.old.items) + count < 2 ^ 64 }
+    ensures noted { OnOk result (stretches_of stretches.new.items ≡ stretches_with (stretches_of stretches.old.items) side count) }
+    ensures unchanged { OnErr result (stretches_of stretches.new.items ≡ stretches_of stretches.old.items) }
 {
     if !is_last(stretches, side) {
         stretches.push(Stretch {

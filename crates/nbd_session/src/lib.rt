@@ -5,6 +5,7 @@ mod chunks;
 pub mod fault;
 mod heads;
 mod held;
+pub mod laws;
 mod leading;
 mod messages;
 mod negotiation;

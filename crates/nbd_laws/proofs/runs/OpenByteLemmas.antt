@@ -5,11 +5,11 @@ use Rattle.nbd_wire.specs.declared.message.Side.{Side}
 use Rattle.nbd_wire.specs.declared.message.Side.TheVariants.{Client, Server}
 use Rattle.nbd_wire.specs.protocol.Marks.{Item, Byte, Starts, Completes, Serves, completed_messages, pairs}
 use Rattle.nbd_wire.specs.protocol.Captures.{Pair}
-use Rattle.nbd_wire.specs.Pushed.{bytes_of}
+use Rattle.nbd_laws.specs.Bytes.{bytes_of}
 use Rattle.nbd_wire.specs.protocol.Rules.{IsRun, Obeys}
 use Rattle.nbd_wire.specs.protocol.States.{State, start}
 use Rattle.nbd_laws.specs.Bytes.{OpenBytesEndRuns, first_bytes}
-use Rattle.nbd_laws.specs.Holding.{bytes_from}
+use Rattle.nbd_laws.specs.Bytes.{bytes_from}
 use Rattle.nbd_laws.specs.internal.Machine.{Both, get, put}
 use Rattle.nbd_laws.proofs.machine.MachineLemmas.{Busy, Idle, IsNotBusy, Loose, Open, Walk, ended, final, get-put_same, loose, middle, opening, serving}
 use Rattle.nbd_laws.proofs.runs.BlockLemmas.{Idles, marked_is_walk}

@@ -6,12 +6,12 @@ use Rattle.nbd_wire.specs.declared.message.Message.{Message}
 use Rattle.nbd_wire.specs.protocol.Encoding.{enc}
 use Rattle.nbd_wire.specs.protocol.Marks.{Item, Byte, Starts, Completes, Serves, IsSided, block, completed_messages, of_side, pairs}
 use Rattle.nbd_wire.specs.protocol.Captures.{Pair}
-use Rattle.nbd_wire.specs.Pushed.{bytes_of}
+use Rattle.nbd_laws.specs.Bytes.{bytes_of}
 use Rattle.nbd_wire.specs.protocol.Rules.{IsRunBut, complete}
 use Rattle.nbd_wire.specs.protocol.Sides.{side, same_side}
 use Rattle.nbd_wire.specs.protocol.States.{Core, start}
 use Rattle.nbd_laws.specs.Bytes.{RunsHoldEachSide}
-use Rattle.nbd_laws.specs.Holding.{bytes_from}
+use Rattle.nbd_laws.specs.Bytes.{bytes_from}
 use Rattle.nbd_laws.specs.internal.Machine.{Both, get}
 use Rattle.nbd_laws.proofs.machine.MachineLemmas.{Busy, Idle, Loose, Open, Walk, ended, final, loose, middle, opening, serving}
 use Rattle.nbd_laws.proofs.runs.BlockLemmas.{marked_is_walk}

@@ -18,14 +18,14 @@ use Rattle.nbd_session.specs.Views.{session_view}
 use Rattle.nbd_session.proofs.judge.PieceLemmas.{standing_run}
 
 abbrev empty : Holding
-empty = record { messages = []; client = []; server = []; counted = 0; spans = [] }
+empty = record { messages = []; client = []; server = []; counted = 0; stretches = [] }
 
 rest_empty : (s : Side) → (get fresh.rests s).bytes ≡ rest_of empty s
 rest_empty Client = refl
 rest_empty Server = refl
 
 read_empty : IsReadTo empty fresh
-read_empty = record { are_pairs = tt; reads_it = refl; messages_are = refl; rests_are = rest_empty; count_is = λ f. absurd f; are_spans = record { of_client = refl; of_server = refl } }
+read_empty = record { are_pairs = tt; reads_it = refl; messages_are = refl; rests_are = rest_empty; count_is = λ f. absurd f; are_stretches = record { of_client = refl; of_server = refl } }
 
 none_known : (xs : List Exchange) → xs ≡ [] → AreKnown (log_of_pairs concrete fresh []) xs
 none_known [] e place x at = absurd (cc)

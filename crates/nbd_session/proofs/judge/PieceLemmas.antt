@@ -6,53 +6,54 @@ use Rattle.nbd_wire.specs.declared.message.Side.{Side}
 use Rattle.nbd_wire.specs.declared.message.Side.TheVariants.{Client, Server}
 use Rattle.nbd_wire.specs.protocol.Encoding.{AreBytes}
 use Rattle.nbd_wire.specs.protocol.Captures.{Pair, side_pairs}
-use Rattle.nbd_wire.specs.Pushed.{Span, bytes_of, mixture}
+use Rattle.nbd_laws.specs.Bytes.{bytes_of}
+use Rattle.nbd_session.specs.Pushed.{Stretch, mixture}
 use Rattle.nbd_session.specs.declared.fault.SessionFault.{SessionFault}
 use Rattle.nbd_session.specs.declared.fault.SessionFault.TheVariants.{Memory}
 use Rattle.nbd_session.specs.declared.held.Held.{Held}
 use Rattle.nbd_session.specs.internal.Holdings.{holding_of}
-use Rattle.nbd_session.specs.Views.{spans_of}
+use Rattle.nbd_session.specs.Views.{stretches_of}
 use Rattle.nbd_places.specs.internal.Judge.{awaited_length}
 use Rattle.nbd_laws.specs.internal.Machine.{IsFilled, Machine, fresh, get, old_of}
 use Rattle.nbd_session.specs.Sessions.{Adds}
 use Rattle.nbd_places.specs.internal.Concrete.{concrete}
 use Rattle.nbd_session.specs.internal.Logging.{log_of_pairs}
 use Rattle.nbd_state.specs.Shows.{AreKnown, Shows}
-use Rattle.nbd_session.specs.internal.Standing.{AreSpansOf, IsReadTo, held_pairs, rest_of, span_total, with_bytes}
+use Rattle.nbd_session.specs.internal.Standing.{AreStretchesOf, IsReadTo, held_pairs, rest_of, stretch_total, with_bytes}
 use Rattle.nbd_session.specs.internal.Steps.{AddsHeld, HoldsRun, IsRefused, IsSame, IsShut, IsTaken, Stands}
 use Rattle.nbd_places.proofs.judge.AwaitedLemmas.{held_short}
 use Rattle.nbd_state.proofs.PlacedLemmas.{shown_length}
 use Rattle.nbd_session.proofs.pushed.OpenByteLemmas.{read_is_run_but}
-use Rattle.nbd_session.proofs.pushed.PushLemmas.{first_fits, left_spans, sent-append}
+use Rattle.nbd_session.proofs.pushed.PushLemmas.{first_fits, left_stretches, sent-append}
 use Rattle.nbd_session.proofs.steps.StepLemmas.{held_of, pairs-taken}
 
--- the spans' bytes are those of both sides
-pub length-mixed : (spans : List Span) (client server : List ℕ) → AreSpansOf spans client server → length (mixture spans client server) ≡ span_total Client spans + span_total Server spans
+-- the stretches' bytes are those of both sides
+pub length-mixed : (stretches : List Stretch) (client server : List ℕ) → AreStretchesOf stretches client server → length (mixture stretches client server) ≡ stretch_total Client stretches + stretch_total Server stretches
 length-mixed [] client server h = refl
-length-mixed (span ∷ spans) client server h = go span.from span.length h (length-mixed spans)
+length-mixed (stretch ∷ stretches) client server h = go stretch.from stretch.length h (length-mixed stretches)
   where
-    go : (t : Side) (n : ℕ) → AreSpansOf (record { from = t; length = n } ∷ spans) client server → ((c v : List ℕ) → AreSpansOf spans c v → length (mixture spans c v) ≡ span_total Client spans + span_total Server spans) →
-        length (mixture (record { from = t; length = n } ∷ spans) client server) ≡ span_total Client (record { from = t; length = n } ∷ spans) + span_total Server (record { from = t; length = n } ∷ spans)
+    go : (t : Side) (n : ℕ) → AreStretchesOf (record { from = t; length = n } ∷ stretches) client server → ((c v : List ℕ) → AreStretchesOf stretches c v → length (mixture stretches c v) ≡ stretch_total Client stretches + stretch_total Server stretches) →
+        length (mixture (record { from = t; length = n } ∷ stretches) client server) ≡ stretch_total Client (record { from = t; length = n } ∷ stretches) + stretch_total Server (record { from = t; length = n } ∷ stretches)
     go Client n h ih =
-        let first : length (side_pairs Client (take n client)) ≡ n = length-map (take n client) (λ b. record { from = Client; byte = b }) ∙ length-take-le n client (first_fits Client Client n spans client server h refl) in
-        let others : length (mixture spans (drop n client) server) ≡ span_total Client spans + span_total Server spans = ih (drop n client) server (left_spans Client n spans client server h) in
-        let all = length-append (side_pairs Client (take n client)) (mixture spans (drop n client) server) in
+        let first : length (side_pairs Client (take n client)) ≡ n = length-map (take n client) (λ b. record { from = Client; byte = b }) ∙ length-take-le n client (first_fits Client Client n stretches client server h refl) in
+        let others : length (mixture stretches (drop n client) server) ≡ stretch_total Client stretches + stretch_total Server stretches = ih (drop n client) server (left_stretches Client n stretches client server h) in
+        let all = length-append (side_pairs Client (take n client)) (mixture stretches (drop n client) server) in
         omega (arith, first, others, all)
     go Server n h ih =
-        let first : length (side_pairs Server (take n server)) ≡ n = length-map (take n server) (λ b. record { from = Server; byte = b }) ∙ length-take-le n server (first_fits Server Server n spans client server h refl) in
-        let others : length (mixture spans client (drop n server)) ≡ span_total Client spans + span_total Server spans = ih client (drop n server) (left_spans Server n spans client server h) in
-        let all = length-append (side_pairs Server (take n server)) (mixture spans client (drop n server)) in
+        let first : length (side_pairs Server (take n server)) ≡ n = length-map (take n server) (λ b. record { from = Server; byte = b }) ∙ length-take-le n server (first_fits Server Server n stretches client server h refl) in
+        let others : length (mixture stretches client (drop n server)) ≡ stretch_total Client stretches + stretch_total Server stretches = ih client (drop n server) (left_stretches Server n stretches client server h) in
+        let all = length-append (side_pairs Server (take n server)) (mixture stretches client (drop n server)) in
         omega (arith, first, others, all)
 
-side_total : (s : Side) (spans : List Span) → span_total s spans ≤ span_total Client spans + span_total Server spans
-side_total Client spans = omega arith
-side_total Server spans = omega arith
+side_total : (s : Side) (stretches : List Stretch) → stretch_total s stretches ≤ stretch_total Client stretches + stretch_total Server stretches
+side_total Client stretches = omega arith
+side_total Server stretches = omega arith
 
-pub total_fits : (held : Held) (s : Side) → Stands held → span_total s (spans_of held.stretches.items) ≤ held.taken
+pub total_fits : (held : Held) (s : Side) → Stands held → stretch_total s (stretches_of held.stretches.items) ≤ held.taken
 total_fits held s st =
-    let one : span_total s (spans_of held.stretches.items) ≤ span_total Client (spans_of held.stretches.items) + span_total Server (spans_of held.stretches.items) = side_total s (spans_of held.stretches.items) in
-    let all : length (held_pairs (holding_of held)) ≡ span_total Client (spans_of held.stretches.items) + span_total Server (spans_of held.stretches.items) =
-    length-mixed (spans_of held.stretches.items) (bytes_of Client held.messages.items ++ held.client.items) (bytes_of Server held.messages.items ++ held.server.items) st.read_to.are_spans in
+    let one : stretch_total s (stretches_of held.stretches.items) ≤ stretch_total Client (stretches_of held.stretches.items) + stretch_total Server (stretches_of held.stretches.items) = side_total s (stretches_of held.stretches.items) in
+    let all : length (held_pairs (holding_of held)) ≡ stretch_total Client (stretches_of held.stretches.items) + stretch_total Server (stretches_of held.stretches.items) =
+    length-mixed (stretches_of held.stretches.items) (bytes_of Client held.messages.items ++ held.client.items) (bytes_of Server held.messages.items ++ held.server.items) st.read_to.are_stretches in
     omega (arith, one, all, st.taken_is)
 
 pub awaits_some : (held : Held) (s : Side) (n : ℕ) → Stands held → ((machine : Machine) → IsReadTo (holding_of held) machine → Shows held.state machine.core → n ≡ awaited_length (old_of machine.core (get machine.rests s)) machine.core s (rest_of (holding_of held) s)) →
@@ -88,7 +89,7 @@ module _ (held taken : Held) (s : Side) (left : List ℕ) (count : ℕ) (st : St
   counts = holding_is ∙ ap (with_bytes (holding_of held) s (take count left)) (sym (shown_length _ st.machine.core.entries held.state.exchanges.items st.shows.are_shown))
 
   pub pairs_added : held_pairs (holding_of taken) ≡ held_pairs (holding_of held) ++ side_pairs s (take count left)
-  pairs_added = ap held_pairs counts ∙ pairs-taken (holding_of held) s (take count left) (length st.machine.core.entries) st.read_to.are_spans
+  pairs_added = ap held_pairs counts ∙ pairs-taken (holding_of held) s (take count left) (length st.machine.core.entries) st.read_to.are_stretches
 
   pub taken_counts : taken.taken ≡ held.taken + length (take count left) → taken.taken ≡ length (held_pairs (holding_of taken))
   taken_counts e =

@@ -6,7 +6,7 @@ use Rattle.nbd_wire.specs.declared.message.Side.{Side}
 use Rattle.nbd_wire.specs.declared.message.Message.{Message}
 use Rattle.nbd_wire.specs.protocol.Marks.{Item, Byte, Starts, Completes, Serves, completed_messages, pairs}
 use Rattle.nbd_wire.specs.protocol.Captures.{Pair, ArePairs, side_pairs}
-use Rattle.nbd_wire.specs.Pushed.{bytes_of}
+use Rattle.nbd_laws.specs.Bytes.{bytes_of}
 use Rattle.nbd_wire.specs.protocol.Rules.{IsRun}
 use Rattle.nbd_wire.specs.protocol.Within.{CompletesExactly, IsOfNoRun, within}
 use Rattle.nbd_wire.specs.declared.fault.WireFault.{WireFault}
@@ -34,7 +34,7 @@ use Rattle.nbd_session.specs.internal.Stopped.{IsStopped}
 use Rattle.nbd_places.proofs.judge.AwaitedLemmas.{reads_below}
 use Rattle.nbd_places.proofs.judge.BlockLemmas.{extended, reads-append, with_rest}
 use Rattle.nbd_places.proofs.judge.ExactLemmas.{exact, none_refused}
-use Rattle.nbd_laws.specs.Holding.{bytes_from}
+use Rattle.nbd_laws.specs.Bytes.{bytes_from}
 use Rattle.nbd_laws.proofs.runs.RunByteLemmas.{AreBytesOf, run_bytes}
 use Rattle.nbd_session.proofs.pushed.OpenByteLemmas.{fresh_bytes}
 use Rattle.nbd_session.proofs.pushed.PushLemmas.{sent-append}
@@ -87,7 +87,7 @@ module _ (h : Holding) (machine : Machine) (r : IsReadTo h machine) (s : Side) (
       let g : GoesTo machine s l.before = goes_to machine s l.before (held_of h machine r) (omega (arith, longer, up_to)) in
       let prefix : List Pair = held_pairs h ++ side_pairs s l.before in
       let parts : held_pairs (with_bytes h s more entries) ≡ prefix ++ last ∷ [] =
-      pairs-taken h s more entries r.are_spans
+      pairs-taken h s more entries r.are_stretches
       ∙ ap (λ bs. held_pairs h ++ side_pairs s bs) l.parts
       ∙ ap (λ ps. held_pairs h ++ ps) (sent-append s l.before (l.last ∷ []))
       ∙ sym (append_assoc (held_pairs h) (side_pairs s l.before) (last ∷ [])) in

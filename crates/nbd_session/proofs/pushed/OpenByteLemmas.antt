@@ -7,7 +7,7 @@ use Rattle.nbd_wire.specs.declared.message.Message.{Message}
 use Rattle.nbd_wire.specs.protocol.Encoding.{enc}
 use Rattle.nbd_wire.specs.protocol.Marks.{Item, Byte, Starts, Completes, Serves, IsSided, IsTight, MayFollow, block, completed_messages, of_side, pairs}
 use Rattle.nbd_wire.specs.protocol.Captures.{Pair, ArePairs, side_pairs}
-use Rattle.nbd_wire.specs.Pushed.{bytes_of}
+use Rattle.nbd_laws.specs.Bytes.{bytes_of}
 use Rattle.nbd_wire.specs.protocol.Rules.{IsRunBut, Obeys, after, complete}
 use Rattle.nbd_wire.specs.protocol.Sides.{side, same_side}
 use Rattle.nbd_wire.specs.protocol.States.{State, start}
@@ -16,7 +16,7 @@ use Rattle.nbd_laws.proofs.machine.MachineLemmas.{AreHeld, IsSound, IsSoundAt, O
 use Rattle.nbd_laws.specs.internal.Machine.{Bad, Both, Judge, Machine, More, Reading, Rest, Whole, fresh, get, rest_with, on_ok, put, reads, settle}
 use Rattle.nbd_laws.proofs.runs.BlockLemmas.{IsCalm, byte_other, byte_same, marked_is_walk}
 use Rattle.nbd_session.specs.internal.Standing.{with_more}
-use Rattle.nbd_laws.specs.Holding.{bytes_from}
+use Rattle.nbd_laws.specs.Bytes.{bytes_from}
 use Rattle.nbd_laws.proofs.runs.RunLemmas.{fresh_held, run_but_law}
 use Rattle.nbd_laws.proofs.runs.RunByteLemmas.{AreBytesOf, byte_from, bytes_from-cons, run_bytes}
 use Rattle.nbd_places.proofs.judge.SoundLemmas.{sound}

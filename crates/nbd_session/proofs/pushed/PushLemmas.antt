@@ -7,9 +7,10 @@ use Rattle.nbd_wire.specs.declared.message.Side.TheVariants.{Client, Server}
 use Rattle.nbd_wire.specs.declared.message.Message.{Message}
 use Rattle.nbd_wire.specs.protocol.Encoding.{enc}
 use Rattle.nbd_wire.specs.protocol.Captures.{side_pairs}
-use Rattle.nbd_wire.specs.Pushed.{Span, bytes_of, of_two, bytes_after_span, mixture}
+use Rattle.nbd_laws.specs.Bytes.{bytes_of, of_two}
+use Rattle.nbd_session.specs.Pushed.{Stretch, bytes_after_stretch, mixture}
 use Rattle.nbd_wire.specs.protocol.Sides.{side, same_side}
-use Rattle.nbd_session.specs.internal.Standing.{span_total, AreSpansOf, spans_with, with_more}
+use Rattle.nbd_session.specs.internal.Standing.{stretch_total, AreStretchesOf, stretches_with, with_more}
 
 no_length : (xs : List ℕ) → 0 ≡ length xs → xs ≡ []
 no_length [] e = refl
@@ -22,7 +23,7 @@ pub sent-append : (s : Side) (xs ys : List ℕ) → side_pairs s (xs ++ ys) ≡ 
 sent-append s [] ys = refl
 sent-append s (x ∷ xs) ys = ap (λ ps. record { from = s; byte = x } ∷ ps) (sent-append s xs ys)
 
--- the first span takes what it took
+-- the first stretch takes what it took
 taken_alike : (s t : Side) (n : ℕ) (more client server : List ℕ) → n ≤ length (of_two t client server) →
     take n (of_two t (with_more s Client more client) (with_more s Server more server)) ≡ take n (of_two t client server)
 taken_alike Client Client n more client server l = take-append-le n client more l
@@ -32,7 +33,7 @@ taken_alike Server Server n more client server l = take-append-le n server more 
 
 -- and leaves what it left, with more after it
 left_alike : (s u t : Side) (n : ℕ) (more bytes : List ℕ) → (u ≡ t → n ≤ length bytes) →
-    bytes_after_span u (record { from = t; length = n }) (with_more s u more bytes) ≡ with_more s u more (bytes_after_span u (record { from = t; length = n }) bytes)
+    bytes_after_stretch u (record { from = t; length = n }) (with_more s u more bytes) ≡ with_more s u more (bytes_after_stretch u (record { from = t; length = n }) bytes)
 left_alike Client Client Client n more bytes l = drop-append-le n bytes more (l refl)
 left_alike Client Client Server n more bytes l = refl
 left_alike Client Server Client n more bytes l = refl
@@ -42,26 +43,26 @@ left_alike Server Client Server n more bytes l = refl
 left_alike Server Server Client n more bytes l = refl
 left_alike Server Server Server n more bytes l = drop-append-le n bytes more (l refl)
 
--- after the first span the others are of what is left
-pub left_spans : (t : Side) (n : ℕ) (spans : List Span) (client server : List ℕ) → AreSpansOf (record { from = t; length = n } ∷ spans) client server →
-    AreSpansOf spans (bytes_after_span Client (record { from = t; length = n }) client) (bytes_after_span Server (record { from = t; length = n }) server)
-left_spans Client n spans client server h = record { of_client = omega (arith, h.of_client, length-drop n client); of_server = omega (arith, h.of_server) }
-left_spans Server n spans client server h = record { of_client = omega (arith, h.of_client); of_server = omega (arith, h.of_server, length-drop n server) }
+-- after the first stretch the others are of what is left
+pub left_stretches : (t : Side) (n : ℕ) (stretches : List Stretch) (client server : List ℕ) → AreStretchesOf (record { from = t; length = n } ∷ stretches) client server →
+    AreStretchesOf stretches (bytes_after_stretch Client (record { from = t; length = n }) client) (bytes_after_stretch Server (record { from = t; length = n }) server)
+left_stretches Client n stretches client server h = record { of_client = omega (arith, h.of_client, length-drop n client); of_server = omega (arith, h.of_server) }
+left_stretches Server n stretches client server h = record { of_client = omega (arith, h.of_client); of_server = omega (arith, h.of_server, length-drop n server) }
 
-pub first_fits : (t u : Side) (n : ℕ) (spans : List Span) (client server : List ℕ) → AreSpansOf (record { from = t; length = n } ∷ spans) client server → u ≡ t → n ≤ length (of_two u client server)
-first_fits Client Client n spans client server h e = omega (arith, h.of_client)
-first_fits Server Server n spans client server h e = omega (arith, h.of_server)
-first_fits Client Server n spans client server h e = absurd (cc)
-first_fits Server Client n spans client server h e = absurd (cc)
+pub first_fits : (t u : Side) (n : ℕ) (stretches : List Stretch) (client server : List ℕ) → AreStretchesOf (record { from = t; length = n } ∷ stretches) client server → u ≡ t → n ≤ length (of_two u client server)
+first_fits Client Client n stretches client server h e = omega (arith, h.of_client)
+first_fits Server Server n stretches client server h e = omega (arith, h.of_server)
+first_fits Client Server n stretches client server h e = absurd (cc)
+first_fits Server Client n stretches client server h e = absurd (cc)
 
--- no span: all bytes are these
+-- no stretch: all bytes are these
 mixed_first : (s : Side) (more client server : List ℕ) → client ≡ [] → server ≡ [] →
     mixture (record { from = s; length = length more } ∷ []) (with_more s Client more client) (with_more s Server more server) ≡ side_pairs s more
 mixed_first Client more client server e f = append-nil (side_pairs Client (take (length more) (client ++ more))) ∙ ap (λ l. side_pairs Client (take (length more) (l ++ more))) e ∙ ap (side_pairs Client) (take-length more)
 mixed_first Server more client server e f = append-nil (side_pairs Server (take (length more) (server ++ more))) ∙ ap (λ l. side_pairs Server (take (length more) (l ++ more))) f ∙ ap (side_pairs Server) (take-length more)
 
--- the last span is of the same side: it has them at its end
-mixed_last : (s : Side) (n : ℕ) (more client server : List ℕ) → AreSpansOf (record { from = s; length = n } ∷ []) client server →
+-- the last stretch is of the same side: it has them at its end
+mixed_last : (s : Side) (n : ℕ) (more client server : List ℕ) → AreStretchesOf (record { from = s; length = n } ∷ []) client server →
     mixture (record { from = s; length = n + length more } ∷ []) (with_more s Client more client) (with_more s Server more server)
     ≡ mixture (record { from = s; length = n } ∷ []) client server ++ side_pairs s more
 mixed_last Client n more client server h =
@@ -77,35 +78,35 @@ mixed_last Server n more client server h =
     ∙ ap (λ l. side_pairs Server l ++ side_pairs Server more) (sym (take_whole server n (omega (arith, h.of_server))))
     ∙ ap (λ l. l ++ side_pairs Server more) (sym (append-nil (side_pairs Server (take n server))))
 
--- a span before those that change
-module _ (s t : Side) (n : ℕ) (more client server : List ℕ) (spans next : List Span) (h : AreSpansOf (record { from = t; length = n } ∷ spans) client server) where
-  abbrev here : Span
+-- a stretch before those that change
+module _ (s t : Side) (n : ℕ) (more client server : List ℕ) (stretches next : List Stretch) (h : AreStretchesOf (record { from = t; length = n } ∷ stretches) client server) where
+  abbrev here : Stretch
   here = record { from = t; length = n }
 
-  mixed_behind : mixture next (with_more s Client more (bytes_after_span Client here client)) (with_more s Server more (bytes_after_span Server here server))
-      ≡ mixture spans (bytes_after_span Client here client) (bytes_after_span Server here server) ++ side_pairs s more →
-      mixture (here ∷ next) (with_more s Client more client) (with_more s Server more server) ≡ mixture (here ∷ spans) client server ++ side_pairs s more
+  mixed_behind : mixture next (with_more s Client more (bytes_after_stretch Client here client)) (with_more s Server more (bytes_after_stretch Server here server))
+      ≡ mixture stretches (bytes_after_stretch Client here client) (bytes_after_stretch Server here server) ++ side_pairs s more →
+      mixture (here ∷ next) (with_more s Client more client) (with_more s Server more server) ≡ mixture (here ∷ stretches) client server ++ side_pairs s more
   mixed_behind ih =
       let first = side_pairs t (take n (of_two t client server)) in
-      ap (λ l. side_pairs t l ++ mixture next (bytes_after_span Client here (with_more s Client more client)) (bytes_after_span Server here (with_more s Server more server)))
-      (taken_alike s t n more client server (first_fits t t n spans client server h refl))
-      ∙ ap (λ l. first ++ mixture next l (bytes_after_span Server here (with_more s Server more server))) (left_alike s Client t n more client (first_fits t Client n spans client server h))
-      ∙ ap (λ l. first ++ mixture next (with_more s Client more (bytes_after_span Client here client)) l) (left_alike s Server t n more server (first_fits t Server n spans client server h))
+      ap (λ l. side_pairs t l ++ mixture next (bytes_after_stretch Client here (with_more s Client more client)) (bytes_after_stretch Server here (with_more s Server more server)))
+      (taken_alike s t n more client server (first_fits t t n stretches client server h refl))
+      ∙ ap (λ l. first ++ mixture next l (bytes_after_stretch Server here (with_more s Server more server))) (left_alike s Client t n more client (first_fits t Client n stretches client server h))
+      ∙ ap (λ l. first ++ mixture next (with_more s Client more (bytes_after_stretch Client here client)) l) (left_alike s Server t n more server (first_fits t Server n stretches client server h))
       ∙ ap (λ l. first ++ l) ih
-      ∙ sym (append_assoc first (mixture spans (bytes_after_span Client here client) (bytes_after_span Server here server)) (side_pairs s more))
+      ∙ sym (append_assoc first (mixture stretches (bytes_after_stretch Client here client) (bytes_after_stretch Server here server)) (side_pairs s more))
 
--- after a span of the other side
-mixed_other : (s t : Side) (n : ℕ) (more client server : List ℕ) → AreSpansOf (record { from = t; length = n } ∷ []) client server →
+-- after a stretch of the other side
+mixed_other : (s t : Side) (n : ℕ) (more client server : List ℕ) → AreStretchesOf (record { from = t; length = n } ∷ []) client server →
     mixture (record { from = t; length = n } ∷ record { from = s; length = length more } ∷ []) (with_more s Client more client) (with_more s Server more server)
     ≡ mixture (record { from = t; length = n } ∷ []) client server ++ side_pairs s more
 mixed_other s t n more client server h =
-    let rest = left_spans t n [] client server h in
+    let rest = left_stretches t n [] client server h in
     mixed_behind s t n more client server [] (record { from = s; length = length more } ∷ []) h
-    (mixed_first s more (bytes_after_span Client (record { from = t; length = n }) client) (bytes_after_span Server (record { from = t; length = n }) server)
-    (no_length (bytes_after_span Client (record { from = t; length = n }) client) rest.of_client) (no_length (bytes_after_span Server (record { from = t; length = n }) server) rest.of_server))
+    (mixed_first s more (bytes_after_stretch Client (record { from = t; length = n }) client) (bytes_after_stretch Server (record { from = t; length = n }) server)
+    (no_length (bytes_after_stretch Client (record { from = t; length = n }) client) rest.of_client) (no_length (bytes_after_stretch Server (record { from = t; length = n }) server) rest.of_server))
 
-mixed_one : (s t : Side) (n : ℕ) (more client server : List ℕ) → AreSpansOf (record { from = t; length = n } ∷ []) client server →
-    mixture (spans_with (record { from = t; length = n } ∷ []) s (length more)) (with_more s Client more client) (with_more s Server more server)
+mixed_one : (s t : Side) (n : ℕ) (more client server : List ℕ) → AreStretchesOf (record { from = t; length = n } ∷ []) client server →
+    mixture (stretches_with (record { from = t; length = n } ∷ []) s (length more)) (with_more s Client more client) (with_more s Server more server)
     ≡ mixture (record { from = t; length = n } ∷ []) client server ++ side_pairs s more
 mixed_one Client Client n more client server h = mixed_last Client n more client server h
 mixed_one Client Server n more client server h = mixed_other Client Server n more client server h
@@ -113,15 +114,15 @@ mixed_one Server Client n more client server h = mixed_other Server Client n mor
 mixed_one Server Server n more client server h = mixed_last Server n more client server h
 
 -- one more piece of a side
-pub mixed-noted : (spans : List Span) (client server : List ℕ) (s : Side) (more : List ℕ) → AreSpansOf spans client server →
-    mixture (spans_with spans s (length more)) (with_more s Client more client) (with_more s Server more server) ≡ mixture spans client server ++ side_pairs s more
+pub mixed-noted : (stretches : List Stretch) (client server : List ℕ) (s : Side) (more : List ℕ) → AreStretchesOf stretches client server →
+    mixture (stretches_with stretches s (length more)) (with_more s Client more client) (with_more s Server more server) ≡ mixture stretches client server ++ side_pairs s more
 mixed-noted [] client server s more h = mixed_first s more client server (no_length client h.of_client) (no_length server h.of_server)
-mixed-noted (span ∷ []) client server s more h = mixed_one s span.from span.length more client server h
-mixed-noted (span ∷ next ∷ spans) client server s more h =
-    mixed_behind s span.from span.length more client server (next ∷ spans) (spans_with (next ∷ spans) s (length more)) h
-    (mixed-noted (next ∷ spans) (bytes_after_span Client span client) (bytes_after_span Server span server) s more (left_spans span.from span.length (next ∷ spans) client server h))
+mixed-noted (stretch ∷ []) client server s more h = mixed_one s stretch.from stretch.length more client server h
+mixed-noted (stretch ∷ next ∷ stretches) client server s more h =
+    mixed_behind s stretch.from stretch.length more client server (next ∷ stretches) (stretches_with (next ∷ stretches) s (length more)) h
+    (mixed-noted (next ∷ stretches) (bytes_after_stretch Client stretch client) (bytes_after_stretch Server stretch server) s more (left_stretches stretch.from stretch.length (next ∷ stretches) client server h))
 
-total-one : (u s t : Side) (n m : ℕ) → span_total u (spans_with (record { from = t; length = n } ∷ []) s m) ≡ span_total u (record { from = t; length = n } ∷ []) + (if same_side u s then m else 0)
+total-one : (u s t : Side) (n m : ℕ) → stretch_total u (stretches_with (record { from = t; length = n } ∷ []) s m) ≡ stretch_total u (record { from = t; length = n } ∷ []) + (if same_side u s then m else 0)
 total-one Client Client Client n m = omega arith
 total-one Client Client Server n m = omega arith
 total-one Client Server Client n m = omega arith
@@ -131,11 +132,11 @@ total-one Server Client Server n m = omega arith
 total-one Server Server Client n m = omega arith
 total-one Server Server Server n m = omega arith
 
-total-noted : (u : Side) (spans : List Span) (s : Side) (m : ℕ) → span_total u (spans_with spans s m) ≡ span_total u spans + (if same_side u s then m else 0)
+total-noted : (u : Side) (stretches : List Stretch) (s : Side) (m : ℕ) → stretch_total u (stretches_with stretches s m) ≡ stretch_total u stretches + (if same_side u s then m else 0)
 total-noted u [] s m = omega arith
-total-noted u (span ∷ []) s m = total-one u s span.from span.length m
-total-noted u (span ∷ next ∷ spans) s m =
-    let ih = total-noted u (next ∷ spans) s m in
+total-noted u (stretch ∷ []) s m = total-one u s stretch.from stretch.length m
+total-noted u (stretch ∷ next ∷ stretches) s m =
+    let ih = total-noted u (next ∷ stretches) s m in
     omega (arith, ih)
 
 length-with_more : (u s : Side) (more bytes : List ℕ) → length (with_more s u more bytes) ≡ length bytes + (if same_side u s then length more else 0)
@@ -144,12 +145,12 @@ length-with_more Client Server more bytes = omega arith
 length-with_more Server Client more bytes = omega arith
 length-with_more Server Server more bytes = omega (arith, length-append bytes more)
 
--- they are the spans of the longer bytes
-pub spans-noted : (spans : List Span) (client server : List ℕ) (s : Side) (more : List ℕ) → AreSpansOf spans client server →
-    AreSpansOf (spans_with spans s (length more)) (with_more s Client more client) (with_more s Server more server)
-spans-noted spans client server s more h = record {
-  of_client = total-noted Client spans s (length more) ∙ ap (λ n. n + (if same_side Client s then length more else 0)) h.of_client ∙ sym (length-with_more Client s more client);
-  of_server = total-noted Server spans s (length more) ∙ ap (λ n. n + (if same_side Server s then length more else 0)) h.of_server ∙ sym (length-with_more Server s more server);
+-- they are the stretches of the longer bytes
+pub stretches-noted : (stretches : List Stretch) (client server : List ℕ) (s : Side) (more : List ℕ) → AreStretchesOf stretches client server →
+    AreStretchesOf (stretches_with stretches s (length more)) (with_more s Client more client) (with_more s Server more server)
+stretches-noted stretches client server s more h = record {
+  of_client = total-noted Client stretches s (length more) ∙ ap (λ n. n + (if same_side Client s then length more else 0)) h.of_client ∙ sym (length-with_more Client s more client);
+  of_server = total-noted Server stretches s (length more) ∙ ap (λ n. n + (if same_side Server s then length more else 0)) h.of_server ∙ sym (length-with_more Server s more server);
 }
 
 pub bytes_of-snoc : (s : Side) (messages : List Message) (m : Message) → bytes_of s (messages ++ m ∷ []) ≡ bytes_of s messages ++ (if same_side s (side m) then enc m else [])

@@ -15,7 +15,7 @@ use Rattle.nbd_places.specs.internal.Concrete.{concrete}
 use Rattle.nbd_places.specs.internal.Decisions.{Decision}
 use Rattle.nbd_state.specs.Completions.{core_from}
 use Rattle.nbd_session.specs.internal.Holdings.{holding_of}
-use Rattle.nbd_session.specs.Views.{spans_of}
+use Rattle.nbd_session.specs.Views.{stretches_of}
 use Rattle.nbd_places.specs.internal.Judge.{decision_by_count}
 use Rattle.nbd_state.specs.Logs.{messages_of}
 use Rattle.nbd_session.specs.internal.Logging.{log_of_pairs}
@@ -89,7 +89,7 @@ module _ (held : Held) (s : Side) (t : IsTaken held s) (whole : IsReadWhole held
   log_with_it : log_of_pairs concrete fresh (held_pairs (with_message after s m)) ≡ log_of_pairs concrete fresh (held_pairs t.before) ++ record { message = m; known = count_of t.machine.core (get t.machine.rests s) } ∷ []
   log_with_it =
       ap (log_of_pairs concrete fresh) (pairs-message after s m is_taken.at.encodes is_taken.at.sided)
-      ∙ ap (log_of_pairs concrete fresh) (pairs-taken t.before s t.more (length t.machine.core.entries) t.read_to.are_spans)
+      ∙ ap (log_of_pairs concrete fresh) (pairs-taken t.before s t.more (length t.machine.core.entries) t.read_to.are_stretches)
       ∙ logged-whole (held_pairs t.before) t.machine s t.more t.read_to.reads_it (held_of t.before t.machine t.read_to) t.filled t.up_to m judged_so
 
   -- the count that is logged is the one that is held, where it matters
@@ -138,8 +138,8 @@ module _ (held : Held) (s : Side) (t : IsTaken held s) (whole : IsReadWhole held
 pub accepted_holding : (held new : Held) (s : Side) (m : Message) → new.messages.items ≡ held.messages.items ++ m ∷ [] →
     new.client.items ≡ (if same_side s Client then [] else held.client.items) → new.server.items ≡ (if same_side s Server then [] else held.server.items) →
     new.counted ≡ held.counted → new.stretches ≡ held.stretches → holding_of new ≡ with_message (holding_of held) s m
-accepted_holding held new Client m ms c sv n st = λ i. record { messages = ms i; client = c i; server = sv i; counted = n i; spans = spans_of (st i).items }
-accepted_holding held new Server m ms c sv n st = λ i. record { messages = ms i; client = c i; server = sv i; counted = n i; spans = spans_of (st i).items }
+accepted_holding held new Client m ms c sv n st = λ i. record { messages = ms i; client = c i; server = sv i; counted = n i; stretches = stretches_of (st i).items }
+accepted_holding held new Server m ms c sv n st = λ i. record { messages = ms i; client = c i; server = sv i; counted = n i; stretches = stretches_of (st i).items }
 
 -- a message more, and no byte
 pub same_but_message : (held new : Held) (s : Side) (m : Message) → holding_of new ≡ with_message (holding_of held) s m → held_pairs (with_message (holding_of held) s m) ≡ held_pairs (holding_of held) →

@@ -52,7 +52,7 @@ module _ (held : Held) (s : Side) (t : IsTaken held s) where
       says t.before t.machine t.read_to s t.more t.filled t.are_bytes t.up_to More
       (judged_more (decision_by_count (count_at_server s t.before.server t.before.counted (length t.machine.core.entries)) t.machine.core s (rest_of after s)) (rest_of after s) n answer) in
       let log : log_of_pairs concrete fresh (held_pairs after) ≡ log_of_pairs concrete fresh (held_pairs t.before) =
-      ap (log_of_pairs concrete fresh) (pairs-taken t.before s t.more (length t.machine.core.entries) t.read_to.are_spans)
+      ap (log_of_pairs concrete fresh) (pairs-taken t.before s t.more (length t.machine.core.entries) t.read_to.are_stretches)
       ∙ logged-kept (held_pairs t.before) t.machine s t.more t.read_to.reads_it (held_of t.before t.machine t.read_to) t.filled t.up_to judged_so in
       record {
         machine = machine;
@@ -70,7 +70,7 @@ module _ (held : Held) (s : Side) (t : IsTaken held s) where
       subst HoldsRun (sym t.holding_is) (record {
         items = r.0;
         is_run = r.1;
-        has_pairs = r.2 ∙ sym (pairs-taken t.before s t.more (length t.machine.core.entries) t.read_to.are_spans);
+        has_pairs = r.2 ∙ sym (pairs-taken t.before s t.more (length t.machine.core.entries) t.read_to.are_stretches);
         has_messages = r.3;
       })
 

@@ -5,7 +5,8 @@ use Rattle.nbd_wire.specs.declared.message.Side.TheVariants.{Client, Server}
 use Rattle.nbd_wire.specs.declared.message.Message.{Message}
 use Rattle.nbd_wire.specs.protocol.Encoding.{AreBytes, enc}
 use Rattle.nbd_wire.specs.protocol.Captures.{Pair, ArePairs, side_pairs}
-use Rattle.nbd_wire.specs.Pushed.{bytes_of, mixture}
+use Rattle.nbd_laws.specs.Bytes.{bytes_of}
+use Rattle.nbd_session.specs.Pushed.{mixture}
 use Rattle.nbd_wire.specs.protocol.Rules.{complete}
 use Rattle.nbd_wire.specs.protocol.Sides.{side, same_side}
 use Rattle.nbd_wire.specs.protocol.States.{Core, Phase, Greet, Flags, Choosing, Naming, Aborting, Answering, Ended, Transmission}
@@ -17,12 +18,12 @@ use Rattle.nbd_places.specs.internal.Judge.{decision, decision_by_count, decisio
 use Rattle.nbd_places.specs.internal.JudgeTransmission.{operation_counted}
 use Rattle.nbd_laws.specs.internal.Machine.{Machine, Rest, Reading, More, Whole, Bad, get, put, reads, fresh, old_of, settle, on_ok, IsFilled}
 use Rattle.nbd_laws.proofs.machine.MachineLemmas.{IsSoundAt, AreHeld, reads_held, old-empty, old-filled}
-use Rattle.nbd_session.specs.internal.Standing.{Holding, IsReadTo, AreSpansOf, spans_with, held_pairs, rest_of, with_more, with_bytes, count_at_server}
+use Rattle.nbd_session.specs.internal.Standing.{Holding, IsReadTo, AreStretchesOf, stretches_with, held_pairs, rest_of, with_more, with_bytes, count_at_server}
 use Rattle.nbd_session.specs.internal.Readings.{reading_if}
 use Rattle.nbd_places.proofs.judge.AwaitedLemmas.{reads_up_to}
 use Rattle.nbd_places.proofs.judge.BlockLemmas.{judged_at_once, extended, reads-append}
 use Rattle.nbd_session.proofs.log.CountLemmas.{held_counted, count_of}
-use Rattle.nbd_session.proofs.pushed.PushLemmas.{bytes_of-snoc, mixed-noted, spans-noted}
+use Rattle.nbd_session.proofs.pushed.PushLemmas.{bytes_of-snoc, mixed-noted, stretches-noted}
 use Rattle.nbd_laws.proofs.runs.RunLemmas.{fresh_held}
 use Rattle.nbd_places.proofs.judge.SoundLemmas.{sound}
 use Rattle.nbd_session.proofs.steps.TakeLemmas.{judged_bad, judged_more, judged_whole, kept_more}
@@ -38,19 +39,19 @@ behind Client Server more prefix bytes = refl
 behind Server Client more prefix bytes = refl
 behind Server Server more prefix bytes = sym (append_assoc prefix bytes more)
 
-pub pairs-taken : (h : Holding) (s : Side) (more : List ℕ) (entries : ℕ) → AreSpansOf h.spans (bytes_of Client h.messages ++ h.client) (bytes_of Server h.messages ++ h.server) →
+pub pairs-taken : (h : Holding) (s : Side) (more : List ℕ) (entries : ℕ) → AreStretchesOf h.stretches (bytes_of Client h.messages ++ h.client) (bytes_of Server h.messages ++ h.server) →
     held_pairs (with_bytes h s more entries) ≡ held_pairs h ++ side_pairs s more
 pairs-taken h s more entries are =
-    ap (λ l. mixture (spans_with h.spans s (length more)) l (bytes_of Server h.messages ++ with_more s Server more h.server)) (behind s Client more (bytes_of Client h.messages) h.client)
-    ∙ ap (λ l. mixture (spans_with h.spans s (length more)) (with_more s Client more (bytes_of Client h.messages ++ h.client)) l) (behind s Server more (bytes_of Server h.messages) h.server)
-    ∙ mixed-noted h.spans (bytes_of Client h.messages ++ h.client) (bytes_of Server h.messages ++ h.server) s more are
+    ap (λ l. mixture (stretches_with h.stretches s (length more)) l (bytes_of Server h.messages ++ with_more s Server more h.server)) (behind s Client more (bytes_of Client h.messages) h.client)
+    ∙ ap (λ l. mixture (stretches_with h.stretches s (length more)) (with_more s Client more (bytes_of Client h.messages ++ h.client)) l) (behind s Server more (bytes_of Server h.messages) h.server)
+    ∙ mixed-noted h.stretches (bytes_of Client h.messages ++ h.client) (bytes_of Server h.messages ++ h.server) s more are
 
-pub spans-taken : (h : Holding) (s : Side) (more : List ℕ) (entries : ℕ) → AreSpansOf h.spans (bytes_of Client h.messages ++ h.client) (bytes_of Server h.messages ++ h.server) →
-    AreSpansOf (spans_with h.spans s (length more)) (bytes_of Client h.messages ++ with_more s Client more h.client) (bytes_of Server h.messages ++ with_more s Server more h.server)
-spans-taken h s more entries are =
-    subst (λ l. AreSpansOf (spans_with h.spans s (length more)) l (bytes_of Server h.messages ++ with_more s Server more h.server)) (sym (behind s Client more (bytes_of Client h.messages) h.client))
-    (subst (λ l. AreSpansOf (spans_with h.spans s (length more)) (with_more s Client more (bytes_of Client h.messages ++ h.client)) l) (sym (behind s Server more (bytes_of Server h.messages) h.server))
-    (spans-noted h.spans (bytes_of Client h.messages ++ h.client) (bytes_of Server h.messages ++ h.server) s more are))
+pub stretches-taken : (h : Holding) (s : Side) (more : List ℕ) (entries : ℕ) → AreStretchesOf h.stretches (bytes_of Client h.messages ++ h.client) (bytes_of Server h.messages ++ h.server) →
+    AreStretchesOf (stretches_with h.stretches s (length more)) (bytes_of Client h.messages ++ with_more s Client more h.client) (bytes_of Server h.messages ++ with_more s Server more h.server)
+stretches-taken h s more entries are =
+    subst (λ l. AreStretchesOf (stretches_with h.stretches s (length more)) l (bytes_of Server h.messages ++ with_more s Server more h.server)) (sym (behind s Client more (bytes_of Client h.messages) h.client))
+    (subst (λ l. AreStretchesOf (stretches_with h.stretches s (length more)) (with_more s Client more (bytes_of Client h.messages ++ h.client)) l) (sym (behind s Server more (bytes_of Server h.messages) h.server))
+    (stretches-noted h.stretches (bytes_of Client h.messages ++ h.client) (bytes_of Server h.messages ++ h.server) s more are))
 
 -- a side's bytes are the same when its rest becomes a message
 of_side-completed : (s : Side) (messages : List Message) (m : Message) (bytes : List ℕ) → bytes ≡ enc m → side m ≡ s → bytes_of s (messages ++ m ∷ []) ++ [] ≡ bytes_of s messages ++ bytes
@@ -78,16 +79,16 @@ pub both-completed : (h : Holding) (s : Side) (m : Message) → rest_of h s ≡ 
 both-completed h Client m e sd = (of_side-completed Client h.messages m h.client e sd, of_other-completed Server Client h.messages m h.server sd (λ q. (cc)))
 both-completed h Server m e sd = (of_other-completed Client Server h.messages m h.client sd (λ q. (cc)), of_side-completed Server h.messages m h.server e sd)
 
-spans_message : (h : Holding) (s : Side) (m : Message) → (with_message h s m).spans ≡ h.spans
-spans_message h Client m = refl
-spans_message h Server m = refl
+stretches_message : (h : Holding) (s : Side) (m : Message) → (with_message h s m).stretches ≡ h.stretches
+stretches_message h Client m = refl
+stretches_message h Server m = refl
 
 pub pairs-message : (h : Holding) (s : Side) (m : Message) → rest_of h s ≡ enc m → side m ≡ s → held_pairs (with_message h s m) ≡ held_pairs h
 pairs-message h s m e sd =
     let both = both-completed h s m e sd in
-    ap (λ spans. mixture spans (bytes_of Client (with_message h s m).messages ++ (with_message h s m).client) (bytes_of Server (with_message h s m).messages ++ (with_message h s m).server)) (spans_message h s m)
-    ∙ ap (λ l. mixture h.spans l (bytes_of Server (with_message h s m).messages ++ (with_message h s m).server)) both.0
-    ∙ ap (λ l. mixture h.spans (bytes_of Client h.messages ++ h.client) l) both.1
+    ap (λ stretches. mixture stretches (bytes_of Client (with_message h s m).messages ++ (with_message h s m).client) (bytes_of Server (with_message h s m).messages ++ (with_message h s m).server)) (stretches_message h s m)
+    ∙ ap (λ l. mixture h.stretches l (bytes_of Server (with_message h s m).messages ++ (with_message h s m).server)) both.0
+    ∙ ap (λ l. mixture h.stretches (bytes_of Client h.messages ++ h.client) l) both.1
 
 are_pairs-append : (ps qs : List Pair) → ArePairs ps → ArePairs qs → ArePairs (ps ++ qs)
 are_pairs-append [] qs a b = b
@@ -112,13 +113,13 @@ module _ (h : Holding) (machine : Machine) (r : IsReadTo h machine) (s : Side) (
 
   pub reads_taken : reads concrete fresh (held_pairs taken) ≡ judged_at_once concrete machine s more
   reads_taken =
-      ap (reads concrete fresh) (pairs-taken h s more (length machine.core.entries) r.are_spans)
+      ap (reads concrete fresh) (pairs-taken h s more (length machine.core.entries) r.are_stretches)
       ∙ reads-append concrete fresh (held_pairs h) (side_pairs s more)
       ∙ ap (λ o. on_ok o (λ next. reads concrete next (side_pairs s more))) r.reads_it
       ∙ reads_up_to machine s more (held_of h machine r) filled up_to
 
   pub pairs_taken : ArePairs (held_pairs taken)
-  pairs_taken = subst ArePairs (sym (pairs-taken h s more (length machine.core.entries) r.are_spans)) (are_pairs-append (held_pairs h) (side_pairs s more) r.are_pairs (are_pairs-sent s more bytes))
+  pairs_taken = subst ArePairs (sym (pairs-taken h s more (length machine.core.entries) r.are_stretches)) (are_pairs-append (held_pairs h) (side_pairs s more) r.are_pairs (are_pairs-sent s more bytes))
 
 -- the count at the first byte of the server's rest
 pub count_at : (server : List ℕ) (rest : Rest) (core : Core) (counted : ℕ) → rest.bytes ≡ server → (IsFilled server → counted ≡ length rest.since.entries) →
@@ -194,7 +195,7 @@ module _ (h : Holding) (machine : Machine) (r : IsReadTo h machine) (s : Side) (
     messages_are = r.messages_are;
     rests_are = λ u. rest_taken h machine s u more (length machine.core.entries) r;
     count_is = count_taken h machine s more r;
-    are_spans = spans-taken h s more (length machine.core.entries) r.are_spans;
+    are_stretches = stretches-taken h s more (length machine.core.entries) r.are_stretches;
   }
 
   -- the bytes are refused
@@ -256,8 +257,8 @@ module _ (h : Holding) (machine : Machine) (r : IsReadTo h machine) (s : Side) (
           messages_are = ap (λ l. l ++ m ∷ []) r.messages_are ∙ sym (messages_message held s m);
           rests_are = λ u. rest_message h machine s u m more (length machine.core.entries) r;
           count_is = count_message h machine s m more (length machine.core.entries) r;
-          are_spans = subst (λ spans. AreSpansOf spans (bytes_of Client (with_message held s m).messages ++ (with_message held s m).client) (bytes_of Server (with_message held s m).messages ++ (with_message held s m).server)) (sym (spans_message held s m))
-              (subst (λ l. AreSpansOf held.spans l (bytes_of Server (with_message held s m).messages ++ (with_message held s m).server)) (sym both.0)
-              (subst (λ l. AreSpansOf held.spans (bytes_of Client held.messages ++ held.client) l) (sym both.1) (spans-taken h s more (length machine.core.entries) r.are_spans)));
+          are_stretches = subst (λ stretches. AreStretchesOf stretches (bytes_of Client (with_message held s m).messages ++ (with_message held s m).client) (bytes_of Server (with_message held s m).messages ++ (with_message held s m).server)) (sym (stretches_message held s m))
+              (subst (λ l. AreStretchesOf held.stretches l (bytes_of Server (with_message held s m).messages ++ (with_message held s m).server)) (sym both.0)
+              (subst (λ l. AreStretchesOf held.stretches (bytes_of Client held.messages ++ held.client) l) (sym both.1) (stretches-taken h s more (length machine.core.entries) r.are_stretches)));
         };
       }

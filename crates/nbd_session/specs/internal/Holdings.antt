@@ -5,7 +5,7 @@ use Rattle.nbd_wire.specs.protocol.Sides.{same_side}
 use Rattle.nbd_session.specs.declared.held.Held.{Held}
 use Rattle.nbd_session.specs.declared.held.Stretch.{Stretch}
 use Rattle.nbd_session.specs.internal.Standing.{Holding}
-use Rattle.nbd_session.specs.Views.{spans_of}
+use Rattle.nbd_session.specs.Views.{stretches_of}
 
 abbrev pub holding_of : Held → Holding
 holding_of held = record {
@@ -13,7 +13,7 @@ holding_of held = record {
   client = held.client.items;
   server = held.server.items;
   counted = held.counted;
-  spans = spans_of held.stretches.items;
+  stretches = stretches_of held.stretches.items;
 }
 
 -- the stretch, if any, is of this side

@@ -4,36 +4,37 @@ use Rattle.nbd_wire.specs.declared.message.Side.{Side}
 use Rattle.nbd_wire.specs.declared.message.Side.TheVariants.{Client, Server}
 use Rattle.nbd_wire.specs.declared.message.Message.{Message}
 use Rattle.nbd_wire.specs.protocol.Captures.{Pair, ArePairs}
-use Rattle.nbd_wire.specs.Pushed.{Span, bytes_of, pushed_pairs}
+use Rattle.nbd_laws.specs.Bytes.{bytes_of}
+use Rattle.nbd_session.specs.Pushed.{Stretch, pushed_pairs}
 use Rattle.nbd_wire.specs.protocol.Sides.{same_side}
 use Rattle.nbd_places.specs.internal.Concrete.{concrete}
 use Rattle.nbd_laws.specs.internal.Machine.{Machine, get, reads, fresh, IsFilled}
 
--- the spans' bytes of a side
-abbrev pub span_total : Side → List Span → ℕ
-span_total s [] = 0
-span_total s (span ∷ spans) = (if same_side s span.from then span.length else 0) + span_total s spans
+-- the stretches' bytes of a side
+abbrev pub stretch_total : Side → List Stretch → ℕ
+stretch_total s [] = 0
+stretch_total s (stretch ∷ stretches) = (if same_side s stretch.from then stretch.length else 0) + stretch_total s stretches
 
--- the spans are of exactly these bytes
-pub record AreSpansOf (spans : List Span) (client server : List ℕ) : Type 0 where
-  pub of_client : span_total Client spans ≡ length client
-  pub of_server : span_total Server spans ≡ length server
+-- the stretches are of exactly these bytes
+pub record AreStretchesOf (stretches : List Stretch) (client server : List ℕ) : Type 0 where
+  pub of_client : stretch_total Client stretches ≡ length client
+  pub of_server : stretch_total Server stretches ≡ length server
 
 -- what is held: the accepted messages, each side's bytes after them, how many requests had completed
--- before the first of the server's, and the spans of all
+-- before the first of the server's, and the stretches of all
 pub record Holding : Type 0 where
   pub messages : List Message
   pub client : List ℕ
   pub server : List ℕ
   pub counted : ℕ
-  pub spans : List Span
+  pub stretches : List Stretch
 
 abbrev pub rest_of : Holding → Side → List ℕ
 rest_of h Client = h.client
 rest_of h Server = h.server
 
 abbrev pub held_pairs : Holding → List Pair
-held_pairs h = pushed_pairs h.messages h.client h.server h.spans
+held_pairs h = pushed_pairs h.messages h.client h.server h.stretches
 
 -- the machine has read what is held, without a fault
 pub record IsReadTo (h : Holding) (machine : Machine) : Type 0 where
@@ -42,14 +43,14 @@ pub record IsReadTo (h : Holding) (machine : Machine) : Type 0 where
   pub messages_are : machine.messages ≡ h.messages
   pub rests_are : (s : Side) → (get machine.rests s).bytes ≡ rest_of h s
   pub count_is : IsFilled h.server → h.counted ≡ length (get machine.rests Server).since.entries
-  pub are_spans : AreSpansOf h.spans (bytes_of Client h.messages ++ h.client) (bytes_of Server h.messages ++ h.server)
+  pub are_stretches : AreStretchesOf h.stretches (bytes_of Client h.messages ++ h.client) (bytes_of Server h.messages ++ h.server)
 
--- the spans with so many more bytes of a side
-abbrev pub spans_with : List Span → Side → ℕ → List Span
-spans_with [] s n = record { from = s; length = n } ∷ []
-spans_with (span ∷ []) s n =
-    if same_side s span.from then record { from = span.from; length = span.length + n } ∷ [] else span ∷ record { from = s; length = n } ∷ []
-spans_with (span ∷ next ∷ spans) s n = span ∷ spans_with (next ∷ spans) s n
+-- the stretches with so many more bytes of a side
+abbrev pub stretches_with : List Stretch → Side → ℕ → List Stretch
+stretches_with [] s n = record { from = s; length = n } ∷ []
+stretches_with (stretch ∷ []) s n =
+    if same_side s stretch.from then record { from = stretch.from; length = stretch.length + n } ∷ [] else stretch ∷ record { from = s; length = n } ∷ []
+stretches_with (stretch ∷ next ∷ stretches) s n = stretch ∷ stretches_with (next ∷ stretches) s n
 
 -- a side's bytes with more
 abbrev pub with_more : Side → Side → List ℕ → List ℕ → List ℕ
@@ -68,5 +69,5 @@ with_bytes h s more entries = record {
   client = with_more s Client more h.client;
   server = with_more s Server more h.server;
   counted = count_at_server s h.server h.counted entries;
-  spans = spans_with h.spans s (length more);
+  stretches = stretches_with h.stretches s (length more);
 }

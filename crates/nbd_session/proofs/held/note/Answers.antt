@@ -1,16 +1,16 @@
 use Rattle.std.proofs.Common.{◌≡◌, ◌+◌, ◌-◌, ◌<◌, length, refl, sym, ◌∙◌, ap, arith, slice_get}
 use Rattle.std.specs.Vec.{vec_len}
 use Rattle.nbd_session.specs.internal.Holdings.{is_of}
-use Rattle.nbd_session.specs.Views.{spans_of}
-use Rattle.nbd_session.proofs.pushed.NoteLemmas.{is_last_of, last_within, noted_behind, noted_grown}
+use Rattle.nbd_session.specs.Views.{stretches_of}
+use Rattle.nbd_session.proofs.pushed.NoteLemmas.{is_last_of, last_within, noted_after, noted_grown}
 use Rattle.nbd_session.proofs.held.note.Goals as goal
 
 -- src/held.rt:106:9
 pub returns-then-not-is_last : goal.returns-then-not-is_last
 returns-then-not-is_last c = record {
   noted =
-      ap spans_of c.in_ok-push.ensures.items
-      ∙ noted_behind c.args.stretches.now.items c.args.side c.args.count
+      ap stretches_of c.in_ok-push.ensures.items
+      ∙ noted_after c.args.stretches.now.items c.args.side c.args.count
       (ap (λ l. is_of c.args.side (slice_get l (length l - 1))) (sym c.deref.ensures.value) ∙ sym c.is_last.ensures ∙ c.if-not-is_last.true);
   unchanged = tt;
 }

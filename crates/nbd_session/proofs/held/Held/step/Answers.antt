@@ -11,8 +11,8 @@ overflow_sub-missing c =
     let same = ap length c.rest.ensures in
     omega (arith, short, same)
 
-pub take-requires-clause-spans : goal.take-requires-clause-spans
-take-requires-clause-spans c =
+pub take-requires-clause-stretches : goal.take-requires-clause-stretches
+take-requires-clause-stretches c =
     let fits = total_fits c.args.self.now c.args.side c.requires.stands in
     let count : c.min-count.result ≤ length c.args.left.now = omega (arith, c.min-count.ensures) in
     let len = length-take-le c.min-count.result c.args.left.now count in

@@ -1,5 +1,0 @@
-use Rattle.nbd_laws.proofs.runs.HoldingLemmas.{pushed_holds_each_side}
-use Rattle.nbd_laws.proofs.laws.pushed_holds_each_side.Goals as goal
-
-pub returns : goal.returns
-returns c = pushed_holds_each_side

@@ -1,0 +1,11 @@
+-- Where captures were cut into records does not count.
+use Rattle.std.proofs.Common.{◌≡◌, ℕ, List, [], ◌∷◌, ◌++◌, ◌∙◌, ap, append_assoc}
+use Rattle.std.proofs.lemmas.List.{map-append}
+use Rattle.nbd_wire.specs.declared.message.Side.{Side}
+use Rattle.nbd_wire.specs.protocol.Captures.{Pair, flat, side_pairs}
+use Rattle.nbd_laws.specs.Cuts.{CutsDoNotCount}
+
+pub cuts_do_not_count : CutsDoNotCount
+cuts_do_not_count [] back s bytes more =
+    ap (λ l. l ++ flat back) (map-append (λ b. let p : Pair = record { from = s; byte = b } in p) bytes more) ∙ append_assoc (side_pairs s bytes) (side_pairs s more) (flat back)
+cuts_do_not_count (chunk ∷ prefix) back s bytes more = ap (λ l. side_pairs chunk.0 chunk.1 ++ l) (cuts_do_not_count prefix back s bytes more)
