@@ -5,3 +5,4 @@ pub mod DecisionLemmas
 pub mod RefusalLemmas
 pub mod SingleLemmas
 pub mod SoundLemmas
+pub mod UniqueLemmas

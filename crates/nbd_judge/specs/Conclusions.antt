@@ -27,6 +27,11 @@ IsReportOf items (Err fault) = ⊥
 abbrev pub IsUnserved : List Pair → List ℕ → Type 0
 IsUnserved capture order = (items : List Item) → IsRun items → pairs items ≡ capture → service_order items ≡ order → ⊥
 
+-- of an Order verdict: no run with these bytes is served in this order
+abbrev pub LeavesUnserved : List Pair → List ℕ → Verdict → Type 0
+LeavesUnserved capture order (Order entry fault) = IsUnserved capture order
+LeavesUnserved capture order _ = Unit {0}
+
 -- what a verdict says of a capture that is the bytes of a run: Yes that the order explains it, with its counts, every
 -- other that it does not; Order that no run with these bytes is served so
 abbrev pub Answers : List Pair → List ℕ → Start → Verdict → Type 0

@@ -1,7 +1,12 @@
--- The cases of the definitions of a verdict exclude each other.
+-- The cases of the definitions of a verdict exclude each other, and a capture has one answer at most.
 use Rattle.std.specs.Prelude.{ℕ, List, ◌≡◌, Option}
+use Rattle.nbd_wire.specs.declared.fault.WireFault.{WireFault}
+use Rattle.nbd_wire.specs.declared.message.Message.{Message}
+use Rattle.nbd_wire.specs.protocol.Captures.{Pair}
 use Rattle.nbd_wire.specs.protocol.Explains.{Start}
 use Rattle.nbd_wire.specs.protocol.Reports.{Report}
+use Rattle.nbd_session.specs.Refusals.{IsWireFault}
+use Rattle.nbd_judge.specs.Captures.{IsChecked}
 use Rattle.nbd_judge.specs.Verdicts.{IsJudged, IsVerdict}
 use Rattle.nbd_judge.specs.declared.verdict.Verdict.{Verdict}
 
@@ -12,3 +17,13 @@ OneJudgement = (r : Report) (order : List ℕ) (initial : ℕ → Option ℕ) (v
 -- there is one verdict at most from a start
 abbrev pub OneVerdict : Type 0
 OneVerdict = (r : Report) (order : List ℕ) (initial : Start) (v w : Verdict) → IsVerdict r order initial v → IsVerdict r order initial w → v ≡ w
+
+-- a capture is refused in one way at most: at one byte, with one fault
+abbrev pub OneWireFault : Type 0
+OneWireFault = (capture : List Pair) (messages more : List Message) (at place : ℕ) (fault other : WireFault) →
+    IsWireFault capture messages at fault → IsWireFault capture more place other → (at ≡ place) × (fault ≡ other)
+
+-- a capture, an order and a start have one answer at most; so two lists of records with one flat capture get equal answers
+abbrev pub OneAnswer : Type 0
+OneAnswer = (capture : List Pair) (order : List ℕ) (initial : Start) (v w : Verdict) →
+    IsChecked capture order initial v → IsChecked capture order initial w → v ≡ w

@@ -2,7 +2,7 @@
 
 ghost use Rattle.nbd_judge.specs.Conclusions.{VerdictsAnswerRuns};
 ghost use Rattle.nbd_judge.specs.Folding.{Folding};
-ghost use Rattle.nbd_judge.specs.Uniqueness.{OneJudgement, OneVerdict};
+ghost use Rattle.nbd_judge.specs.Uniqueness.{OneAnswer, OneJudgement, OneVerdict, OneWireFault};
 
 use nbd_laws::laws::{explained_exactly, latest_moments, same_reports};
 
@@ -20,6 +20,17 @@ pub fn one_judgement()
 /// A report, an order and a start have one verdict at most: the cases exclude each other.
 pub fn one_verdict()
     ensures { OneVerdict }
+{}
+
+/// A capture is refused in one way at most.
+pub fn one_wire_fault()
+    ensures { OneWireFault }
+{}
+
+/// A capture, an order and a start have one answer at most. So where a capture was cut into records does
+/// not count: two lists of records with one flat capture get equal answers from `check` where both are Ok.
+pub fn one_answer()
+    ensures { OneAnswer }
 {}
 
 /// The verdict on the report of a run says what holds of its bytes: Yes exactly where the order explains

@@ -10,6 +10,8 @@ use Rattle.nbd_tool.specs.declared.fault.RunFault.TheVariants.{CaptureLine, Capt
 use Rattle.nbd_judge.specs.declared.verdict.Verdict.{Verdict}
 use Rattle.nbd_judge.specs.Captures.{IsChecked}
 use Rattle.nbd_capture.specs.Writing.{AppendsPrefix}
+use Rattle.nbd_tool.specs.declared.start.StartFrom.{StartFrom}
+use Rattle.nbd_tool.specs.Starts.{HasImage}
 use Rattle.nbd_tool.specs.Verdicts.{IsYes, line}
 
 -- known bytes are a capture text
@@ -44,16 +46,16 @@ pub record Tells (capture order : Option (List ℕ)) (initial : Option Start) (y
   pub answer : IsTrue yes ↔ IsYes verdict
   pub appended : Appends old new (line verdict)
 
--- what a fault says of the known bytes of the capture and of the order: the capture is judged first
-abbrev pub IsCause : Option (List ℕ) → Option (List ℕ) → RunFault → Type 0
-IsCause capture order (CaptureLine n) = IfSome capture (λ text. IsFirstBadCaptureLine text n)
-IsCause capture order CaptureRead = Unit {0}
-IsCause capture order (OrderLine n) = IsCapture capture × IfSome order (λ text. IsFirstBadOrderLine text n)
-IsCause capture order OrderRead = IsCapture capture
-IsCause capture order Write = IsCapture capture × IsOrder order
-IsCause capture order Memory = Unit {0}
-IsCause capture order ImageRead = IsCapture capture × IsOrder order
-IsCause capture order _ = ⊥
+-- what a fault says of the known bytes of the capture and of the order, and of the start: the capture is judged first, then the order
+abbrev pub IsCause : {I : Type 0} → (capture order : Option (List ℕ)) → StartFrom I → RunFault → Type 0
+IsCause capture order start (CaptureLine n) = IfSome capture (λ text. IsFirstBadCaptureLine text n)
+IsCause capture order start CaptureRead = Unit {0}
+IsCause capture order start (OrderLine n) = IsCapture capture × IfSome order (λ text. IsFirstBadOrderLine text n)
+IsCause capture order start OrderRead = IsCapture capture
+IsCause capture order start Write = IsCapture capture × IsOrder order
+IsCause capture order start Memory = Unit {0}
+IsCause capture order start ImageRead = IsCapture capture × IsOrder order × HasImage start
+IsCause capture order start _ = ⊥
 
 -- a prefix of a verdict's line was written
 pub record TellsPrefix (capture order : Option (List ℕ)) (initial : Option Start) (old new : Option (List ℕ)) : Type 0 where

@@ -1,5 +1,5 @@
 -- What is known of the start of a run.
-use Rattle.std.specs.Prelude.{ℕ, List, Option, Some, None}
+use Rattle.std.specs.Prelude.{◌≤◌, ◌^◌, ℕ, List, Option, Some, None, IfSome, length}
 use Rattle.nbd_wire.specs.protocol.Explains as definitions
 use Rattle.nbd_wire.specs.protocol.Explains.{Start}
 use Rattle.nbd_tool.specs.declared.start.StartFrom.{StartFrom}
@@ -15,3 +15,17 @@ abbrev pub initial_from : {I : Type 0} → (I → Option (List ℕ)) → StartFr
 initial_from remaining Unknown = Some definitions.Unknown
 initial_from remaining Zeroes = Some definitions.Zeroes
 initial_from remaining (Image reader) = image_of (remaining reader)
+
+-- the start is an image
+abbrev pub HasImage : {I : Type 0} → StartFrom I → Type 0
+HasImage (Image reader) = Unit {0}
+HasImage start = ⊥
+
+-- an input of known bytes has at most 2^40 of them
+abbrev pub IsWithinLimit : Option (List ℕ) → Type 0
+IsWithinLimit known = IfSome known (λ bytes. length bytes ≤ 2 ^ 40)
+
+-- so has an image
+abbrev pub IsStartWithinLimit : {I : Type 0} → (I → Option (List ℕ)) → StartFrom I → Type 0
+IsStartWithinLimit remaining (Image reader) = IsWithinLimit (remaining reader)
+IsStartWithinLimit remaining start = Unit {0}

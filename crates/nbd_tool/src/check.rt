@@ -6,7 +6,7 @@ ghost use Rattle.nbd_wire.specs.protocol.Captures.{flat};
 ghost use Rattle.nbd_judge.specs.Captures.{records_of};
 ghost use Rattle.nbd_tool.specs.Runs.{IsCapture, IsOrder, IsCaptureCause, IsCause, LeavesWritten, SaysYes, Tells};
 ghost use Rattle.nbd_tool.specs.internal.Runs.{IsOrderCause};
-ghost use Rattle.nbd_tool.specs.Starts.{initial_from};
+ghost use Rattle.nbd_tool.specs.Starts.{IsStartWithinLimit, IsWithinLimit, initial_from};
 
 use crate::fault::RunFault;
 use crate::input::{ReadFault, read_whole};
@@ -37,7 +37,9 @@ pub fn run_check<C: BufRead + Drop, O: Read + Drop, I: Read + Drop, W: Write>(
     ensures yes { SaysYes (C.remaining capture) (O.remaining order) (initial_from I.remaining start)
         (W.contents out.old) (W.contents out.new) }
     ensures well_formed { OnOk result (IsCapture (C.remaining capture) × IsOrder (O.remaining order)) }
-    ensures cause { IfErr result (IsCause (C.remaining capture) (O.remaining order)) }
+    ensures limited { OnOk result (IsWithinLimit (C.remaining capture) × IsWithinLimit (O.remaining order)
+        × IsStartWithinLimit I.remaining start) }
+    ensures cause { IfErr result (IsCause (C.remaining capture) (O.remaining order) start) }
     ensures left { IfErr result (LeavesWritten (C.remaining capture) (O.remaining order)
         (initial_from I.remaining start) (W.contents out.old) (W.contents out.new)) }
 {
@@ -58,6 +60,7 @@ pub(crate) fn read_capture<C: BufRead>(
     ensures text { IfOk result (λ chunks. IfSome (C.remaining capture.old)
         (λ text. IsCaptureText text (chunks_of chunks.items))) }
     ensures small { IfOk result (λ chunks. length (flat (records_of chunks.items)) < 2 ^ 63) }
+    ensures limited { OnOk result (IsWithinLimit (C.remaining capture.old)) }
     ensures cause { IfErr result (IsCaptureCause (C.remaining capture.old)) }
 {
     let text = read_whole(alloc, capture).map_err(|fault| match fault {
@@ -71,6 +74,7 @@ pub(crate) fn read_capture<C: BufRead>(
 fn read_order<O: Read>(alloc: Global, order: &mut O) -> Result<Vec<u64>, RunFault>
     ensures text { IfOk result (λ numbers. IfSome (O.remaining order.old)
         (λ text. IsOrderText text numbers.items)) }
+    ensures limited { OnOk result (IsWithinLimit (O.remaining order.old)) }
     ensures cause { IfErr result (IsOrderCause (O.remaining order.old)) }
 {
     let text = read_whole(alloc, order).map_err(|fault| match fault {

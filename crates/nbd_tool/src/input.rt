@@ -1,5 +1,6 @@
 //! Reading an input whole.
-ghost use Rattle.std.specs.Prelude.{◌≡◌, ◌≤◌, IfOk, IfSome, vec_len};
+ghost use Rattle.std.specs.Prelude.{◌≡◌, ◌≤◌, IfOk, IfSome, OnOk, vec_len};
+ghost use Rattle.nbd_tool.specs.Starts.{IsWithinLimit};
 
 use std::alloc::{AllocError, Global};
 use std::io::Read;
@@ -33,6 +34,7 @@ impl From<AllocError> for ReadFault {
 pub(crate) fn read_whole<R: Read>(alloc: Global, reader: &mut R) -> Result<Vec<u8>, ReadFault>
     ensures whole { IfOk result (λ text. IfSome (R.remaining reader.old) (λ bytes. text.items ≡ bytes)) }
     ensures small { IfOk result (λ text. vec_len text ≤ READ_LIMIT) }
+    ensures limited { OnOk result (IsWithinLimit (R.remaining reader.old)) }
 {
     let mut text = Vec::new(alloc);
     let mut portion = vec![in alloc; 0u8; PORTION]?;

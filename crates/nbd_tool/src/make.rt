@@ -2,6 +2,7 @@
 ghost use Rattle.std.specs.Prelude.{◌≡◌, ◌⊎◌, IfErr, IfOk, IfSome, OnOk};
 ghost use Rattle.nbd_tool.specs.declared.fault.RunFault.TheVariants.{Memory, ScriptRead};
 ghost use Rattle.nbd_tool.specs.Scripts.{IsScriptCause, LeavesLines, MakesAll};
+ghost use Rattle.nbd_tool.specs.Starts.{IsWithinLimit};
 
 use crate::fault::RunFault;
 use crate::input::{ReadFault, read_whole};
@@ -20,6 +21,7 @@ pub fn run_make<S: BufRead + Drop, W: Write>(
     out: &mut W,
 ) -> Result<(), RunFault>
     ensures written { OnOk result (MakesAll (S.remaining script) (W.contents out.old) (W.contents out.new)) }
+    ensures limited { OnOk result (IsWithinLimit (S.remaining script)) }
     ensures cause { IfErr result (IsScriptCause (S.remaining script)) }
     ensures left { IfErr result (LeavesLines (S.remaining script) (W.contents out.old) (W.contents out.new)) }
 {
@@ -31,6 +33,7 @@ pub fn run_make<S: BufRead + Drop, W: Write>(
 /// The bytes of a script.
 fn read_script<S: BufRead>(alloc: Global, script: &mut S) -> Result<Vec<u8>, RunFault>
     ensures read { IfOk result (λ text. IfSome (S.remaining script.old) (λ bytes. text.items ≡ bytes)) }
+    ensures limited { OnOk result (IsWithinLimit (S.remaining script.old)) }
     ensures cause { IfErr result (λ fault. (fault ≡ ScriptRead) ⊎ (fault ≡ Memory)) }
 {
     read_whole(alloc, script).map_err(|fault| match fault {

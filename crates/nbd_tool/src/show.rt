@@ -7,6 +7,7 @@ ghost use Rattle.nbd_session.specs.Sessions.{fault_of};
 ghost use Rattle.nbd_judge.specs.Captures.{records_of};
 ghost use Rattle.nbd_tool.specs.Runs.{IsCapture};
 ghost use Rattle.nbd_tool.specs.internal.Ends.{IsOver, LeavesLast, is_accepted, last_line};
+ghost use Rattle.nbd_tool.specs.Starts.{IsWithinLimit};
 ghost use Rattle.nbd_tool.specs.Shown.{IsShowCause, LeavesShown, WritesAll};
 
 use crate::check::read_capture;
@@ -34,6 +35,7 @@ pub fn run_show<C: BufRead + Drop, W: Write>(
     ensures written { IfOk result
         (λ yes. WritesAll (C.remaining capture) yes (W.contents out.old) (W.contents out.new)) }
     ensures well_formed { OnOk result (IsCapture (C.remaining capture)) }
+    ensures limited { OnOk result (IsWithinLimit (C.remaining capture)) }
     ensures cause { IfErr result (IsShowCause (C.remaining capture)) }
     ensures left { IfErr result (LeavesShown (C.remaining capture) (W.contents out.old) (W.contents out.new)) }
 {

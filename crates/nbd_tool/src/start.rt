@@ -1,9 +1,9 @@
 //! What the export held when the session began.
 
-ghost use Rattle.std.specs.Prelude.{◌≡◌, ◌⊎◌, IfErr, IfOk, IfSome};
+ghost use Rattle.std.specs.Prelude.{◌≡◌, ◌⊎◌, IfErr, IfOk, IfSome, OnOk};
 ghost use Rattle.nbd_judge.specs.Beginnings.{initial_of};
 ghost use Rattle.nbd_tool.specs.declared.fault.RunFault.TheVariants.{ImageRead, Memory};
-ghost use Rattle.nbd_tool.specs.Starts.{initial_from};
+ghost use Rattle.nbd_tool.specs.Starts.{HasImage, IsStartWithinLimit, IsWithinLimit, initial_from};
 
 use crate::fault::RunFault;
 use crate::input::{ReadFault, read_whole};
@@ -29,7 +29,8 @@ pub(crate) fn read_start<I: Read + Drop>(
 ) -> Result<Start, RunFault>
     ensures read { IfOk result (λ read. IfSome (initial_from I.remaining start)
         (λ initial. initial_of read ≡ initial)) }
-    ensures cause { IfErr result (λ fault. (fault ≡ ImageRead) ⊎ (fault ≡ Memory)) }
+    ensures limited { OnOk result (IsStartWithinLimit I.remaining start) }
+    ensures cause { IfErr result (λ fault. (fault ≡ ImageRead) × HasImage start ⊎ (fault ≡ Memory)) }
 {
     match start {
         StartFrom::Unknown => Ok(Start::Unknown),
@@ -41,6 +42,7 @@ pub(crate) fn read_start<I: Read + Drop>(
 // The bytes of an image.
 fn read_image<I: Read>(alloc: Global, image: &mut I) -> Result<Vec<u8>, RunFault>
     ensures read { IfOk result (λ bytes. IfSome (I.remaining image.old) (λ known. bytes.items ≡ known)) }
+    ensures limited { OnOk result (IsWithinLimit (I.remaining image.old)) }
     ensures cause { IfErr result (λ fault. (fault ≡ ImageRead) ⊎ (fault ≡ Memory)) }
 {
     read_whole(alloc, image).map_err(|fault| match fault {

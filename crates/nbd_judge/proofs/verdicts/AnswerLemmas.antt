@@ -9,8 +9,25 @@ use Rattle.nbd_laws.specs.Explaining.{ExplainedPasses, IsNo, PassingIsExplained}
 use Rattle.nbd_laws.specs.Moments.{OrdersAreFaultless}
 use Rattle.nbd_laws.specs.Sameness.{SameReports}
 use Rattle.nbd_judge.specs.declared.verdict.Verdict.TheVariants.{Yes, Wire, Image, Order, Content}
-use Rattle.nbd_judge.specs.Conclusions.{VerdictsAnswerRuns}
+use Rattle.nbd_laws.proofs.service.MomentLemmas.{orders_are_faultless}
+use Rattle.nbd_laws.proofs.service.ServiceLemmas.{same_reports}
+use Rattle.nbd_judge.specs.Conclusions.{IsUnserved, VerdictsAnswerRuns}
+use Rattle.nbd_judge.specs.Orders.{IsOrderFault}
+use Rattle.nbd_judge.specs.declared.verdict.OrderFault.{OrderFault}
 use Rattle.nbd_judge.proofs.verdicts.SingleLemmas.{fits_not, has_fault, has_wrong}
+
+-- where an order has a fault, no run with these bytes is served in it
+fault_unserved : OrdersAreFaultless → SameReports → (items : List Item) (order : List ℕ) (entry : ℕ) (fault : OrderFault) → IsRun items →
+    IsOrderFault (report items) order entry fault → IsUnserved (pairs items) order
+fault_unserved faultless same items order entry fault run is other run' bytes serves = has_fault (report items) order entry fault is
+    (subst (λ (r : Report). IsFaultless r order) (same other items run' run bytes)
+    (subst (λ (o : List ℕ). IsFaultless (report other) o) serves (faultless other run')))
+
+-- so an Order verdict is of an order that no run with the session's bytes is served in
+pub order_unserved : (r : Report) (order : List ℕ) (entry : ℕ) (fault : OrderFault) → IsOrderFault r order entry fault →
+    (items : List Item) → IsRun items → report items ≡ r → IsUnserved (pairs items) order
+order_unserved r order entry fault is items run of_run =
+    fault_unserved orders_are_faultless same_reports items order entry fault run (subst (λ (q : Report). IsOrderFault q order entry fault) (sym of_run) is)
 
 module _ (passing : PassingIsExplained) (only : ExplainedPasses) (faultless : OrdersAreFaultless) (same : SameReports) where
   -- a run that does not pass is not explained
@@ -31,9 +48,7 @@ module _ (passing : PassingIsExplained) (only : ExplainedPasses) (faultless : Or
   }
   answers_runs items order initial (Order e p) run v = (
     no_pass items order initial run (λ passes. has_fault (report items) order e p v.1 passes.faultless),
-    λ other run' bytes serves. has_fault (report items) order e p v.1
-        (subst (λ (r : Report). IsFaultless r order) (same other items run' run bytes)
-        (subst (λ (o : List ℕ). IsFaultless (report other) o) serves (faultless other run'))),
+    fault_unserved faultless same items order e p run v.1,
   )
   answers_runs items order initial (Content k x) run v =
       no_pass items order initial run (λ passes. has_wrong (report items) order (start_byte initial) k x v.1.1 passes.reads)

@@ -22,6 +22,6 @@ loop-reader-preserved g c =
 
 pub returns-then-count-eq0-clause-whole : goal.returns-then-count-eq0-clause-whole
 returns-then-count-eq0-clause-whole g c =
-    let take_of_prefix : 0 < length c.read.new.buf = omega arith in
+    let room : 0 < length c.read.new.buf = omega arith in
     all_read _ (g.R.Read.remaining c.loop-reader.reader) (g.R.Read.remaining c.read.new.self) _ (take c.in-Ok.count c.read.new.buf)
-    c.loop-reader.invariant.read c.in-Ok.ensures.bytes.0 (ap (λ n. take n c.read.new.buf) c.if-count-eq0.true) (c.in-Ok.ensures.bytes.1 c.if-count-eq0.true take_of_prefix)
+    c.loop-reader.invariant.read c.in-Ok.ensures.bytes.0 (ap (λ n. take n c.read.new.buf) c.if-count-eq0.true) (c.in-Ok.ensures.bytes.1 c.if-count-eq0.true room)
