@@ -11,7 +11,7 @@ use thiserror::Error;
 /// `Memory`.
 #[derive(Debug, Drop, Error)]
 pub enum RunFault {
-    /// The capture's line with this number, counted from 1, is malformed of a capture line, or no line feed
+    /// The capture's line with this number, counted from 1, is malformed, or no line feed
     /// ends it.
     #[error("fault capture line {0}")]
     CaptureLine(u64),
