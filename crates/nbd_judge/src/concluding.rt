@@ -48,8 +48,6 @@ fn verdict_on(
 ) -> Result<Verdict, AllocError>
     ensures { IfOk result (IsVerdict transcript.now order.now (initial_of start)) }
 {
-    // Told by the contract of `count`: what the report says is sound.
-    let _count = transcript.count();
     let Some((size, _)) = transcript.export() else {
         let mut contents = Extents::new(alloc, 0, Start::Zeroes)?;
         return judge(alloc, transcript, order, &mut contents);

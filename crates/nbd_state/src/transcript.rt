@@ -45,7 +45,8 @@ impl Transcript {
     /// The export's size in bytes and its transmission flags; None where transmission was not reached
     /// (proto.md, "Transmission flags").
     pub fn export(&self) -> Option<(u64, u16)>
-        ensures { result ≡ size_and_flags self.now.export }
+        ensures export { result ≡ size_and_flags self.now.export }
+        ensures facts { IsSoundReport self.now }
     {
         self.export.map(|export| (export.size, export.flags))
     }

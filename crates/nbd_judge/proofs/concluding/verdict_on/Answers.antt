@@ -10,7 +10,7 @@ use Rattle.nbd_judge.proofs.concluding.verdict_on.Goals.{in-Some-image_len+else-
 
 pub returns : goal.returns
 returns c =
-    let e = exporting_of c.args.transcript.now.export c.in-Some.size c.in-Some.field-0-1 c.in-Some.ensures in
+    let e = exporting_of c.args.transcript.now.export c.in-Some.size c.in-Some.field-0-1 c.in-Some.ensures.export in
     let sized : size_of c.args.transcript.now.export ≡ c.in-Some.size = ap size_of e.1 ∙ e.2 in
     let fits : FitsImage c.args.transcript.now.export (initial_of c.args.start) =
     image_fits c.args.transcript.now.export c.in-Some.size (initial_of c.args.start) sized
@@ -22,4 +22,4 @@ returns c =
     ]) in
     let same : AreSameBelow (size_of c.args.transcript.now.export) (byte_of c.in_ok-contents-2.contents) (start_byte (initial_of c.args.start)) =
     λ x l. c.in_ok-contents-2.ensures.bytes x (subst (λ (n : ℕ). x < n) sized l) ∙ same_start c.args.start x in
-    report_of_conclusion c.args.transcript.now c.count-count.ensures.facts c.args.order.now (byte_of c.in_ok-contents-2.contents) (initial_of c.args.start) fits same c.judge-2.result c.judge-2.ensures.judged
+    report_of_conclusion c.args.transcript.now c.export.ensures.facts c.args.order.now (byte_of c.in_ok-contents-2.contents) (initial_of c.args.start) fits same c.judge-2.result c.judge-2.ensures.judged
