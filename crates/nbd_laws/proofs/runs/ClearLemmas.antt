@@ -1,4 +1,4 @@
--- In a run no line of the table of faults holds before a byte: its messages are judged to go on until they complete.
+-- In a run no row of the table of faults holds before a byte: its messages are judged to go on until they complete.
 use Rattle.std.proofs.Common.{◌≡◌, ℕ, List, [], ◌∷◌, ◌++◌, length, refl, sym, ◌∙◌, ap, subst, Some, None, Result, Ok, Err}
 use Rattle.nbd_wire.specs.declared.fault.WireFault.{WireFault}
 use Rattle.nbd_wire.specs.declared.message.Message.{Message}
@@ -8,7 +8,7 @@ use Rattle.nbd_wire.specs.protocol.Captures.{ArePairs, Pair}
 use Rattle.nbd_wire.specs.protocol.Marks.{Item, pairs}
 use Rattle.nbd_wire.specs.protocol.Rows.{IsWhole, Row}
 use Rattle.nbd_wire.specs.protocol.Rules.{IsRun, Obeys, complete, ends_at}
-use Rattle.nbd_wire.specs.protocol.Splits.{HoldsAt, IsClear, IsSplit, IsWholeAt, last_or, open_bytes, since_from}
+use Rattle.nbd_wire.specs.protocol.Splits.{HasNoneAt, IsClear, IsUnderWay, last_or, open_bytes, since_from}
 use Rattle.nbd_wire.specs.protocol.States.{Core, start}
 use Rattle.nbd_wire.specs.protocol.Within.{Begins, within}
 use Rattle.nbd_laws.proofs.machine.MachineLemmas.{AreHeld, Busy, IsExact, IsMore, IsMoreAt, IsSound, Kept, Open, Tracks, Walk, ended, final, get-put_same, held_more, held_whole, kept_next, led, loose, middle, opening, reads_held, serving, with_byte}
@@ -62,10 +62,6 @@ module _ (judge : Judge) (exact : IsExact judge) where
   pub run_clear : IsTelling judge → (items : List Item) → IsRun items → ArePairs (pairs items) → IsClear items
   run_clear low items run lt = clear_of judge low items (tracks_run (walk_of run) fresh [] run.obeys (elim [ Client ↦ refl | Server ↦ refl ]) (fresh_held judge) lt)
 
--- no line holds of the side whose byte is the last, and its bytes are no whole message
-abbrev pub HasNoneAt : List Item → Type 0
-HasNoneAt items = ((fault : WireFault) → HoldsAt fault items → ⊥) × (IsWholeAt items → ⊥)
-
 module _ (judge : Judge) (sound : IsSound judge) (exact : IsExact judge) (low : IsTelling judge) where
   -- of the last byte that was read without a fault
   last_none : (prefix : List Pair) (p : Pair) (end : Machine) → ArePairs (prefix ++ p ∷ []) → reads judge fresh (prefix ++ p ∷ []) ≡ Ok end →
@@ -111,9 +107,14 @@ module _ (judge : Judge) (sound : IsSound judge) (exact : IsExact judge) (low : 
       same : (s u : Side) (items : List Item) → last_or None items ≡ Some s → last_or None items ≡ Some u → s ≡ u
       same s u items a b = let w : Some s ≡ Some u = sym a ∙ b in cc
 
-  -- what a run begins with is a split at which no line holds, nor before any byte
-  pub beginning_clear : (items : List Item) (ps : List Pair) → IsRun items → ArePairs ps → Begins items ps → (split : List Item) × IsSplit split ps (within (length ps) items) × IsClear split × HasNoneAt split
+  -- what was read without a fault is a session under way
+  pub read_under_way : (ps : List Pair) (end : Machine) → ArePairs ps → reads judge fresh ps ≡ Ok end → IsUnderWay ps end.messages
+  read_under_way ps end are e =
+      let t : IsTrace judge fresh end start ps = trace judge sound ps fresh end [] are (fresh_held judge) fresh_canonical e in
+      record { items = t.items; split = split_of judge end ps are t; clear = clear_of judge low t.items t.tracks; none_at = read_none ps end are e t }
+
+  -- with what completes within them, the bytes that a run begins with are a session under way
+  pub beginning_clear : (items : List Item) (ps : List Pair) → IsRun items → ArePairs ps → Begins items ps → IsUnderWay ps (within (length ps) items)
   beginning_clear items ps run are begins =
       let r : IsRead judge fresh ps (within (length ps) items) = marks_law judge exact items run ps begins.0 are begins.1 in
-      let t : IsTrace judge fresh r.end start ps = trace judge sound ps fresh r.end [] are (fresh_held judge) fresh_canonical r.reads_it in
-      (t.items, subst (λ ms. IsSplit t.items ps ms) r.messages_are (split_of judge r.end ps are t), clear_of judge low t.items t.tracks, read_none ps r.end are r.reads_it t)
+      subst (IsUnderWay ps) r.messages_are (read_under_way ps r.end are r.reads_it)
