@@ -1,5 +1,5 @@
 //! Worked examples: small captures, byte by byte, and the place at which the rules refuse them. The captures
-//! stand in specs/RefusedCaptures.antt.
+//! stand in specs/captures/Refused.antt.
 ghost use Rattle.std.specs.Prelude.{[], ◌∷◌};
 ghost use Rattle.nbd_wire.specs.protocol.Captures.{flat};
 ghost use Rattle.nbd_wire.specs.protocol.Splits.{IsPlace};
