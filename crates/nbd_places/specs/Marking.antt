@@ -1,17 +1,24 @@
 -- Laws of the table of faults: what its rows and the place that they name say of runs.
-use Rattle.std.specs.Prelude.{◌≡◌, ◌∷◌, ◌++◌, List, [], length}
+use Rattle.std.specs.Prelude.{ℕ, ◌≡◌, ◌∷◌, ◌++◌, List, [], length}
 use Rattle.nbd_wire.specs.declared.fault.WireFault.{WireFault}
 use Rattle.nbd_wire.specs.declared.message.Message.{Message}
+use Rattle.nbd_wire.specs.declared.message.Side.{Side}
 use Rattle.nbd_wire.specs.protocol.Captures.{ArePairs, Pair}
-use Rattle.nbd_wire.specs.protocol.Marks.{Item, pairs}
+use Rattle.nbd_wire.specs.protocol.Marks.{Item, Byte, Completes, pairs}
 use Rattle.nbd_wire.specs.protocol.Rules.{IsRun}
-use Rattle.nbd_wire.specs.protocol.Splits.{IsClear, IsPlace, IsSplit, IsUnderWay}
+use Rattle.nbd_wire.specs.protocol.Splits.{HoldsAt, IsClear, IsPlace, IsSplit, IsUnderWay, IsWholeAt}
 use Rattle.nbd_wire.specs.protocol.Within.{Begins, BeginsNoRun, within}
 
 -- in a run no row holds before any byte: open bytes of which one holds, fewer than a whole message, begin no message that the run
--- can take. At a message's last byte its bytes are no longer open; that no row holds there either, PlacesBeginNoRun says
+-- can take. Of a message's last byte CompletionsAreClear speaks
 abbrev pub RunsAreClear : Type 0
 RunsAreClear = (items : List Item) → IsRun items → ArePairs (pairs items) → IsClear items
+
+-- with the last byte of a message of a run its side's open bytes are whole, and no row holds of them
+abbrev pub CompletionsAreClear : Type 0
+CompletionsAreClear = (items : List Item) → IsRun items → ArePairs (pairs items) → (before more : List Item) (s : Side) (b : ℕ) (m : Message) →
+    items ≡ before ++ Byte s b ∷ Completes s m ∷ more →
+    IsWholeAt (before ++ Byte s b ∷ []) × ((fault : WireFault) → HoldsAt fault (before ++ Byte s b ∷ []) → ⊥)
 
 -- where a run begins with these bytes, they are those of a session under way, with what completes within them
 abbrev pub BeginningsAreClear : Type 0

@@ -1,11 +1,16 @@
 //! Laws over the table of faults and the places that it names: each is the contract of a function that does
 //! nothing.
-ghost use Rattle.nbd_places.specs.Marking.{BeginningsAreClear, PrefixesHaveNoPlace, HaveOnePlace, PlacesBeginNoRun, RunsAreClear, SplitsAgree, UnderWayAgree};
+ghost use Rattle.nbd_places.specs.Marking.{BeginningsAreClear, CompletionsAreClear, PrefixesHaveNoPlace, HaveOnePlace, PlacesBeginNoRun, RunsAreClear, SplitsAgree, UnderWayAgree};
 
 /// In a run no row of the table holds before any byte: open bytes of which one holds, fewer than a whole message, begin
 /// no message that the run can take.
 pub fn runs_are_clear()
     ensures { RunsAreClear }
+{}
+
+/// With the last byte of a message of a run its side's open bytes are whole, and no row holds of them.
+pub fn completions_are_clear()
+    ensures { CompletionsAreClear }
 {}
 
 /// Bytes that a run begins with are those of a session under way, with what completes in the run within them.

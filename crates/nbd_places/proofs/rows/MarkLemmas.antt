@@ -2,16 +2,19 @@
 use Rattle.std.proofs.Common.{◌≡◌, List, [], ◌∷◌, ◌++◌, refl, sym, ◌∙◌, ap, append_assoc}
 use Rattle.nbd_wire.specs.protocol.Captures.{Pair}
 use Rattle.nbd_laws.specs.internal.Machine.{fresh, reads}
-use Rattle.nbd_laws.proofs.runs.ClearLemmas.{beginning_clear, run_clear}
+use Rattle.nbd_laws.proofs.runs.ClearLemmas.{beginning_clear, completions_clear, run_clear}
 use Rattle.nbd_laws.proofs.runs.PlaceLemmas as unique
 use Rattle.nbd_places.specs.internal.Concrete.{concrete}
-use Rattle.nbd_places.specs.Marking.{BeginningsAreClear, PrefixesHaveNoPlace, HaveOnePlace, PlacesBeginNoRun, RunsAreClear, SplitsAgree, UnderWayAgree}
+use Rattle.nbd_places.specs.Marking.{BeginningsAreClear, CompletionsAreClear, PrefixesHaveNoPlace, HaveOnePlace, PlacesBeginNoRun, RunsAreClear, SplitsAgree, UnderWayAgree}
 use Rattle.nbd_places.proofs.judge.ExactLemmas.{exact}
 use Rattle.nbd_places.proofs.judge.SoundLemmas.{sound}
 use Rattle.nbd_places.proofs.rows.RowJudgeLemmas.{telling}
 
 pub runs_are_clear : RunsAreClear
 runs_are_clear = run_clear concrete exact telling
+
+pub completions_are_clear : CompletionsAreClear
+completions_are_clear = completions_clear concrete exact telling
 
 pub beginnings_are_clear : BeginningsAreClear
 beginnings_are_clear = beginning_clear concrete sound exact telling
