@@ -271,9 +271,10 @@ module _ (judge : Judge) (sound : IsSound judge) (exact : IsExact judge) (low : 
 
           by : (led fresh u.items ≡ with_byte r.end p.from p.byte) ⊎ IsCompletedBy judge r.end (led fresh u.items) p → (end : Machine) × (reads judge fresh (prefix ++ p ∷ []) ≡ Ok end) × (end.messages ≡ messages)
           by (inl is) =
-              let none : HasNone (old_of (led fresh u.items).core (get (led fresh u.items).rests p.from)) (led fresh u.items).core p.from (get (led fresh u.items).rests p.from).bytes =
-              ((λ f row. u.none_at.0 f (record { s = p.from; is_last = is_last; row = from_machine (λ since now bytes. Row f since now p.from bytes) p.from u.items row })),
-                (λ w. u.none_at.1 (record { s = p.from; is_last = is_last; whole = from_machine (λ since now bytes. IsWhole since now p.from bytes) p.from u.items w }))) in
+              let none : HasNone (old_of (led fresh u.items).core (get (led fresh u.items).rests p.from)) (led fresh u.items).core p.from (get (led fresh u.items).rests p.from).bytes = (
+                (λ f row. u.none_at.0 f (record { s = p.from; is_last = is_last; row = from_machine (λ since now bytes. Row f since now p.from bytes) p.from u.items row })),
+                (λ w. u.none_at.1 (record { s = p.from; is_last = is_last; whole = from_machine (λ since now bytes. IsWhole since now p.from bytes) p.from u.items w })),
+              ) in
               let here : HasNone (grown_by r.end p).since r.end.core p.from (grown_by r.end p).bytes =
               from_held r.end p (λ since now bytes. HasNone since now p.from bytes) (subst (λ (x : Machine). HasNone (old_of x.core (get x.rests p.from)) x.core p.from (get x.rests p.from).bytes) is none) in
               let k = kept_next judge r.end.core p.from (get r.end.rests p.from) p.byte (are_last prefix p sp.are_pairs) (reads_held judge sound prefix fresh r.end (are_prefix prefix (p ∷ []) sp.are_pairs) (fresh_held judge) r.reads_it p.from) in

@@ -253,8 +253,12 @@ unfinished_end held st client server c s at Memory n e = absurd (no_memory clien
     no_memory [] (b ∷ server) e = (cc)
 unfinished_end held st client server c s at (Wire place fault) n e =
     let is = some_unfinished client server e in
-    inr (sym is.0, sym is.1 ∙ n, open_end_of (pairs_held (holding_of held)) held.messages.items held.client.items held.server.items (held_run held st) (stands_accepted held None st)
-        (λ none. is.2 (sym c ∙ none.0, sym s ∙ none.1)))
+    inr (
+      sym is.0,
+      sym is.1 ∙ n,
+      open_end_of (pairs_held (holding_of held)) held.messages.items held.client.items held.server.items (held_run held st) (stands_accepted held None st)
+          (λ none. is.2 (sym c ∙ none.0, sym s ∙ none.1)),
+    )
   where
     some_unfinished : (client server : List ℕ) → unfinished client server at ≡ Some (Wire place fault) → (Unfinished ≡ fault) × (at ≡ place) × ((client ≡ []) × (server ≡ []) → ⊥)
     some_unfinished [] [] e = absurd (let q : None ≡ Some (Wire place fault) = e in cc)
