@@ -70,8 +70,7 @@ HasNoneAt items = ((fault : WireFault) → HoldsAt fault items → ⊥) × (IsWh
 
 -- before each byte no row holds, and no message is whole that has not completed
 abbrev pub IsClear : List Item → Type 0
-IsClear items = (before more : List Item) (s : Side) (b : ℕ) → items ≡ before ++ Byte s b ∷ more →
-    HasNoneAt before
+IsClear items = (before more : List Item) (s : Side) (b : ℕ) → items ≡ before ++ Byte s b ∷ more → HasNoneAt before
 
 -- a session under way: a split of these bytes with these messages at which no row holds and no message is whole that has not
 -- completed, nor before any byte
