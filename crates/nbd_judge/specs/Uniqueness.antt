@@ -18,10 +18,11 @@ OneJudgement = (r : Report) (order : List ℕ) (initial : ℕ → Option ℕ) (v
 abbrev pub OneVerdict : Type 0
 OneVerdict = (r : Report) (order : List ℕ) (initial : Start) (v w : Verdict) → IsVerdict r order initial v → IsVerdict r order initial w → v ≡ w
 
--- a capture is refused in one way at most: at one byte, with one fault
+-- a capture is refused in one way at most: at one byte, with one fault, after the same messages
 abbrev pub OneWireFault : Type 0
 OneWireFault = (capture : List Pair) (messages more : List Message) (at place : ℕ) (fault other : WireFault) →
-    IsWireFault capture messages at fault → IsWireFault capture more place other → (at ≡ place) × (fault ≡ other)
+    IsWireFault capture messages at fault → IsWireFault capture more place other →
+    (at ≡ place) × (fault ≡ other) × (messages ≡ more)
 
 -- a capture, an order and a start have one answer at most; so two lists of records with one flat capture get equal answers
 abbrev pub OneAnswer : Type 0

@@ -1,31 +1,39 @@
--- Laws of the table of faults: what its lines and the place that they name say of runs.
-use Rattle.std.specs.Prelude.{◌≡◌, ◌∷◌, ◌++◌, List, [], length}
+-- Laws of the table of faults: what its rows and the place that they name say of runs.
+use Rattle.std.specs.Prelude.{ℕ, ◌≡◌, ◌∷◌, ◌++◌, List, [], length}
 use Rattle.nbd_wire.specs.declared.fault.WireFault.{WireFault}
 use Rattle.nbd_wire.specs.declared.message.Message.{Message}
+use Rattle.nbd_wire.specs.declared.message.Side.{Side}
 use Rattle.nbd_wire.specs.protocol.Captures.{ArePairs, Pair}
-use Rattle.nbd_wire.specs.protocol.Marks.{Item, pairs}
+use Rattle.nbd_wire.specs.protocol.Marks.{Item, Byte, Completes, pairs}
 use Rattle.nbd_wire.specs.protocol.Rules.{IsRun}
-use Rattle.nbd_wire.specs.protocol.Splits.{HoldsAt, IsClear, IsPlace, IsSplit, IsWholeAt}
+use Rattle.nbd_wire.specs.protocol.Splits.{HoldsAt, IsClear, IsPlace, IsSplit, IsUnderWay, IsWholeAt}
 use Rattle.nbd_wire.specs.protocol.Within.{Begins, BeginsNoRun, within}
 
--- no line of the table holds of the side whose byte is the last, and its open bytes are no whole message
-abbrev pub HasNoneAt : List Item → Type 0
-HasNoneAt items = ((fault : WireFault) → HoldsAt fault items → ⊥) × (IsWholeAt items → ⊥)
-
--- in a run no line holds before any byte: open bytes of which one holds begin no message that the run can take
+-- in a run no row holds before any byte: open bytes of which one holds, fewer than a whole message, begin no message that the run
+-- can take. Of a message's last byte CompletionsAreClear speaks
 abbrev pub RunsAreClear : Type 0
 RunsAreClear = (items : List Item) → IsRun items → ArePairs (pairs items) → IsClear items
 
--- where a run begins with these bytes, what completes within them gives a split of them at which no line holds, nor before any byte
+-- with the last byte of a message of a run its side's open bytes are whole, and no row holds of them
+abbrev pub CompletionsAreClear : Type 0
+CompletionsAreClear = (items : List Item) → IsRun items → ArePairs (pairs items) → (before more : List Item) (s : Side) (b : ℕ) (m : Message) →
+    items ≡ before ++ Byte s b ∷ Completes s m ∷ more →
+    IsWholeAt (before ++ Byte s b ∷ []) × ((fault : WireFault) → HoldsAt fault (before ++ Byte s b ∷ []) → ⊥)
+
+-- where a run begins with these bytes, they are those of a session under way, with what completes within them
 abbrev pub BeginningsAreClear : Type 0
 BeginningsAreClear = (items : List Item) (ps : List Pair) → IsRun items → ArePairs ps → Begins items ps →
-    (split : List Item) × IsSplit split ps (within (length ps) items) × IsClear split × HasNoneAt split
+    IsUnderWay ps (within (length ps) items)
 
--- two splits of bytes, at neither of which a line holds before a byte, agree on what completed before the last one
+-- two splits of bytes, at neither of which a row holds before a byte, agree on what completed before the last one
 abbrev pub SplitsAgree : Type 0
 SplitsAgree = (prefix : List Pair) (last : Pair) (items others : List Item) (messages more : List Message) →
     IsSplit items (prefix ++ last ∷ []) messages → IsSplit others (prefix ++ last ∷ []) more → IsClear items → IsClear others →
     within (length prefix) items ≡ within (length prefix) others
+
+-- two sessions under way of the same bytes have the same messages
+abbrev pub UnderWayAgree : Type 0
+UnderWayAgree = (ps : List Pair) (messages more : List Message) → IsUnderWay ps messages → IsUnderWay ps more → messages ≡ more
 
 -- no run begins with bytes that have a place
 abbrev pub PlacesBeginNoRun : Type 0

@@ -1,14 +1,16 @@
 -- What a session's fault says of the bytes that it was given and of its messages.
-use Rattle.std.specs.Prelude.{◌≡◌, ◌⊎◌, ◌∷◌, ◌++◌, ℕ, List, [], Option, Some, None, length}
+use Rattle.std.specs.Prelude.{◌≡◌, ◌≢◌, ◌⊎◌, ◌∷◌, ◌++◌, ℕ, List, [], Option, Some, None, length}
 use Rattle.nbd_wire.specs.declared.message.Message.{Message}
+use Rattle.nbd_wire.specs.declared.message.Side.TheVariants.{Client, Server}
 use Rattle.nbd_wire.specs.protocol.Captures.{Pair}
-use Rattle.nbd_wire.specs.protocol.Splits.{IsPlace}
+use Rattle.nbd_wire.specs.protocol.Marks.{Item}
+use Rattle.nbd_wire.specs.protocol.Splits.{IsPlace, IsUnderWay, open_bytes}
 use Rattle.nbd_wire.specs.protocol.Within.{BeginsNoRun, CompletesExactly, IsOfNoRun}
 use Rattle.nbd_wire.specs.declared.fault.WireFault.{WireFault}
 use Rattle.nbd_wire.specs.declared.fault.WireFault.TheVariants.{Unfinished}
 use Rattle.nbd_session.specs.declared.fault.SessionFault.{SessionFault}
 use Rattle.nbd_session.specs.declared.fault.SessionFault.TheVariants.{Memory, Wire}
-use Rattle.nbd_session.specs.Sessions.{SessionView, pairs_of}
+use Rattle.nbd_session.specs.Sessions.{SessionView, pairs_of, bytes_taken}
 
 -- a fault at the last of these bytes, which is the place that the rules name, with these messages: no run begins with them, and
 -- before the last one exactly these messages complete in each run that begins so
@@ -21,12 +23,22 @@ pub record IsRefusal (ps : List Pair) (messages : List Message) (fault : WireFau
 abbrev pub HasNoPlace : List Pair → Type 0
 HasNoPlace ps = (prefix rest : List Pair) (messages : List Message) (fault : WireFault) → prefix ++ rest ≡ ps → IsPlace prefix messages fault → ⊥
 
--- an end within a message: no prefix of these bytes has a place, no run has exactly these bytes, and these messages complete in
--- each run that begins with them
-pub record IsOpenEnd (ps : List Pair) (messages : List Message) : Type 0 where
+-- bytes taken without a fault, and their messages: the session is under way with these messages, no prefix of the bytes has a
+-- place, and these messages complete in each run that begins with them
+pub record IsAccepted (ps : List Pair) (messages : List Message) : Type 0 where
+  pub under_way : IsUnderWay ps messages
   pub placeless : HasNoPlace ps
-  pub none : IsOfNoRun ps
   pub all : CompletesExactly ps messages
+
+-- bytes of a side are open at the end of these items
+abbrev pub LeavesOpen : List Item → Type 0
+LeavesOpen items = (open_bytes Client items ≢ []) ⊎ (open_bytes Server items ≢ [])
+
+-- an end within a message: the bytes were taken without a fault, some are open at their end, and no run has exactly these bytes
+pub record IsOpenEnd (ps : List Pair) (messages : List Message) : Type 0 where
+  pub accepted : IsAccepted ps messages
+  pub leaves_open : LeavesOpen accepted.under_way.items
+  pub none : IsOfNoRun ps
 
 -- a capture is refused at the last byte of a prefix of it
 pub record IsRefusedAt (capture : List Pair) (messages : List Message) (at : ℕ) (fault : WireFault) : Type 0 where
@@ -43,7 +55,7 @@ IsWireFault capture messages at fault =
 
 -- a session that answers this fault was refused at the last byte that it took; of out of memory nothing is said
 abbrev pub Refuses : SessionView → SessionFault → Type 0
-Refuses r (Wire at fault) = IsRefusal (pairs_of r) r.messages fault
+Refuses r (Wire at fault) = (at ≡ bytes_taken r) × IsRefusal (pairs_of r) r.messages fault
 Refuses r Memory = Unit {0}
 
 -- a session that ends in this fault
@@ -51,10 +63,9 @@ abbrev pub EndsIn : SessionView → SessionFault → Type 0
 EndsIn r (Wire at fault) = IsWireFault (pairs_of r) r.messages at fault
 EndsIn r Memory = Unit {0}
 
--- the messages of a session under way are all that complete within its bytes, no prefix of which has a place; one that is closed
--- was refused
+-- the bytes of a session that no fault closed were taken without one, with its messages; one that is closed was refused
 abbrev pub IsCompleteBy : Option SessionFault → SessionView → Type 0
-IsCompleteBy None r = CompletesExactly (pairs_of r) r.messages × HasNoPlace (pairs_of r)
+IsCompleteBy None r = IsAccepted (pairs_of r) r.messages
 IsCompleteBy (Some fault) r = Refuses r fault
 
 -- the same of a session, by the fault that closed it

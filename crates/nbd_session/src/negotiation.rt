@@ -1,4 +1,4 @@
-//! The messages before the options (proto.md, "Newstyle negotiation", "Flag fields"), and the answer to
+//! The messages before the options (proto.md, "Newstyle negotiation", "Handshake flags", "Client flags"), and the answer to
 //! EXPORT_NAME ("NBD_OPT_EXPORT_NAME").
 
 ghost use Rattle.std.specs.Prelude.{◌≡◌};

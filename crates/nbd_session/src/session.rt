@@ -2,6 +2,7 @@
 
 ghost use Rattle.std.specs.Prelude.{◌≡◌, ◌+◌, ◌++◌, ◌<◌, ◌^◌, Err, IfErr, IfOk, None, OnOk, Some, length};
 ghost use Rattle.nbd_wire.specs.protocol.Captures.{side_pairs};
+ghost use Rattle.nbd_wire.specs.protocol.Splits.{IsUnderWay};
 ghost use Rattle.nbd_wire.specs.protocol.Within.{CompletesExactly};
 ghost use Rattle.nbd_session.specs.declared.fault.SessionFault.{SessionFault};
 ghost use Rattle.nbd_session.specs.Refusals.{EndsIn, HasNoPlace, IsComplete, Refuses};
@@ -74,6 +75,7 @@ impl Session {
             × (self.new ≡ self.old) }
         ensures complete { OnOk result (CompletesExactly (pairs_of self.new) self.new.messages) }
         ensures placeless { OnOk result (HasNoPlace (pairs_of self.new)) }
+        ensures under_way { OnOk result (IsUnderWay (pairs_of self.new) self.new.messages) }
         ensures wire { IfErr result (λ fault. Refuses self.new fault) }
     {
         if let Some(fault) = self.closed {

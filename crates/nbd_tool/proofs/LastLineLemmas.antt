@@ -12,8 +12,7 @@ use Rattle.nbd_wire.specs.declared.fault.WireFault.{WireFault}
 use Rattle.nbd_wire.specs.declared.fault.WireFault.TheVariants.{Unfinished}
 use Rattle.nbd_session.specs.declared.fault.SessionFault.{SessionFault}
 use Rattle.nbd_session.specs.declared.fault.SessionFault.TheVariants as session
-use Rattle.nbd_wire.specs.protocol.Within.{CompletesExactly}
-use Rattle.nbd_session.specs.Refusals.{HasNoPlace, IsComplete, IsCompleteBy, IsOpenEnd, IsWireFault}
+use Rattle.nbd_session.specs.Refusals.{IsAccepted, IsComplete, IsCompleteBy, IsOpenEnd, IsWireFault}
 use Rattle.nbd_session.proofs.judge.RefusalLemmas.{no_run_of, open_end_of}
 use Rattle.nbd_session.specs.Sessions.{HasRun, IsOfRun, SessionView, end_by, fault_at_end, pairs_of, bytes_taken, open_end_fault}
 use Rattle.nbd_judge.specs.Captures.{records_of}
@@ -47,12 +46,12 @@ took_all : (capture : List Pair) (r : SessionView) → IsOver capture r → r.cl
 took_all capture r over unclosed = sym (append-nil (pairs_of r)) ∙ ap (λ ps. pairs_of r ++ ps) (sym (over.all unclosed)) ∙ over.parts
 
 unfinished_at : (capture : List Pair) (r : SessionView) (client server : List ℕ) → IsOver capture r → IsOfRun r → r.closed ≡ None → HasRun (pairs_of r) r.messages client server →
-    CompletesExactly (pairs_of r) r.messages × HasNoPlace (pairs_of r) → ((client ≡ []) × (server ≡ []) → ⊥) → EndsAs capture r (Some (session.Wire (bytes_taken r) Unfinished))
+    IsAccepted (pairs_of r) r.messages → ((client ≡ []) × (server ≡ []) → ⊥) → EndsAs capture r (Some (session.Wire (bytes_taken r) Unfinished))
 unfinished_at capture r client server over run unclosed has all some =
     refused_at capture r (bytes_taken r) Unfinished over run refl
-    (inr (refl, ap length (took_all capture r over unclosed), subst (λ ps. IsOpenEnd ps r.messages) (took_all capture r over unclosed) (open_end_of (pairs_of r) r.messages client server has all.0 all.1 some)))
+    (inr (refl, ap length (took_all capture r over unclosed), subst (λ ps. IsOpenEnd ps r.messages) (took_all capture r over unclosed) (open_end_of (pairs_of r) r.messages client server has all some)))
 
-open_end : (capture : List Pair) (r : SessionView) (client server : List ℕ) → IsOver capture r → IsOfRun r → r.closed ≡ None → HasRun (pairs_of r) r.messages client server → CompletesExactly (pairs_of r) r.messages × HasNoPlace (pairs_of r) →
+open_end : (capture : List Pair) (r : SessionView) (client server : List ℕ) → IsOver capture r → IsOfRun r → r.closed ≡ None → HasRun (pairs_of r) r.messages client server → IsAccepted (pairs_of r) r.messages →
     EndsAs capture r (open_end_fault client server (bytes_taken r))
 open_end capture r [] [] over run unclosed has all = accepted r.messages (subst (λ ps. HasRun ps r.messages [] []) (took_all capture r over unclosed) has)
 open_end capture r (b ∷ client) server over run unclosed has all = unfinished_at capture r (b ∷ client) server over run unclosed has all (λ e. (let q : b ∷ client ≡ [] = e.0 in cc))
@@ -64,7 +63,7 @@ shown capture r over run complete = go r.closed refl over.at complete
     go : (c : Option SessionFault) → r.closed ≡ c → IfSome c (IsWireAt (bytes_taken r)) → IsCompleteBy c r → EndsAs capture r (end_by c (open_end_fault r.client r.server (bytes_taken r)))
     go None unclosed at all = open_end capture r r.client r.server over run unclosed run all
     go (Some (session.Wire at fault)) closed is refusal =
-        refused_at capture r at fault over run is (inl (record { prefix = pairs_of r; rest = over.left; parts = over.parts; at_is = is; refusal = refusal }))
+        refused_at capture r at fault over run is (inl (record { prefix = pairs_of r; rest = over.left; parts = over.parts; at_is = is; refusal = refusal.1 }))
     go (Some session.Memory) closed is refusal = absurd is
 
 then_kept : (old mid new : Option (List ℕ)) (bytes : List ℕ) → Appends old mid bytes → Keeps mid new → Appends old new bytes

@@ -22,7 +22,7 @@ MagicsAreLiteral =
     × (magics.SIMPLE_MAGIC ≡ 0x67446698)
     × (magics.CHUNK_MAGIC ≡ 0x668e33ef)
 
--- the server's handshake flags and the client's (proto.md, "Flag fields")
+-- the server's handshake flags and the client's (proto.md, "Handshake flags", "Client flags")
 abbrev pub HandshakeFlagsAreLiteral : Type 0
 HandshakeFlagsAreLiteral =
     (handshake.FIXED_NEWSTYLE ≡ 1)

@@ -1,4 +1,4 @@
-//! Handshake flags of the server and of the client, as masks (proto.md, "Flag fields").
+//! Handshake flags of the server and of the client, as masks (proto.md, "Handshake flags", "Client flags").
 
 /// The server speaks fixed newstyle.
 pub const FIXED_NEWSTYLE: u16 = 1 << 0;

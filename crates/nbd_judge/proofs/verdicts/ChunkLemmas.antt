@@ -1,5 +1,5 @@
 -- Chunks that a session has taken.
-use Rattle.std.proofs.Common.{◌≡◌, ℕ, zero, suc, ◌+◌, ◌<◌, ◌≤◌, List, [], ◌∷◌, ◌++◌, length, refl, sym, ◌∙◌, ap, subst, arith, take, get_or, add-one, length-append, append_assoc, Option, Some, None, Result, Ok, Err, IfOk, IfErr, IsErrAnd}
+use Rattle.std.proofs.Common.{◌≡◌, ℕ, zero, suc, ◌+◌, ◌<◌, ◌≤◌, List, [], ◌∷◌, ◌++◌, length, refl, sym, ◌∙◌, ap, subst, arith, take, get_or, add-one, length-append, append_assoc, Result, Ok, Err, IfOk, IfErr, IsErrAnd}
 use Rattle.std.specs.declared.alloc.Global.{Global}
 use Rattle.std.specs.declared.vec.Vec.{Vec}
 use Rattle.nbd_wire.specs.declared.message.Side.{Side}
@@ -10,7 +10,7 @@ use Rattle.nbd_wire.specs.protocol.Reports.{Report}
 use Rattle.nbd_wire.specs.protocol.Rules.{IsRun}
 use Rattle.nbd_session.specs.declared.fault.SessionFault.{SessionFault}
 use Rattle.nbd_session.specs.declared.fault.SessionFault.TheVariants as session
-use Rattle.nbd_session.specs.Sessions.{AddsPrefix, IsAtEnd, IsReported, SessionView, end_by, fault_at_end, fault_of, pairs_of, bytes_taken, open_end_fault}
+use Rattle.nbd_session.specs.Sessions.{IsReported, SessionView, pairs_of}
 use Rattle.nbd_judge.specs.declared.verdict.Verdict.{Verdict}
 use Rattle.nbd_judge.specs.declared.verdict.Verdict.TheVariants.{Yes, Wire, Image, Order, Content}
 use Rattle.nbd_judge.specs.Captures.{HasVerdict, IsChecked, IsFaultOf, records_of}

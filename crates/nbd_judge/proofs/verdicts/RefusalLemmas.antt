@@ -1,5 +1,5 @@
 -- A session over chunks that ends in a fault.
-use Rattle.std.proofs.Common.{◌≡◌, ℕ, zero, suc, ◌<◌, List, [], ◌∷◌, ◌++◌, length, refl, sym, ◌∙◌, ap, subst, arith, take, drop, get_or, append_assoc, inl, inr, Result, Ok, Err, IfOk, IfErr, Vec}
+use Rattle.std.proofs.Common.{◌≡◌, ℕ, zero, suc, ◌<◌, List, [], ◌∷◌, ◌++◌, length, refl, sym, ◌∙◌, ap, subst, arith, take, drop, get_or, append_assoc, inl, Result, Ok, Err, IfOk, IfErr, Vec}
 use Rattle.std.specs.declared.alloc.Global.{Global}
 use Rattle.nbd_wire.specs.declared.message.Side.{Side}
 use Rattle.nbd_wire.specs.protocol.Explains.{IsExplained, Start}
@@ -48,7 +48,7 @@ fault_in cs i c piece old new (Wire at fault) w e same took prefix is refuses =
             ∙ ap (λ ps. ps ++ (side_pairs c.0 c.1.items ++ behind)) took
             ∙ sym (split_at cs i c w e);
         at_is = is;
-        refusal = refuses;
+        refusal = refuses.1;
       }),
     )
 

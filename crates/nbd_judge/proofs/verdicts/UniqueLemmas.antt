@@ -6,7 +6,7 @@ use Rattle.nbd_wire.specs.protocol.Captures.{Pair}
 use Rattle.nbd_wire.specs.protocol.Explains.{Start}
 use Rattle.nbd_wire.specs.protocol.Reports.{report}
 use Rattle.nbd_wire.specs.protocol.Splits.{IsPlace}
-use Rattle.nbd_places.proofs.rows.MarkLemmas.{one_place, prefixes_have_no_place}
+use Rattle.nbd_places.proofs.rows.MarkLemmas.{one_place, prefixes_have_no_place, under_way_agree}
 use Rattle.nbd_session.specs.declared.fault.SessionFault.TheVariants as session
 use Rattle.nbd_session.specs.Refusals.{IsOpenEnd, IsRefusedAt, IsWireFault}
 use Rattle.nbd_session.proofs.judge.RefusalLemmas.{no_run_of}
@@ -30,24 +30,25 @@ prefixes (x ∷ xs) (y ∷ ys) us vs e =
 
 -- a longer prefix of a capture with a place has none
 module _ (capture : List Pair) (messages more : List Message) (at place : ℕ) (fault other : WireFault) where
-  longer : (a : IsRefusedAt capture messages at fault) (b : IsRefusedAt capture more place other) (w : List Pair) → b.prefix ≡ a.prefix ++ w → (at ≡ place) × (fault ≡ other)
+  longer : (a : IsRefusedAt capture messages at fault) (b : IsRefusedAt capture more place other) (w : List Pair) → b.prefix ≡ a.prefix ++ w → (at ≡ place) × (fault ≡ other) × (messages ≡ more)
   longer a b w e =
       let none : w ≡ [] = prefixes_have_no_place a.prefix w more messages other fault (subst (λ ps. IsPlace ps more other) e b.refusal.place) a.refusal.place in
       let same : b.prefix ≡ a.prefix = e ∙ ap (λ l. a.prefix ++ l) none ∙ append-nil a.prefix in
       let one = one_place a.prefix messages more fault other a.refusal.place (subst (λ ps. IsPlace ps more other) same b.refusal.place) in
-      (a.at_is ∙ ap length (sym same) ∙ sym b.at_is, one.1)
+      (a.at_is ∙ ap length (sym same) ∙ sym b.at_is, one.1, one.0)
 
   open_end : IsRefusedAt capture messages at fault → IsOpenEnd capture more → ⊥
-  open_end a b = b.placeless a.prefix a.rest messages fault a.parts a.refusal.place
+  open_end a b = b.accepted.placeless a.prefix a.rest messages fault a.parts a.refusal.place
 
 pub one_wire_fault : OneWireFault
 one_wire_fault capture messages more at place fault other (inl a) (inl b) = elim (prefixes a.prefix b.prefix a.rest b.rest (a.parts ∙ sym b.parts)) [
   | inl w ↦ longer capture messages more at place fault other a b w.0 w.1
-  | inr w ↦ (let back = longer capture more messages place at other fault b a w.0 w.1 in (sym back.0, sym back.1))
+  | inr w ↦ (let back = longer capture more messages place at other fault b a w.0 w.1 in (sym back.0, sym back.1, sym back.2))
 ]
 one_wire_fault capture messages more at place fault other (inl a) (inr b) = absurd (open_end capture messages more at place fault other a b.2)
 one_wire_fault capture messages more at place fault other (inr a) (inl b) = absurd (open_end capture more messages place at other fault b a.2)
-one_wire_fault capture messages more at place fault other (inr a) (inr b) = (a.1 ∙ sym b.1, a.0 ∙ sym b.0)
+one_wire_fault capture messages more at place fault other (inr a) (inr b) =
+    (a.1 ∙ sym b.1, a.0 ∙ sym b.0, under_way_agree capture messages more a.2.accepted.under_way b.2.accepted.under_way)
 
 -- an answer is a wire fault or the verdict on a run
 record IsRefusing (capture : List Pair) (v : Verdict) : Type 0 where

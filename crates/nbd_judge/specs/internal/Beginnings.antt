@@ -1,7 +1,5 @@
 use Rattle.std.specs.Prelude.{ℕ, Option, Some, None, length}
 use Rattle.nbd_wire.specs.protocol.Explains as definitions
-use Rattle.nbd_export.specs.declared.start.Start.{Start}
-use Rattle.nbd_export.specs.declared.start.Start.TheVariants.{Unknown, Zeroes, Image}
 
 -- how many bytes an image has, where the start is one
 abbrev pub image_length : definitions.Start → Option ℕ

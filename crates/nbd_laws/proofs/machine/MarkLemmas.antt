@@ -121,7 +121,7 @@ judged_more : (judge : Judge) → IsExact judge → (core : Core) (rest : Rest) 
 judged_more judge exact core rest s m left i end k =
     exact.more rest.since core end.end s m rest.bytes left i.1 end.later i.0.sided i.0.sendable i.0.starts end.completes i.0.encodes i.0.filled i.0.unfinished k
 
-judged_whole : (judge : Judge) → IsExact judge → (core : Core) (rest : Rest) (s : Side) (m : Message) (b : ℕ) → InStep core rest s (Busy m (b ∷ [])) → MayComplete core core.phase m → Kept judge s (old_of core rest) core (rest.bytes ++ b ∷ []) →
+pub judged_whole : (judge : Judge) → IsExact judge → (core : Core) (rest : Rest) (s : Side) (m : Message) (b : ℕ) → InStep core rest s (Busy m (b ∷ [])) → MayComplete core core.phase m → Kept judge s (old_of core rest) core (rest.bytes ++ b ∷ []) →
     judge (old_of core rest) core s (rest.bytes ++ b ∷ []) ≡ Whole m
 judged_whole judge exact core rest s m b i ok k =
     let since_is : old_of core rest ≡ rest.since = old-filled core rest i.0.filled in

@@ -1,23 +1,23 @@
--- In a run no line of the table of faults holds before a byte: its messages are judged to go on until they complete.
-use Rattle.std.proofs.Common.{◌≡◌, ℕ, List, [], ◌∷◌, ◌++◌, length, refl, sym, ◌∙◌, ap, subst, Some, None, Result, Ok, Err}
+-- In a run no row of the table of faults holds before a byte: its messages are judged to go on until they complete.
+use Rattle.std.proofs.Common.{◌≡◌, ℕ, List, [], ◌∷◌, ◌++◌, length, refl, sym, ◌∙◌, ap, subst, Option, Some, None, Result, Ok, Err}
 use Rattle.nbd_wire.specs.declared.fault.WireFault.{WireFault}
 use Rattle.nbd_wire.specs.declared.message.Message.{Message}
 use Rattle.nbd_wire.specs.declared.message.Side.{Side}
 use Rattle.nbd_wire.specs.declared.message.Side.TheVariants.{Client, Server}
 use Rattle.nbd_wire.specs.protocol.Captures.{ArePairs, Pair}
-use Rattle.nbd_wire.specs.protocol.Marks.{Item, pairs}
+use Rattle.nbd_wire.specs.protocol.Marks.{Item, Byte, Completes, Serves, Starts, pairs}
 use Rattle.nbd_wire.specs.protocol.Rows.{IsWhole, Row}
 use Rattle.nbd_wire.specs.protocol.Rules.{IsRun, Obeys, complete, ends_at}
-use Rattle.nbd_wire.specs.protocol.Splits.{HoldsAt, IsClear, IsSplit, IsWholeAt, last_or, open_bytes, since_from}
+use Rattle.nbd_wire.specs.protocol.Splits.{HasNoneAt, HoldsAt, IsClear, IsUnderWay, IsWholeAt, last_or, open_bytes, since_from}
 use Rattle.nbd_wire.specs.protocol.States.{Core, start}
 use Rattle.nbd_wire.specs.protocol.Within.{Begins, within}
 use Rattle.nbd_laws.proofs.machine.MachineLemmas.{AreHeld, Busy, IsExact, IsMore, IsMoreAt, IsSound, Kept, Open, Tracks, Walk, ended, final, get-put_same, held_more, held_whole, kept_next, led, loose, middle, opening, reads_held, serving, with_byte}
 use Rattle.nbd_laws.specs.internal.Machine.{Bad, Both, Judge, Machine, More, Reading, Rest, Whole, fresh, get, rest_with, old_of, on_ok, put, reads, settle}
 use Rattle.nbd_laws.proofs.runs.FollowLemmas.{HasEnd, IsSidedOpen, completes_later, each_with, follows}
-use Rattle.nbd_laws.proofs.machine.MarkLemmas.{AreInStep, InStep, IsRead, in_step_completed, in_step_sided, in_step_with, within_middle, within_opening}
+use Rattle.nbd_laws.proofs.machine.MarkLemmas.{AreInStep, InStep, IsRead, in_step_completed, in_step_sided, in_step_with, judged_whole, within_middle, within_opening}
 use Rattle.nbd_laws.proofs.runs.RunLemmas.{fresh_canonical, fresh_held, marks_law, walk_of}
 use Rattle.nbd_laws.proofs.runs.TraceLemmas.{IsTrace, led_whole, trace, tracks_more}
-use Rattle.nbd_laws.proofs.runs.PlacingLemmas.{HasNone, IsTelling, at_machine, clear_of, grown_by, last_of_pairs, more_none, split_of, to_held}
+use Rattle.nbd_laws.proofs.runs.PlacingLemmas.{HasNone, IsTelling, Tells, at_machine, clear_of, from_machine, grown_by, last_of_pairs, more_none, split_of, to_held}
 use Rattle.nbd_laws.proofs.runs.PlaceLemmas.{are_prefix, are_last as last_byte, last_of, none_last, reads-append}
 
 module _ (judge : Judge) (exact : IsExact judge) where
@@ -62,9 +62,101 @@ module _ (judge : Judge) (exact : IsExact judge) where
   pub run_clear : IsTelling judge → (items : List Item) → IsRun items → ArePairs (pairs items) → IsClear items
   run_clear low items run lt = clear_of judge low items (tracks_run (walk_of run) fresh [] run.obeys (elim [ Client ↦ refl | Server ↦ refl ]) (fresh_held judge) lt)
 
--- no line holds of the side whose byte is the last, and its bytes are no whole message
-abbrev pub HasNoneAt : List Item → Type 0
-HasNoneAt items = ((fault : WireFault) → HoldsAt fault items → ⊥) × (IsWholeAt items → ⊥)
+-- a side's bytes are a whole message, and no row holds of them
+abbrev IsDone : Machine → Side → Type 0
+IsDone machine s =
+    IsWhole (old_of machine.core (get machine.rests s)) machine.core s (get machine.rests s).bytes
+    × ((f : WireFault) → Row f (old_of machine.core (get machine.rests s)) machine.core s (get machine.rests s).bytes → ⊥)
+
+-- no walk begins where a message completes
+not_completed : {o : Both Open} {items : List Item} → Walk ⊥ o items → (s : Side) (m : Message) (more : List Item) → items ≡ Completes s m ∷ more → ⊥
+not_completed (ended c d) s m more e = (cc)
+not_completed (serving k w) s m more e = (cc)
+not_completed (opening t n b left is f g w) s m more e = (cc)
+not_completed (middle t n b left is g w) s m more e = (cc)
+not_completed (final t n b is w) s m more e = (cc)
+not_completed (loose t b absent is w) s m more e = (cc)
+
+last_snoc : (items : List Item) (last : Option Side) (s : Side) (b : ℕ) → last_or last (items ++ Byte s b ∷ []) ≡ Some s
+last_snoc [] last s b = refl
+last_snoc (Byte t c ∷ items) last s b = last_snoc items (Some t) s b
+last_snoc (Starts t m ∷ items) last s b = last_snoc items last s b
+last_snoc (Completes t m ∷ items) last s b = last_snoc items last s b
+last_snoc (Serves k ∷ items) last s b = last_snoc items last s b
+
+module _ (judge : Judge) (exact : IsExact judge) (low : IsTelling judge) where
+  -- with its last byte a message of a run is whole, and no row holds of it
+  done_at : {o : Both Open} {items : List Item} (w : Walk ⊥ o items) (machine : Machine) (js : List ℕ) → Obeys (record { core = machine.core; served = js }) items → AreInStep machine o → AreHeld judge machine → ArePairs (pairs items) →
+      (before more : List Item) (t : Side) (c : ℕ) (n : Message) → items ≡ before ++ Byte t c ∷ Completes t n ∷ more → IsDone (led machine (before ++ Byte t c ∷ [])) t
+  done_at (ended c d) machine js ob st hd lt [] more t e n q = absurd (cc)
+  done_at (ended c d) machine js ob st hd lt (x ∷ before) more t e n q = absurd (cc)
+  done_at (serving k w) machine js ob st hd lt [] more t c n q = absurd (cc)
+  done_at (serving k {items = items} w) machine js ob st hd lt (x ∷ before) more t c n q =
+      let x_is : Serves k ≡ x = cc in
+      let q' : items ≡ before ++ Byte t c ∷ Completes t n ∷ more = cc in
+      subst (λ z. IsDone (led machine (z ∷ before ++ Byte t c ∷ [])) t) x_is (done_at w machine _ ob.1 st hd lt before more t c n q')
+  done_at (opening s m b left is f g w) machine js ob st hd lt [] more t c n q = absurd (cc)
+  done_at (opening s m b left {items = items} is f g w) machine js ob st hd lt (x ∷ []) more t c n q =
+      let q' : items ≡ Completes t n ∷ more = cc in
+      absurd (not_completed w t n more q')
+  done_at {o} (opening s m b left {items = items} is f g w) machine js ob st hd lt (x ∷ y ∷ before) more t c n q =
+      let i : InStep machine.core (rest_with machine.core (get machine.rests s) b) s (Busy m left) =
+      within_opening machine.core (get machine.rests s) s m b left (subst (InStep machine.core (get machine.rests s) s) is (st s)) f g ob.0.0 ob.0.1 ob.0.2 in
+      let end : HasEnd s machine.core m = completes_later w machine.core (follows items (record { core = machine.core; served = js }) ob.1.1) (each_with IsSidedOpen o s (Busy m left) (in_step_sided machine o st) ob.0.0) s m left (get-put_same o s (Busy m left)) in
+      let k = kept_next judge machine.core s (get machine.rests s) b lt.0 (hd s) in
+      let j = judged_more judge exact machine.core (rest_with machine.core (get machine.rests s) b) s m left i end k in
+      let x_is : Starts s m ≡ x = cc in
+      let y_is : Byte s b ≡ y = cc in
+      let q' : items ≡ before ++ Byte t c ∷ Completes t n ∷ more = cc in
+      subst (λ z. IsDone (led machine (z ∷ y ∷ before ++ Byte t c ∷ [])) t) x_is
+      (subst (λ z. IsDone (led machine (z ∷ before ++ Byte t c ∷ [])) t) y_is
+      (done_at w _ js ob.1.1 (in_step_with machine o s (rest_with machine.core (get machine.rests s) b) (Busy m left) st i) (held_more judge machine s b lt.0 hd j) lt.1 before more t c n q'))
+  done_at (middle s m b left {items = items} is g w) machine js ob st hd lt [] more t c n q =
+      let q' : items ≡ Completes t n ∷ more = cc in
+      absurd (not_completed w t n more q')
+  done_at {o} (middle s m b left {items = items} is g w) machine js ob st hd lt (y ∷ before) more t c n q =
+      let i0 : InStep machine.core (get machine.rests s) s (Busy m (b ∷ left)) = subst (InStep machine.core (get machine.rests s) s) is (st s) in
+      let i : InStep machine.core (rest_with machine.core (get machine.rests s) b) s (Busy m left) = within_middle machine.core (get machine.rests s) s m b left i0 g in
+      let end : HasEnd s machine.core m = completes_later w machine.core (follows items (record { core = machine.core; served = js }) ob.1) (each_with IsSidedOpen o s (Busy m left) (in_step_sided machine o st) i0.0.sided) s m left (get-put_same o s (Busy m left)) in
+      let k = kept_next judge machine.core s (get machine.rests s) b lt.0 (hd s) in
+      let j = judged_more judge exact machine.core (rest_with machine.core (get machine.rests s) b) s m left i end k in
+      let y_is : Byte s b ≡ y = cc in
+      let q' : items ≡ before ++ Byte t c ∷ Completes t n ∷ more = cc in
+      subst (λ z. IsDone (led machine (z ∷ before ++ Byte t c ∷ [])) t) y_is
+      (done_at w _ js ob.1 (in_step_with machine o s (rest_with machine.core (get machine.rests s) b) (Busy m left) st i) (held_more judge machine s b lt.0 hd j) lt.1 before more t c n q')
+  done_at (final s m b {items = items} is w) machine js ob st hd lt [] more t c n q =
+      let i0 : InStep machine.core (get machine.rests s) s (Busy m (b ∷ [])) = subst (InStep machine.core (get machine.rests s) s) is (st s) in
+      let k = kept_next judge machine.core s (get machine.rests s) b lt.0 (hd s) in
+      let j = judged_whole judge exact machine.core (get machine.rests s) s m b i0 ob.1.0 k in
+      let told = subst (Tells (λ f. Row f (old_of machine.core (get machine.rests s)) machine.core s ((get machine.rests s).bytes ++ b ∷ [])) (IsWhole (old_of machine.core (get machine.rests s)) machine.core s ((get machine.rests s).bytes ++ b ∷ []))) j (low.tells k) in
+      let s_is : s ≡ t = cc in
+      let b_is : b ≡ c = cc in
+      subst (λ u. IsDone (led machine (Byte u c ∷ [])) u) s_is
+      (subst (λ d. IsDone (led machine (Byte s d ∷ [])) s) b_is
+      (to_held machine (record { from = s; byte = b }) (λ since now bytes. IsWhole since now s bytes × ((f : WireFault) → Row f since now s bytes → ⊥)) told))
+  done_at (final s m b is w) machine js ob st hd lt (x ∷ []) more t c n q = absurd (cc)
+  done_at {o} (final s m b {items = items} is w) machine js ob st hd lt (x ∷ y ∷ before) more t c n q =
+      let i0 : InStep machine.core (get machine.rests s) s (Busy m (b ∷ [])) = subst (InStep machine.core (get machine.rests s) s) is (st s) in
+      let x_is : Byte s b ≡ x = cc in
+      let y_is : Completes s m ≡ y = cc in
+      let q' : items ≡ before ++ Byte t c ∷ Completes t n ∷ more = cc in
+      subst (λ z. IsDone (led machine (z ∷ y ∷ before ++ Byte t c ∷ [])) t) x_is
+      (subst (λ z. IsDone (led machine (Byte s b ∷ z ∷ before ++ Byte t c ∷ [])) t) y_is
+      (subst (λ z. IsDone (led z (before ++ Byte t c ∷ [])) t) (sym (led_whole machine s b m))
+      (done_at w _ js ob.1.1 (in_step_completed machine o s m _ (machine.messages ++ m ∷ []) st i0.0.sided ob.1.0 refl) (held_whole judge machine s m _ refl hd i0.0.sided i0.0.sendable ob.1.0) lt.1 before more t c n q')))
+  done_at (loose s b absent is w) machine js ob st hd lt before more t c n q = absurd absent
+
+  pub completions_clear : (items : List Item) → IsRun items → ArePairs (pairs items) → (before more : List Item) (s : Side) (b : ℕ) (m : Message) → items ≡ before ++ Byte s b ∷ Completes s m ∷ more →
+      IsWholeAt (before ++ Byte s b ∷ []) × ((fault : WireFault) → HoldsAt fault (before ++ Byte s b ∷ []) → ⊥)
+  completions_clear items run lt before more s b m e = (
+    record { s = s; is_last = last_snoc before None s b; whole = from_machine (λ since now bytes. IsWhole since now s bytes) s (before ++ Byte s b ∷ []) done.0 },
+    (λ fault h. (let same : h.s ≡ s = (let w : Some h.s ≡ Some s = sym h.is_last ∙ last_snoc before None s b in cc) in
+        done.1 fault (at_machine (λ since now bytes. Row fault since now s bytes) s (before ++ Byte s b ∷ [])
+        (subst (λ u. Row fault (since_from u start.core (before ++ Byte s b ∷ [])) (ends_at start (before ++ Byte s b ∷ [])).core u (open_bytes u (before ++ Byte s b ∷ []))) same h.row)))),
+  )
+    where
+      done : IsDone (led fresh (before ++ Byte s b ∷ [])) s
+      done = done_at (walk_of run) fresh [] run.obeys (elim [ Client ↦ refl | Server ↦ refl ]) (fresh_held judge) lt before more s b m e
 
 module _ (judge : Judge) (sound : IsSound judge) (exact : IsExact judge) (low : IsTelling judge) where
   -- of the last byte that was read without a fault
@@ -111,9 +203,14 @@ module _ (judge : Judge) (sound : IsSound judge) (exact : IsExact judge) (low : 
       same : (s u : Side) (items : List Item) → last_or None items ≡ Some s → last_or None items ≡ Some u → s ≡ u
       same s u items a b = let w : Some s ≡ Some u = sym a ∙ b in cc
 
-  -- what a run begins with is a split at which no line holds, nor before any byte
-  pub beginning_clear : (items : List Item) (ps : List Pair) → IsRun items → ArePairs ps → Begins items ps → (split : List Item) × IsSplit split ps (within (length ps) items) × IsClear split × HasNoneAt split
+  -- what was read without a fault is a session under way
+  pub read_under_way : (ps : List Pair) (end : Machine) → ArePairs ps → reads judge fresh ps ≡ Ok end → IsUnderWay ps end.messages
+  read_under_way ps end are e =
+      let t : IsTrace judge fresh end start ps = trace judge sound ps fresh end [] are (fresh_held judge) fresh_canonical e in
+      record { items = t.items; split = split_of judge end ps are t; clear = clear_of judge low t.items t.tracks; none_at = read_none ps end are e t }
+
+  -- with what completes within them, the bytes that a run begins with are a session under way
+  pub beginning_clear : (items : List Item) (ps : List Pair) → IsRun items → ArePairs ps → Begins items ps → IsUnderWay ps (within (length ps) items)
   beginning_clear items ps run are begins =
       let r : IsRead judge fresh ps (within (length ps) items) = marks_law judge exact items run ps begins.0 are begins.1 in
-      let t : IsTrace judge fresh r.end start ps = trace judge sound ps fresh r.end [] are (fresh_held judge) fresh_canonical r.reads_it in
-      (t.items, subst (λ ms. IsSplit t.items ps ms) r.messages_are (split_of judge r.end ps are t), clear_of judge low t.items t.tracks, read_none ps r.end are r.reads_it t)
+      subst (IsUnderWay ps) r.messages_are (read_under_way ps r.end are r.reads_it)

@@ -10,17 +10,17 @@ use Rattle.nbd_wire.specs.protocol.Captures.{ArePairs, Pair}
 use Rattle.nbd_wire.specs.protocol.Marks.{Item, Byte, Starts, Completes, Serves, completed_messages, pairs}
 use Rattle.nbd_wire.specs.protocol.Rows.{IsWhole, Row, rank}
 use Rattle.nbd_wire.specs.protocol.Rules.{ends_at}
-use Rattle.nbd_wire.specs.protocol.Splits.{HoldsAt, IsClear, IsPlace, IsSplit, last_or, open_bytes, since_from}
+use Rattle.nbd_wire.specs.protocol.Splits.{HoldsAt, IsClear, IsPlace, IsSplit, IsUnderWay, last_or, open_bytes, since_from}
 use Rattle.nbd_wire.specs.protocol.States.{Core, start}
 use Rattle.nbd_wire.specs.protocol.Within.{BeginsNoRun, within}
-use Rattle.nbd_laws.proofs.machine.MachineLemmas.{AreHeld, IsExact, IsSound, Kept, kept_next, led, reads_held, with_byte}
-use Rattle.nbd_laws.specs.internal.Machine.{Bad, Judge, Machine, More, Reading, Whole, fresh, get, old_of, on_ok, reads, settle, step}
-use Rattle.nbd_laws.proofs.runs.BlockLemmas.{marked_is_walk}
+use Rattle.nbd_laws.proofs.machine.MachineLemmas.{AreHeld, IsExact, IsSound, Kept, Walk, get-put_same, kept_next, led, reads_held, with_byte}
+use Rattle.nbd_laws.specs.internal.Machine.{Bad, Judge, Machine, More, Reading, Rest, Whole, fresh, get, old_of, on_ok, reads, settle, step}
+use Rattle.nbd_laws.proofs.runs.BlockLemmas.{Idles, marked_is_walk}
 use Rattle.nbd_laws.proofs.runs.RunLemmas.{fresh_held, no_run}
-use Rattle.nbd_laws.proofs.runs.PlacingLemmas.{IsTelling, Tells, at_machine, from_held, from_machine, grown_by, last_of_pairs, to_held}
-use Rattle.nbd_laws.proofs.runs.SplitLemmas.{IsReadBefore, marks_but}
+use Rattle.nbd_laws.proofs.runs.PlacingLemmas.{HasNone, IsTelling, Tells, at_machine, from_held, from_machine, grown_by, last_of_pairs, to_held}
+use Rattle.nbd_laws.proofs.runs.SplitLemmas.{IsCompletedBy, IsReadBefore, marks_but, none_left, open_more, with_last}
 
--- the fault of a line of the table
+-- the fault of a row of the table
 unrank : ℕ → WireFault
 unrank n =
     if n == 1 then BadMagic else if n == 2 then NotFixedNewstyle else if n == 3 then BadClientFlags else if n == 4 then OutOfTurn else if n == 5 then WrongOption
@@ -56,9 +56,9 @@ unrank-rank Unfinished = refl
 same_rank : (f g : WireFault) → rank f ≡ rank g → f ≡ g
 same_rank f g e = sym (unrank-rank f) ∙ ap unrank e ∙ unrank-rank g
 
--- of two lines neither of which stands before the other
-pub same_line : (f g : WireFault) → (rank f < rank g → ⊥) → (rank g < rank f → ⊥) → f ≡ g
-same_line f g a b = go (nat_lt (rank f) (rank g)) refl (nat_lt (rank g) (rank f)) refl
+-- of two rows neither of which stands before the other
+pub same_row : (f g : WireFault) → (rank f < rank g → ⊥) → (rank g < rank f → ⊥) → f ≡ g
+same_row f g a b = go (nat_lt (rank f) (rank g)) refl (nat_lt (rank g) (rank f)) refl
   where
     go : (c : Bool) → nat_lt (rank f) (rank g) ≡ c → (d : Bool) → nat_lt (rank g) (rank f) ≡ d → f ≡ g
     go true c d e = absurd (a (ltb-true (rank f) (rank g) c))
@@ -119,19 +119,23 @@ pub record IsRefusedThere (judge : Judge) (ps : List Pair) (messages : List Mess
   pub messages_are : end.messages ≡ messages
   pub judged_so : judge (grown_by end last).since end.core last.from (grown_by end last).bytes ≡ Bad fault
 
+-- the items of a split, byte by byte
+walk_but : {items : List Item} {ps : List Pair} {messages : List Message} → IsSplit items ps messages → Walk (Unit {0}) Idles items
+walk_but {items = items} sp = marked_is_walk {P = Unit {0}} items (open_bytes Client items) (open_bytes Server items) (λ f. tt) (λ f. tt) sp.run.marked
+
 module _ (judge : Judge) (sound : IsSound judge) (exact : IsExact judge) (low : IsTelling judge) where
-  -- before the last byte of a split at which no line holds before it
+  -- before the last byte of a split at which no row holds before it
   pub split_read : (items : List Item) (prefix : List Pair) (p : Pair) (messages : List Message) → IsSplit items (prefix ++ p ∷ []) messages → IsClear items → IsReadBefore judge fresh items prefix p
   split_read items prefix p messages sp clear =
-      marks_but judge exact low (marked_is_walk {P = Unit {0}} items (open_bytes Client items) (open_bytes Server items) (λ f. tt) (λ f. tt) sp.run.marked) fresh [] sp.run.obeys
+      marks_but judge exact low (walk_but sp) fresh [] sp.run.obeys
       (elim [ Client ↦ refl | Server ↦ refl ]) (fresh_held judge) None
       (λ before more s b e t is. (
         (λ f row. (clear before more s b e).0 f (record { s = t; is_last = is; row = from_machine (λ since now bytes. Row f since now t bytes) t before row })),
         (λ w. (clear before more s b e).1 (record { s = t; is_last = is; whole = from_machine (λ since now bytes. IsWhole since now t bytes) t before w })),
       ))
-      prefix p (are_prefix prefix (p ∷ []) sp.are_pairs) sp.has_pairs
+      prefix p (are_prefix prefix (p ∷ []) sp.are_pairs) (are_last prefix p sp.are_pairs) sp.has_pairs
 
-  -- what is judged where a line holds and none before it
+  -- what is judged where a row holds and none before it
   judged_bad : {s : Side} {since now : Core} {bytes : List ℕ} (fault : WireFault) → Kept judge s since now bytes → Row fault since now s bytes → ((other : WireFault) → rank other < rank fault → Row other since now s bytes → ⊥) →
       judge since now s bytes ≡ Bad fault
   judged_bad {s = s} {since = since} {now = now} {bytes = bytes} fault k row first = go (judge since now s bytes) refl (low.tells k)
@@ -139,7 +143,12 @@ module _ (judge : Judge) (sound : IsSound judge) (exact : IsExact judge) (low : 
       go : (r : Reading) → judge since now s bytes ≡ r → Tells (λ f. Row f since now s bytes) (IsWhole since now s bytes) r → judge since now s bytes ≡ Bad fault
       go More e t = absurd (t.0 fault row)
       go (Whole m) e t = absurd (t.1 fault row)
-      go (Bad g) e t = e ∙ ap Bad (same_line g fault (λ l. first g l t.0) (λ l. t.1 fault l row))
+      go (Bad g) e t = e ∙ ap Bad (same_row g fault (λ l. first g l t.0) (λ l. t.1 fault l row))
+
+  -- of the side of a message that completed nothing is open
+  completed_empty : (machine next : Machine) (p : Pair) → IsCompletedBy judge machine next p → (get next.rests p.from).bytes ≡ []
+  completed_empty machine next p done =
+      ap (λ (x : Machine). (get x.rests p.from).bytes) done.is_next ∙ ap (λ (r : Rest). r.bytes) (get-put_same machine.rests p.from (record (grown_by machine p) { bytes = [] }))
 
   at_place : (items : List Item) (prefix : List Pair) (p : Pair) (messages : List Message) (fault : WireFault) → IsSplit items (prefix ++ p ∷ []) messages → HoldsAt fault items →
       ((other : WireFault) → rank other < rank fault → HoldsAt other items → ⊥) → IsReadBefore judge fresh items prefix p → IsRefusedThere judge (prefix ++ p ∷ []) messages fault
@@ -155,9 +164,9 @@ module _ (judge : Judge) (sound : IsSound judge) (exact : IsExact judge) (low : 
       row = at_machine (λ since now bytes. Row fault since now p.from bytes) p.from items
           (subst (λ u. Row fault (since_from u start.core items) (ends_at start items).core u (open_bytes u items)) same holds.row)
 
-      go : (led fresh items ≡ with_byte r.end p.from p.byte) ⊎ ((get (led fresh items).rests p.from).bytes ≡ []) → IsRefusedThere judge (prefix ++ p ∷ []) messages fault
-      go (inr empty) = absurd ((low.nothing (old_of (led fresh items).core (get (led fresh items).rests p.from)) (led fresh items).core p.from).0 fault
-          (subst (λ bytes. Row fault (old_of (led fresh items).core (get (led fresh items).rests p.from)) (led fresh items).core p.from bytes) empty row))
+      go : (led fresh items ≡ with_byte r.end p.from p.byte) ⊎ IsCompletedBy judge r.end (led fresh items) p → IsRefusedThere judge (prefix ++ p ∷ []) messages fault
+      go (inr done) = absurd ((low.nothing (old_of (led fresh items).core (get (led fresh items).rests p.from)) (led fresh items).core p.from).0 fault
+          (subst (λ bytes. Row fault (old_of (led fresh items).core (get (led fresh items).rests p.from)) (led fresh items).core p.from bytes) (completed_empty r.end (led fresh items) p done) row))
       go (inl is) =
           let here : Row fault (grown_by r.end p).since r.end.core p.from (grown_by r.end p).bytes =
           from_held r.end p (λ since now bytes. Row fault since now p.from bytes) (subst (λ (x : Machine). Row fault (old_of x.core (get x.rests p.from)) x.core p.from (get x.rests p.from).bytes) is row) in
@@ -227,7 +236,7 @@ module _ (judge : Judge) (sound : IsSound judge) (exact : IsExact judge) (low : 
       let q : Err fault ≡ Ok end = sym (ap (λ o. on_ok o (λ next. reads judge next more)) r) ∙ sym (reads-append fresh ps more) ∙ e in
       cc
 
-  -- two splits of a list at which no line holds before its last byte agree on what completed before that
+  -- two splits of a list at which no row holds before its last byte agree on what completed before that
   pub splits_agree : (prefix : List Pair) (p : Pair) (items others : List Item) (m n : List Message) → IsSplit items (prefix ++ p ∷ []) m → IsSplit others (prefix ++ p ∷ []) n → IsClear items → IsClear others →
       within (length prefix) items ≡ within (length prefix) others
   splits_agree prefix p items others m n sp tp c d =
@@ -236,3 +245,54 @@ module _ (judge : Judge) (sound : IsSound judge) (exact : IsExact judge) (low : 
       let ends : Ok a.end ≡ Ok b.end = sym a.reads_it ∙ b.reads_it in
       let same : a.end ≡ b.end = cc in
       sym a.messages_are ∙ ap (λ (x : Machine). x.messages) same ∙ b.messages_are
+
+  -- what the machine makes of a session under way: its bytes are read, with its messages
+  pub under_way_read : (ps : List Pair) (messages : List Message) → IsUnderWay ps messages → (end : Machine) × (reads judge fresh ps ≡ Ok end) × (end.messages ≡ messages)
+  under_way_read [] messages u = (fresh, refl, ap (λ (x : Machine). x.messages) (sym (none_left (walk_but u.split) u.split.has_pairs fresh)) ∙ led_messages u.items fresh ∙ u.split.has_messages)
+  under_way_read (x ∷ ps) messages u = go (last_of x ps)
+    where
+      at_last : (prefix : List Pair) (p : Pair) → IsSplit u.items (prefix ++ p ∷ []) messages → (end : Machine) × (reads judge fresh (prefix ++ p ∷ []) ≡ Ok end) × (end.messages ≡ messages)
+      at_last prefix p sp = by r.leads
+        where
+          r : IsReadBefore judge fresh u.items prefix p
+          r = split_read u.items prefix p messages sp u.clear
+
+          is_last : last_or None u.items ≡ Some p.from
+          is_last = last_of_pairs u.items None prefix p sp.has_pairs
+
+          goes : (next : Machine) → settle r.end p.from (grown_by r.end p) (judge (grown_by r.end p).since r.end.core p.from (grown_by r.end p).bytes) ≡ Ok next → reads judge fresh (prefix ++ p ∷ []) ≡ Ok next
+          goes next e =
+              reads-append fresh prefix (p ∷ [])
+              ∙ ap (λ o. on_ok o (λ mid. reads judge mid (p ∷ []))) r.reads_it
+              ∙ ap (λ o. on_ok o (λ mid. Ok mid)) e
+
+          has : (next : Machine) → led fresh u.items ≡ next → next.messages ≡ messages
+          has next is = ap (λ (x : Machine). x.messages) (sym is) ∙ led_messages u.items fresh ∙ sp.has_messages
+
+          by : (led fresh u.items ≡ with_byte r.end p.from p.byte) ⊎ IsCompletedBy judge r.end (led fresh u.items) p → (end : Machine) × (reads judge fresh (prefix ++ p ∷ []) ≡ Ok end) × (end.messages ≡ messages)
+          by (inl is) =
+              let none : HasNone (old_of (led fresh u.items).core (get (led fresh u.items).rests p.from)) (led fresh u.items).core p.from (get (led fresh u.items).rests p.from).bytes = (
+                (λ f row. u.none_at.0 f (record { s = p.from; is_last = is_last; row = from_machine (λ since now bytes. Row f since now p.from bytes) p.from u.items row })),
+                (λ w. u.none_at.1 (record { s = p.from; is_last = is_last; whole = from_machine (λ since now bytes. IsWhole since now p.from bytes) p.from u.items w })),
+              ) in
+              let here : HasNone (grown_by r.end p).since r.end.core p.from (grown_by r.end p).bytes =
+              from_held r.end p (λ since now bytes. HasNone since now p.from bytes) (subst (λ (x : Machine). HasNone (old_of x.core (get x.rests p.from)) x.core p.from (get x.rests p.from).bytes) is none) in
+              let k = kept_next judge r.end.core p.from (get r.end.rests p.from) p.byte (are_last prefix p sp.are_pairs) (reads_held judge sound prefix fresh r.end (are_prefix prefix (p ∷ []) sp.are_pairs) (fresh_held judge) r.reads_it p.from) in
+              let j = open_more judge exact low r.end p.from p.byte k here in
+              (with_byte r.end p.from p.byte, goes (with_byte r.end p.from p.byte) (ap (settle r.end p.from (grown_by r.end p)) j), has (with_byte r.end p.from p.byte) is)
+          by (inr done) =
+              let next : Machine = with_last r.end p.from p.byte done.message in
+              (next, goes next (ap (settle r.end p.from (grown_by r.end p)) done.judged_so), has next done.is_next)
+
+      go : HasLast (x ∷ ps) → (end : Machine) × (reads judge fresh (x ∷ ps) ≡ Ok end) × (end.messages ≡ messages)
+      go l = subst (λ qs. (end : Machine) × (reads judge fresh qs ≡ Ok end) × (end.messages ≡ messages)) (sym l.parts)
+          (at_last l.prefix l.last (subst (λ qs. IsSplit u.items qs messages) l.parts u.split))
+
+  -- two sessions under way of the same bytes have the same messages
+  pub under_way_agree : (ps : List Pair) (messages more : List Message) → IsUnderWay ps messages → IsUnderWay ps more → messages ≡ more
+  under_way_agree ps messages more u v =
+      let a = under_way_read ps messages u in
+      let b = under_way_read ps more v in
+      let ends : Ok a.0 ≡ Ok b.0 = sym a.1 ∙ b.1 in
+      let same : a.0 ≡ b.0 = cc in
+      sym a.2 ∙ ap (λ (x : Machine). x.messages) same ∙ b.2

@@ -18,17 +18,17 @@ use Rattle.nbd_laws.proofs.runs.RunLemmas.{fresh_held, idle_at, both_idle, fresh
 use Rattle.nbd_laws.proofs.runs.TrackLemmas.{IsTracked, machine_is_tracked, bytes_by, since_by}
 use Rattle.nbd_laws.proofs.runs.RestLemmas.{rest_of_blocks}
 
--- a reading, by the lines R that hold and by whether the bytes are a whole message
+-- a reading, by the rows R that hold and by whether the bytes are a whole message
 abbrev pub Tells : (R : WireFault → Type 0) (W : Type 0) → Reading → Type 0
 Tells R W More = ((f : WireFault) → R f → ⊥) × (W → ⊥)
 Tells R W (Whole m) = W × ((f : WireFault) → R f → ⊥)
 Tells R W (Bad f) = R f × ((g : WireFault) → rank g < rank f → R g → ⊥)
 
--- no line holds of a side's bytes, and they are no whole message
+-- no row holds of a side's bytes, and they are no whole message
 abbrev pub HasNone : (since now : Core) → Side → List ℕ → Type 0
 HasNone since now s bytes = ((f : WireFault) → Row f since now s bytes → ⊥) × (IsWhole since now s bytes → ⊥)
 
--- the judge answers the lowest line, whole where there is none and the message is whole, and else more
+-- the judge answers the lowest row, whole where there is none and the message is whole, and else more
 pub record IsTelling (judge : Judge) : Type 0 where
   pub tells : {s : Side} {since now : Core} {bytes : List ℕ} → Kept judge s since now bytes → Tells (λ f. Row f since now s bytes) (IsWhole since now s bytes) (judge since now s bytes)
   pub nothing : (since now : Core) (s : Side) → HasNone since now s []
@@ -60,7 +60,7 @@ module _ (judge : Judge) (s : Side) (b : ℕ) (more : List Item) where
   good (Byte u c ∷ Completes v m ∷ before) machine last g h t e = subst (λ x. IsGood judge (led machine (Byte u c ∷ Completes x m ∷ before)) t) (sym h.0)
       (good before (led machine (Byte u c ∷ Completes u m ∷ [])) (Some u) (λ w q. (let r : u ≡ w = cc in subst (IsGood judge (led machine (Byte u c ∷ Completes u m ∷ []))) r (inl (ends_side machine u c m)))) h.1 t e)
 
--- of good rests no line holds
+-- of good rests no row holds
 pub no_row : (judge : Judge) → IsTelling judge → (machine : Machine) (t : Side) → IsGood judge machine t → HasNone (old_of machine.core (get machine.rests t)) machine.core t (get machine.rests t).bytes
 no_row judge low machine t g = go (get machine.rests t).bytes refl
   where
@@ -127,7 +127,7 @@ last_of_pairs (Byte t b ∷ items) last (x ∷ ps) p e =
     let n : pairs items ≡ ps ++ p ∷ [] = cc in
     last_of_pairs items (Some t) ps p n
 
--- what the machine tracked has no line before a byte
+-- what the machine tracked has no row before a byte
 pub clear_of : (judge : Judge) → IsTelling judge → (items : List Item) → Tracks judge fresh items → IsClear items
 clear_of judge low items tr before more s b is = (
   (λ other h. (none h.s h.is_last).0 other (at_machine (λ since now bytes. Row other since now h.s bytes) h.s before h.row)),

@@ -1,4 +1,4 @@
--- The bytes of a split at which no line of the table of faults holds before the last of them are read so: the law of marks, with open bytes.
+-- The bytes of a split at which no row of the table of faults holds before the last of them are read so: the law of marks, with open bytes.
 use Rattle.std.proofs.Common.{◌≡◌, ℕ, ◌<◌, ◌⊎◌, List, [], ◌∷◌, ◌++◌, length, refl, sym, ◌∙◌, ap, subst, inl, inr, Option, Some, Ok, append_assoc, append-nil}
 use Rattle.nbd_wire.specs.declared.message.Side.{Side}
 use Rattle.nbd_wire.specs.declared.message.Message.{Message}
@@ -15,7 +15,7 @@ use Rattle.nbd_laws.specs.internal.Machine.{Both, get, put, Rest, Machine, Readi
 use Rattle.nbd_laws.proofs.runs.FollowLemmas.{HasEnd, IsSidedOpen, completes_later, each_with, follows}
 use Rattle.nbd_laws.proofs.machine.MarkLemmas.{within_opening, within_middle}
 use Rattle.nbd_laws.proofs.runs.TraceLemmas.{IsWithin, led_whole}
-use Rattle.nbd_laws.proofs.runs.PlacingLemmas.{HasNone, IsTelling, Tells, ends_side, from_held}
+use Rattle.nbd_laws.proofs.runs.PlacingLemmas.{HasNone, IsTelling, Tells, from_held}
 
 -- the machine stands where the split stands; of open bytes nothing is known
 abbrev pub InStep : Core → Rest → Side → Open → Type 0
@@ -58,20 +58,30 @@ in_step_completed machine o s m rest ms all sd ok e u = go (same_or_not s u)
     go (inr ne) = subst (λ r. InStep (complete machine.core m) r u (get (put o s Idle) u)) (sym (get-put_other machine.rests s u rest ne))
         (subst (λ y. InStep (complete machine.core m) (get machine.rests u) u y) (sym (get-put_other o s u Idle ne)) (moved (get o u) ne (all u)))
 
--- before each byte of the items no line holds of the last side's bytes, and they are no whole message
+-- before each byte of the items no row holds of the last side's bytes, and they are no whole message
 abbrev pub IsClearFrom : Machine → Option Side → List Item → Type 0
 IsClearFrom machine last items = (before more : List Item) (s : Side) (b : ℕ) → items ≡ before ++ Byte s b ∷ more → (t : Side) → last_or last before ≡ Some t →
     HasNone (old_of (led machine before).core (get (led machine before).rests t)) (led machine before).core t (get (led machine before).rests t).bytes
+
+-- the machine after a message that its last byte completes
+abbrev pub with_last : Machine → Side → ℕ → Message → Machine
+with_last machine s b m = record { core = complete machine.core m; rests = put machine.rests s (record (rest_with machine.core (get machine.rests s) b) { bytes = [] }); messages = machine.messages ++ m ∷ [] }
+
+-- a byte completes a message, by the judge
+pub record IsCompletedBy (judge : Judge) (machine next : Machine) (last : Pair) : Type 0 where
+  pub message : Message
+  pub judged_so : judge (rest_with machine.core (get machine.rests last.from) last.byte).since machine.core last.from (rest_with machine.core (get machine.rests last.from) last.byte).bytes ≡ Whole message
+  pub is_next : next ≡ with_last machine last.from last.byte message
 
 -- what was read before the last byte, and what the items lead to with it
 pub record IsReadBefore (judge : Judge) (machine : Machine) (items : List Item) (prefix : List Pair) (last : Pair) : Type 0 where
   pub end : Machine
   pub reads_it : reads judge machine prefix ≡ Ok end
   pub messages_are : end.messages ≡ machine.messages ++ within (length prefix) items
-  pub leads : (led machine items ≡ with_byte end last.from last.byte) ⊎ ((get (led machine items).rests last.from).bytes ≡ [])
+  pub leads : (led machine items ≡ with_byte end last.from last.byte) ⊎ IsCompletedBy judge end (led machine items) last
 
 -- where no byte is left, nothing changes
-none_left : {P : Type 0} {o : Both Open} {items : List Item} → Walk P o items → pairs items ≡ [] → (machine : Machine) → led machine items ≡ machine
+pub none_left : {P : Type 0} {o : Both Open} {items : List Item} → Walk P o items → pairs items ≡ [] → (machine : Machine) → led machine items ≡ machine
 none_left (ended c d) e machine = refl
 none_left (serving k w) e machine = none_left w e machine
 none_left (opening s m b left is f g w) e machine = absurd (cc)
@@ -122,8 +132,8 @@ some_pair [] p = (p, [], refl)
 some_pair (q ∷ prefix) p = (q, prefix ++ p ∷ [], refl)
 
 module _ (judge : Judge) (exact : IsExact judge) (low : IsTelling judge) where
-  -- open bytes of which no line holds go on
-  open_more : (machine : Machine) (s : Side) (b : ℕ) → Kept judge s (rest_with machine.core (get machine.rests s) b).since machine.core (rest_with machine.core (get machine.rests s) b).bytes →
+  -- open bytes of which no row holds go on
+  pub open_more : (machine : Machine) (s : Side) (b : ℕ) → Kept judge s (rest_with machine.core (get machine.rests s) b).since machine.core (rest_with machine.core (get machine.rests s) b).bytes →
       HasNone (rest_with machine.core (get machine.rests s) b).since machine.core s (rest_with machine.core (get machine.rests s) b).bytes →
       judge (rest_with machine.core (get machine.rests s) b).since machine.core s (rest_with machine.core (get machine.rests s) b).bytes ≡ More
   open_more machine s b k none = go (judge rest.since machine.core s rest.bytes) refl (low.tells k)
@@ -170,17 +180,17 @@ module _ (judge : Judge) (exact : IsExact judge) (low : IsTelling judge) where
 
   -- the law of marks, from runs to runs but for open bytes
   pub marks_but : {P : Type 0} {o : Both Open} {items : List Item} (w : Walk P o items) (machine : Machine) (js : List ℕ) → Obeys (record { core = machine.core; served = js }) items → AreInStep machine o → AreHeld judge machine →
-      (last : Option Side) → IsClearFrom machine last items → (prefix : List Pair) (p : Pair) → ArePairs prefix → pairs items ≡ prefix ++ p ∷ [] → IsReadBefore judge machine items prefix p
-  marks_but (ended c d) machine js ob st hd last clear prefix p lt e = absurd (no_pair prefix p e)
-  marks_but (serving k {items = items} w) machine js ob st hd last clear prefix p lt e =
-      let r = marks_but w machine _ ob.1 st hd last (clear_serves machine last k items clear) prefix p lt e in
+      (last : Option Side) → IsClearFrom machine last items → (prefix : List Pair) (p : Pair) → ArePairs prefix → p.byte < 256 → pairs items ≡ prefix ++ p ∷ [] → IsReadBefore judge machine items prefix p
+  marks_but (ended c d) machine js ob st hd last clear prefix p lt pl e = absurd (no_pair prefix p e)
+  marks_but (serving k {items = items} w) machine js ob st hd last clear prefix p lt pl e =
+      let r = marks_but w machine _ ob.1 st hd last (clear_serves machine last k items clear) prefix p lt pl e in
       record { end = r.end; reads_it = r.reads_it; messages_are = r.messages_are; leads = r.leads }
-  marks_but (opening s m b left {items = items} is f g w) machine js ob st hd last clear [] p lt e =
+  marks_but (opening s m b left {items = items} is f g w) machine js ob st hd last clear [] p lt pl e =
       let p_is : record { from = s; byte = b } ≡ p = cc in
       let none : pairs items ≡ [] = cc in
       let r = at_last machine s b p w p_is none in
       record { end = r.end; reads_it = r.reads_it; messages_are = r.messages_are; leads = r.leads }
-  marks_but {o = o} (opening s m b left {items = items} is f g w) machine js ob st hd last clear (q ∷ prefix) p lt e =
+  marks_but {o = o} (opening s m b left {items = items} is f g w) machine js ob st hd last clear (q ∷ prefix) p lt pl e =
       let q_is : record { from = s; byte = b } ≡ q = cc in
       let b_lt : b < 256 = subst (λ (x : Pair). x.byte < 256) (sym q_is) lt.0 in
       let e' : pairs items ≡ prefix ++ p ∷ [] = cc in
@@ -191,14 +201,14 @@ module _ (judge : Judge) (exact : IsExact judge) (low : IsTelling judge) where
       judged_more machine.core (rest_with machine.core (get machine.rests s) b) s m left i end (kept_next judge machine.core s (get machine.rests s) b b_lt (hd s)) in
       let r = on_more machine s b prefix p j
       (marks_but w _ js ob.1.1 (in_step_with machine o s (rest_with machine.core (get machine.rests s) b) (Busy m left) st i) (held_more judge machine s b b_lt hd j) (Some s)
-      (clear_byte machine last s b items (clear_starts machine last s m (Byte s b ∷ items) clear)) prefix p lt.1 e') in
+      (clear_byte machine last s b items (clear_starts machine last s m (Byte s b ∷ items) clear)) prefix p lt.1 pl e') in
       subst (λ x. IsReadBefore judge machine (Starts s m ∷ Byte s b ∷ items) (x ∷ prefix) p) q_is
       (record { end = r.end; reads_it = r.reads_it; messages_are = r.messages_are; leads = r.leads })
-  marks_but (middle s m b left {items = items} is g w) machine js ob st hd last clear [] p lt e =
+  marks_but (middle s m b left {items = items} is g w) machine js ob st hd last clear [] p lt pl e =
       let p_is : record { from = s; byte = b } ≡ p = cc in
       let none : pairs items ≡ [] = cc in
       at_last machine s b p w p_is none
-  marks_but {o = o} (middle s m b left {items = items} is g w) machine js ob st hd last clear (q ∷ prefix) p lt e =
+  marks_but {o = o} (middle s m b left {items = items} is g w) machine js ob st hd last clear (q ∷ prefix) p lt pl e =
       let q_is : record { from = s; byte = b } ≡ q = cc in
       let b_lt : b < 256 = subst (λ (x : Pair). x.byte < 256) (sym q_is) lt.0 in
       let e' : pairs items ≡ prefix ++ p ∷ [] = cc in
@@ -209,19 +219,21 @@ module _ (judge : Judge) (exact : IsExact judge) (low : IsTelling judge) where
       judged_more machine.core (rest_with machine.core (get machine.rests s) b) s m left i end (kept_next judge machine.core s (get machine.rests s) b b_lt (hd s)) in
       subst (λ x. IsReadBefore judge machine (Byte s b ∷ items) (x ∷ prefix) p) q_is
       (on_more machine s b prefix p j
-      (marks_but w _ js ob.1 (in_step_with machine o s (rest_with machine.core (get machine.rests s) b) (Busy m left) st i) (held_more judge machine s b b_lt hd j) (Some s) (clear_byte machine last s b items clear) prefix p lt.1 e'))
-  marks_but (final s m b {items = items} is w) machine js ob st hd last clear [] p lt e =
+      (marks_but w _ js ob.1 (in_step_with machine o s (rest_with machine.core (get machine.rests s) b) (Busy m left) st i) (held_more judge machine s b b_lt hd j) (Some s) (clear_byte machine last s b items clear) prefix p lt.1 pl e'))
+  marks_but (final s m b {items = items} is w) machine js ob st hd last clear [] p lt pl e =
       let p_is : record { from = s; byte = b } ≡ p = cc in
       let none : pairs items ≡ [] = cc in
-      let empty : (get (led machine (Byte s b ∷ Completes s m ∷ items)).rests s).bytes ≡ [] =
-      ap (λ (x : Machine). (get x.rests s).bytes) (none_left w none (led machine (Byte s b ∷ Completes s m ∷ []))) ∙ ends_side machine s b m in
+      let b_lt : b < 256 = subst (λ (x : Pair). x.byte < 256) (sym p_is) pl in
+      let i0 : InStep machine.core (get machine.rests s) s (Busy m (b ∷ [])) = subst (InStep machine.core (get machine.rests s) s) is (st s) in
+      let j = judged_whole machine.core (get machine.rests s) s m b i0 ob.1.0 (kept_next judge machine.core s (get machine.rests s) b b_lt (hd s)) in
       record {
         end = machine;
         reads_it = refl;
         messages_are = sym (append-nil machine.messages);
-        leads = inr (subst (λ (x : Pair). (get (led machine (Byte s b ∷ Completes s m ∷ items)).rests x.from).bytes ≡ []) p_is empty);
+        leads = inr (subst (IsCompletedBy judge machine (led machine (Byte s b ∷ Completes s m ∷ items))) p_is
+            (record { message = m; judged_so = j; is_next = none_left w none (led machine (Byte s b ∷ Completes s m ∷ [])) ∙ led_whole machine s b m }));
       }
-  marks_but {o = o} (final s m b {items = items} is w) machine js ob st hd last clear (q ∷ prefix) p lt e =
+  marks_but {o = o} (final s m b {items = items} is w) machine js ob st hd last clear (q ∷ prefix) p lt pl e =
       let q_is : record { from = s; byte = b } ≡ q = cc in
       let b_lt : b < 256 = subst (λ (x : Pair). x.byte < 256) (sym q_is) lt.0 in
       let e' : pairs items ≡ prefix ++ p ∷ [] = cc in
@@ -230,19 +242,19 @@ module _ (judge : Judge) (exact : IsExact judge) (low : IsTelling judge) where
       let clear' = clear_completes (with_byte machine s b) (Some s) s m items (clear_byte machine last s b (Completes s m ∷ items) clear) in
       let next : Machine = record { core = complete machine.core m; rests = put machine.rests s (record (rest_with machine.core (get machine.rests s) b) { bytes = [] }); messages = machine.messages ++ m ∷ [] } in
       let r = marks_but w next js ob.1.1 (in_step_completed machine o s m _ (machine.messages ++ m ∷ []) st i0.0.sided ob.1.0 refl) (held_whole judge machine s m _ refl hd i0.0.sided i0.0.sendable ob.1.0) (Some s)
-      (subst (λ x. IsClearFrom x (Some s) items) (led_whole machine s b m) clear') prefix p lt.1 e' in
+      (subst (λ x. IsClearFrom x (Some s) items) (led_whole machine s b m) clear') prefix p lt.1 pl e' in
       subst (λ x. IsReadBefore judge machine (Byte s b ∷ Completes s m ∷ items) (x ∷ prefix) p) q_is
       (record {
         end = r.end;
         reads_it = ap (λ x. on_ok (settle machine s (rest_with machine.core (get machine.rests s) b) x) (λ next. reads judge next prefix)) j ∙ r.reads_it;
         messages_are = r.messages_are ∙ append_assoc machine.messages (m ∷ []) (within (length prefix) items);
-        leads = subst (λ x. (led x items ≡ with_byte r.end p.from p.byte) ⊎ ((get (led x items).rests p.from).bytes ≡ [])) (sym (led_whole machine s b m)) r.leads;
+        leads = subst (λ x. (led x items ≡ with_byte r.end p.from p.byte) ⊎ IsCompletedBy judge r.end (led x items) p) (sym (led_whole machine s b m)) r.leads;
       })
-  marks_but (loose s b {items = items} u is w) machine js ob st hd last clear [] p lt e =
+  marks_but (loose s b {items = items} u is w) machine js ob st hd last clear [] p lt pl e =
       let p_is : record { from = s; byte = b } ≡ p = cc in
       let none : pairs items ≡ [] = cc in
       at_last machine s b p w p_is none
-  marks_but {o = o} (loose s b {items = items} u is w) machine js ob st hd last clear (q ∷ prefix) p lt e =
+  marks_but {o = o} (loose s b {items = items} u is w) machine js ob st hd last clear (q ∷ prefix) p lt pl e =
       let q_is : record { from = s; byte = b } ≡ q = cc in
       let b_lt : b < 256 = subst (λ (x : Pair). x.byte < 256) (sym q_is) lt.0 in
       let e' : pairs items ≡ prefix ++ p ∷ [] = cc in
@@ -256,4 +268,4 @@ module _ (judge : Judge) (exact : IsExact judge) (low : IsTelling judge) where
       let j = open_more machine s b k here in
       subst (λ y. IsReadBefore judge machine (Byte s b ∷ items) (y ∷ prefix) p) q_is
       (on_more machine s b prefix p j
-      (marks_but w _ js ob.1 (in_step_with machine o s (rest_with machine.core (get machine.rests s) b) Loose st tt) (held_more judge machine s b b_lt hd j) (Some s) (clear_byte machine last s b items clear) prefix p lt.1 e'))
+      (marks_but w _ js ob.1 (in_step_with machine o s (rest_with machine.core (get machine.rests s) b) Loose st tt) (held_more judge machine s b b_lt hd j) (Some s) (clear_byte machine last s b items clear) prefix p lt.1 pl e'))

@@ -1,4 +1,4 @@
--- The judge says the lowest line that holds, whole where a message is whole and no line holds, and else more.
+-- The judge says the lowest row that holds, whole where a message is whole and no row holds, and else more.
 use Rattle.std.proofs.Common.{◌≡◌, ℕ, ◌<◌, ◌≤◌, ◌⊎◌, ◌==◌, List, [], ◌∷◌, ◌++◌, length, refl, sym, ◌∙◌, ap, subst, inl, inr, Option, Some, None, Bool, true, false, ◌&&◌, arith, eq-eqb, length-append, append-nil}
 use Rattle.std.proofs.lemmas.Bool.{le-leb}
 use Rattle.nbd_wire.specs.declared.fault.WireFault.{WireFault}
@@ -74,7 +74,7 @@ head_long (Transmission export) Server bytes (inl h) = let l = h.1 in omega (ari
 head_long (Transmission export) Server bytes (inr h) = let l = h.1 in omega (arith, l)
 head_long phase s bytes l = absurd l
 
--- no line before OutOfTurn is seen at the first byte
+-- no row before OutOfTurn is seen at the first byte
 none_first : (since now : Core) (bytes : List ℕ) (phase : Phase) (s : Side) → length bytes ≡ 1 → (g : WireFault) → rank g < 4 → RowIn since now bytes g phase s → ⊥
 none_first since now bytes phase s one g less (wrong_magic l n) = let k = head_long phase s bytes l in omega (arith, k, one)
 none_first since now bytes phase s one g less (neither_magic l n m) = omega (arith, l, one)
@@ -241,11 +241,11 @@ tells_in since now bytes (Transmission export) Client one behind t a = go now.di
         (tied_tells _ _ bytes _ _ _ (request_tied since now export bytes e) (behind (request now bytes) some))
 tells_in since now bytes (Transmission export) Server one behind t a = reply_tells since now export bytes (a refl export refl) t (λ d e. behind d (ap Some e)) (steady.bytes_are_begun bytes)
 
--- the judge says this fault exactly where it is the lowest line that holds, whole exactly where the message is whole and no line holds, and else more
+-- the judge says this fault exactly where it is the lowest row that holds, whole exactly where the message is whole and no row holds, and else more
 pub tells : {s : Side} {since now : Core} {bytes : List ℕ} → Kept concrete s since now bytes → Tells (λ f. Row f since now s bytes) (IsWhole since now s bytes) (concrete since now s bytes)
 tells {s} {since} {now} {bytes} k = tells_in since now bytes now.phase s (one_byte k) (behind_clean k) (tidy (kept_reached k)) (kept_appended k)
 
--- of no bytes no line holds, and they are no whole message
+-- of no bytes no row holds, and they are no whole message
 whole_some : (since now : Core) (bytes : List ℕ) (phase : Phase) (s : Side) → IsWholeIn since now bytes phase s → length bytes ≡ 0 → ⊥
 whole_some since now bytes phase s (whole_greeting l) e = omega (arith, l, e)
 whole_some since now bytes phase s (whole_flags l) e = omega (arith, l, e)

@@ -37,7 +37,7 @@ link_or {a = false} l m = record { yes = λ e. inr (m.yes e); no = λ e. elim [ 
 pub link_same : {A B : Type 0} {a : Bool} → Link A a → (A → B) → (B → A) → Link B a
 link_same l f g = record { yes = λ e. f (l.yes e); no = λ e h. l.no e (g h) }
 
--- no fault of Q stands before this line of the table
+-- no fault of Q stands before this row of the table
 abbrev pub Above : ℕ → (WireFault → Type 0) → Type 0
 Above n Q = (g : WireFault) → Q g → n ≤ rank g
 
@@ -100,7 +100,7 @@ pub least_unless : {A : Type 0} {a : Bool} {e : Option WireFault} {Q : WireFault
 least_unless {a = true} l least = least_without (λ n. n (l.yes refl))
 least_unless {a = false} l least = least_with (l.no refl) least
 
--- a decision on n bytes has the lines that hold: those of its head and those of its last byte
+-- a decision on n bytes has the rows that hold: those of its head and those of its last byte
 pub record IsTied (R : WireFault → Type 0) (W : Type 0) (n : ℕ) (d : Decision) (Head Last : WireFault → Type 0) : Type 0 where
   pub rows : (f : WireFault) → R f → (n ≡ d.head_length) × Head f ⊎ (n ≡ d.head_length + d.payload_length) × Last f
   pub whole_is : W → n ≡ d.head_length + d.payload_length

@@ -14,7 +14,7 @@ use Rattle.nbd_wire.specs.protocol.Options.{FitsLimit, IsInfo, is_error, is_prop
 use Rattle.nbd_wire.specs.protocol.Payloads.{info_of, is_listed, number_at}
 use Rattle.nbd_wire.specs.protocol.Operations.{Exporting}
 use Rattle.nbd_wire.specs.protocol.Flags.{has}
-use Rattle.nbd_wire.specs.protocol.Rows.{IsBadPayload, IsFollowed, IsSuccess, IsTooLarge, IsWholeIn, RowIn, TakesKind, rank}
+use Rattle.nbd_wire.specs.protocol.Rows.{IsBadPayload, IsFollowed, IsNoError, IsTooLarge, IsWholeIn, RowIn, TakesKind, rank}
 use Rattle.nbd_wire.specs.protocol.Rows.IsWholeIn.{whole_abort_answer, whole_answer}
 use Rattle.nbd_wire.specs.protocol.Rows.RowIn.{wrong_magic, not_fixed_newstyle, out_of_turn, wrong_option, bad_reply_kind, out_of_profile, ack_with_payload, bad_reply_payload, missing_export_info, export_too_large, success_of_improper}
 use Rattle.nbd_wire.specs.protocol.States.{Core, Aborting, Answering}
@@ -22,15 +22,15 @@ use Rattle.nbd_places.specs.internal.JudgeNegotiation.{abort_answer, answer, inf
 use Rattle.nbd_places.proofs.rows.RowLemmas.{Above, IsLeast, IsTied, Link, above_if, above_none, above_with, least_at_ack, least_if, least_none, least_unless, link_and, link_eq, link_lt, link_neg, link_or, link_true}
 
 -- no kind of success is an error
-ack_succeeds : (kind : ℕ) → kind ≡ answers.ACK → IsSuccess kind
+ack_succeeds : (kind : ℕ) → kind ≡ answers.ACK → IsNoError kind
 unfolding has
 ack_succeeds kind e h = let q : is_error 1 ≡ true = sym (ap is_error e) ∙ h in (cc)
 
-server_succeeds : (kind : ℕ) → kind ≡ answers.SERVER → IsSuccess kind
+server_succeeds : (kind : ℕ) → kind ≡ answers.SERVER → IsNoError kind
 unfolding has
 server_succeeds kind e h = let q : is_error 2 ≡ true = sym (ap is_error e) ∙ h in (cc)
 
-info_succeeds : (kind : ℕ) → kind ≡ answers.INFO → IsSuccess kind
+info_succeeds : (kind : ℕ) → kind ≡ answers.INFO → IsNoError kind
 unfolding has
 info_succeeds kind e h = let q : is_error 3 ≡ true = sym (ap is_error e) ∙ h in (cc)
 
@@ -58,7 +58,7 @@ module _ (since now : Core) (bytes : List ℕ) where
   AbortHead f =
       (f ≡ BadMagic) × (number_at 0 8 bytes ≢ magics.ANSWER_MAGIC)
       ⊎ ((f ≡ WrongOption) × (number_at 8 4 bytes ≢ options.ABORT)
-      ⊎ ((f ≡ BadReplyKind) × (IsSuccess kind × (kind ≢ answers.ACK))
+      ⊎ ((f ≡ BadReplyKind) × (IsNoError kind × (kind ≢ answers.ACK))
       ⊎ ((f ≡ BadReplyPayload) × ((kind ≡ answers.ACK) × (number_at 16 4 bytes ≢ 0)) ⊎ ⊥)))
 
   abort_rows : (f : WireFault) → RowIn since now bytes f Aborting Server → (length bytes ≡ 20) × AbortHead f
@@ -126,7 +126,7 @@ module _ (since now : Core) (bytes : List ℕ) where
         (IsTrue (is_error kind) → ⊥)
         × ((f ≡ BadReplyPayload) × IsBadPayload kind (drop 20 bytes) ⊎ ((f ≡ SuccessOfImproper) × (IsTrue (is_proper_option asked payload) → ⊥) ⊎ ⊥))
 
-    bad_succeeds : IsBadPayload kind (drop 20 bytes) → IsSuccess kind
+    bad_succeeds : IsBadPayload kind (drop 20 bytes) → IsNoError kind
     bad_succeeds (inl h) = server_succeeds kind h.0
     bad_succeeds (inr h) = info_succeeds kind h.0
 

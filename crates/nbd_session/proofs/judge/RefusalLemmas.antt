@@ -7,7 +7,6 @@ use Rattle.nbd_wire.specs.declared.message.Message.{Message}
 use Rattle.nbd_wire.specs.protocol.Marks.{Item, Byte, Starts, Completes, Serves, completed_messages, pairs}
 use Rattle.nbd_wire.specs.protocol.Captures.{Pair, ArePairs, side_pairs}
 use Rattle.nbd_laws.specs.Bytes.{bytes_of}
-use Rattle.nbd_wire.specs.protocol.Rules.{IsRun}
 use Rattle.nbd_wire.specs.protocol.Within.{CompletesExactly, IsOfNoRun, within}
 use Rattle.nbd_wire.specs.declared.fault.WireFault.{WireFault}
 use Rattle.nbd_wire.specs.declared.fault.WireFault.TheVariants.{Unfinished}
@@ -21,11 +20,12 @@ use Rattle.nbd_session.specs.declared.held.Held.{Held}
 use Rattle.nbd_places.specs.internal.Concrete.{concrete}
 use Rattle.nbd_session.specs.internal.Holdings.{holding_of}
 use Rattle.nbd_places.specs.internal.Judge.{awaited_length}
-use Rattle.nbd_wire.specs.protocol.Splits.{IsPlace}
+use Rattle.nbd_wire.specs.protocol.Splits.{IsPlace, IsUnderWay, open_bytes}
+use Rattle.nbd_laws.proofs.runs.ClearLemmas.{read_under_way}
 use Rattle.nbd_laws.proofs.runs.PlacingLemmas.{place_law}
 use Rattle.nbd_laws.proofs.runs.PlaceLemmas.{read_no_place}
 use Rattle.nbd_places.proofs.rows.RowJudgeLemmas.{telling}
-use Rattle.nbd_session.specs.Refusals.{EndsIn, HasNoPlace, IsComplete, IsOpenEnd, IsRefusal, IsWireFault, Refuses}
+use Rattle.nbd_session.specs.Refusals.{EndsIn, HasNoPlace, IsAccepted, IsComplete, IsOpenEnd, IsRefusal, IsWireFault, LeavesOpen, Refuses}
 use Rattle.nbd_session.specs.Sessions.{HasRun, SessionView, fault_at_end, fault_of, pairs_of, bytes_taken, open_end_fault}
 use Rattle.nbd_session.specs.internal.Standing.{Holding, IsReadTo, held_pairs, with_bytes}
 use Rattle.nbd_session.specs.internal.Steps.{IsKept, IsShut, Stands}
@@ -36,7 +36,7 @@ use Rattle.nbd_places.proofs.judge.BlockLemmas.{extended, reads-append, with_res
 use Rattle.nbd_places.proofs.judge.ExactLemmas.{exact, none_refused}
 use Rattle.nbd_laws.specs.Bytes.{bytes_from}
 use Rattle.nbd_laws.proofs.runs.RunByteLemmas.{AreBytesOf, run_bytes}
-use Rattle.nbd_session.proofs.pushed.OpenByteLemmas.{fresh_bytes}
+use Rattle.nbd_session.proofs.pushed.OpenByteLemmas.{read_is_run_but}
 use Rattle.nbd_session.proofs.pushed.PushLemmas.{sent-append}
 use Rattle.nbd_places.proofs.judge.SoundLemmas.{sound}
 use Rattle.nbd_session.proofs.steps.StepLemmas.{held_of, pairs-taken}
@@ -176,7 +176,7 @@ refusal h fault st = record {
 -- a session that answers a fault was refused
 pub refuses : (held : Held) (fault : SessionFault) → IsShut held fault → Refuses (session_view held (Some fault)) fault
 refuses held Memory shut = tt
-refuses held (Wire at fault) shut = refusal (holding_of held) fault shut.cause.1
+refuses held (Wire at fault) shut = (shut.cause.0 ∙ shut.taken_is, refusal (holding_of held) fault shut.cause.1)
 
 -- the messages of a session under way are all that complete within its bytes
 pub stands_exactly : (held : Held) (closed : Option SessionFault) → Stands held → CompletesExactly (pairs_of (session_view held closed)) held.messages.items
@@ -185,6 +185,14 @@ stands_exactly held closed st = completes_exactly (held_pairs (holding_of held))
 pub stands_placeless : (held : Held) (closed : Option SessionFault) → Stands held → HasNoPlace (pairs_of (session_view held closed))
 stands_placeless held closed st = placeless (held_pairs (holding_of held)) st.machine st.read_to.reads_it
 
+pub stands_under_way : (held : Held) (closed : Option SessionFault) → Stands held → IsUnderWay (pairs_of (session_view held closed)) held.messages.items
+stands_under_way held closed st =
+    subst (IsUnderWay (held_pairs (holding_of held))) st.read_to.messages_are
+    (read_under_way concrete sound exact telling (held_pairs (holding_of held)) st.machine st.read_to.are_pairs st.read_to.reads_it)
+
+stands_accepted : (held : Held) (closed : Option SessionFault) → Stands held → IsAccepted (pairs_of (session_view held closed)) held.messages.items
+stands_accepted held closed st = record { under_way = stands_under_way held closed st; placeless = stands_placeless held closed st; all = stands_exactly held closed st }
+
 within_all : (items : List Item) → within (length (pairs items)) items ≡ completed_messages items
 within_all [] = refl
 within_all (Byte s b ∷ items) = within_all items
@@ -192,24 +200,48 @@ within_all (Starts s m ∷ items) = within_all items
 within_all (Completes s m ∷ items) = ap (λ l. m ∷ l) (within_all items)
 within_all (Serves k ∷ items) = within_all items
 
--- a run with exactly the bytes of a session leaves no byte after its messages
-none_behind : (held : Held) → Stands held → (items : List Item) → IsRun items → pairs items ≡ held_pairs (holding_of held) → (held.client.items ≡ []) × (held.server.items ≡ [])
-none_behind held st items run has =
-    let ps : List Pair = held_pairs (holding_of held) in
-    let all : within (length ps) items ≡ held.messages.items = stands_exactly held None st items run ([], has ∙ sym (append-nil ps)) in
-    let are : completed_messages items ≡ held.messages.items = sym (within_all items) ∙ ap (λ n. within n items) (ap length has) ∙ all in
-    let of_run : AreBytesOf items [] [] = run_bytes items [] [] run in
-    (left Client held.client.items (st.read_to.rests_are Client) are of_run.of_client, left Server held.server.items (st.read_to.rests_are Server) are of_run.of_server)
+-- the open bytes of a session under way are those that a run with its bytes and messages leaves
+opens : (ps : List Pair) (messages : List Message) (client server : List ℕ) → (u : IsUnderWay ps messages) → HasRun ps messages client server → (open_bytes Client u.items ≡ client) × (open_bytes Server u.items ≡ server)
+opens ps messages client server u has =
+    let here : AreBytesOf u.items (open_bytes Client u.items) (open_bytes Server u.items) = run_bytes u.items (open_bytes Client u.items) (open_bytes Server u.items) u.split.run in
+    let there : AreBytesOf has.items client server = run_bytes has.items client server has.is_run in
+    (same Client (open_bytes Client u.items) client here.of_client there.of_client, same Server (open_bytes Server u.items) server here.of_server there.of_server)
   where
-    left : (s : Side) (rest : List ℕ) → (get st.machine.rests s).bytes ≡ rest → completed_messages items ≡ held.messages.items → bytes_from s (pairs items) ≡ bytes_of s (completed_messages items) ++ [] → rest ≡ []
-    left s rest is are e =
-        append_cancel_left (bytes_of s held.messages.items) rest []
-        (ap (λ l. bytes_of s held.messages.items ++ l) (sym is)
-        ∙ ap (λ ms. bytes_of s ms ++ (get st.machine.rests s).bytes) (sym st.read_to.messages_are)
-        ∙ sym (fresh_bytes concrete sound s (held_pairs (holding_of held)) st.machine st.read_to.are_pairs st.read_to.reads_it)
-        ∙ ap (bytes_from s) (sym has)
-        ∙ e
-        ∙ ap (λ ms. bytes_of s ms ++ []) are)
+    same : (s : Side) (a b : List ℕ) → bytes_from s (pairs u.items) ≡ bytes_of s (completed_messages u.items) ++ a → bytes_from s (pairs has.items) ≡ bytes_of s (completed_messages has.items) ++ b → a ≡ b
+    same s a b here there =
+        append_cancel_left (bytes_of s messages) a b
+        (ap (λ ms. bytes_of s ms ++ a) (sym u.split.has_messages)
+        ∙ sym here
+        ∙ ap (bytes_from s) (u.split.has_pairs ∙ sym has.has_pairs)
+        ∙ there
+        ∙ ap (λ ms. bytes_of s ms ++ b) has.has_messages)
+
+some_open : (ps : List Pair) (messages : List Message) (client server : List ℕ) → (u : IsUnderWay ps messages) → HasRun ps messages client server → ((client ≡ []) × (server ≡ []) → ⊥) → LeavesOpen u.items
+some_open ps messages [] [] u has some = absurd (some (refl, refl))
+some_open ps messages (b ∷ client) server u has some = inl (λ e. (let q : b ∷ client ≡ [] = sym (opens ps messages (b ∷ client) server u has).0 ∙ e in cc))
+some_open ps messages [] (b ∷ server) u has some = inr (λ e. (let q : b ∷ server ≡ [] = sym (opens ps messages [] (b ∷ server) u has).1 ∙ e in cc))
+
+-- where bytes that were taken without a fault stand after the messages of a run, no run has exactly the bytes
+pub open_end_of : (ps : List Pair) (messages : List Message) (client server : List ℕ) → HasRun ps messages client server → IsAccepted ps messages → ((client ≡ []) × (server ≡ []) → ⊥) → IsOpenEnd ps messages
+open_end_of ps messages client server has accepted some = record { accepted = accepted; leaves_open = some_open ps messages client server accepted.under_way has some; none = none }
+  where
+    none : IsOfNoRun ps
+    none items run is =
+        let are : completed_messages items ≡ messages = sym (within_all items) ∙ ap (λ n. within n items) (ap length is) ∙ accepted.all items run ([], is ∙ sym (append-nil ps)) in
+        let here : AreBytesOf items [] [] = run_bytes items [] [] run in
+        let there : AreBytesOf has.items client server = run_bytes has.items client server has.is_run in
+        some (left Client client are here.of_client there.of_client, left Server server are here.of_server there.of_server)
+      where
+        left : (s : Side) (rest : List ℕ) → completed_messages items ≡ messages → bytes_from s (pairs items) ≡ bytes_of s (completed_messages items) ++ [] → bytes_from s (pairs has.items) ≡ bytes_of s (completed_messages has.items) ++ rest → rest ≡ []
+        left s rest are here there =
+            append_cancel_left (bytes_of s messages) rest []
+            (ap (λ ms. bytes_of s ms ++ rest) (sym has.has_messages) ∙ sym there ∙ ap (bytes_from s) (has.has_pairs ∙ sym is) ∙ here ∙ ap (λ ms. bytes_of s ms ++ []) are)
+
+held_run : (held : Held) → Stands held → HasRun (held_pairs (holding_of held)) held.messages.items held.client.items held.server.items
+held_run held st =
+    let r = read_is_run_but (held_pairs (holding_of held)) st.machine held.messages.items held.client.items held.server.items st.read_to.are_pairs st.read_to.reads_it
+    st.read_to.messages_are (st.read_to.rests_are Client) (st.read_to.rests_are Server) in
+    record { items = r.0; is_run = r.1; has_pairs = r.2; has_messages = r.3 }
 
 unfinished_end : (held : Held) → Stands held → (client server : List ℕ) → held.client.items ≡ client → held.server.items ≡ server → (at : ℕ) (fault : SessionFault) →
     at ≡ length (held_pairs (holding_of held)) → open_end_fault client server at ≡ Some fault → EndsIn (session_view held None) fault
@@ -219,15 +251,19 @@ unfinished_end held st client server c s at Memory n e = absurd (no_memory clien
     no_memory [] [] e = (cc)
     no_memory (b ∷ client) server e = (cc)
     no_memory [] (b ∷ server) e = (cc)
-unfinished_end held st [] [] c s at (Wire place fault) n e = absurd (let q : None ≡ Some (Wire place fault) = e in cc)
-unfinished_end held st (b ∷ client) server c s at (Wire place fault) n e =
-    let f : Unfinished ≡ fault = cc in
-    let p : at ≡ place = cc in
-    inr (sym f, sym p ∙ n, record { placeless = stands_placeless held None st; none = λ items run has. absurd (let q : b ∷ client ≡ [] = sym c ∙ (none_behind held st items run has).0 in cc); all = stands_exactly held None st })
-unfinished_end held st [] (b ∷ server) c s at (Wire place fault) n e =
-    let f : Unfinished ≡ fault = cc in
-    let p : at ≡ place = cc in
-    inr (sym f, sym p ∙ n, record { placeless = stands_placeless held None st; none = λ items run has. absurd (let q : b ∷ server ≡ [] = sym s ∙ (none_behind held st items run has).1 in cc); all = stands_exactly held None st })
+unfinished_end held st client server c s at (Wire place fault) n e =
+    let is = some_unfinished client server e in
+    inr (
+      sym is.0,
+      sym is.1 ∙ n,
+      open_end_of (held_pairs (holding_of held)) held.messages.items held.client.items held.server.items (held_run held st) (stands_accepted held None st)
+          (λ none. is.2 (sym c ∙ none.0, sym s ∙ none.1)),
+    )
+  where
+    some_unfinished : (client server : List ℕ) → open_end_fault client server at ≡ Some (Wire place fault) → (Unfinished ≡ fault) × (at ≡ place) × ((client ≡ []) × (server ≡ []) → ⊥)
+    some_unfinished [] [] e = absurd (let q : None ≡ Some (Wire place fault) = e in cc)
+    some_unfinished (b ∷ client) server e = ((cc), (cc), λ none. (let q : b ∷ client ≡ [] = none.0 in cc))
+    some_unfinished [] (b ∷ server) e = ((cc), (cc), λ none. (let q : b ∷ server ≡ [] = none.1 in cc))
 
 -- why a session ends in a fault
 pub ends_in : (held : Held) (closed : Option SessionFault) → IsKept held closed → (fault : SessionFault) → fault_at_end (session_view held closed) ≡ Some fault → EndsIn (session_view held closed) fault
@@ -264,26 +300,10 @@ pub is_complete : (held : Held) (closed : Option SessionFault) (r : SessionView)
 is_complete held closed r kept same = subst IsComplete same (go closed kept)
   where
     go : (closed : Option SessionFault) → IsKept held closed → IsComplete (session_view held closed)
-    go None st = (stands_exactly held None st, stands_placeless held None st)
+    go None st = stands_accepted held None st
     go (Some fault) shut = refuses held fault shut
 
 -- a capture with a wire fault has no run
 pub no_run_of : (capture : List Pair) (messages : List Message) (at : ℕ) (fault : WireFault) → IsWireFault capture messages at fault → IsOfNoRun capture
 no_run_of capture messages at fault (inl r) items run has = r.refusal.none items run (r.rest, has ∙ sym r.parts)
 no_run_of capture messages at fault (inr r) items run has = r.2.none items run has
-
--- where bytes stand after the messages of a run, and these are all that complete, no run has exactly the bytes
-pub open_end_of : (ps : List Pair) (messages : List Message) (client server : List ℕ) → HasRun ps messages client server → CompletesExactly ps messages → HasNoPlace ps → ((client ≡ []) × (server ≡ []) → ⊥) → IsOpenEnd ps messages
-open_end_of ps messages client server has all clear some = record { placeless = clear; none = none; all = all }
-  where
-    none : IsOfNoRun ps
-    none items run is =
-        let are : completed_messages items ≡ messages = sym (within_all items) ∙ ap (λ n. within n items) (ap length is) ∙ all items run ([], is ∙ sym (append-nil ps)) in
-        let here : AreBytesOf items [] [] = run_bytes items [] [] run in
-        let there : AreBytesOf has.items client server = run_bytes has.items client server has.is_run in
-        some (left Client client are here.of_client there.of_client, left Server server are here.of_server there.of_server)
-      where
-        left : (s : Side) (rest : List ℕ) → completed_messages items ≡ messages → bytes_from s (pairs items) ≡ bytes_of s (completed_messages items) ++ [] → bytes_from s (pairs has.items) ≡ bytes_of s (completed_messages has.items) ++ rest → rest ≡ []
-        left s rest are here there =
-            append_cancel_left (bytes_of s messages) rest []
-            (ap (λ ms. bytes_of s ms ++ rest) (sym has.has_messages) ∙ sym there ∙ ap (bytes_from s) (has.has_pairs ∙ sym is) ∙ here ∙ ap (λ ms. bytes_of s ms ++ []) are)

@@ -1,5 +1,5 @@
 -- What a reader's answer says of what it read.
-use Rattle.std.specs.Prelude.{◌≡◌, ◌↔◌, Option, Some, None}
+use Rattle.std.specs.Prelude.{◌≡◌, ◌↔◌, Option, Some}
 use Rattle.std.specs.Option.{option_map}
 
 -- the answer is a value exactly where the value has this form: so None exactly where no value has it

@@ -3,7 +3,6 @@ use Rattle.std.specs.Prelude.{ℕ, List, length}
 use Rattle.nbd_wire.specs.declared.message.Message.{Message}
 use Rattle.nbd_wire.specs.declared.message.Message.TheVariants.{Greeting, ClientFlags, Choice, Answer, Exported, Request, Simple, Chunk}
 use Rattle.nbd_wire.specs.declared.head_lengths.TheConstants.{GREETING, CLIENT_FLAGS, CHOICE, ANSWER, EXPORT, REQUEST, SIMPLE, CHUNK}
-use Rattle.nbd_wire.specs.protocol.Encoding.{head}
 use Rattle.nbd_wire.specs.codec.Heads.{IsGreetingHead, IsClientFlagsHead, IsChoiceHead, IsAnswerHead, IsExportHead, IsRequestHead, IsSimpleHead, IsChunkHead}
 
 -- how many bytes a message's head has

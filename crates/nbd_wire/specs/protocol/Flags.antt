@@ -1,5 +1,5 @@
 -- Flags, named by their masks (proto.md, "Flag fields", "Transmission flags", "Command flags").
-use Rattle.std.specs.Prelude.{ℕ, ◌-◌, Bool, not, ◌==◌, bit_and}
+use Rattle.std.specs.Prelude.{ℕ, Bool, not, ◌==◌, bit_and}
 
 -- a flag, named by its mask, is set
 unfoldable pub has : ℕ → ℕ → Bool

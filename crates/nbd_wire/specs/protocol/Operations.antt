@@ -1,5 +1,5 @@
 -- A numbered request, its replies, and what became of it.
-use Rattle.std.specs.Prelude.{ℕ, List, [], ◌∷◌, ◌++◌, ◌+◌, ◌-◌, Bool, true, false, not, ◌&&◌, ◌||◌, ◌==◌, nat_le, if◌then◌else◌, length, IsTrue, is_some}
+use Rattle.std.specs.Prelude.{ℕ, List, [], ◌∷◌, ◌++◌, ◌+◌, Bool, true, false, not, ◌&&◌, ◌||◌, ◌==◌, nat_le, if◌then◌else◌, IsTrue, is_some}
 use Rattle.nbd_wire.specs.declared.message.Message.{Message}
 use Rattle.nbd_wire.specs.declared.message.Message.TheVariants.{Simple, Chunk}
 use Rattle.nbd_wire.specs.declared.payloads.Piece.{Piece}
@@ -8,7 +8,7 @@ use Rattle.nbd_wire.specs.declared.command_flags.TheConstants as command_flags
 use Rattle.nbd_wire.specs.declared.commands.TheConstants as commands
 use Rattle.nbd_wire.specs.declared.transmission.TheConstants as transmission
 use Rattle.nbd_wire.specs.protocol.Flags.{has, has_only}
-use Rattle.nbd_wire.specs.protocol.Pieces.{piece_of, is_in, holds, byte_at}
+use Rattle.nbd_wire.specs.protocol.Pieces.{piece_of, is_in, byte_at}
 
 -- the export of the session: its size in bytes and its transmission flags
 pub record Exporting : Type 0 where

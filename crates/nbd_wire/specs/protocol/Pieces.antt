@@ -5,7 +5,6 @@ use Rattle.nbd_wire.specs.declared.message.Message.TheVariants.{Simple, Chunk}
 use Rattle.nbd_wire.specs.declared.payloads.Piece.{Piece}
 use Rattle.nbd_wire.specs.declared.payloads.Piece.TheVariants.{Bytes, Hole}
 use Rattle.nbd_wire.specs.protocol.Payloads.{content_of}
-use Rattle.nbd_wire.specs.protocol.Flags.{has}
 
 -- the bytes of a simple reply as a piece: none where it has none
 abbrev pub simple_piece : ℕ → List ℕ → List Piece

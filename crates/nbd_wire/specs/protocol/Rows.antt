@@ -1,5 +1,7 @@
--- What is wrong where a session is refused: the lines of the table of faults (docs/PROFILE.md, "Faults"), in its order. Each says
--- at which of the open bytes of a side it is seen, by their number, and which rule they break.
+-- What is wrong where a session is refused: the rows of the table of faults (docs/PROFILE.md, "Faults"), in its order. The open
+-- bytes of a side are those after its last completed message (Splits.antt: `open_bytes`); below, `bytes` are those of one side,
+-- `since` is what had completed before the first of them, and `now` what has completed when the last of them has come. A row says
+-- how many open bytes there are where it is seen, and which rule they break. Names in quotes are sections of proto.md.
 use Rattle.std.specs.Prelude.{ℕ, List, [], ◌≡◌, ◌≢◌, ◌+◌, ◌<◌, ◌⊎◌, ◌==◌, true, false, if◌then◌else◌, Option, Some, None, length, drop, replicate, IsTrue, is_some}
 use Rattle.nbd_wire.specs.declared.answers.TheConstants as answers
 use Rattle.nbd_wire.specs.declared.chunks.TheConstants as chunks
@@ -8,6 +10,7 @@ use Rattle.nbd_wire.specs.declared.commands.TheConstants as commands
 use Rattle.nbd_wire.specs.declared.fault.WireFault.{WireFault}
 use Rattle.nbd_wire.specs.declared.fault.WireFault.TheVariants.{BadMagic, NotFixedNewstyle, BadClientFlags, OutOfTurn, WrongOption, BadReplyKind, OutOfProfile, BadReplyPayload, MissingExportInfo, BadExport, ExportTooLarge, CookieInUse, UnknownCookie, SimpleForbidden, ChunkForbidden, BadChunk, BadContent, IncompleteRead, SuccessOfImproper, BadDisconnect, Unfinished}
 use Rattle.nbd_wire.specs.declared.handshake.TheConstants as handshake
+use Rattle.nbd_wire.specs.declared.head_lengths.TheConstants as head_lengths
 use Rattle.nbd_wire.specs.declared.magics.TheConstants as magics
 use Rattle.nbd_wire.specs.declared.message.Message.{Message}
 use Rattle.nbd_wire.specs.declared.message.Message.TheVariants.{Chunk}
@@ -25,7 +28,7 @@ use Rattle.nbd_wire.specs.protocol.Pieces.{byte_at, holds, is_in, piece_offset, 
 use Rattle.nbd_wire.specs.protocol.Flags.{has, has_only}
 use Rattle.nbd_wire.specs.protocol.States.{Core, Phase, Greet, Flags, Choosing, Naming, Aborting, Answering, Transmission, operation, target, with_reply}
 
--- the place of a fault in the table
+-- the number of a fault in the table; Unfinished has no row
 abbrev pub rank : WireFault → ℕ
 rank BadMagic = 1
 rank NotFixedNewstyle = 2
@@ -53,23 +56,101 @@ rank Unfinished = 21
 abbrev pub Lacks : (flags mask : ℕ) → Type 0
 Lacks flags mask = IsTrue (has flags mask) → ⊥
 
+-- how long a magic number of transmission is
+abbrev pub short_magic_length : ℕ
+short_magic_length = 4
+
+-- the fields of a head, by the place of their first byte and their length (Layouts.antt has the heads whole): the magic number of
+-- a message of the negotiation, and of one of transmission
+abbrev pub long_magic : List ℕ → ℕ
+long_magic bytes = number_at 0 8 bytes
+
+abbrev pub short_magic : List ℕ → ℕ
+short_magic bytes = number_at 0 short_magic_length bytes
+
+-- of a greeting, and of the client's flags
+abbrev pub second_magic : List ℕ → ℕ
+second_magic bytes = number_at 8 8 bytes
+
+abbrev pub offered_flags : List ℕ → ℕ
+offered_flags bytes = number_at 16 2 bytes
+
+abbrev pub taken_flags : List ℕ → ℕ
+taken_flags bytes = number_at 0 4 bytes
+
+-- of an option
+abbrev pub option_length : List ℕ → ℕ
+option_length bytes = number_at 12 4 bytes
+
+-- of the answer to EXPORT_NAME
+abbrev pub export_size : List ℕ → ℕ
+export_size bytes = number_at 0 8 bytes
+
+abbrev pub export_flags : List ℕ → ℕ
+export_flags bytes = number_at 8 2 bytes
+
+-- of an answer to another option
+abbrev pub answered_option : List ℕ → ℕ
+answered_option bytes = number_at 8 4 bytes
+
+abbrev pub answer_kind : List ℕ → ℕ
+answer_kind bytes = number_at 12 4 bytes
+
+abbrev pub answer_length : List ℕ → ℕ
+answer_length bytes = number_at 16 4 bytes
+
+abbrev pub answer_payload : List ℕ → List ℕ
+answer_payload bytes = drop head_lengths.ANSWER bytes
+
+-- of a request, a simple reply and a chunk
+abbrev pub cookie_of : List ℕ → ℕ
+cookie_of bytes = number_at 8 8 bytes
+
+-- of a request
+abbrev pub request_type : List ℕ → ℕ
+request_type bytes = number_at 6 2 bytes
+
+abbrev pub request_offset : List ℕ → ℕ
+request_offset bytes = number_at 16 8 bytes
+
+abbrev pub request_length : List ℕ → ℕ
+request_length bytes = number_at 24 4 bytes
+
+-- of a simple reply
+abbrev pub simple_error : List ℕ → ℕ
+simple_error bytes = number_at 4 4 bytes
+
+-- of a chunk
+abbrev pub chunk_flags : List ℕ → ℕ
+chunk_flags bytes = number_at 4 2 bytes
+
+abbrev pub chunk_type : List ℕ → ℕ
+chunk_type bytes = number_at 6 2 bytes
+
+abbrev pub chunk_length : List ℕ → ℕ
+chunk_length bytes = number_at 16 4 bytes
+
+abbrev pub chunk_payload : List ℕ → List ℕ
+chunk_payload bytes = drop head_lengths.CHUNK bytes
+
 -- the bytes begin a simple reply, or a chunk (proto.md, "Simple reply message", "Structured reply chunk message")
 abbrev pub BeginsSimple : List ℕ → Type 0
-BeginsSimple bytes = number_at 0 4 bytes ≡ magics.SIMPLE_MAGIC
+BeginsSimple bytes = short_magic bytes ≡ magics.SIMPLE_MAGIC
 
 abbrev pub BeginsChunk : List ℕ → Type 0
-BeginsChunk bytes = number_at 0 4 bytes ≡ magics.CHUNK_MAGIC
+BeginsChunk bytes = short_magic bytes ≡ magics.CHUNK_MAGIC
 
 -- the bytes are as many as the head of the message that they begin, by the phase and the side
 abbrev pub IsHead : Phase → Side → List ℕ → Type 0
-IsHead Greet Server bytes = length bytes ≡ 18
-IsHead Flags Client bytes = length bytes ≡ 4
-IsHead Choosing Client bytes = length bytes ≡ 16
-IsHead Naming Server bytes = length bytes ≡ 10
-IsHead Aborting Server bytes = length bytes ≡ 20
-IsHead (Answering option payload info) Server bytes = length bytes ≡ 20
-IsHead (Transmission export) Client bytes = length bytes ≡ 28
-IsHead (Transmission export) Server bytes = BeginsSimple bytes × (length bytes ≡ 16) ⊎ BeginsChunk bytes × (length bytes ≡ 20)
+IsHead Greet Server bytes = length bytes ≡ head_lengths.GREETING
+IsHead Flags Client bytes = length bytes ≡ head_lengths.CLIENT_FLAGS
+IsHead Choosing Client bytes = length bytes ≡ head_lengths.CHOICE
+IsHead Naming Server bytes = length bytes ≡ head_lengths.EXPORT
+IsHead Aborting Server bytes = length bytes ≡ head_lengths.ANSWER
+IsHead (Answering option payload info) Server bytes = length bytes ≡ head_lengths.ANSWER
+IsHead (Transmission export) Client bytes = length bytes ≡ head_lengths.REQUEST
+IsHead (Transmission export) Server bytes =
+    BeginsSimple bytes × (length bytes ≡ head_lengths.SIMPLE) ⊎ BeginsChunk bytes × (length bytes ≡ head_lengths.CHUNK)
 IsHead phase s bytes = ⊥
 
 -- an answer to this option is awaited
@@ -87,29 +168,33 @@ pub record IsAnswered (since now : Core) (cookie : ℕ) (e : Operation) : Type 0
 -- the bytes are a whole message: its head and as many bytes after it as the head, or for a simple reply the request, says. One
 -- constructor for each message
 pub data IsWholeIn (since now : Core) (bytes : List ℕ) : Phase → Side → Type 0 where
-  whole_greeting : length bytes ≡ 18 → IsWholeIn since now bytes Greet Server
-  whole_flags : length bytes ≡ 4 → IsWholeIn since now bytes Flags Client
-  whole_choice : length bytes ≡ 16 + number_at 12 4 bytes → IsWholeIn since now bytes Choosing Client
-  whole_export : length bytes ≡ 10 + (if has now.client_flags handshake.C_NO_ZEROES then 0 else 124) → IsWholeIn since now bytes Naming Server
-  whole_abort_answer : length bytes ≡ 20 + number_at 16 4 bytes → IsWholeIn since now bytes Aborting Server
-  whole_answer : {asked : ℕ} {payload : List ℕ} {info : Option Exporting} → length bytes ≡ 20 + number_at 16 4 bytes → IsWholeIn since now bytes (Answering asked payload info) Server
-  whole_request : {export : Exporting} → length bytes ≡ 28 + (if number_at 6 2 bytes == commands.WRITE then number_at 24 4 bytes else 0) → IsWholeIn since now bytes (Transmission export) Client
-  whole_simple : {export : Exporting} (e : Operation) → BeginsSimple bytes → IsAnswered since now (number_at 8 8 bytes) e → length bytes ≡ 16 + simple_length e (number_at 4 4 bytes) → IsWholeIn since now bytes (Transmission export) Server
-  whole_chunk : {export : Exporting} → BeginsChunk bytes → length bytes ≡ 20 + number_at 16 4 bytes → IsWholeIn since now bytes (Transmission export) Server
+  whole_greeting : length bytes ≡ head_lengths.GREETING → IsWholeIn since now bytes Greet Server
+  whole_flags : length bytes ≡ head_lengths.CLIENT_FLAGS → IsWholeIn since now bytes Flags Client
+  whole_choice : length bytes ≡ head_lengths.CHOICE + option_length bytes → IsWholeIn since now bytes Choosing Client
+  whole_export : length bytes ≡ head_lengths.EXPORT + (if has now.client_flags handshake.C_NO_ZEROES then 0 else head_lengths.PADDING)
+      → IsWholeIn since now bytes Naming Server
+  whole_abort_answer : length bytes ≡ head_lengths.ANSWER + answer_length bytes → IsWholeIn since now bytes Aborting Server
+  whole_answer : {asked : ℕ} {payload : List ℕ} {info : Option Exporting} → length bytes ≡ head_lengths.ANSWER + answer_length bytes
+      → IsWholeIn since now bytes (Answering asked payload info) Server
+  whole_request : {export : Exporting} → length bytes ≡ head_lengths.REQUEST + (if request_type bytes == commands.WRITE then request_length bytes else 0)
+      → IsWholeIn since now bytes (Transmission export) Client
+  whole_simple : {export : Exporting} (e : Operation) → BeginsSimple bytes → IsAnswered since now (cookie_of bytes) e
+      → length bytes ≡ head_lengths.SIMPLE + simple_length e (simple_error bytes) → IsWholeIn since now bytes (Transmission export) Server
+  whole_chunk : {export : Exporting} → BeginsChunk bytes → length bytes ≡ head_lengths.CHUNK + chunk_length bytes → IsWholeIn since now bytes (Transmission export) Server
 
 -- a greeting, option, answer or request begins with another number than its own
 abbrev pub HasWrongMagic : Phase → Side → List ℕ → Type 0
-HasWrongMagic Greet Server bytes = (number_at 0 8 bytes ≢ magics.GREETING_MAGIC) ⊎ (number_at 8 8 bytes ≢ magics.OPTION_MAGIC)
-HasWrongMagic Choosing Client bytes = number_at 0 8 bytes ≢ magics.OPTION_MAGIC
-HasWrongMagic Aborting Server bytes = number_at 0 8 bytes ≢ magics.ANSWER_MAGIC
-HasWrongMagic (Answering option payload info) Server bytes = number_at 0 8 bytes ≢ magics.ANSWER_MAGIC
-HasWrongMagic (Transmission export) Client bytes = number_at 0 4 bytes ≢ magics.REQUEST_MAGIC
+HasWrongMagic Greet Server bytes = (long_magic bytes ≢ magics.GREETING_MAGIC) ⊎ (second_magic bytes ≢ magics.OPTION_MAGIC)
+HasWrongMagic Choosing Client bytes = long_magic bytes ≢ magics.OPTION_MAGIC
+HasWrongMagic Aborting Server bytes = long_magic bytes ≢ magics.ANSWER_MAGIC
+HasWrongMagic (Answering option payload info) Server bytes = long_magic bytes ≢ magics.ANSWER_MAGIC
+HasWrongMagic (Transmission export) Client bytes = short_magic bytes ≢ magics.REQUEST_MAGIC
 HasWrongMagic phase s bytes = ⊥
 
 -- a greeting, or the client's flags, without fixed newstyle
 abbrev pub LacksNewstyle : Phase → Side → List ℕ → Type 0
-LacksNewstyle Greet Server bytes = Lacks (number_at 16 2 bytes) handshake.FIXED_NEWSTYLE
-LacksNewstyle Flags Client bytes = Lacks (number_at 0 4 bytes) handshake.C_FIXED_NEWSTYLE
+LacksNewstyle Greet Server bytes = Lacks (offered_flags bytes) handshake.FIXED_NEWSTYLE
+LacksNewstyle Flags Client bytes = Lacks (taken_flags bytes) handshake.C_FIXED_NEWSTYLE
 LacksNewstyle phase s bytes = ⊥
 
 -- a client's flag that is unknown, or that the server did not offer
@@ -140,8 +225,8 @@ TakesKind (Answering option payload info) kind =
 TakesKind phase kind = ⊥
 
 -- the kind of an answer is no error
-abbrev pub IsSuccess : ℕ → Type 0
-IsSuccess kind = IsTrue (is_error kind) → ⊥
+abbrev pub IsNoError : ℕ → Type 0
+IsNoError kind = IsTrue (is_error kind) → ⊥
 
 -- a SERVER or INFO payload that does not have its form, or an info on the export without HAS_FLAGS
 abbrev pub IsBadPayload : (kind : ℕ) → List ℕ → Type 0
@@ -149,13 +234,13 @@ IsBadPayload kind payload = (kind ≡ answers.SERVER) × (IsTrue (is_listed payl
 
 -- the export that the answer to EXPORT_NAME names, or the ACK to GO, is larger than this project takes
 abbrev pub IsTooLarge : Phase → List ℕ → Type 0
-IsTooLarge Naming bytes = FitsLimit (record { size = number_at 0 8 bytes; flags = number_at 8 2 bytes }) → ⊥
-IsTooLarge (Answering option payload (Some export)) bytes = (option ≡ options.GO) × (number_at 12 4 bytes ≡ answers.ACK) × (FitsLimit export → ⊥)
+IsTooLarge Naming bytes = FitsLimit (record { size = export_size bytes; flags = export_flags bytes }) → ⊥
+IsTooLarge (Answering option payload (Some export)) bytes = (option ≡ options.GO) × (answer_kind bytes ≡ answers.ACK) × (FitsLimit export → ⊥)
 IsTooLarge phase bytes = ⊥
 
--- the chunk that the bytes are
+-- the chunk that the bytes are, where they are a whole one
 abbrev pub chunk_in : List ℕ → Message
-chunk_in bytes = Chunk (number_at 4 2 bytes) (number_at 6 2 bytes) (number_at 8 8 bytes) (drop 20 bytes)
+chunk_in bytes = Chunk (chunk_flags bytes) (chunk_type bytes) (cookie_of bytes) (chunk_payload bytes)
 
 -- the payload of a chunk has the form of its type, and NONE has DONE
 abbrev pub HasForm : (flags kind : ℕ) (payload : List ℕ) → Type 0
@@ -180,75 +265,80 @@ IsBadContent export e kind payload =
 
 -- the reply to a request is finished by a chunk with DONE and holds no error chunk
 abbrev pub FinishesWell : Operation → List ℕ → Type 0
-FinishesWell e bytes = IsTrue (has (number_at 4 2 bytes) chunks.DONE) × (IsTrue (has_failed (with_reply e (chunk_in bytes))) → ⊥)
+FinishesWell e bytes = IsTrue (has (chunk_flags bytes) chunks.DONE) × (IsTrue (has_failed (with_reply e (chunk_in bytes))) → ⊥)
 
 -- an answer that is no error, to an improper option, or a reply of success, finished, to an improper request
 abbrev pub IsImproperSuccess : (since now : Core) → Phase → List ℕ → Type 0
-IsImproperSuccess since now (Answering option payload info) bytes = (IsTrue (is_proper_option option payload) → ⊥) × IsSuccess (number_at 12 4 bytes)
+IsImproperSuccess since now (Answering option payload info) bytes = (IsTrue (is_proper_option option payload) → ⊥) × IsNoError (answer_kind bytes)
 IsImproperSuccess since now (Transmission export) bytes =
-    (e : Operation) × IsAnswered since now (number_at 8 8 bytes) e × (IsTrue (is_proper export e) → ⊥)
-    × (BeginsSimple bytes × (number_at 4 4 bytes ≡ 0) ⊎ BeginsChunk bytes × FinishesWell e bytes)
+    (e : Operation) × IsAnswered since now (cookie_of bytes) e × (IsTrue (is_proper export e) → ⊥)
+    × (BeginsSimple bytes × (simple_error bytes ≡ 0) ⊎ BeginsChunk bytes × FinishesWell e bytes)
 IsImproperSuccess since now phase bytes = ⊥
 
--- the lines of the table: of a side's open bytes, `since` what had completed before the first of them, `now` what has completed
+-- the rows of the table. "This project's choice" marks what proto.md leaves open, or only asks a side to do, and this project
+-- refuses
 pub data RowIn (since now : Core) (bytes : List ℕ) : WireFault → Phase → Side → Type 0 where
   -- at the head of a greeting, option, answer or request: a wrong magic number (proto.md, "Newstyle negotiation", "Request message")
   wrong_magic : {phase : Phase} {s : Side} → IsHead phase s bytes → HasWrongMagic phase s bytes → RowIn since now bytes BadMagic phase s
   -- at the fourth byte of a server's message in transmission: neither of its magic numbers (proto.md, "Transmission")
-  neither_magic : {export : Exporting} → length bytes ≡ 4 → (BeginsSimple bytes → ⊥) → (BeginsChunk bytes → ⊥) → RowIn since now bytes BadMagic (Transmission export) Server
-  -- at the head: no fixed newstyle (proto.md, "Flag fields"; this project's choice)
+  neither_magic : {export : Exporting} → length bytes ≡ short_magic_length → (BeginsSimple bytes → ⊥) → (BeginsChunk bytes → ⊥) → RowIn since now bytes BadMagic (Transmission export) Server
+  -- at the head: no fixed newstyle (proto.md, "Handshake flags", "Client flags"; that others are refused is this project's choice)
   not_fixed_newstyle : {phase : Phase} {s : Side} → IsHead phase s bytes → LacksNewstyle phase s bytes → RowIn since now bytes NotFixedNewstyle phase s
-  -- at the client's flags: more than was offered (proto.md, "Flag fields")
-  bad_client_flags : length bytes ≡ 4 → SetsMore now.offered (number_at 0 4 bytes) → RowIn since now bytes BadClientFlags Flags Client
+  -- at the client's flags: more than was offered (proto.md, "Client flags")
+  bad_client_flags : length bytes ≡ head_lengths.CLIENT_FLAGS → SetsMore now.offered (taken_flags bytes) → RowIn since now bytes BadClientFlags Flags Client
   -- at the first byte (proto.md, "Fixed newstyle negotiation", "Terminating the transmission phase")
   out_of_turn : {phase : Phase} {s : Side} → length bytes ≡ 1 → IsOutOfTurn phase now s → RowIn since now bytes OutOfTurn phase s
   -- at the head of an answer: another option's number (proto.md, "Fixed newstyle negotiation")
-  wrong_option : {phase : Phase} (asked : ℕ) → IsAsked phase asked → length bytes ≡ 20 → number_at 8 4 bytes ≢ asked → RowIn since now bytes WrongOption phase Server
+  wrong_option : {phase : Phase} (asked : ℕ) → IsAsked phase asked → length bytes ≡ head_lengths.ANSWER → answered_option bytes ≢ asked → RowIn since now bytes WrongOption phase Server
   -- at the head of an answer: a kind that the option does not take (proto.md, "Option types")
-  bad_reply_kind : {phase : Phase} → IsFollowed phase → length bytes ≡ 20 → IsSuccess (number_at 12 4 bytes) → (TakesKind phase (number_at 12 4 bytes) → ⊥) → RowIn since now bytes BadReplyKind phase Server
+  bad_reply_kind : {phase : Phase} → IsFollowed phase → length bytes ≡ head_lengths.ANSWER → IsNoError (answer_kind bytes) → (TakesKind phase (answer_kind bytes) → ⊥) → RowIn since now bytes BadReplyKind phase Server
   -- at the head of an answer: no error, to an option that is not followed (this project's choice)
-  out_of_profile : {option : ℕ} {payload : List ℕ} {info : Option Exporting} → (IsFollowed (Answering option payload info) → ⊥) → length bytes ≡ 20 → IsSuccess (number_at 12 4 bytes)
+  out_of_profile : {option : ℕ} {payload : List ℕ} {info : Option Exporting} → (IsFollowed (Answering option payload info) → ⊥) → length bytes ≡ head_lengths.ANSWER → IsNoError (answer_kind bytes)
       → RowIn since now bytes OutOfProfile (Answering option payload info) Server
   -- at the head of an ACK: it has a payload (proto.md, "Option reply types")
-  ack_with_payload : {phase : Phase} (asked : ℕ) → IsAsked phase asked → length bytes ≡ 20 → number_at 12 4 bytes ≡ answers.ACK → number_at 16 4 bytes ≢ 0 → RowIn since now bytes BadReplyPayload phase Server
+  ack_with_payload : {phase : Phase} (asked : ℕ) → IsAsked phase asked → length bytes ≡ head_lengths.ANSWER → answer_kind bytes ≡ answers.ACK → answer_length bytes ≢ 0 → RowIn since now bytes BadReplyPayload phase Server
   -- at the last byte of an answer (proto.md, "Option reply types", "Transmission flags")
-  bad_reply_payload : {option : ℕ} {payload : List ℕ} {info : Option Exporting} → IsWholeIn since now bytes (Answering option payload info) Server → IsBadPayload (number_at 12 4 bytes) (drop 20 bytes)
+  bad_reply_payload : {option : ℕ} {payload : List ℕ} {info : Option Exporting} → IsWholeIn since now bytes (Answering option payload info) Server → IsBadPayload (answer_kind bytes) (answer_payload bytes)
       → RowIn since now bytes BadReplyPayload (Answering option payload info) Server
   -- at the head of an ACK to a proper INFO or GO: no info on the export came before it (proto.md, "Option types")
-  missing_export_info : {option : ℕ} {payload : List ℕ} → ((option ≡ options.INFO) ⊎ (option ≡ options.GO)) → IsTrue (is_proper_option option payload) → length bytes ≡ 20 → number_at 12 4 bytes ≡ answers.ACK
+  missing_export_info : {option : ℕ} {payload : List ℕ} → ((option ≡ options.INFO) ⊎ (option ≡ options.GO)) → IsTrue (is_proper_option option payload) → length bytes ≡ head_lengths.ANSWER → answer_kind bytes ≡ answers.ACK
       → RowIn since now bytes MissingExportInfo (Answering option payload None) Server
   -- at the head of the answer to EXPORT_NAME: no HAS_FLAGS (proto.md, "Transmission flags")
-  no_has_flags : length bytes ≡ 10 → Lacks (number_at 8 2 bytes) transmission.HAS_FLAGS → RowIn since now bytes BadExport Naming Server
+  no_has_flags : length bytes ≡ head_lengths.EXPORT → Lacks (export_flags bytes) transmission.HAS_FLAGS → RowIn since now bytes BadExport Naming Server
   -- at its last byte: the padding is not 124 zeroes (proto.md, "Newstyle negotiation")
-  bad_padding : Lacks now.client_flags handshake.C_NO_ZEROES → IsWholeIn since now bytes Naming Server → drop 10 bytes ≢ replicate 124 0 → RowIn since now bytes BadExport Naming Server
+  bad_padding : Lacks now.client_flags handshake.C_NO_ZEROES → IsWholeIn since now bytes Naming Server → drop head_lengths.EXPORT bytes ≢ replicate head_lengths.PADDING 0 → RowIn since now bytes BadExport Naming Server
   -- at the head of the answer to EXPORT_NAME, and of the ACK to GO: the export is too large (this project's choice)
   export_too_large : {phase : Phase} → IsHead phase Server bytes → IsTooLarge phase bytes → RowIn since now bytes ExportTooLarge phase Server
-  -- at the last byte of a request: an outstanding one has its cookie (proto.md, "Request message")
-  cookie_in_use : {export : Exporting} (k : ℕ) → IsWholeIn since now bytes (Transmission export) Client → number_at 6 2 bytes ≢ commands.DISC → target (number_at 8 8 bytes) now.entries ≡ Some k
+  -- at the last byte of a request: an outstanding one has its cookie (proto.md, "Request message"; that it is refused, and when it
+  -- is tried, is this project's choice)
+  cookie_in_use : {export : Exporting} (k : ℕ) → IsWholeIn since now bytes (Transmission export) Client → request_type bytes ≢ commands.DISC → target (cookie_of bytes) now.entries ≡ Some k
       → RowIn since now bytes CookieInUse (Transmission export) Client
-  -- at the head of a reply: no request with its cookie was outstanding when it started (proto.md, "Transmission")
-  unknown_cookie : {export : Exporting} → IsHead (Transmission export) Server bytes → target (number_at 8 8 bytes) since.entries ≡ None → RowIn since now bytes UnknownCookie (Transmission export) Server
+  -- at the head of a reply: no request with its cookie was outstanding when it started (proto.md, "Transmission"; that the start of
+  -- the reply decides is this project's choice)
+  unknown_cookie : {export : Exporting} → IsHead (Transmission export) Server bytes → target (cookie_of bytes) since.entries ≡ None → RowIn since now bytes UnknownCookie (Transmission export) Server
   -- at the head of a simple reply: to a READ under structured replies, or to a request that has received a chunk (proto.md, "Simple reply message")
-  simple_forbidden : {export : Exporting} (e : Operation) → BeginsSimple bytes → length bytes ≡ 16 → IsAnswered since now (number_at 8 8 bytes) e → (e.replies ≢ []) ⊎ (e.command ≡ commands.READ) × (now.structured ≡ true)
+  simple_forbidden : {export : Exporting} (e : Operation) → BeginsSimple bytes → length bytes ≡ head_lengths.SIMPLE → IsAnswered since now (cookie_of bytes) e → (e.replies ≢ []) ⊎ (e.command ≡ commands.READ) × (now.structured ≡ true)
       → RowIn since now bytes SimpleForbidden (Transmission export) Server
-  -- at the head of a chunk: structured replies are not in force (proto.md, "Structured replies")
-  chunk_forbidden : {export : Exporting} → BeginsChunk bytes → length bytes ≡ 20 → now.structured ≡ false → RowIn since now bytes ChunkForbidden (Transmission export) Server
-  -- at the last byte of a chunk: an unknown type, or a payload without its form (proto.md, "Structured reply chunk message")
-  bad_chunk : {export : Exporting} → BeginsChunk bytes → IsWholeIn since now bytes (Transmission export) Server → (HasForm (number_at 4 2 bytes) (number_at 6 2 bytes) (drop 20 bytes) → ⊥)
+  -- at the head of a chunk: structured replies are not in force (proto.md, "Structured reply chunk message")
+  chunk_forbidden : {export : Exporting} → BeginsChunk bytes → length bytes ≡ head_lengths.CHUNK → now.structured ≡ false → RowIn since now bytes ChunkForbidden (Transmission export) Server
+  -- at the last byte of a chunk: an unknown type, or a payload without its form (proto.md, "Structured reply types"; that every
+  -- unknown type and form is refused is this project's choice)
+  bad_chunk : {export : Exporting} → BeginsChunk bytes → IsWholeIn since now bytes (Transmission export) Server → (HasForm (chunk_flags bytes) (chunk_type bytes) (chunk_payload bytes) → ⊥)
       → RowIn since now bytes BadChunk (Transmission export) Server
-  -- at the last byte of a chunk: it does not fit its request (proto.md, "Structured reply message")
-  bad_content : {export : Exporting} (e : Operation) → BeginsChunk bytes → IsWholeIn since now bytes (Transmission export) Server → IsAnswered since now (number_at 8 8 bytes) e
-      → IsBadContent export e (number_at 6 2 bytes) (drop 20 bytes) → RowIn since now bytes BadContent (Transmission export) Server
-  -- at the last byte of a chunk with DONE to a READ without an error chunk: an offset x of its range lies in no piece (proto.md, "Structured reply message")
-  incomplete_read : {export : Exporting} (e : Operation) (x : ℕ) → BeginsChunk bytes → IsWholeIn since now bytes (Transmission export) Server → IsAnswered since now (number_at 8 8 bytes) e → FinishesWell e bytes
+  -- at the last byte of a chunk: it does not fit its request (proto.md, "Structured reply types", "Request types"; which chunks fit
+  -- an improper request, and when DF counts, is this project's choice)
+  bad_content : {export : Exporting} (e : Operation) → BeginsChunk bytes → IsWholeIn since now bytes (Transmission export) Server → IsAnswered since now (cookie_of bytes) e
+      → IsBadContent export e (chunk_type bytes) (chunk_payload bytes) → RowIn since now bytes BadContent (Transmission export) Server
+  -- at the last byte of a chunk with DONE to a READ without an error chunk: an offset x of its range lies in no piece (proto.md, "Request types")
+  incomplete_read : {export : Exporting} (e : Operation) (x : ℕ) → BeginsChunk bytes → IsWholeIn since now bytes (Transmission export) Server → IsAnswered since now (cookie_of bytes) e → FinishesWell e bytes
       → e.command ≡ commands.READ → IsTrue (is_in e.offset e.length x) → byte_at (pieces (with_reply e (chunk_in bytes))) x ≡ None
       → RowIn since now bytes IncompleteRead (Transmission export) Server
   -- at the last byte: a success for what is improper (this project's choice)
   success_of_improper : {phase : Phase} → IsWholeIn since now bytes phase Server → IsImproperSuccess since now phase bytes → RowIn since now bytes SuccessOfImproper phase Server
   -- at the head of a DISC: an offset or a length (proto.md, "Request types")
-  bad_disconnect : {export : Exporting} → length bytes ≡ 28 → number_at 6 2 bytes ≡ commands.DISC → (number_at 16 8 bytes ≢ 0) ⊎ (number_at 24 4 bytes ≢ 0) → RowIn since now bytes BadDisconnect (Transmission export) Client
+  bad_disconnect : {export : Exporting} → length bytes ≡ head_lengths.REQUEST → request_type bytes ≡ commands.DISC → (request_offset bytes ≢ 0) ⊎ (request_length bytes ≢ 0) → RowIn since now bytes BadDisconnect (Transmission export) Client
 
--- the line of a fault holds of a side's open bytes
+-- the row of a fault holds of a side's open bytes
 abbrev pub Row : WireFault → (since now : Core) → Side → List ℕ → Type 0
 Row fault since now s bytes = RowIn since now bytes fault now.phase s
 

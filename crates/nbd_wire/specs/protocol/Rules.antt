@@ -49,7 +49,7 @@ MayStartIn phase core s m = turn phase ≡ Some s
 abbrev pub MayStart : Core → Side → Message → Type 0
 MayStart core s m = MayStartIn core.phase core s m
 
--- the client speaks fixed newstyle, sets no unknown flag and takes only what was offered (proto.md, "Flag fields")
+-- the client speaks fixed newstyle, sets no unknown flag and takes only what was offered (proto.md, "Handshake flags", "Client flags")
 abbrev pub AreClientFlags : ℕ → ℕ → Type 0
 AreClientFlags offered flags =
     IsTrue (has flags handshake.C_FIXED_NEWSTYLE)

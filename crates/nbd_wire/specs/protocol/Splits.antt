@@ -1,4 +1,5 @@
--- The place of a refusal: a run but for open bytes, at which a line of the table of faults holds, and no line at any byte before.
+-- The place of a refusal: a run but for open bytes, at which a row of the table of faults holds, and no row at any byte before. And
+-- a session under way: one at which none holds.
 use Rattle.std.specs.Prelude.{List, [], ◌∷◌, ◌++◌, ◌≡◌, ◌<◌, ◌&&◌, ◌||◌, not, Bool, false, if◌then◌else◌, Option, Some, None, ℕ}
 use Rattle.nbd_wire.specs.declared.fault.WireFault.{WireFault}
 use Rattle.nbd_wire.specs.declared.message.Message.{Message}
@@ -19,7 +20,7 @@ completes_in s (Starts t m ∷ items) = completes_in s items
 completes_in s (Completes t m ∷ items) = same_side s t || completes_in s items
 completes_in s (Serves k ∷ items) = completes_in s items
 
--- the open bytes of a side: those after its last completed message
+-- the open bytes of a side: those after its last completed message; they begin its next one, or belong to none
 abbrev pub open_bytes : Side → List Item → List ℕ
 open_bytes s [] = []
 open_bytes s (Byte t b ∷ items) = if same_side s t && not (completes_in s items) then b ∷ open_bytes s items else open_bytes s items
@@ -43,13 +44,14 @@ last_or last (Starts t m ∷ items) = last_or last items
 last_or last (Completes t m ∷ items) = last_or last items
 last_or last (Serves k ∷ items) = last_or last items
 
--- the line of a fault holds of the side whose byte is the last
+-- the row of a fault holds of the open bytes of the side whose byte is the last
 pub record HoldsAt (fault : WireFault) (items : List Item) : Type 0 where
   pub s : Side
   pub is_last : last_or None items ≡ Some s
   pub row : Row fault (since_from s start.core items) (ends_at start items).core s (open_bytes s items)
 
--- the open bytes of the side whose byte is the last are a whole message
+-- the open bytes of the side whose byte is the last are a whole message. Of the other side nothing is said: its open bytes were
+-- looked at when its own last byte came
 pub record IsWholeAt (items : List Item) : Type 0 where
   pub s : Side
   pub is_last : last_or None items ≡ Some s
@@ -62,13 +64,24 @@ pub record IsSplit (items : List Item) (ps : List Pair) (messages : List Message
   pub has_pairs : pairs items ≡ ps
   pub has_messages : completed_messages items ≡ messages
 
--- before each byte no line holds and no message is whole and not complete
-abbrev pub IsClear : List Item → Type 0
-IsClear items = (before more : List Item) (s : Side) (b : ℕ) → items ≡ before ++ Byte s b ∷ more →
-    ((fault : WireFault) → HoldsAt fault before → ⊥) × (IsWholeAt before → ⊥)
+-- no row of the table holds of the side whose byte is the last, and its open bytes are no whole message
+abbrev pub HasNoneAt : List Item → Type 0
+HasNoneAt items = ((fault : WireFault) → HoldsAt fault items → ⊥) × (IsWholeAt items → ⊥)
 
--- the place of these bytes is the last of them, with this fault: of a split of them with these messages the fault's line holds at the
--- last byte, no earlier line of the table does, and at no byte before any line does
+-- before each byte no row holds, and no message is whole that has not completed
+abbrev pub IsClear : List Item → Type 0
+IsClear items = (before more : List Item) (s : Side) (b : ℕ) → items ≡ before ++ Byte s b ∷ more → HasNoneAt before
+
+-- a session under way: a split of these bytes with these messages at which no row holds and no message is whole that has not
+-- completed, nor before any byte
+pub record IsUnderWay (ps : List Pair) (messages : List Message) : Type 0 where
+  pub items : List Item
+  pub split : IsSplit items ps messages
+  pub clear : IsClear items
+  pub none_at : HasNoneAt items
+
+-- the place of these bytes is the last of them, with this fault: of a split of them with these messages the fault's row holds at the
+-- last byte, no earlier row of the table holds there (`lowest`, of this one split), and at no byte before any row holds
 pub record IsPlace (ps : List Pair) (messages : List Message) (fault : WireFault) : Type 0 where
   pub items : List Item
   pub split : IsSplit items ps messages

@@ -1,6 +1,5 @@
-use Rattle.std.proofs.Common.{◌+◌, ◌≤◌, ◌++◌, ℕ, length, sym, ◌∙◌, ap, arith, take}
+use Rattle.std.proofs.Common.{◌++◌, length, sym, ◌∙◌, ap, arith, take}
 use Rattle.nbd_wire.specs.protocol.Captures.{flat, side_pairs}
-use Rattle.nbd_session.specs.Sessions.{bytes_taken}
 use Rattle.nbd_judge.specs.Captures.{IsFaultOf, records_of}
 use Rattle.nbd_judge.proofs.verdicts.ChunkLemmas.{finish_told, prefix_more, prefix_whole, handed_on, piece_fits}
 use Rattle.nbd_judge.proofs.verdicts.RefusalLemmas.{fault_in, finish_fault}

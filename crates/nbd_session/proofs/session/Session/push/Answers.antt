@@ -1,5 +1,5 @@
 use Rattle.nbd_session.proofs.judge.BeginningLemmas.{adds_nothing}
-use Rattle.nbd_session.proofs.judge.RefusalLemmas.{refuses, refuses_again, stands_exactly, stands_placeless}
+use Rattle.nbd_session.proofs.judge.RefusalLemmas.{refuses, refuses_again, stands_exactly, stands_placeless, stands_under_way}
 use Rattle.nbd_session.proofs.session.Session.push.Goals as goal
 
 -- src/session.rt:73:13
@@ -17,3 +17,6 @@ returns-clause-complete c = stands_exactly c.push.new.self c.self.inside.closed 
 
 pub returns-clause-placeless : goal.returns-clause-placeless
 returns-clause-placeless c = stands_placeless c.push.new.self c.self.inside.closed c.in_default-push.ensures.stands
+
+pub returns-clause-under_way : goal.returns-clause-under_way
+returns-clause-under_way c = stands_under_way c.push.new.self c.self.inside.closed c.in_default-push.ensures.stands
