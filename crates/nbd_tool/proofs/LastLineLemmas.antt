@@ -90,9 +90,10 @@ module _ (known : Option (List ℕ)) (chunks : List (Side × Vec ℕ Global)) (r
   messages_shown old new a = record {
     chunks = chunks_of chunks;
     is_text = text;
-    prefix = pairs_of r;
+    yes = is_accepted (fault_at_end r);
     messages = r.messages;
-    leads = leads (flat_of (chunks_of chunks)) r (subst (λ ps. IsOver ps r) (sym (pairs_told chunks)) over) run;
+    last = last_line (fault_at_end r);
+    is_shown = told;
     appended = a;
   }
 

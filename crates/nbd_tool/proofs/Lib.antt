@@ -4,3 +4,4 @@ pub mod LastLineLemmas
 pub mod OverLemmas
 pub mod SayLemmas
 pub mod SizeLemmas
+pub mod UniqueLemmas

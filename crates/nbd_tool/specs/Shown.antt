@@ -50,13 +50,14 @@ pub record WritesSome (known old new : Option (List ℕ)) : Type 0 where
   pub is_shown : IsOutput (flat_of chunks) yes lines
   pub appended : AppendsPrefix old new lines
 
--- a prefix of the message lines was written
+-- a prefix of what is to be shown was written, of its message lines alone
 pub record WritesMessages (known old new : Option (List ℕ)) : Type 0 where
   pub chunks : List Chunk
   pub is_text : IfSome known (λ text. IsCaptureText text chunks)
-  pub prefix : List Pair
+  pub yes : Bool
   pub messages : List Message
-  pub leads : Leads (flat_of chunks) prefix messages
+  pub last : List ℕ
+  pub is_shown : IsOutput (flat_of chunks) yes (message_lines messages ++ last)
   pub appended : AppendsPrefix old new (message_lines messages)
 
 -- what a fault says of the known bytes of the capture

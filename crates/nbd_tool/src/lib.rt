@@ -4,6 +4,7 @@
 mod check;
 pub mod fault;
 mod input;
+pub mod laws;
 mod make;
 mod show;
 mod start;

@@ -1,0 +1,58 @@
+-- Each run has one line, or one output, to write.
+use Rattle.std.proofs.Common.{◌≡◌, ℕ, List, [], ◌∷◌, ◌++◌, length, refl, sym, ◌∙◌, ap, subst, Bool, true, false}
+use Rattle.std.specs.Prelude.{codes}
+use Rattle.nbd_wire.specs.declared.fault.WireFault.{WireFault}
+use Rattle.nbd_wire.specs.declared.message.Message.{Message}
+use Rattle.nbd_wire.specs.protocol.Captures.{Pair}
+use Rattle.nbd_wire.specs.protocol.Marks.{Item, Byte, Starts, Completes, Serves, completed_messages, without_service}
+use Rattle.nbd_capture.specs.Capture.{Chunk, IsCaptureLine, IsCaptureText}
+use Rattle.nbd_capture.specs.Order.{IsOrderLine, IsOrderText}
+use Rattle.nbd_capture.proofs.FormLemmas.{one_saying}
+use Rattle.nbd_capture.proofs.NumeralLemmas.{one_number}
+use Rattle.nbd_capture.proofs.ReadingLemmas.{one_reading}
+use Rattle.nbd_laws.proofs.service.ServiceLemmas.{same_marks}
+use Rattle.nbd_session.specs.Sessions.{HasRun}
+use Rattle.nbd_judge.specs.Captures.{IsChecked}
+use Rattle.nbd_judge.specs.declared.verdict.Verdict.TheVariants.{Wire}
+use Rattle.nbd_judge.proofs.verdicts.UniqueLemmas.{one_answer, one_wire_fault}
+use Rattle.nbd_lines.specs.Script.{message_lines}
+use Rattle.nbd_tool.specs.Runs.{flat_of}
+use Rattle.nbd_tool.specs.Shown.IsOutput.{accepted, refused}
+use Rattle.nbd_tool.specs.Uniqueness.{OneLine, OneOutput}
+use Rattle.nbd_tool.specs.Verdicts.{line}
+
+pub one_line : OneLine
+one_line text numbers_text initial v w a b =
+    let chunks : a.0 ≡ b.0 = one_reading IsCaptureLine one_saying text a.0 b.0 a.2 b.2 in
+    let numbers : a.1 ≡ b.1 = one_reading IsOrderLine one_number numbers_text a.1 b.1 a.3 b.3 in
+    one_answer (flat_of b.0) b.1 initial v w
+    (subst (λ (o : List ℕ). IsChecked (flat_of b.0) o initial v) numbers (subst (λ (c : List Chunk). IsChecked (flat_of c) a.1 initial v) chunks a.4)) b.4
+
+-- the moments of service aside, the same messages complete
+completed_alike : (items : List Item) → completed_messages (without_service items) ≡ completed_messages items
+completed_alike [] = refl
+completed_alike (Byte s b ∷ items) = completed_alike items
+completed_alike (Starts s m ∷ items) = completed_alike items
+completed_alike (Completes s m ∷ items) = ap (λ ms. m ∷ ms) (completed_alike items)
+completed_alike (Serves k ∷ items) = completed_alike items
+
+-- two runs with the same bytes complete the same messages
+one_run : (capture : List Pair) (messages more : List Message) → HasRun capture messages [] [] → HasRun capture more [] [] → messages ≡ more
+one_run capture messages more a b =
+    sym a.has_messages
+    ∙ sym (completed_alike a.items)
+    ∙ ap completed_messages (same_marks a.items b.items a.is_run b.is_run (a.has_pairs ∙ sym b.has_pairs))
+    ∙ completed_alike b.items
+    ∙ b.has_messages
+
+pub one_output : OneOutput
+one_output capture _ _ _ _ (accepted messages run) (accepted more other) = (refl, ap (λ ms. message_lines ms ++ codes "ok\n") (one_run capture messages more run other))
+one_output capture _ _ _ _ (accepted messages run) (refused prefix more fault leads is none) = absurd (none run.items run.is_run run.has_pairs)
+one_output capture _ _ _ _ (refused prefix more fault leads is none) (accepted messages run) = absurd (none run.items run.is_run run.has_pairs)
+one_output capture _ _ _ _ (refused prefix messages fault leads is none) (refused other more again leads' is' none') =
+    let one = one_wire_fault capture messages more (length prefix) (length other) fault again is is' in (
+      refl,
+      ap (λ ms. message_lines ms ++ line (Wire (length prefix) fault)) one.2
+      ∙ ap (λ n. message_lines more ++ line (Wire n fault)) one.0
+      ∙ ap (λ f. message_lines more ++ line (Wire (length other) f)) one.1,
+    )
