@@ -16,7 +16,7 @@ ArePairs (p ∷ ps) = (p.byte < 256) × ArePairs ps
 abbrev pub side_pairs : Side → List ℕ → List Pair
 side_pairs s bytes = map (λ b. record { from = s; byte = b }) bytes
 
--- the flat capture: the bytes of all chunks with their senders, in order
+-- the flat capture: the bytes of all records with their senders, in order
 abbrev pub flat : List (Side × List ℕ) → List Pair
 flat [] = []
 flat (chunk ∷ chunks) = side_pairs chunk.0 chunk.1 ++ flat chunks

@@ -20,7 +20,7 @@ start_byte Unknown x = None
 start_byte Zeroes x = Some 0
 start_byte (Image bytes) x = slice_get bytes x
 
--- an image has the size of the export
+-- an image has the size of the export; nothing is asked where there is no export or no image
 abbrev pub FitsImage : Option Exporting → Start → Type 0
 FitsImage (Some export) (Image bytes) = length bytes ≡ export.size
 FitsImage _ _ = Unit {0}

@@ -84,14 +84,14 @@ byte_or_start None initial x = initial x
 abbrev pub byte_before : (ℕ → Option Effect) → List ℕ → (ℕ → Option ℕ) → ℕ → ℕ → Option ℕ
 byte_before requests order initial k x = byte_or_start (last_touch requests x (entries_before k order)) initial x
 
--- the bytes have a byte at x that is known, and the read gives another
+-- the byte at x is known, and the read gives another or none
 abbrev pub Differs : (byte read : ℕ → Option ℕ) → ℕ → Type 0
 Differs byte read x = (b : ℕ) × (byte x ≡ Some b) × (read x ≡ Some b → ⊥)
 
--- x lies in a successful READ, which gives another byte there than the known one
+-- x lies in a successful READ, which gives another byte there than the known one, or none
 abbrev pub IsWrongIn : Effect → (ℕ → Option ℕ) → ℕ → Type 0
 IsWrongIn e byte x = (e.command ≡ commands.READ) × (e.succeeded ≡ true) × IsTrue (is_in e.offset e.length x) × Differs byte e.read x
 
--- a wrong byte: request k is such a READ of the export's bytes when it is served
+-- request k gives a wrong byte at x, against the export as it is when k is served
 abbrev pub IsWrong : (ℕ → Option Effect) → List ℕ → (ℕ → Option ℕ) → ℕ → ℕ → Type 0
 IsWrong requests order initial k x = (e : Effect) × (requests k ≡ Some e) × IsWrongIn e (byte_before requests order initial k) x

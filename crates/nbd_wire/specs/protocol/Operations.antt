@@ -75,23 +75,24 @@ pieces e = pieces_of e.offset e.replies
 abbrev pub Covers : Operation → List Piece → Type 0
 Covers e pieces = (x : ℕ) → IsTrue (is_in e.offset e.length x) → IsTrue (is_some (byte_at pieces x))
 
--- the type of a numbered request is known (proto.md, "Request types")
+-- the type of a numbered request is one that this project follows (proto.md, "Request types", without BLOCK_STATUS)
 abbrev pub is_known : ℕ → Bool
 is_known command =
     (command == commands.READ) || (command == commands.WRITE) || (command == commands.FLUSH)
     || (command == commands.TRIM) || (command == commands.CACHE) || (command == commands.WRITE_ZEROES)
 
--- the types whose offset and length are a range of the export
+-- the types whose offset and length are a range of the export (proto.md, "Request types")
 abbrev pub has_range : ℕ → Bool
 has_range command =
     (command == commands.READ) || (command == commands.WRITE)
     || (command == commands.TRIM) || (command == commands.CACHE) || (command == commands.WRITE_ZEROES)
 
--- the types that change the export
+-- the types that change the export (proto.md, "Request types")
 abbrev pub is_change : ℕ → Bool
 is_change command = (command == commands.WRITE) || (command == commands.TRIM) || (command == commands.WRITE_ZEROES)
 
--- the export offers the type; CACHE needs no SEND_CACHE (this project's choice)
+-- the export offers the type: FLUSH, TRIM and WRITE_ZEROES by their flags, every other always (proto.md, "Transmission flags"; that
+-- CACHE needs no SEND_CACHE is this project's choice)
 abbrev pub is_offered : ℕ → ℕ → Bool
 is_offered export command =
     (not (command == commands.FLUSH) || has export transmission.SEND_FLUSH)

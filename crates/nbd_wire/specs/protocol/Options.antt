@@ -15,12 +15,12 @@ use Rattle.nbd_wire.specs.protocol.Operations.{Exporting}
 use Rattle.nbd_wire.specs.protocol.Flags.{has}
 use Rattle.nbd_wire.specs.protocol.States.{Phase, Greet, Flags, Choosing, Naming, Aborting, Answering, Ended, Transmission}
 
--- the kind of an answer is an error
+-- the kind of an option reply is an error (proto.md, "Option reply types")
 abbrev pub is_error : ℕ → Bool
 is_error kind = has kind answers.ERROR
 
--- the data of an option has its form; EXPORT_NAME and ABORT take any data, and an option that is
--- not listed here is malformed
+-- the data of an option has its form; EXPORT_NAME and ABORT take any data; an option that is not listed here is not followed and
+-- counts as malformed (proto.md, "Option types"; not following it is this project's choice)
 unfoldable pub is_proper_option : ℕ → List ℕ → Bool
 is_proper_option option payload =
     if (option == options.EXPORT_NAME) || (option == options.ABORT) then true
@@ -39,12 +39,12 @@ turn (Answering _ _ _) = Some Server
 turn Ended = None
 turn (Transmission _) = None
 
--- the export is not larger than this project takes
+-- the export is not larger than this project takes (this project's choice)
 abbrev pub FitsLimit : Exporting → Type 0
 FitsLimit export = export.size ≤ EXPORT_SIZE
 
--- an ACK ends the answer to an option; to INFO and GO it comes after an EXPORT info, and a GO that
--- it answers names an export within the limit
+-- an empty ACK ends the answer to an option; to INFO and GO it comes after an EXPORT info, and a GO that it answers names an export
+-- within the limit (proto.md, "Option types")
 abbrev pub MayAcknowledge : ℕ → Option Exporting → Type 0
 MayAcknowledge option info =
     (option ≡ options.LIST)
@@ -52,12 +52,12 @@ MayAcknowledge option info =
     ⊎ (option ≡ options.INFO) × IsTrue (is_some info)
     ⊎ (option ≡ options.GO) × ((export : Exporting) × (info ≡ Some export) × FitsLimit export)
 
--- an INFO answer has its form, and one on the export has HAS_FLAGS
+-- an info has its form, and one on the export has HAS_FLAGS (proto.md, "Option reply types", "Transmission flags")
 abbrev pub IsInfo : List ℕ → Type 0
 IsInfo payload = (info : Info) × (info_of payload ≡ Some info) × ((size flags : ℕ) → info ≡ Export size flags → IsTrue (has flags transmission.HAS_FLAGS))
 
--- an answer to an option with this data, of which this info has come: an error, or where the option
--- is proper what its row allows
+-- an option reply to an option with this data, of which this info has come: an error, or where the option is proper one of a kind
+-- that the option takes (proto.md, "Option types"; only errors where it is not proper is this project's choice)
 abbrev pub MayAnswer : (option : ℕ) (payload : List ℕ) (info : Option Exporting) (kind : ℕ) (answer : List ℕ) → Type 0
 MayAnswer option payload info kind answer =
     IsTrue (is_error kind)

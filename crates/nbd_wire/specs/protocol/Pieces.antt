@@ -45,7 +45,7 @@ is_in offset len x = nat_le offset x && nat_lt x (offset + len)
 abbrev pub holds : Piece → ℕ → Bool
 holds piece x = is_in (piece_offset piece) (piece_size piece) x
 
--- the byte that the pieces give at x
+-- the byte that the first of the pieces with x gives there, if one has x
 abbrev pub byte_at : List Piece → ℕ → Option ℕ
 byte_at [] x = None
 byte_at (piece ∷ pieces) x = if holds piece x then Some (piece_byte piece x) else byte_at pieces x

@@ -13,7 +13,7 @@ use Rattle.nbd_wire.specs.protocol.Pieces.{SharesNone, is_in, piece_offset, piec
 use Rattle.nbd_wire.specs.protocol.Flags.{has}
 use Rattle.nbd_wire.specs.protocol.States.{with_reply}
 
--- how many bytes a simple reply carries
+-- how many bytes a simple reply carries (proto.md, "Simple reply message")
 abbrev pub simple_length : Operation → ℕ → ℕ
 simple_length e error = if (e.command == commands.READ) && (error == 0) then e.length else 0
 
@@ -27,7 +27,7 @@ IsSimpleReply structured export e error payload =
     × (error ≡ 0 → IsTrue (is_proper export e))
 
 -- a content chunk answers a READ, lies in its range, shares no offset with an earlier one, and is
--- the only one of a proper READ with DF
+-- the only one of a proper READ with DF (proto.md, "Structured reply types", "Command flags")
 abbrev pub IsContent : Exporting → Operation → Piece → Type 0
 IsContent export e piece =
     (e.command ≡ commands.READ)
@@ -35,7 +35,7 @@ IsContent export e piece =
     × SharesNone piece (pieces e)
     × (IsTrue (is_proper export e && has e.flags command_flags.DF) → pieces e ≡ [])
 
--- an error chunk with an offset names one of the request's range
+-- an error chunk with an offset names one of the request's range (proto.md, "Structured reply types")
 abbrev pub IsFailure : Operation → Failure → Type 0
 IsFailure e failure = (x : ℕ) → failure.offset ≡ Some x → IsTrue (is_in e.offset e.length x)
 
@@ -47,7 +47,8 @@ IsChunk export e flags kind payload =
     ⊎ ((piece : Piece) × (content_of kind payload ≡ Some piece) × IsContent export e piece)
     ⊎ ((failure : Failure) × (failure_of kind payload ≡ Some failure) × IsFailure e failure)
 
--- a finished structured reply states a failure, or the request is proper and a READ is covered
+-- a finished structured reply states a failure, or the request is proper and a READ is covered (proto.md, "Structured reply types";
+-- that an improper request has no success is this project's choice)
 abbrev pub MayFinish : Exporting → Operation → Type 0
 MayFinish export e = IsTrue (has_failed e) ⊎ IsTrue (is_proper export e) × (e.command ≡ commands.READ → Covers e (pieces e))
 

@@ -96,6 +96,7 @@ abbrev pub asked_at : ℕ → List Asked → Option Asked
 asked_at zero asked = None
 asked_at (suc k) asked = slice_get asked k
 
+-- the same, of a request if there is one
 abbrev pub known_of : Option Asked → Option ℕ
 known_of (Some a) = a.known_at
 known_of None = None

@@ -137,6 +137,7 @@ chunk_payload bytes = drop head_lengths.CHUNK bytes
 abbrev pub BeginsSimple : List ℕ → Type 0
 BeginsSimple bytes = short_magic bytes ≡ magics.SIMPLE_MAGIC
 
+-- bytes begin with the number of a chunk
 abbrev pub BeginsChunk : List ℕ → Type 0
 BeginsChunk bytes = short_magic bytes ≡ magics.CHUNK_MAGIC
 

@@ -38,8 +38,8 @@ abbrev pub is_request : Message → Bool
 is_request (Request _ _ _ _ _ _) = true
 is_request _ = false
 
--- what a message's first byte needs: in negotiation the side's turn, in transmission of the client a
--- request and no DISC before, of the server an outstanding request that it answers
+-- what a message's first byte needs: in negotiation the side's turn, in transmission of the client a request and no DISC before, of
+-- the server an outstanding request that it answers (proto.md, "Fixed newstyle negotiation", "Transmission")
 unfoldable pub MayStartIn : Phase → Core → Side → Message → Type 0
 MayStartIn (Transmission export) core Client m = IsTrue (is_request m) × (core.disconnected ≡ false)
 MayStartIn (Transmission export) core Server m = IsTrue (is_some (request_of_reply core m))
@@ -56,16 +56,18 @@ AreClientFlags offered flags =
     × IsTrue (has_only flags (handshake.C_FIXED_NEWSTYLE + handshake.C_NO_ZEROES))
     × (IsTrue (has flags handshake.C_NO_ZEROES) → IsTrue (has offered handshake.NO_ZEROES))
 
--- the answer to EXPORT_NAME is padded exactly where the client did not take NO_ZEROES
+-- the answer to EXPORT_NAME has HAS_FLAGS and a size within the limit, and is padded exactly where the client did not take NO_ZEROES
+-- (proto.md, "Newstyle negotiation", "Option types")
 abbrev pub MayExport : Core → Exporting → Bool → Type 0
 MayExport core export padded =
     IsTrue (has export.flags transmission.HAS_FLAGS) × (padded ≡ not (has core.client_flags handshake.C_NO_ZEROES)) × FitsLimit export
 
--- ABORT is answered by an ACK or an error
+-- ABORT is answered by an empty ACK or an error, with its own number (proto.md, "Option types"; the error is this project's choice)
 abbrev pub MayEnd : (option kind : ℕ) (payload : List ℕ) → Type 0
 MayEnd option kind payload = (option ≡ options.ABORT) × (IsTrue (is_error kind) ⊎ (kind ≡ answers.ACK) × (payload ≡ []))
 
--- a DISC is empty, and any other request has a cookie that no outstanding one has
+-- a DISC has offset and length 0, and any other request has a cookie that no outstanding one has (proto.md, "Request types",
+-- "Transmission"; that cookies must differ is this project's choice where proto.md says SHOULD)
 abbrev pub MayAsk : (is_disc : Bool) → Core → (cookie offset len : ℕ) → Type 0
 MayAsk true core cookie offset len = (offset ≡ 0) × (len ≡ 0)
 MayAsk false core cookie offset len = target cookie core.entries ≡ None
@@ -102,7 +104,7 @@ abbrev pub core_with_request : (is_disc : Bool) → Core → Operation → Core
 core_with_request true core e = record core { disconnected = true }
 core_with_request false core e = record core { entries = core.entries ++ e ∷ [] }
 
--- the ACK to STRUCTURED_REPLY puts structured replies in force
+-- the ACK to STRUCTURED_REPLY puts structured replies in force (proto.md, "Option types")
 abbrev pub grants_structured : (option kind : ℕ) → Bool
 grants_structured option kind = (option == options.STRUCTURED_REPLY) && (kind == answers.ACK)
 
@@ -125,7 +127,8 @@ abbrev pub IsServedFor : State → Side → Message → Type 0
 IsServedFor state Client m = Unit {0}
 IsServedFor state Server m = (k : ℕ) → request_of_reply state.core m ≡ Some k → Names state.served k
 
--- what an item needs; bytes need nothing
+-- what an item needs: a start its message's fields and turn, and of a reply that its request was served; a completion what
+-- `MayComplete` says; a service a completed request that was not served before; a byte nothing
 abbrev pub Allows : State → Item → Type 0
 Allows state (Byte s b) = Unit {0}
 Allows state (Starts s m) = (side m ≡ s) × IsSendable m × MayStart state.core s m × IsServedFor state s m

@@ -1,4 +1,4 @@
--- Which messages have an encoding.
+-- Which messages may stand in a run: those whose fields fit their widths.
 use Rattle.std.specs.Prelude.{ℕ, List, ◌≡◌, ◌<◌, ◌^◌, ◌==◌, if◌then◌else◌, length}
 use Rattle.nbd_wire.specs.declared.message.Message.{Message}
 use Rattle.nbd_wire.specs.declared.message.Message.TheVariants.{Greeting, ClientFlags, Choice, Answer, Exported, Request, Simple, Chunk}

@@ -22,8 +22,8 @@ pub data Phase : Type 0 where
   -- requests and replies
   Transmission : (export : Exporting) → Phase
 
--- the phase, the server's handshake flags, the client's flags, whether structured replies are in
--- force, whether the client has sent DISC, and the numbered requests
+-- the phase, the server's handshake flags, the client's flags, whether structured replies are in force, whether a DISC has completed,
+-- and the numbered requests
 pub record Core : Type 0 where
   pub phase : Phase
   pub offered : ℕ
@@ -44,7 +44,7 @@ start = record {
   served = [];
 }
 
--- the request is outstanding and has this cookie (proto.md, "Ordering of messages and writes")
+-- the request is outstanding and has this cookie (proto.md, "Transmission")
 abbrev pub is_awaiting : ℕ → Operation → Bool
 is_awaiting cookie e = (e.cookie == cookie) && not (is_finished e)
 
