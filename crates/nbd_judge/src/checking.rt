@@ -4,7 +4,7 @@ ghost use Rattle.std.specs.Prelude.{◌<◌, ◌^◌, IfErr, IfOk, length};
 ghost use Rattle.nbd_wire.specs.protocol.Captures.{flat};
 ghost use Rattle.nbd_judge.specs.Beginnings.{initial_of};
 ghost use Rattle.nbd_judge.specs.Captures.{AnswersExactly, IsChecked, IsFaultOf, records_of};
-ghost use Rattle.nbd_judge.specs.internal.Captures.{IsTold};
+ghost use Rattle.nbd_judge.specs.internal.Captures.{HasReport};
 
 use crate::{Verdict, conclude};
 use nbd_export::Start;
@@ -34,7 +34,7 @@ pub fn check(
 // What a session over these chunks finishes with.
 fn session_over(alloc: Global, chunks: &[(Side, Vec<u8>)]) -> Result<Transcript, SessionFault>
     requires { length (flat (records_of chunks.now)) < 2 ^ 63 }
-    ensures told { IfOk result (IsTold (flat (records_of chunks.now))) }
+    ensures report { IfOk result (HasReport (flat (records_of chunks.now))) }
     ensures wire { IfErr result (IsFaultOf (flat (records_of chunks.now))) }
 {
     let mut session = Session::new(alloc);

@@ -17,7 +17,7 @@ use nbd_session::Transcript;
 use std::alloc::{AllocError, Global};
 
 /// Judges a session by an order of service and the contents that the export had at first: Yes, Order or
-/// Content. It changes the contents as it goes; what they hold afterwards is not told. An `Err` is a
+/// Content. It changes the contents as it goes; what they hold afterwards is not stated. An `Err` is a
 /// refusal of memory.
 pub fn judge<C: Contents>(
     alloc: Global,

@@ -177,7 +177,7 @@ fn names_the_first_bad_line_and_writes_nothing(rt: HostRuntime) {
             2,
         ),
         ("a leading space", b" S greeting flags=3\n", 1),
-        ("a space behind", b"S greeting flags=3 \n", 1),
+        ("a space after it", b"S greeting flags=3 \n", 1),
         ("a space before the value", b"S greeting flags= 3\n", 1),
         (
             "another order of the fields",

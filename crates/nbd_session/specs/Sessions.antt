@@ -82,9 +82,9 @@ empty_session = record { messages = []; client = []; server = []; stretches = []
 
 -- some run has exactly the bytes that were taken and these messages, and the report of any such run
 -- is this one
-pub record IsReported (r : SessionView) (told : Report) : Type 0 where
+pub record IsReported (r : SessionView) (found : Report) : Type 0 where
   pub items : List Item
   pub is_run : IsRun items
   pub has_pairs : pairs items ≡ pairs_of r
   pub has_messages : completed_messages items ≡ r.messages
-  pub told_so : (others : List Item) → IsRun others → pairs others ≡ pairs_of r → report others ≡ told
+  pub same_report : (others : List Item) → IsRun others → pairs others ≡ pairs_of r → report others ≡ found

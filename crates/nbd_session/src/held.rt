@@ -199,7 +199,7 @@ impl Held {
     /// What the session states, unless bytes stand after a side's messages.
     pub(crate) fn finish(self) -> Result<Transcript, SessionFault>
         requires { Stands self }
-        ensures told { IfOk result (λ told. IsReported (session_view self None) told) }
+        ensures report { IfOk result (IsReported (session_view self None)) }
         ensures fault { fault_of result ≡ fault_at_end (session_view self None) }
     {
         if self.client.is_empty() && self.server.is_empty() {

@@ -102,7 +102,7 @@ impl Session {
     /// A closed session answers the fault that closed it. Where a message that started has not completed
     /// the answer is `Unfinished` at the count of all bytes.
     pub fn finish(self) -> Result<Transcript, SessionFault>
-        ensures told { IfOk result (λ told. IsReported self told) }
+        ensures report { IfOk result (IsReported self) }
         ensures fault { fault_of result ≡ fault_at_end self }
         ensures wire { IfErr result (λ fault. EndsIn self fault) }
     {

@@ -2,7 +2,7 @@
 
 mod memory;
 mod refused;
-mod told;
+mod reports;
 
 use crate::{Session, SessionFault};
 use nbd_wire::Side;

@@ -14,7 +14,7 @@ use Rattle.nbd_session.specs.Sessions.{IsReported, SessionView, pairs_of}
 use Rattle.nbd_judge.specs.declared.verdict.Verdict.{Verdict}
 use Rattle.nbd_judge.specs.declared.verdict.Verdict.TheVariants.{Yes, Wire, Image, Order, Content}
 use Rattle.nbd_judge.specs.Captures.{HasVerdict, IsChecked, IsFaultOf, records_of}
-use Rattle.nbd_judge.specs.internal.Captures.{IsTold}
+use Rattle.nbd_judge.specs.internal.Captures.{HasReport}
 use Rattle.nbd_judge.specs.Conclusions.{Answers, IsConclusion, IsReportOf}
 use Rattle.nbd_judge.specs.Verdicts.{IsVerdict}
 
@@ -58,28 +58,28 @@ prefix_whole (d ∷ cs) zero w = absurd (omega arith)
 prefix_whole (d ∷ cs) (suc i) w = ap (λ r. d ∷ r) (prefix_whole cs i (omega arith))
 
 -- what a finished session states is told of its bytes
-pub told_of : (r : SessionView) (capture : List Pair) (told : Report) → pairs_of r ≡ capture → IsReported r told → IsTold capture told
+pub told_of : (r : SessionView) (capture : List Pair) (told : Report) → pairs_of r ≡ capture → IsReported r told → HasReport capture told
 told_of r capture told same reported = record {
   items = reported.items;
   is_run = reported.is_run;
   has_pairs = reported.has_pairs ∙ same;
-  told_so = λ others run has. reported.told_so others run (has ∙ sym same);
+  same_report = λ others run has. reported.same_report others run (has ∙ sym same);
 }
 
 -- the conclusion from what a session over a capture finished with is the verdict on that capture
 pub checked : (capture : List Pair) (order : List ℕ) (initial : Start) (finished : Result Report SessionFault) (v : Verdict)
-    → IfOk finished (IsTold capture) → IfErr finished (IsFaultOf capture) → IsConclusion finished order initial v
+    → IfOk finished (HasReport capture) → IfErr finished (IsFaultOf capture) → IsConclusion finished order initial v
     → ((items : List Item) → IsRun items → IsReportOf items finished → Answers (pairs items) order initial v) → IsChecked capture order initial v
 checked capture order initial (Err session.Memory) v told within is answers = absurd is
 checked capture order initial (Err (session.Wire at fault)) v told within is answers = subst (IsChecked capture order initial) (sym is) within
-checked capture order initial (Ok r) v told within is answers = go v is (answers told.items told.is_run (told.told_so told.items told.is_run told.has_pairs))
+checked capture order initial (Ok r) v told within is answers = go v is (answers told.items told.is_run (told.same_report told.items told.is_run told.has_pairs))
   where
     verdict : (v : Verdict) → IsVerdict r order initial v → Answers (pairs told.items) order initial v → HasVerdict capture order initial v
     verdict v is says = record {
       items = told.items;
       is_run = told.is_run;
       has_pairs = told.has_pairs;
-      is_verdict = λ others run has. subst (λ (q : Report). IsVerdict q order initial v) (sym (told.told_so others run has)) is;
+      is_verdict = λ others run has. subst (λ (q : Report). IsVerdict q order initial v) (sym (told.same_report others run has)) is;
       answers = subst (λ (ps : List Pair). Answers ps order initial v) told.has_pairs says;
     }
 
@@ -107,12 +107,12 @@ piece_fits cs i c w e =
     let within = prefix_within cs (i + 1) in
     omega arith
 
-pub finish_told : (r : SessionView) (capture : List Pair) (o : Result Report SessionFault) → pairs_of r ≡ capture → IfOk o (IsReported r) → IfOk o (IsTold capture)
+pub finish_told : (r : SessionView) (capture : List Pair) (o : Result Report SessionFault) → pairs_of r ≡ capture → IfOk o (IsReported r) → IfOk o (HasReport capture)
 finish_told r capture (Ok told) same h = told_of r capture told same h
 finish_told r capture (Err fault) same h = h
 
 pub conclusion_checked : {E : Type 0} (capture : List Pair) (order : List ℕ) (initial : Start) (finished : Result Report SessionFault) (o : Result Verdict E)
-    → IfOk finished (IsTold capture) → IfErr finished (IsFaultOf capture) → IfOk o (IsConclusion finished order initial)
+    → IfOk finished (HasReport capture) → IfErr finished (IsFaultOf capture) → IfOk o (IsConclusion finished order initial)
     → IfOk o (λ v. (items : List Item) → IsRun items → IsReportOf items finished → Answers (pairs items) order initial v) → IfOk o (IsChecked capture order initial)
 conclusion_checked capture order initial finished (Ok v) told within is answers = checked capture order initial finished v told within is answers
 conclusion_checked capture order initial finished (Err e) told within is answers = tt

@@ -5,8 +5,8 @@ use Rattle.nbd_wire.specs.protocol.Reports.{Report, report}
 use Rattle.nbd_wire.specs.protocol.Rules.{IsRun}
 
 -- some run has these bytes, and the report of each such run is this one
-pub record IsTold (capture : List Pair) (told : Report) : Type 0 where
+pub record HasReport (capture : List Pair) (found : Report) : Type 0 where
   pub items : List Item
   pub is_run : IsRun items
   pub has_pairs : pairs items ≡ capture
-  pub told_so : (others : List Item) → IsRun others → pairs others ≡ capture → report others ≡ told
+  pub same_report : (others : List Item) → IsRun others → pairs others ≡ capture → report others ≡ found

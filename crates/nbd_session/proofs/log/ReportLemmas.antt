@@ -109,7 +109,7 @@ module _ (held : Held) (st : Stands held) (client : held.client.items ≡ []) (s
         is_run = whole_run run;
         has_pairs = run.has_pairs;
         has_messages = run.has_messages;
-        told_so = told_of;
+        same_report = told_of;
       }
 
 pub none_in : (n : ℕ) (bytes : List ℕ) → n ≡ length bytes → true ≡ (n == 0) → bytes ≡ []

@@ -60,7 +60,7 @@ fn a_refused_session_stays_refused(rt: HostRuntime) -> Result<(), Fail> {
 }
 
 #[test]
-fn bytes_behind_a_refusal_are_not_taken(rt: HostRuntime) {
+fn bytes_after_a_refusal_are_not_taken(rt: HostRuntime) {
     // The client speaks first; only the first of its bytes is taken.
     let want = SessionFault::Wire {
         at: 1,

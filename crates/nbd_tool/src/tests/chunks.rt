@@ -10,7 +10,7 @@ use std::test::Fail;
 
 const A_READ_IN_PIECES: &[Case] = &[
     Case {
-        name: "a hole before written bytes, told behind them",
+        name: "a hole before written bytes, stated after them",
         capture: &[
             BEGUN_STRUCTURED,
             // A WRITE of the bytes 0a 0b 0c 0d at 4.
@@ -103,7 +103,7 @@ const REPLIES_THAT_MAY_NOT_BE: &[Case] = &[
         want: "1 no at byte 180: BadChunk\n",
     },
     Case {
-        name: "the offset of an error is behind the read",
+        name: "the offset of an error is past the read",
         capture: &[
             BEGUN_STRUCTURED,
             // A READ of 2 bytes.

@@ -18,7 +18,7 @@ const REQUESTS: &[Case] = &[
         want: "1 no at byte 124: Unfinished\n",
     },
     Case {
-        name: "a read behind all exports fails",
+        name: "a read past all exports fails",
         capture: &[
             BEGUN,
             // A READ of 4294967295 bytes at 18446744073709551615.
@@ -61,7 +61,7 @@ fn requests(rt: HostRuntime) -> Result<(), Fail> {
 
 const PARTS_OF_CHUNKS: &[Case] = &[
     Case {
-        name: "a hole behind all exports",
+        name: "a hole past all exports",
         capture: &[
             BEGUN_STRUCTURED,
             READ_1_OF_8,

@@ -140,7 +140,7 @@ const ACCEPTED: &[Case] = &[
         ],
     },
     Case {
-        name: "replies behind a DISC",
+        name: "replies after a DISC",
         capture: &[BEGUN, WRITE_AB, READ_2, DISC, FOUND_2_00, DONE_1],
         want: &[
             BEGUN_LINES,
@@ -225,7 +225,7 @@ const REFUSED: &[Case] = &[
         ],
     },
     Case {
-        name: "what comes behind the refused byte is not shown",
+        name: "what comes after the refused byte is not shown",
         capture: &[BEGUN, "S deadbeef\n", READ_1, FOUND_1_00],
         want: &[BEGUN_LINES, "no at byte 100: BadMagic\n1\n"],
     },
@@ -261,15 +261,15 @@ fn shows_what_came_before_a_refusal(rt: HostRuntime) -> Result<(), Fail> {
 #[test]
 fn shows_nothing_of_a_bad_text(rt: HostRuntime) -> Result<(), Fail> {
     let alloc = rt.alloc();
-    for (behind, want) in [
+    for (after, want) in [
         ("C 0\n", "3 fault capture line 6\n"),
         ("# a comment\n\nC 00\nX\n", "3 fault capture line 9\n"),
         ("S deadbeef\nS 0g\n", "3 fault capture line 7\n"),
         ("C 00", "3 fault capture line 6\n"),
     ] {
-        let capture = text(alloc, &[BEGUN, behind])?;
+        let capture = text(alloc, &[BEGUN, after])?;
         let found = shown(alloc, capture.as_bytes())?;
-        assert_eq!(rt; found.as_str(), want, "{behind:?}");
+        assert_eq!(rt; found.as_str(), want, "{after:?}");
     }
     Ok(())
 }

@@ -139,7 +139,7 @@ fn after_disc(rt: HostRuntime) -> Result<(), Fail> {
 
 const REQUESTS_BEHIND_THE_END_OF_THE_EXPORT: &[Case] = &[
     Case {
-        name: "a read behind the end fails",
+        name: "a read past the end fails",
         capture: &[
             BEGUN,
             // A READ of one byte at 8.
@@ -163,7 +163,7 @@ const REQUESTS_BEHIND_THE_END_OF_THE_EXPORT: &[Case] = &[
         want: "0 yes requests 1 answered 1 improper 1\n",
     },
     Case {
-        name: "a read behind the end succeeds",
+        name: "a read past the end succeeds",
         capture: &[
             BEGUN,
             // A READ of one byte at 8.
@@ -189,7 +189,7 @@ const REQUESTS_BEHIND_THE_END_OF_THE_EXPORT: &[Case] = &[
 ];
 
 #[test]
-fn requests_behind_the_end_of_the_export(rt: HostRuntime) -> Result<(), Fail> {
+fn requests_past_the_end_of_the_export(rt: HostRuntime) -> Result<(), Fail> {
     run(&rt, REQUESTS_BEHIND_THE_END_OF_THE_EXPORT)
 }
 

@@ -7,7 +7,7 @@ fn go(rt: HostRuntime) {
     assert_eq!(rt;
         go_of(b"\x00\x00\x00\x00\x00\x01"),
         None,
-        "a count with nothing behind it"
+        "a count with nothing after it"
     );
     let one = go_of(b"\x00\x00\x00\x00\x00\x01\x00\x03");
     assert_eq!(rt; one, Some((b"".as_slice(), 1)));

@@ -7,9 +7,9 @@ use Rattle.nbd_judge.proofs.checking.check.Goals as goal
 
 pub returns-clause-verdict : goal.returns-clause-verdict
 returns-clause-verdict c = conclusion_checked (flat (records_of c.args.chunks.now)) c.args.order.now (initial_of c.args.start) c.session_over-finished.result c.conclude.result
-    c.session_over-finished.ensures.told c.session_over-finished.ensures.wire c.conclude.ensures.verdict c.conclude.ensures.answers
+    c.session_over-finished.ensures.report c.session_over-finished.ensures.wire c.conclude.ensures.verdict c.conclude.ensures.answers
 
 pub returns-clause-exactly : goal.returns-clause-exactly
 returns-clause-exactly c = answers_exactly (flat (records_of c.args.chunks.now)) c.args.order.now (initial_of c.args.start) c.conclude.result
     (conclusion_checked (flat (records_of c.args.chunks.now)) c.args.order.now (initial_of c.args.start) c.session_over-finished.result c.conclude.result
-    c.session_over-finished.ensures.told c.session_over-finished.ensures.wire c.conclude.ensures.verdict c.conclude.ensures.answers)
+    c.session_over-finished.ensures.report c.session_over-finished.ensures.wire c.conclude.ensures.verdict c.conclude.ensures.answers)

@@ -28,10 +28,10 @@ loop-side-preserved c = record {
       ∙ sym (prefix_more c.args.chunks.now c.loop-side.side-index c.loop-side-item.result c.loop-side-test.true c.loop-side-item.is);
 }
 
-pub returns-clause-told : goal.returns-clause-told
-returns-clause-told c =
+pub returns-clause-report : goal.returns-clause-report
+returns-clause-report c =
     finish_told c.loop-side.session (flat (records_of c.args.chunks.now)) c.finish.result
-    (c.loop-side.invariant.took ∙ ap (λ cs. flat (records_of cs)) (prefix_whole c.args.chunks.now c.loop-side.side-index (omega arith))) c.finish.ensures.told
+    (c.loop-side.invariant.took ∙ ap (λ cs. flat (records_of cs)) (prefix_whole c.args.chunks.now c.loop-side.side-index (omega arith))) c.finish.ensures.report
 
 pub returns-clause-wire : goal.returns-clause-wire
 returns-clause-wire c =

@@ -8,7 +8,7 @@ pub transcript-requires : goal.transcript-requires
 transcript-requires c =
     sound_told c.args.self c.requires (none_in _ c.args.self.client.items c.args.self.client.ok.0 c.if-is_empty.ensures) (none_in _ c.args.self.server.items c.args.self.server.ok.0 c.if-is_empty-2.ensures)
 
-pub returns-then-is_empty-2-clause-told : goal.returns-then-is_empty-2-clause-told
-returns-then-is_empty-2-clause-told c =
+pub returns-then-is_empty-2-clause-report : goal.returns-then-is_empty-2-clause-report
+returns-then-is_empty-2-clause-report c =
     subst (IsReported (session_view c.args.self None)) (sym c.transcript.ensures)
     (reported c.args.self c.requires (none_in _ c.args.self.client.items c.args.self.client.ok.0 c.if-is_empty.ensures) (none_in _ c.args.self.server.items c.args.self.server.ok.0 c.if-is_empty-2.ensures))
