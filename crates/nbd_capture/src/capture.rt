@@ -10,15 +10,18 @@ ghost use Rattle.nbd_capture.specs.declared.capture.CaptureFault.TheVariants.{Me
 use crate::lines::first_line;
 use hex::FromHexError;
 use nbd_wire::Side;
-use std::alloc::{AllocFailed, Global};
+use std::alloc::{AllocError, AllocFailed, Global};
 use thiserror::Error;
 
-/// Why a capture text gave no chunks. Nothing is kept of a text after a fault.
+/// Why a capture text gave no more chunks.
 #[derive(Clone, Copy, Debug, PartialEq, Eq, Drop, Error)]
 pub enum CaptureFault {
     /// The line with this number, from 1, is the first bad one: it is malformed, or no LF follows it.
     #[error("capture line {0}")]
     Line(u64),
+    /// The reader failed, which an interruption is too, or the text has more bytes than it may have.
+    #[error("capture read")]
+    Read,
     /// An allocation was refused.
     #[error("memory")]
     Memory,
@@ -28,6 +31,14 @@ impl<T: Drop> From<AllocFailed<T>> for CaptureFault {
     ghost from_gives = { λ _ e. e ≡ Memory };
 
     fn from(_e: AllocFailed<T>) -> CaptureFault {
+        CaptureFault::Memory
+    }
+}
+
+impl From<AllocError> for CaptureFault {
+    ghost from_gives = { λ _ e. e ≡ Memory };
+
+    fn from(_e: AllocError) -> CaptureFault {
         CaptureFault::Memory
     }
 }
@@ -83,7 +94,7 @@ fn chunk_on(
 }
 
 // Whether a line stands for no chunk: an empty line, or a comment.
-fn is_silent(line: &[u8]) -> bool
+pub(crate) fn is_silent(line: &[u8]) -> bool
     ensures { IsTrue result ↔ IsCaptureLine line.now [] }
 {
     match line {
@@ -93,7 +104,7 @@ fn is_silent(line: &[u8]) -> bool
 }
 
 // The side and the digits of a line that begins as a chunk line does.
-fn sender_of(line: &[u8]) -> Option<(Side, &[u8])>
+pub(crate) fn sender_of(line: &[u8]) -> Option<(Side, &[u8])>
     ensures { MatchOption result
         ((side : Side) (digits : List ℕ) → line.now ≡ letter side ∷ space ∷ digits → ⊥)
         (λ parts. line.now ≡ letter parts.0 ∷ space ∷ parts.1.now) }

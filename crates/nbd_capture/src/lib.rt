@@ -5,8 +5,11 @@
 
 pub mod capture;
 pub mod laws;
+mod line_buffer;
 mod lines;
 pub mod order;
+pub mod reader;
+mod source;
 #[cfg(test)]
 mod tests;
 pub mod writing;
@@ -14,4 +17,5 @@ pub mod writing;
 pub use capture::{CaptureFault, parse_capture};
 pub use lines::first_line;
 pub use order::{OrderTextFault, parse_order};
+pub use reader::CaptureReader;
 pub use writing::{WriteFault, write_chunk, write_whole};
