@@ -7,6 +7,7 @@ pub mod PieceLemmas
 pub mod ProgressLemmas
 pub mod ReadingLemmas
 pub mod ReadingStepLemmas
+pub mod SizeLemmas
 pub mod TotalLemmas
 pub mod TotalTextLemmas
 pub mod WriterLemmas

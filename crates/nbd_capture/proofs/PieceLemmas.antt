@@ -12,7 +12,7 @@ use Rattle.nbd_capture.specs.declared.capture.CaptureFault.{CaptureFault}
 use Rattle.nbd_capture.specs.declared.capture.CaptureFault.TheVariants.{Line, Memory, Read}
 use Rattle.nbd_capture.specs.declared.source.Ending.TheVariants.{LineFeed, Text}
 use Rattle.nbd_capture.specs.Capture.{Chunk, IsCaptureLine}
-use Rattle.nbd_capture.specs.Reading.{IsReaderFault, Reading, Reads, Refuses, Takes, lines_ended}
+use Rattle.nbd_capture.specs.Reading.{IsReaderFault, Reading, Reads, ReadsToEnd, Refuses, Takes, lines_ended}
 use Rattle.nbd_capture.specs.internal.Steps.{IsChunkFault}
 use Rattle.nbd_capture.specs.declared.line_buffer.LineBuffer.{LineBuffer}
 use Rattle.nbd_capture.specs.internal.Kept.{IsKept}
@@ -108,12 +108,13 @@ pub unended_line : (a b c : Reading) (kept : LineBuffer) (empty : Bool) → Read
 unended_line a b c kept empty past h tests none = refuses_end a b c h.0 past h.1 h.2 (λ nothing. true≢false (sym ((tests h.0 h.3).1 nothing) ∙ none)) h.4
 
 pub no_more_lines : (a b c : Reading) (kept : LineBuffer) (empty : Bool) → Reads a b [] → IsLine b c kept (Ok Text) → ((line : List ℕ) → IsKept kept line → (IsTrue empty → line ≡ []) × (line ≡ [] → IsTrue empty))
-    → empty ≡ true → Reads a c [] × OnSome a.rest (IsAtEnd c.rest)
+    → empty ≡ true → ReadsToEnd a c []
 no_more_lines a b c kept empty past h tests all =
-    let nothing : h.0 ≡ [] = (tests h.0 h.3).0 all in (
-      reads-append a b c [] [] past (reads_none b c (subst (Takes b c) nothing h.1)),
-      still_known a.rest b.rest _ past.bytes past.takes.consumed h.4,
-    )
+    let nothing : h.0 ≡ [] = (tests h.0 h.3).0 all in
+    record {
+      reads = reads-append a b c [] [] past (reads_none b c (subst (Takes b c) nothing h.1));
+      nothing_left = still_known a.rest b.rest _ past.bytes past.takes.consumed h.4;
+    }
 
 pub countable_end : (b c : Reading) (kept : LineBuffer) (empty : Bool) → IsLine b c kept (Ok Text) → ((line : List ℕ) → IsKept kept line → (IsTrue empty → line ≡ []) × (line ≡ [] → IsTrue empty))
     → empty ≡ false → c.lines + 1 ≤ b.lines + b.room

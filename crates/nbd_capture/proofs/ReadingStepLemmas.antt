@@ -11,7 +11,7 @@ use Rattle.nbd_capture.specs.declared.capture.CaptureFault.TheVariants.{Line, Me
 use Rattle.nbd_capture.specs.Lines.{IsUnbroken, IsText, line_feed}
 use Rattle.nbd_capture.specs.Lines.IsText.{empty, line}
 use Rattle.nbd_capture.specs.Lines.IsFirstBadLine.{formless, unended}
-use Rattle.nbd_capture.specs.Capture.{Chunk, IsCaptureLine, IsCaptureText, IsFirstBadCaptureLine}
+use Rattle.nbd_capture.specs.Capture.{Chunk, IsCaptureLine, IsCaptureText}
 use Rattle.nbd_capture.specs.Reading.{IsReaderFault, Reading, Reads, Refuses, StopsWithin, Takes, lines_ended}
 use Rattle.nbd_capture.specs.internal.Steps.{IsChunkFault}
 

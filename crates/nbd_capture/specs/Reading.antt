@@ -33,6 +33,11 @@ pub record Reads (old new : Reading) (chunks : List Chunk) : Type 0 where
   pub takes : Takes old new bytes
   pub is_text : IsCaptureText bytes chunks
 
+-- whole lines were read, which give these chunks, and no byte is left where the bytes are known
+pub record ReadsToEnd (old new : Reading) (chunks : List Chunk) : Type 0 where
+  pub reads : Reads old new chunks
+  pub nothing_left : OnSome old.rest (IsAtEnd new.rest)
+
 -- lines that give no chunk were read, and of the next line a part
 pub record StopsWithin (old new : Reading) : Type 0 where
   pub silent : List ℕ

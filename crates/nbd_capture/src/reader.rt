@@ -1,6 +1,8 @@
 //! Reading a capture chunk by chunk.
 
-ghost use Rattle.std.specs.Prelude.{◌≡◌, ◌+◌, ◌<◌, ◌∷◌, [], Err, IfErr, IfOk, IfSome, None, Ok, length};
+ghost use Rattle.std.specs.Prelude.{◌≡◌, ◌≢◌, ◌+◌, ◌<◌, ◌∷◌, [], Err, IfErr, IfOk, IfSome, None, Ok, Some, length};
+ghost use Rattle.nbd_wire.specs.declared.message.Side.{Side};
+ghost use Rattle.nbd_capture.specs.declared.capture.CaptureFault.{CaptureFault};
 
 use crate::capture::CaptureFault;
 use crate::source::Source;
@@ -39,9 +41,13 @@ impl<R: BufRead> Model for CaptureReader<R> {
 }
 
 impl<R: BufRead> CaptureReader<R> {
+    ghost use Rattle.nbd_capture.specs.Capture.{chunk_of};
+    ghost use Rattle.nbd_capture.specs.Reading.{IsReaderFault, Reads, ReadsToEnd, state_after};
+    ghost use Rattle.nbd_capture.specs.declared.reader.State.TheVariants.{Ended, Failed, Open};
+
     /// A reader of a capture that may have `limit` bytes. It takes no memory and reads nothing yet.
     pub fn new(alloc: Global, reader: R, limit: u64) -> CaptureReader<R>
-        ensures { result ≡ record { rest = R.remaining reader; room = limit; lines = 0; state = State.Open } }
+        ensures { result ≡ record { rest = R.remaining reader; room = limit; lines = 0; state = Open } }
     {
         CaptureReader {
             alloc,
@@ -50,13 +56,37 @@ impl<R: BufRead> CaptureReader<R> {
         }
     }
 
-    pub fn next_chunk(&mut self) -> Result<Option<(Side, Vec<u8>)>, CaptureFault> {
+    pub fn next_chunk(&mut self) -> Result<Option<(Side, Vec<u8>)>, CaptureFault>
+        ensures chunk { IfOk result (λ said. IfSome said (λ c. Reads self.old self.new (chunk_of c ∷ []))) }
+        ensures end { self.old.state ≡ Open → result ≡ Ok None → ReadsToEnd self.old self.new [] }
+        ensures fault { self.old.state ≡ Open → IfErr result (IsReaderFault self.old self.new) }
+        ensures state { self.new.state ≡ state_after result }
+        ensures ended { self.old.state ≡ Ended → (result ≡ Ok None) × (self.new ≡ self.old) }
+        ensures failed { (fault : CaptureFault) → self.old.state ≡ Failed fault → (result ≡ Err fault)
+            × (self.new ≡ self.old) }
+        ensures shrinks { IfOk result (λ said. IfSome said
+            (λ c. length c.1.items + self.new.room < self.old.room)) }
+    {
         let mut bytes = Vec::new(self.alloc);
-        let side = self.next_into(&mut bytes)?;
-        Ok(side.map(|side| (side, bytes)))
+        match self.next_into(&mut bytes)? {
+            Some(side) => Ok(Some((side, bytes))),
+            None => Ok(None),
+        }
     }
 
-    pub fn next_into(&mut self, bytes: &mut Vec<u8>) -> Result<Option<Side>, CaptureFault> {
+    pub fn next_into(&mut self, bytes: &mut Vec<u8>) -> Result<Option<Side>, CaptureFault>
+        ensures chunk { IfOk result (λ said. IfSome said
+            (λ side. Reads self.old self.new (record { side = side; bytes = bytes.new.items } ∷ []))) }
+        ensures end { self.old.state ≡ Open → result ≡ Ok None → ReadsToEnd self.old self.new [] }
+        ensures fault { self.old.state ≡ Open → IfErr result (IsReaderFault self.old self.new) }
+        ensures state { self.new.state ≡ state_after result }
+        ensures ended { self.old.state ≡ Ended → (result ≡ Ok None) × (self.new ≡ self.old) }
+        ensures failed { (fault : CaptureFault) → self.old.state ≡ Failed fault → (result ≡ Err fault)
+            × (self.new ≡ self.old) }
+        ensures shrinks { IfOk result (λ said. IfSome said
+            (λ side. length bytes.new.items + self.new.room < self.old.room)) }
+        ensures empty { state_after result ≢ Open → bytes.new.items ≡ [] }
+    {
         let said = match self.state {
             State::Open => self.source.read_chunk(bytes),
             State::Ended => Ok(None),

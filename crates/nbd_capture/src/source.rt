@@ -40,7 +40,7 @@ pub(crate) struct Source<R> {
 }
 
 impl<R: BufRead> Source<R> {
-    ghost use Rattle.std.specs.Prelude.{◌≡◌};
+    ghost use Rattle.std.specs.Prelude.{◌≡◌, IfOk, IfSome, length};
     ghost use Rattle.nbd_capture.specs.declared.reader.State.TheVariants.{Open};
     ghost use Rattle.nbd_capture.specs.internal.Pieces.{IsAnswer, IsLine, IsPiece, reading};
 
@@ -58,7 +58,8 @@ impl<R: BufRead> Source<R> {
 
     // Reads lines up to one that stands for a chunk, whose bytes `bytes` then are, or to the end.
     pub(crate) fn read_chunk(&mut self, bytes: &mut Vec<u8>) -> Result<Option<Side>, CaptureFault>
-        ensures { IsAnswer (reading R.remaining self.old Open) (reading R.remaining self.new Open) bytes.new.items result }
+        ensures answer { IsAnswer (reading R.remaining self.old Open) (reading R.remaining self.new Open) bytes.new.items result }
+        ensures shrinks { IfOk result (λ said. IfSome said (λ side. length bytes.new.items + self.new.room < self.old.room)) }
     {
         loop {
             match self.read_line()? {

@@ -13,7 +13,7 @@ use Rattle.nbd_capture.specs.declared.source.Piece.TheVariants.{Part, Last, End}
 use Rattle.nbd_capture.specs.declared.source.Source.{Source}
 use Rattle.nbd_capture.specs.Lines.{IsUnbroken, line_feed}
 use Rattle.nbd_capture.specs.Capture.{Chunk}
-use Rattle.nbd_capture.specs.Reading.{IsReaderFault, Reading, Reads, Takes}
+use Rattle.nbd_capture.specs.Reading.{IsReaderFault, Reading, Reads, ReadsToEnd, Takes}
 use Rattle.nbd_capture.specs.internal.Kept.{IsKept}
 
 -- a source in this state, as a contract of the capture reader sees it
@@ -42,5 +42,5 @@ IsLine old new kept (Err fault) = (bytes : List ℕ) × Takes old new bytes × I
 -- a chunk was read, or the text ended, or a fault was met
 abbrev pub IsAnswer : (old new : Reading) → List ℕ → Result (Option Side) CaptureFault → Type 0
 IsAnswer old new bytes (Ok (Some side)) = Reads old new (record { side = side; bytes = bytes } ∷ [])
-IsAnswer old new bytes (Ok None) = Reads old new [] × OnSome old.rest (IsAtEnd new.rest)
+IsAnswer old new bytes (Ok None) = ReadsToEnd old new []
 IsAnswer old new bytes (Err fault) = IsReaderFault old new fault
