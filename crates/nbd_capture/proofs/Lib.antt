@@ -5,6 +5,7 @@ pub mod KeptLemmas
 pub mod NumeralLemmas
 pub mod PieceLemmas
 pub mod ProgressLemmas
+pub mod ReadToEndLemmas
 pub mod ReadingLemmas
 pub mod ReadingStepLemmas
 pub mod SizeLemmas
