@@ -1,12 +1,14 @@
 -- What the steps of a reader of captures say of the whole text.
-use Rattle.std.proofs.Common.{◌≡◌, ℕ, suc, ◌+◌, ◌<◌, List, [], ◌∷◌, ◌++◌, Some, None, IfSome, refl, sym, ap, ◌∙◌, subst, arith, append_assoc, append-nil}
+use Rattle.std.proofs.Common.{◌≡◌, ℕ, suc, ◌+◌, ◌<◌, ◌≤◌, length, List, [], ◌∷◌, ◌++◌, Some, None, IfSome, refl, sym, ap, ◌∙◌, subst, arith, append_assoc, append-nil}
 use Rattle.std.specs.Prelude.{OnSome, Option}
 use Rattle.std.specs.Io.KnownBytes.{Consumes, IsAtEnd}
 use Rattle.nbd_capture.specs.Lines.{IsText, IsUnbroken, line_feed}
 use Rattle.nbd_capture.specs.Lines.IsText.{empty, line}
 use Rattle.nbd_capture.specs.Lines.IsFirstBadLine.{formless, unended, later}
 use Rattle.nbd_capture.specs.Capture.{Chunk, IsCaptureLine, IsCaptureText, IsFirstBadCaptureLine}
-use Rattle.nbd_capture.specs.Reading.{Reading, Reads, ReadsToEnd, Refuses, Takes, lines_ended}
+use Rattle.nbd_capture.specs.declared.capture.CaptureFault.{CaptureFault}
+use Rattle.nbd_capture.specs.declared.capture.CaptureFault.TheVariants.{Line, Memory, Read}
+use Rattle.nbd_capture.specs.Reading.{IsReaderFault, NamesFirstBadLine, Reading, Reads, ReadsToEnd, Refuses, Takes, lines_ended}
 use Rattle.nbd_capture.proofs.FormLemmas.{one_saying}
 use Rattle.nbd_capture.proofs.ReadingLemmas.{first_lines}
 use Rattle.nbd_capture.proofs.ReadingStepLemmas.{ended-append, one_ended, reads-append, still_known, text-append, takes-append}
@@ -19,16 +21,18 @@ reads_to_end a b c xs ys past last = record {
 }
 
 all_taken : (old new : Option (List ℕ)) (bytes : List ℕ) (chunks : List Chunk) → Consumes old new bytes → OnSome old (IsAtEnd new) → IsCaptureText bytes chunks
-    → IfSome old (λ text. IsCaptureText text chunks)
-all_taken None new bytes chunks taken over read = tt
-all_taken (Some text) None bytes chunks taken over read = absurd taken
-all_taken (Some text) (Some rest) bytes chunks taken over read =
+    → (room : ℕ) → length bytes ≤ room → IfSome old (λ text. IsCaptureText text chunks × (length text ≤ room))
+all_taken None new bytes chunks taken over read room fits = tt
+all_taken (Some text) None bytes chunks taken over read room fits = absurd taken
+all_taken (Some text) (Some rest) bytes chunks taken over read room fits =
     let whole : bytes ≡ text = sym (append-nil bytes) ∙ ap (λ l. bytes ++ l) (sym over) ∙ sym taken in
-    subst (λ t. IsCaptureText t chunks) whole read
+    subst (λ t. IsCaptureText t chunks × (length t ≤ room)) whole (read, fits)
 
--- chunks that were read to the end are the text's
-pub whole_text : (old new : Reading) (chunks : List Chunk) → ReadsToEnd old new chunks → IfSome old.rest (λ text. IsCaptureText text chunks)
-whole_text old new chunks read = all_taken old.rest new.rest read.reads.bytes chunks read.reads.takes.consumed read.nothing_left read.reads.is_text
+-- chunks that were read to the end are the text's, and it had room
+pub whole_text : (old new : Reading) (chunks : List Chunk) → ReadsToEnd old new chunks → IfSome old.rest (λ text. IsCaptureText text chunks × (length text ≤ old.room))
+whole_text old new chunks read =
+    let fits = read.reads.takes.fits in
+    all_taken old.rest new.rest read.reads.bytes chunks read.reads.takes.consumed read.nothing_left read.reads.is_text old.room (omega (arith, fits))
 
 -- a bad line after lines with a form is the first bad one
 later_bad : (text : List ℕ) (chunks : List Chunk) (rest : List ℕ) → IsCaptureText text chunks → IsFirstBadCaptureLine rest 1 → IsFirstBadCaptureLine (text ++ rest) (lines_ended text + 1)
@@ -75,3 +79,10 @@ first_bad start now after chunks n none past refused =
     subst (λ m. IfSome start.rest (λ whole. IsFirstBadCaptureLine whole m)) number
     (first_bad_at start.rest after.rest text refused.bad (chunks ++ []) (rw append_assoc taken.consumed) read refused.is_bad
     (λ u. still_known start.rest now.rest _ past.bytes past.takes.consumed (refused.ended u)))
+
+-- the same of any fault
+pub names_first_bad : (start now after : Reading) (chunks : List Chunk) (fault : CaptureFault) → start.lines ≡ 0 → Reads start now chunks → IsReaderFault now after fault
+    → NamesFirstBadLine start.rest fault
+names_first_bad start now after chunks (Line n) none past refused = first_bad start now after chunks n none past refused
+names_first_bad start now after chunks Read none past fault = tt
+names_first_bad start now after chunks Memory none past fault = tt

@@ -2,7 +2,7 @@
 use Rattle.std.proofs.Common.{◌≡◌, ◌≢◌, ℕ, suc, ◌+◌, ◌-◌, ◌<◌, ◌≤◌, List, [], ◌∷◌, ◌++◌, length, take, drop, refl, sym, ap, subst, ◌∙◌, arith, append_assoc, append-nil, take-take, Some, None, IfSome}
 use Rattle.std.specs.Prelude.{OnSome, Option}
 use Rattle.std.specs.Io.KnownBytes.{Consumes, IsAtEnd, Keeps}
-use Rattle.std.proofs.KnownBytes.{Consumes-nil, Consumes-kept, Consumes-trans}
+use Rattle.std.proofs.KnownBytes.{Consumes-nil, Consumes-kept, Consumes-trans, Keeps-refl}
 use Rattle.std.proofs.lemmas.Bool.{ne_eqb}
 use Rattle.std.proofs.lemmas.List.{length-append}
 use Rattle.std.proofs.lemmas.List.Sums.{sum_by-append}
@@ -70,6 +70,9 @@ one_line bytes said u f = subst (λ vs. IsText IsCaptureLine (bytes ++ line_feed
 
 pub reads_none : (old new : Reading) → Takes old new [] → Reads old new []
 reads_none old new takes = record { bytes = []; takes = takes; is_text = empty }
+
+pub reads_same : (old new : Reading) → new ≡ old → Reads old new []
+reads_same old new same = reads_none old new (takes_none old new (subst (λ r. Keeps old.rest r.rest) (sym same) (Keeps-refl old.rest)) (ap (λ r. r.room) same) (ap (λ r. r.lines) same))
 
 pub reads-append : (a b c : Reading) (xs ys : List Chunk) → Reads a b xs → Reads b c ys → Reads a c (xs ++ ys)
 reads-append a b c xs ys p q = record {

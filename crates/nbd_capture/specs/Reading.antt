@@ -1,5 +1,5 @@
 -- What a capture reader has read of its text, and what its answers say of that.
-use Rattle.std.specs.Prelude.{◌≡◌, ◌+◌, ◌++◌, ◌==◌, ℕ, List, [], Option, Some, None, OnSome, Result, Ok, Err, count_by, length}
+use Rattle.std.specs.Prelude.{◌≡◌, ◌+◌, ◌++◌, ◌==◌, ℕ, List, [], Option, Some, None, OnSome, IfSome, Result, Ok, Err, count_by, length}
 use Rattle.std.specs.Io.KnownBytes.{Consumes, IsAtEnd}
 use Rattle.nbd_wire.specs.declared.message.Side.{Side}
 use Rattle.nbd_capture.specs.declared.capture.CaptureFault.{CaptureFault}
@@ -16,6 +16,10 @@ pub record Reading : Type 0 where
   pub room : ℕ
   pub lines : ℕ
   pub state : State
+
+-- before the first byte of a text that may have so many bytes
+abbrev pub at_start : (known : Option (List ℕ)) → (limit : ℕ) → Reading
+at_start known limit = record { rest = known; room = limit; lines = 0; state = Open }
 
 -- how many lines end within these bytes
 abbrev pub lines_ended : List ℕ → ℕ
@@ -67,3 +71,8 @@ abbrev pub state_after : {A : Type 0} → Result (Option A) CaptureFault → Sta
 state_after (Ok (Some a)) = Open
 state_after (Ok None) = Ended
 state_after (Err fault) = Failed fault
+
+-- where the bytes are known, a line fault names their first bad line
+abbrev pub NamesFirstBadLine : Option (List ℕ) → CaptureFault → Type 0
+NamesFirstBadLine known (Line n) = IfSome known (λ text. IsFirstBadCaptureLine text n)
+NamesFirstBadLine known fault = Unit {0}

@@ -1,6 +1,6 @@
 //! What holds of the grammars of both texts, as contracts of functions that do nothing.
 
-ghost use Rattle.std.specs.Prelude.{IfSome, ◌≡◌, ◌⊎◌, ◌∷◌, ◌++◌, [], ◌<◌, ◌^◌, ℕ, List, flat_map};
+ghost use Rattle.std.specs.Prelude.{IfSome, length, ◌≤◌, ◌≡◌, ◌⊎◌, ◌∷◌, ◌++◌, [], ◌<◌, ◌^◌, ℕ, List, flat_map};
 ghost use Rattle.std.specs.List.{AllByRecursion};
 ghost use Rattle.std.specs.Fmt.{decimal};
 ghost use Rattle.hex.specs.Hex.{IsBytes};
@@ -30,10 +30,10 @@ pub fn steps_are_joined()
     ensures { (a b c : Reading) (xs ys : List Chunk) → Reads a b xs → Reads b c ys → Reads a c (xs ++ ys) }
 {}
 
-/// The chunks that were read to the end are those of the text.
+/// The chunks that were read to the end are those of the text, and it has no more bytes than it may have.
 pub fn chunks_read_to_the_end()
     ensures { (old new : Reading) (chunks : List Chunk) → ReadsToEnd old new chunks →
-        IfSome old.rest (λ text. IsCaptureText text chunks) }
+        IfSome old.rest (λ text. IsCaptureText text chunks × (length text ≤ old.room)) }
 {}
 
 /// A line that is refused after chunks that were read from the start is the first bad one of the text.

@@ -42,12 +42,12 @@ impl<R: BufRead> Model for CaptureReader<R> {
 
 impl<R: BufRead> CaptureReader<R> {
     ghost use Rattle.nbd_capture.specs.Capture.{chunk_of};
-    ghost use Rattle.nbd_capture.specs.Reading.{IsReaderFault, Reads, ReadsToEnd, state_after};
+    ghost use Rattle.nbd_capture.specs.Reading.{IsReaderFault, Reads, ReadsToEnd, at_start, state_after};
     ghost use Rattle.nbd_capture.specs.declared.reader.State.TheVariants.{Ended, Failed, Open};
 
     /// A reader of a capture that may have `limit` bytes. It takes no memory and reads nothing yet.
     pub fn new(alloc: Global, reader: R, limit: u64) -> CaptureReader<R>
-        ensures { result ≡ record { rest = R.remaining reader; room = limit; lines = 0; state = Open } }
+        ensures { result ≡ at_start (R.remaining reader) limit }
     {
         CaptureReader {
             alloc,

@@ -42,11 +42,12 @@ pub(crate) struct Source<R> {
 impl<R: BufRead> Source<R> {
     ghost use Rattle.std.specs.Prelude.{◌≡◌, IfOk, IfSome, length};
     ghost use Rattle.nbd_capture.specs.declared.reader.State.TheVariants.{Open};
+    ghost use Rattle.nbd_capture.specs.Reading.{at_start};
     ghost use Rattle.nbd_capture.specs.internal.Pieces.{IsAnswer, IsLine, IsPiece, reading};
 
     // A text that may have `limit` bytes. It takes no memory and reads nothing yet.
     pub(crate) fn new(alloc: Global, reader: R, limit: u64) -> Source<R>
-        ensures { reading R.remaining result Open ≡ record { rest = R.remaining reader; room = limit; lines = 0; state = Open } }
+        ensures { reading R.remaining result Open ≡ at_start (R.remaining reader) limit }
     {
         Source {
             reader,
