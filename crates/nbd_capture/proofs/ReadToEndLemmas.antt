@@ -10,7 +10,7 @@ use Rattle.nbd_capture.specs.declared.capture.CaptureFault.{CaptureFault}
 use Rattle.nbd_capture.specs.declared.capture.CaptureFault.TheVariants.{Line, Memory, Read}
 use Rattle.nbd_capture.specs.Reading.{IsReaderFault, NamesFirstBadLine, Reading, Reads, ReadsToEnd, Refuses, Takes, lines_ended}
 use Rattle.nbd_capture.proofs.FormLemmas.{one_saying}
-use Rattle.nbd_capture.proofs.ReadingLemmas.{first_lines}
+use Rattle.nbd_capture.proofs.ReadingLemmas.{rest_reading}
 use Rattle.nbd_capture.proofs.ReadingStepLemmas.{ended-append, one_ended, reads-append, still_known, text-append, takes-append}
 
 -- the steps up to the end, one after another
@@ -86,3 +86,15 @@ pub names_first_bad : (start now after : Reading) (chunks : List Chunk) (fault :
 names_first_bad start now after chunks (Line n) none past refused = first_bad start now after chunks n none past refused
 names_first_bad start now after chunks Read none past fault = tt
 names_first_bad start now after chunks Memory none past fault = tt
+
+following : (old new : Option (List ℕ)) (bytes : List ℕ) (chunks all : List Chunk) → Consumes old new bytes → IsCaptureText bytes chunks
+    → IfSome old (λ text. IsCaptureText text all → (more : List Chunk) × (all ≡ chunks ++ more) × IfSome new (λ rest. IsCaptureText rest more))
+following None new bytes chunks all taken read = tt
+following (Some text) None bytes chunks all taken read = absurd taken
+following (Some text) (Some rest) bytes chunks all taken read = λ whole.
+    rest_reading IsCaptureLine one_saying bytes rest chunks all read (subst (λ t. IsCaptureText t all) taken whole)
+
+-- where the text has a reading, the chunks that were read are its next ones
+pub next_of_text : (old new : Reading) (chunks all : List Chunk) → Reads old new chunks
+    → IfSome old.rest (λ text. IsCaptureText text all → (more : List Chunk) × (all ≡ chunks ++ more) × IfSome new.rest (λ rest. IsCaptureText rest more))
+next_of_text old new chunks all reads = following old.rest new.rest reads.bytes chunks all reads.takes.consumed reads.is_text
