@@ -2,7 +2,7 @@
 use Rattle.std.proofs.Common.{◌≡◌, ℕ, ◌+◌, List, ◌∷◌, ◌++◌, sym, subst, refl, Result, Ok, Err, IfErr}
 use Rattle.std.specs.Prelude.{IsErr, MatchResult}
 use Rattle.nbd_capture.specs.declared.capture.CaptureFault.{CaptureFault}
-use Rattle.nbd_capture.specs.declared.capture.CaptureFault.TheVariants.{Line, Memory}
+use Rattle.nbd_capture.specs.declared.capture.CaptureFault.TheVariants.{Line, Memory, Read}
 use Rattle.nbd_capture.specs.declared.order.OrderTextFault.{OrderTextFault}
 use Rattle.nbd_capture.specs.declared.order.OrderTextFault.TheVariants as order_faults
 use Rattle.nbd_capture.specs.Lines.{line_feed, IsUnbroken}
@@ -18,6 +18,7 @@ pub stopped_capture : (text rest bytes behind : List ℕ) (chunks : List Chunk) 
     → IsChunkFault bytes (number + 1) fault → IsCaptureFault text fault
 stopped_capture text rest bytes behind chunks number (Line n) past u whole h =
     subst (λ m. IsFirstBadCaptureLine text m) (sym h.0) (stopped IsCaptureLine text rest bytes behind chunks number past u whole h.1)
+stopped_capture text rest bytes behind chunks number Read past u whole h = absurd h
 stopped_capture text rest bytes behind chunks number Memory past u whole h = tt
 
 -- where the text has a reading, the only fault is out of memory
@@ -25,6 +26,7 @@ pub only_memory_of_capture : {T : Type 0} (text : List ℕ) (r : Result T Captur
     → (chunks : List Chunk) → IsCaptureText text chunks → MatchResult r (P chunks) (λ e. e ≡ Memory)
 only_memory_of_capture text (Ok v) P failed h chunks read = cc failed
 only_memory_of_capture text (Err (Line n)) P failed h chunks read = absurd (no_reading IsCaptureLine text n chunks h read)
+only_memory_of_capture text (Err Read) P failed h chunks read = absurd h
 only_memory_of_capture text (Err Memory) P failed h chunks read = refl
 
 pub only_memory_of_order : {T : Type 0} (text : List ℕ) (r : Result T OrderTextFault) (P : List ℕ → T → Type 0) → IsErr r → IfErr r (IsOrderTextFault text)

@@ -1,9 +1,14 @@
 pub mod DigitLemmas
 pub mod FaultLemmas
 pub mod FormLemmas
+pub mod KeptLemmas
 pub mod NumeralLemmas
+pub mod PieceLemmas
 pub mod ProgressLemmas
+pub mod ReadToEndLemmas
 pub mod ReadingLemmas
+pub mod ReadingStepLemmas
+pub mod SizeLemmas
 pub mod TotalLemmas
 pub mod TotalTextLemmas
 pub mod WriterLemmas

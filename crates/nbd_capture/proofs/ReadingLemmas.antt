@@ -1,5 +1,5 @@
 -- Texts of lines: what a text's first line is, that a text has one reading at most, and none where a line is bad.
-use Rattle.std.proofs.Common.{◌≡◌, ℕ, suc, List, [], ◌∷◌, ◌++◌, ◌⊎◌, inl, inr, refl, sym, ap, ◌∙◌, subst}
+use Rattle.std.proofs.Common.{◌≡◌, ℕ, suc, List, [], ◌∷◌, ◌++◌, ◌⊎◌, inl, inr, refl, sym, ap, ◌∙◌, subst, append_assoc}
 use Rattle.nbd_capture.specs.Lines.{line_feed, IsUnbroken, IsText, IsFirstBadLine}
 use Rattle.nbd_capture.specs.Lines.IsText.{empty, line}
 use Rattle.nbd_capture.specs.Lines.IsFirstBadLine.{formless, unended, later}
@@ -33,29 +33,29 @@ IsFunctional {V} Form = (bytes : List ℕ) (a b : List V) → Form bytes a → F
 
 module _ {V : Type 0} (Form : List ℕ → List V → Type 0) where
   -- a text begins with this line
-  record Begins (text bytes rest : List ℕ) : Type 0 where
-    unbroken : IsUnbroken bytes
-    whole : text ≡ bytes ++ line_feed ∷ rest
+  pub record Begins (text bytes rest : List ℕ) : Type 0 where
+    pub unbroken : IsUnbroken bytes
+    pub whole : text ≡ bytes ++ line_feed ∷ rest
 
-  record Step (text : List ℕ) (values : List V) : Type 0 where
-    bytes : List ℕ
-    said : List V
-    rest : List ℕ
-    after : List V
-    begins : Begins text bytes rest
-    form : Form bytes said
-    reads : IsText Form rest after
-    all : values ≡ said ++ after
+  pub record Step (text : List ℕ) (values : List V) : Type 0 where
+    pub bytes : List ℕ
+    pub said : List V
+    pub rest : List ℕ
+    pub after : List V
+    pub begins : Begins text bytes rest
+    pub form : Form bytes said
+    pub reads : IsText Form rest after
+    pub all : values ≡ said ++ after
 
-  parts : (text : List ℕ) (values : List V) → IsText Form text values → ((text ≡ []) × (values ≡ [])) ⊎ Step text values
+  pub parts : (text : List ℕ) (values : List V) → IsText Form text values → ((text ≡ []) × (values ≡ [])) ⊎ Step text values
   parts text values empty = inl (refl, refl)
   parts text values (line bytes said rest after u f r) =
       inr (record { bytes = bytes; said = said; rest = rest; after = after; begins = record { unbroken = u; whole = refl }; form = f; reads = r; all = refl })
 
-  same_first : (text a b x y : List ℕ) → Begins text a x → Begins text b y → (a ≡ b) × (x ≡ y)
+  pub same_first : (text a b x y : List ℕ) → Begins text a x → Begins text b y → (a ≡ b) × (x ≡ y)
   same_first text a b x y p q = first_lines a b x y p.unbroken q.unbroken (sym p.whole ∙ q.whole)
 
-  ends : (text bytes rest : List ℕ) → Begins text bytes rest → text ≡ [] → ⊥
+  pub ends : (text bytes rest : List ℕ) → Begins text bytes rest → text ≡ [] → ⊥
   ends text bytes rest p e = not_empty bytes rest (sym e ∙ p.whole)
 
   -- by the readings of what stands after the first line
@@ -149,4 +149,18 @@ module _ {V : Type 0} (Form : List ℕ → List V → Type 0) where
         | inr good ↦
             let first = same_first _ bytes good.bytes rest good.rest begins good.begins in
             ap suc (one_first_bad rest k good.m bad (subst (λ t. IsFirstBadLine Form t good.m) (sym first.1) good.bad)) ∙ sym good.count
+      ]
+
+  -- where a text has a reading, what stands after some of its lines has the values after theirs
+  pub rest_reading : IsFunctional Form → (prefix rest : List ℕ) (a all : List V) → IsText Form prefix a → IsText Form (prefix ++ rest) all → (more : List V) × (all ≡ a ++ more) × IsText Form rest more
+  rest_reading same prefix rest a all empty whole = (all, refl, whole)
+  rest_reading same prefix rest a all (line bytes said tail values u f r) whole =
+      let begins : Begins ((bytes ++ line_feed ∷ tail) ++ rest) bytes (tail ++ rest) = record { unbroken = u; whole = append_assoc bytes (line_feed ∷ tail) rest } in
+      elim (parts ((bytes ++ line_feed ∷ tail) ++ rest) all whole) [
+        | inl none ↦ absurd (ends _ bytes (tail ++ rest) begins none.0)
+        | inr step ↦
+            let first = same_first _ bytes step.bytes (tail ++ rest) step.rest begins step.begins in
+            let said_same : said ≡ step.said = same step.bytes said step.said (subst (λ l. Form l said) first.0 f) step.form in
+            let more = rest_reading same tail rest values step.after r (subst (λ t. IsText Form t step.after) (sym first.1) step.reads) in
+            (more.0, step.all ∙ ap (λ l. step.said ++ l) more.1 ∙ sym (append_assoc step.said values more.0) ∙ ap (λ l. l ++ values ++ more.0) (sym said_same), more.2)
       ]

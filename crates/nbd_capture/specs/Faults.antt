@@ -7,9 +7,10 @@ use Rattle.nbd_capture.specs.declared.order.OrderTextFault.TheVariants as order_
 use Rattle.nbd_capture.specs.Capture.{IsFirstBadCaptureLine}
 use Rattle.nbd_capture.specs.Order.{IsFirstBadOrderLine}
 
--- a line fault names the first bad line; out of memory says nothing of the text
+-- a line fault names the first bad line; out of memory says nothing of the text; a text that needs no reader has no fault of one
 abbrev pub IsCaptureFault : List ℕ → CaptureFault → Type 0
 IsCaptureFault text (capture_faults.Line n) = IsFirstBadCaptureLine text n
+IsCaptureFault text capture_faults.Read = ⊥
 IsCaptureFault text capture_faults.Memory = Unit {0}
 
 -- the same of an order text

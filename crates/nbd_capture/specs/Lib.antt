@@ -2,5 +2,6 @@ pub mod Capture
 pub mod Faults
 pub mod Lines
 pub mod Order
+pub mod Reading
 pub mod Writing
 pub mod internal

@@ -1,11 +1,12 @@
 //! What holds of the grammars of both texts, as contracts of functions that do nothing.
 
-ghost use Rattle.std.specs.Prelude.{◌≡◌, ◌⊎◌, ◌∷◌, ◌++◌, [], ◌<◌, ◌^◌, ℕ, List, flat_map};
+ghost use Rattle.std.specs.Prelude.{IfSome, length, ◌≤◌, ◌≡◌, ◌⊎◌, ◌∷◌, ◌++◌, [], ◌<◌, ◌^◌, ℕ, List, flat_map};
 ghost use Rattle.std.specs.List.{AllByRecursion};
 ghost use Rattle.std.specs.Fmt.{decimal};
 ghost use Rattle.hex.specs.Hex.{IsBytes};
 ghost use Rattle.nbd_capture.specs.Lines.{line_feed};
 ghost use Rattle.nbd_capture.specs.Capture.{Chunk, chunk_line, IsCaptureText, IsFirstBadCaptureLine};
+ghost use Rattle.nbd_capture.specs.Reading.{Reading, Reads, ReadsToEnd, Refuses};
 ghost use Rattle.nbd_capture.specs.Order.{IsOrderText, IsFirstBadOrderLine};
 
 /// A text has one reading as a capture at most.
@@ -22,6 +23,29 @@ pub fn no_capture_with_a_bad_line()
 /// A text has one first bad capture line at most.
 pub fn one_first_bad_capture_line()
     ensures { (text : List ℕ) (m n : ℕ) → IsFirstBadCaptureLine text m → IsFirstBadCaptureLine text n → m ≡ n }
+{}
+
+/// Chunks that were read in two steps are those of the first step and then those of the second.
+pub fn steps_are_joined()
+    ensures { (a b c : Reading) (xs ys : List Chunk) → Reads a b xs → Reads b c ys → Reads a c (xs ++ ys) }
+{}
+
+/// Where the text has a reading, the chunks that were read are its next ones, and the others are those of the rest.
+pub fn chunks_read_are_the_next_ones()
+    ensures { (old new : Reading) (chunks all : List Chunk) → Reads old new chunks → IfSome old.rest
+        (λ text. IsCaptureText text all → (more : List Chunk) × (all ≡ chunks ++ more) × IfSome new.rest (λ rest. IsCaptureText rest more)) }
+{}
+
+/// The chunks that were read to the end are those of the text, and it has no more bytes than it may have.
+pub fn chunks_read_to_the_end()
+    ensures { (old new : Reading) (chunks : List Chunk) → ReadsToEnd old new chunks →
+        IfSome old.rest (λ text. IsCaptureText text chunks × (length text ≤ old.room)) }
+{}
+
+/// A line that is refused after chunks that were read from the start is the first bad one of the text.
+pub fn refused_line_is_the_first_bad_one()
+    ensures { (start now after : Reading) (chunks : List Chunk) (n : ℕ) → start.lines ≡ 0 → Reads start now chunks →
+        Refuses now after n → IfSome start.rest (λ text. IsFirstBadCaptureLine text n) }
 {}
 
 /// A text has one reading as an order at most.

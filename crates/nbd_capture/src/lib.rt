@@ -5,13 +5,19 @@
 
 pub mod capture;
 pub mod laws;
+mod line_buffer;
 mod lines;
 pub mod order;
+mod parse;
+pub mod reader;
+mod source;
 #[cfg(test)]
 mod tests;
 pub mod writing;
 
-pub use capture::{CaptureFault, parse_capture};
+pub use capture::CaptureFault;
 pub use lines::first_line;
 pub use order::{OrderTextFault, parse_order};
+pub use parse::parse_capture;
+pub use reader::CaptureReader;
 pub use writing::{WriteFault, write_chunk, write_whole};

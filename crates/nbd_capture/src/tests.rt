@@ -1,5 +1,9 @@
 //! Tables of texts and their answers, and writers that fail.
 
+mod examples;
+mod readers;
+mod reading;
+mod whole;
 mod writers;
 
 use crate::{CaptureFault, OrderTextFault, parse_capture, parse_order};

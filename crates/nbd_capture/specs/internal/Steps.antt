@@ -3,7 +3,7 @@ use Rattle.std.specs.Prelude.{◌≡◌, List, [], ◌∷◌, ℕ, Option, Some,
 use Rattle.std.specs.declared.alloc.Global.{Global}
 use Rattle.nbd_wire.specs.declared.message.Side.{Side}
 use Rattle.nbd_capture.specs.declared.capture.CaptureFault.{CaptureFault}
-use Rattle.nbd_capture.specs.declared.capture.CaptureFault.TheVariants.{Line, Memory}
+use Rattle.nbd_capture.specs.declared.capture.CaptureFault.TheVariants.{Line, Memory, Read}
 use Rattle.nbd_capture.specs.Capture.{Chunk, IsCaptureLine, chunk_of}
 
 -- the chunk that a line gave, if any, as a list
@@ -14,4 +14,5 @@ said_by (Some c) = chunk_of c ∷ []
 -- what a fault says of one line, whose number this is
 abbrev pub IsChunkFault : List ℕ → ℕ → CaptureFault → Type 0
 IsChunkFault line number (Line n) = (n ≡ number) × ((said : List Chunk) → IsCaptureLine line said → ⊥)
+IsChunkFault line number Read = ⊥
 IsChunkFault line number Memory = Unit {0}

@@ -1,0 +1,128 @@
+-- What one look at a reader's bytes gives of a line.
+use Rattle.std.proofs.Common.{◌≡◌, ℕ, Bool, true, true≢false, Ok, Err, refl, IsTrue, ◌+◌, ◌-◌, ◌<◌, ◌≤◌, List, [], ◌∷◌, ◌++◌, length, take, sym, ap, subst, ◌∙◌, arith, ◌==◌, false, take-take, length-take-le, append_assoc, append-nil, Some, None, IfSome}
+use Rattle.std.specs.Prelude.{OnSome, Option}
+use Rattle.std.specs.Io.{StartsWith}
+use Rattle.std.specs.Io.KnownBytes.{Consumes, IsAtEnd, Keeps}
+use Rattle.std.specs.Io.BufRead.{DropsConsumable}
+use Rattle.std.proofs.BufReadLemmas.{Consumes_shown}
+use Rattle.std.proofs.lemmas.List.{length-append}
+use Rattle.std.proofs.Math.Seq.{take-append-add}
+use Rattle.nbd_capture.specs.Lines.{IsUnbroken, line_feed}
+use Rattle.nbd_capture.specs.declared.capture.CaptureFault.{CaptureFault}
+use Rattle.nbd_capture.specs.declared.capture.CaptureFault.TheVariants.{Line, Memory, Read}
+use Rattle.nbd_capture.specs.declared.source.Ending.TheVariants.{LineFeed, Text}
+use Rattle.nbd_capture.specs.Capture.{Chunk, IsCaptureLine}
+use Rattle.nbd_capture.specs.Reading.{IsReaderFault, Reading, Reads, ReadsToEnd, Refuses, Takes, lines_ended}
+use Rattle.nbd_capture.specs.internal.Steps.{IsChunkFault}
+use Rattle.nbd_capture.specs.declared.line_buffer.LineBuffer.{LineBuffer}
+use Rattle.nbd_capture.specs.internal.Kept.{IsKept}
+use Rattle.nbd_capture.specs.internal.Pieces.{Adds, IsLine}
+use Rattle.nbd_capture.proofs.ReadingStepLemmas.{none_ended, one_ended, reads-append, reads_line, reads_none, refuses_chunk, refuses_end, still_known, stops, takes-append, takes_none, unbroken-append}
+
+pub at_end : (a b : Option (List ℕ)) (shown : List ℕ) → length shown ≡ 0 → IfSome a (λ xs. length shown ≡ 0 → xs ≡ []) → Keeps a b → OnSome a (IsAtEnd b)
+at_end None b shown none end kept = tt
+at_end (Some x) None shown none end kept = absurd kept
+at_end (Some x) (Some y) shown none end kept = kept ∙ end none
+
+pub some_left : (bytes : List ℕ) → false ≡ (length bytes == 0) → 0 < length bytes
+some_left [] some = cc
+some_left (b ∷ bs) some = omega arith
+
+-- what a look at a reader showed, and what consuming from it does then
+pub record Look (a b c : Option (List ℕ)) (buffered : Option ℕ) (shown : List ℕ) (n : ℕ) : Type 0 where
+  pub front : IfSome a (λ xs. StartsWith xs shown)
+  pub end : IfSome a (λ xs. length shown ≡ 0 → xs ≡ [])
+  pub kept : Keeps a b
+  pub fits : IfSome a (λ _. IfSome buffered (λ k. length shown ≤ k))
+  pub drops : DropsConsumable b c buffered n
+
+consumed : (a b c : Option (List ℕ)) (buffered : Option ℕ) (shown bytes : List ℕ) (n : ℕ) → Look a b c buffered shown n → n ≤ length shown → take n shown ≡ bytes → Consumes a c bytes
+consumed a b c buffered shown bytes n look within same =
+    subst (Consumes a c) same (Consumes_shown a b c buffered shown n within look.front look.end look.kept look.fits look.drops).0
+
+-- a line ends within the part of what was shown that the text may have
+pub takes_last : (old new : Reading) (b : Option (List ℕ)) (buffered : Option ℕ) (shown part rest : List ℕ) (m : ℕ)
+    → Look old.rest b new.rest buffered shown (length part + 1) → m ≤ length shown → m ≤ old.room → take m shown ≡ part ++ line_feed ∷ rest → IsUnbroken part
+    → new.room ≡ old.room - (length part + 1) → new.lines ≡ old.lines + 1 → Takes old new (part ++ line_feed ∷ [])
+takes_last old new b buffered shown part rest m look within fits split u room lines =
+    let long : length (part ++ line_feed ∷ rest) ≡ length part + (length rest + 1) = let e = length-append part (line_feed ∷ rest) in omega (arith, e) in
+    let size : length (take m shown) ≡ m = length-take-le m shown within in
+    let same : m ≡ length part + (length rest + 1) = sym size ∙ ap length split ∙ long in
+    let whole : length (part ++ line_feed ∷ []) ≡ length part + 1 = let e = length-append part (line_feed ∷ []) in omega (arith, e) in
+    let inner : length part + 1 ≤ m = omega (arith, same) in
+    let shorter : take (length part + 1) shown ≡ part ++ line_feed ∷ [] =
+    sym (take-take (length part + 1) m shown inner) ∙ ap (take (length part + 1)) split ∙ take-append-add part (line_feed ∷ rest) 1 in
+    record {
+      consumed = consumed old.rest b new.rest buffered shown (part ++ line_feed ∷ []) (length part + 1) look (omega (arith, inner, within)) shorter;
+      fits = omega (arith, whole, room, inner, fits);
+      counted = let one = one_ended part u in omega (arith, one, lines);
+    }
+
+-- no line ends within it
+pub takes_part : (old new : Reading) (b : Option (List ℕ)) (buffered : Option ℕ) (shown : List ℕ) (m : ℕ)
+    → Look old.rest b new.rest buffered shown (length (take m shown)) → m ≤ length shown → m ≤ old.room → IsUnbroken (take m shown)
+    → new.room ≡ old.room - length (take m shown) → new.lines ≡ old.lines → Takes old new (take m shown)
+takes_part old new b buffered shown m look within fits u room lines =
+    let size : length (take m shown) ≡ m = length-take-le m shown within in
+    record {
+      consumed = consumed old.rest b new.rest buffered shown (take m shown) (length (take m shown)) look (omega (arith, size, within)) (ap (λ k. take k shown) size);
+      fits = omega (arith, room, size, fits);
+      counted = let none = none_ended (take m shown) u in omega (arith, none, lines);
+    }
+
+-- of a line these bytes were taken, and they are kept
+pub record Begins (old new : Reading) (kept : LineBuffer) : Type 0 where
+  pub bytes : List ℕ
+  pub takes : Takes old new bytes
+  pub unbroken : IsUnbroken bytes
+  pub is_kept : IsKept kept bytes
+
+pub begins_more : (a b c : Reading) (before after : LineBuffer) (part : List ℕ) → Begins a b before → Takes b c part → IsUnbroken part → Adds before after part → Begins a c after
+begins_more a b c before after part past takes u adds = record {
+  bytes = past.bytes ++ part;
+  takes = takes-append a b c past.bytes part past.takes takes;
+  unbroken = unbroken-append past.bytes part past.unbroken u;
+  is_kept = adds past.bytes past.is_kept;
+}
+
+pub line_ends : (a b c : Reading) (bytes part : List ℕ) → Takes a b bytes → Takes b c (part ++ line_feed ∷ []) → Takes a c ((bytes ++ part) ++ line_feed ∷ [])
+line_ends a b c bytes part past takes = rw append_assoc (takes-append a b c bytes (part ++ line_feed ∷ []) past takes)
+
+-- a line that could not be read whole, after lines that give no chunk
+pub no_line : (a b c : Reading) (kept : LineBuffer) (fault : CaptureFault) → Reads a b [] → IsLine b c kept (Err fault) → IsReaderFault a c fault
+no_line a b c kept (Line n) past h = absurd h
+no_line a b c kept Read past h = stops a b c h.0 past h.1 h.2
+no_line a b c kept Memory past h = (past.bytes ++ h.0, takes-append a b c past.bytes h.0 past.takes h.1)
+
+-- a line that was read, after lines that give no chunk
+pub next_line : (a b c : Reading) (kept : LineBuffer) (said : List Chunk) → Reads a b [] → IsLine b c kept (Ok LineFeed) → ((line : List ℕ) → IsKept kept line → IsCaptureLine line said) → Reads a c said
+next_line a b c kept said past h form = reads-append a b c [] said past (reads_line b c h.0 said h.1 h.2 (form h.0 h.3))
+
+pub bad_line : (a b c : Reading) (kept : LineBuffer) (fault : CaptureFault) → Reads a b [] → IsLine b c kept (Ok LineFeed)
+    → ((line : List ℕ) → IsKept kept line → IsChunkFault line c.lines fault) → IsReaderFault a c fault
+bad_line a b c kept fault past h bad = refuses_chunk a b c h.0 fault past h.1 h.2 (bad h.0 h.3)
+
+-- the text ended within a line, or at one's begin
+pub unended_line : (a b c : Reading) (kept : LineBuffer) (empty : Bool) → Reads a b [] → IsLine b c kept (Ok Text) → ((line : List ℕ) → IsKept kept line → (IsTrue empty → line ≡ []) × (line ≡ [] → IsTrue empty))
+    → empty ≡ false → Refuses a c (c.lines + 1)
+unended_line a b c kept empty past h tests none = refuses_end a b c h.0 past h.1 h.2 (λ nothing. true≢false (sym ((tests h.0 h.3).1 nothing) ∙ none)) h.4
+
+pub no_more_lines : (a b c : Reading) (kept : LineBuffer) (empty : Bool) → Reads a b [] → IsLine b c kept (Ok Text) → ((line : List ℕ) → IsKept kept line → (IsTrue empty → line ≡ []) × (line ≡ [] → IsTrue empty))
+    → empty ≡ true → ReadsToEnd a c []
+no_more_lines a b c kept empty past h tests all =
+    let nothing : h.0 ≡ [] = (tests h.0 h.3).0 all in
+    record {
+      reads = reads-append a b c [] [] past (reads_none b c (subst (Takes b c) nothing h.1));
+      nothing_left = still_known a.rest b.rest _ past.bytes past.takes.consumed h.4;
+    }
+
+pub countable_end : (b c : Reading) (kept : LineBuffer) (empty : Bool) → IsLine b c kept (Ok Text) → ((line : List ℕ) → IsKept kept line → (IsTrue empty → line ≡ []) × (line ≡ [] → IsTrue empty))
+    → empty ≡ false → c.lines + 1 ≤ b.lines + b.room
+countable_end b c kept empty h tests none =
+    let lines = none_ended h.0 h.2 in
+    let some = filled h.0 (λ nothing. true≢false (sym ((tests h.0 h.3).1 nothing) ∙ none)) in
+    omega (arith, lines, some, h.1.fits, h.1.counted)
+  where
+    filled : (bytes : List ℕ) → (bytes ≡ [] → ⊥) → 0 < length bytes
+    filled [] some = absurd (some refl)
+    filled (b ∷ bs) some = omega arith

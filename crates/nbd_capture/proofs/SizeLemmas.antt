@@ -1,0 +1,43 @@
+-- A chunk has fewer bytes than the lines that were read for it.
+use Rattle.std.proofs.Common.{◌≡◌, ℕ, suc, ◌+◌, ◌<◌, ◌≤◌, List, [], ◌∷◌, ◌++◌, length, arith}
+use Rattle.std.proofs.lemmas.List.{length-append}
+use Rattle.nbd_capture.specs.Lines.{line_feed}
+use Rattle.nbd_capture.specs.Lines.IsText.{empty, line}
+use Rattle.nbd_capture.specs.Capture.{AreDigits, Chunk, IsCaptureLine, IsCaptureText}
+use Rattle.nbd_capture.specs.Capture.AreDigits.{none, byte}
+use Rattle.nbd_capture.specs.Capture.IsCaptureLine.{chunk, blank, comment}
+use Rattle.nbd_capture.specs.Reading.{Reading, Reads}
+
+-- the chunks' bytes, and one more for each chunk
+size : List Chunk → ℕ
+size [] = 0
+size (c ∷ cs) = length c.bytes + 1 + size cs
+
+size-append : (xs ys : List Chunk) → size (xs ++ ys) ≡ size xs + size ys
+unfolding size
+size-append [] ys = omega arith
+size-append (x ∷ xs) ys = let more = size-append xs ys in omega (arith, more)
+
+digits_longer : (digits bytes : List ℕ) → AreDigits digits bytes → length bytes ≤ length digits
+digits_longer digits bytes none = omega arith
+digits_longer digits bytes (byte first second high low ds bs f s more) = let longer = digits_longer ds bs more in omega (arith, longer)
+
+line_longer : (bytes : List ℕ) (said : List Chunk) → IsCaptureLine bytes said → size said ≤ length bytes
+unfolding size
+line_longer bytes said (chunk side digits sent d) = let longer = digits_longer digits sent d in omega (arith, longer)
+line_longer bytes said blank = omega arith
+line_longer bytes said (comment anything) = omega arith
+
+text_longer : (text : List ℕ) (chunks : List Chunk) → IsCaptureText text chunks → size chunks ≤ length text
+unfolding size
+text_longer text chunks empty = omega arith
+text_longer text chunks (line bytes said rest values u f r) =
+    let first = line_longer bytes said f in
+    let more = text_longer rest values r in
+    let all = length-append bytes (line_feed ∷ rest) in
+    let parts = size-append said values in
+    omega (arith, first, more, all, parts)
+
+pub chunk_shrinks : (old new : Reading) (c : Chunk) → Reads old new (c ∷ []) → length c.bytes + new.room < old.room
+unfolding size
+chunk_shrinks old new c reads = let longer = text_longer reads.bytes (c ∷ []) reads.is_text in omega (arith, longer, reads.takes.fits)

@@ -1,0 +1,123 @@
+//! A capture that is read line by line, from a reader that gives it in whatever pieces.
+
+ghost use Rattle.std.specs.Prelude.{◌+◌, ◌<◌, ◌^◌};
+
+use crate::capture::CaptureFault;
+use crate::line_buffer::LineBuffer;
+use crate::lines::first_line;
+use nbd_wire::Side;
+use std::alloc::Global;
+use std::io::BufRead;
+
+// What one look at a reader's bytes gave.
+enum Piece {
+    // A part of a line, without its LF.
+    Part,
+    // The last part of a line, and its LF was read too.
+    Last,
+    // Nothing: the text ends.
+    End,
+}
+
+// What stood where a line was to be read.
+enum Ending {
+    // A line, and its LF.
+    LineFeed,
+    // The text ends: the line is what stood there, without an LF, possibly nothing.
+    Text,
+}
+
+// A text and its current line.
+#[derive(Drop)]
+pub(crate) struct Source<R> {
+    reader: R,
+    // How many more bytes the text may have.
+    room: u64,
+    // How many lines were read.
+    lines: u64,
+    line: LineBuffer,
+    ghost countable: { lines + room < 2 ^ 64 },
+}
+
+impl<R: BufRead> Source<R> {
+    ghost use Rattle.std.specs.Prelude.{◌≡◌, IfOk, IfSome, length};
+    ghost use Rattle.nbd_capture.specs.declared.reader.State.TheVariants.{Open};
+    ghost use Rattle.nbd_capture.specs.Reading.{at_start};
+    ghost use Rattle.nbd_capture.specs.internal.Pieces.{IsAnswer, IsLine, IsPiece, reading};
+
+    // A text that may have `limit` bytes. It takes no memory and reads nothing yet.
+    pub(crate) fn new(alloc: Global, reader: R, limit: u64) -> Source<R>
+        ensures { reading R.remaining result Open ≡ at_start (R.remaining reader) limit }
+    {
+        Source {
+            reader,
+            room: limit,
+            lines: 0,
+            line: LineBuffer::new(alloc),
+        }
+    }
+
+    // Reads lines up to one that stands for a chunk, whose bytes `bytes` then are, or to the end.
+    pub(crate) fn read_chunk(&mut self, bytes: &mut Vec<u8>) -> Result<Option<Side>, CaptureFault>
+        ensures answer { IsAnswer (reading R.remaining self.old Open) (reading R.remaining self.new Open) bytes.new.items result }
+        ensures shrinks { IfOk result (λ said. IfSome said (λ side. length bytes.new.items + self.new.room < self.old.room)) }
+    {
+        loop {
+            match self.read_line()? {
+                Ending::LineFeed => {}
+                Ending::Text if self.line.is_empty() => return Ok(None),
+                Ending::Text => return Err(CaptureFault::Line(self.lines + 1)),
+            }
+            if let Some(side) = self.line.chunk_into(self.lines, bytes)? {
+                return Ok(Some(side));
+            }
+        }
+    }
+
+    // Reads a line.
+    fn read_line(&mut self) -> Result<Ending, CaptureFault>
+        ensures { IsLine (reading R.remaining self.old Open) (reading R.remaining self.new Open) self.new.line result }
+    {
+        self.line.clear();
+        loop {
+            match self.read_piece()? {
+                Piece::Part => {}
+                Piece::Last => return Ok(Ending::LineFeed),
+                Piece::End => return Ok(Ending::Text),
+            }
+        }
+    }
+
+    // Reads what the reader has at hand of a line.
+    fn read_piece(&mut self) -> Result<Piece, CaptureFault>
+        ensures { IsPiece (reading R.remaining self.old Open) (reading R.remaining self.new Open) self.old.line self.new.line result }
+    {
+        let Ok(shown) = self.reader.fill_buf() else {
+            return Err(CaptureFault::Read);
+        };
+        if shown.is_empty() {
+            return Ok(Piece::End);
+        }
+        let within = &shown[..shown.len().min(self.room as usize)];
+        if within.is_empty() {
+            return Err(CaptureFault::Read);
+        }
+        match first_line(within) {
+            Some((part, _)) => {
+                let read = part.len() + 1;
+                self.line.add(part)?;
+                self.reader.consume(read);
+                self.room -= read as u64;
+                self.lines += 1;
+                Ok(Piece::Last)
+            }
+            None => {
+                let read = within.len();
+                self.line.add(within)?;
+                self.reader.consume(read);
+                self.room -= read as u64;
+                Ok(Piece::Part)
+            }
+        }
+    }
+}
