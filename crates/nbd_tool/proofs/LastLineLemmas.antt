@@ -2,10 +2,7 @@
 use Rattle.std.proofs.Common.{◌≡◌, inl, inr, ℕ, List, [], ◌∷◌, ◌++◌, length, Bool, refl, sym, ◌∙◌, ap, subst, append-nil, Option, Some, None, IfSome, Result, Ok, Err, IfOk, IfErr, IsErrAnd, OnOk, Vec}
 use Rattle.std.specs.Io.KnownBytes.{Appends, Keeps}
 use Rattle.std.proofs.KnownBytes.{Appends-trans}
-use Rattle.std.specs.declared.alloc.Global.{Global}
-use Rattle.nbd_wire.specs.declared.message.Side.{Side}
-use Rattle.nbd_wire.specs.protocol.Captures.{Pair, flat}
-use Rattle.nbd_capture.specs.Capture.{IsCaptureText, chunks_of}
+use Rattle.nbd_wire.specs.protocol.Captures.{Pair}
 use Rattle.nbd_capture.specs.Writing.{AppendsPrefix}
 use Rattle.nbd_capture.proofs.WriterLemmas.{prefix_then, then_prefix}
 use Rattle.nbd_wire.specs.declared.fault.WireFault.{WireFault}
@@ -15,18 +12,17 @@ use Rattle.nbd_session.specs.declared.fault.SessionFault.TheVariants as session
 use Rattle.nbd_session.specs.Refusals.{IsAccepted, IsComplete, IsCompleteBy, IsOpenEnd, IsWireFault}
 use Rattle.nbd_session.proofs.judge.RefusalLemmas.{no_run_of, open_end_of}
 use Rattle.nbd_session.specs.Sessions.{HasRun, IsOfRun, SessionView, end_by, fault_at_end, pairs_of, bytes_taken, open_end_fault}
-use Rattle.nbd_judge.specs.Captures.{records_of}
 use Rattle.nbd_lines.specs.Script.{message_lines}
 use Rattle.nbd_tool.specs.declared.fault.RunFault.{RunFault}
 use Rattle.nbd_tool.specs.declared.fault.RunFault.TheVariants as faults
 use Rattle.nbd_lines.specs.declared.output.OutputFault.{OutputFault}
 use Rattle.nbd_lines.specs.declared.output.OutputFault.TheVariants as output
 use Rattle.nbd_tool.specs.Faults.{of_output}
-use Rattle.nbd_tool.specs.Runs.{flat_of}
-use Rattle.nbd_tool.specs.internal.Ends.{IsOver, IsWireAt, LeavesLast, is_accepted, last_line}
-use Rattle.nbd_tool.specs.Shown.{IsOutput, Leads, LeavesShown, WritesAll, WritesSome, WritesMessages}
+use Rattle.nbd_tool.specs.Runs.{IsCapture, flat_of}
+use Rattle.nbd_tool.specs.internal.Ends.{IsOver, IsOverText, IsWireAt, LeavesLast, is_accepted, last_line}
+use Rattle.nbd_tool.specs.Shown.{IsOutput, IsShowCause, Leads, LeavesShown, WritesAll, WritesSome, WritesMessages}
 use Rattle.nbd_tool.specs.Shown.IsOutput.{accepted, refused}
-use Rattle.nbd_tool.proofs.JudgedLemmas.{pairs_told}
+use Rattle.nbd_tool.proofs.OverLemmas.{took_all}
 
 -- the messages of a session that is over are those of a prefix of the capture
 pub leads : (capture : List Pair) (r : SessionView) → IsOver capture r → IsOfRun r → Leads capture (pairs_of r) r.messages
@@ -40,10 +36,6 @@ refused_at : (capture : List Pair) (r : SessionView) (at : ℕ) (fault : WireFau
 refused_at capture r at fault over run e why =
     subst (λ n. EndsAs capture r (Some (session.Wire n fault))) (sym e)
     (refused (pairs_of r) r.messages fault (leads capture r over run) (subst (λ n. IsWireFault capture r.messages n fault) e why) (no_run_of capture r.messages at fault why))
-
--- all was taken of an open session's capture
-took_all : (capture : List Pair) (r : SessionView) → IsOver capture r → r.closed ≡ None → pairs_of r ≡ capture
-took_all capture r over unclosed = sym (append-nil (pairs_of r)) ∙ ap (λ ps. pairs_of r ++ ps) (sym (over.all unclosed)) ∙ over.parts
 
 unfinished_at : (capture : List Pair) (r : SessionView) (client server : List ℕ) → IsOver capture r → IsOfRun r → r.closed ≡ None → HasRun (pairs_of r) r.messages client server →
     IsAccepted (pairs_of r) r.messages → ((client ≡ []) × (server ≡ []) → ⊥) → EndsAs capture r (Some (session.Wire (bytes_taken r) Unfinished))
@@ -72,14 +64,14 @@ then_kept (Some xs) None new bytes a k = absurd a
 then_kept (Some xs) (Some ys) None bytes a k = absurd k
 then_kept (Some xs) (Some ys) (Some zs) bytes a k = k ∙ a
 
-module _ (known : Option (List ℕ)) (chunks : List (Side × Vec ℕ Global)) (r : SessionView) (text : IfSome known (λ text. IsCaptureText text (chunks_of chunks))) (over : IsOver (flat (records_of chunks)) r) (run : IsOfRun r) (complete : IsComplete r) where
-  told : EndsAs (flat_of (chunks_of chunks)) r (fault_at_end r)
-  told = shown (flat_of (chunks_of chunks)) r (subst (λ ps. IsOver ps r) (sym (pairs_told chunks)) over) run complete
+module _ (known : Option (List ℕ)) (r : SessionView) (session : IsOverText known r) (run : IsOfRun r) (complete : IsComplete r) where
+  told : EndsAs (flat_of session.chunks) r (fault_at_end r)
+  told = shown (flat_of session.chunks) r session.over run complete
 
   prefix_shown : (old new : Option (List ℕ)) → AppendsPrefix old new (message_lines r.messages ++ last_line (fault_at_end r)) → WritesSome known old new
   prefix_shown old new a = record {
-    chunks = chunks_of chunks;
-    is_text = text;
+    chunks = session.chunks;
+    is_text = session.is_text;
     yes = is_accepted (fault_at_end r);
     lines = message_lines r.messages ++ last_line (fault_at_end r);
     is_shown = told;
@@ -88,8 +80,8 @@ module _ (known : Option (List ℕ)) (chunks : List (Side × Vec ℕ Global)) (r
 
   messages_shown : (old new : Option (List ℕ)) → AppendsPrefix old new (message_lines r.messages) → WritesMessages known old new
   messages_shown old new a = record {
-    chunks = chunks_of chunks;
-    is_text = text;
+    chunks = session.chunks;
+    is_text = session.is_text;
     yes = is_accepted (fault_at_end r);
     messages = r.messages;
     last = last_line (fault_at_end r);
@@ -108,10 +100,10 @@ module _ (known : Option (List ℕ)) (chunks : List (Side × Vec ℕ Global)) (r
       IfOk o (λ yes. yes ≡ is_accepted ended) → OnOk o (Appends mid new (last_line ended)) → IfOk o (λ yes. WritesAll known yes old new)
   all_shown old mid new ended (Err e) same first answer last = tt
   all_shown old mid new ended (Ok answered) same first answer last = record {
-    chunks = chunks_of chunks;
-    is_text = text;
+    chunks = session.chunks;
+    is_text = session.is_text;
     lines = message_lines r.messages ++ last_line (fault_at_end r);
-    is_shown = subst (λ y. IsOutput (flat_of (chunks_of chunks)) y (message_lines r.messages ++ last_line (fault_at_end r))) (sym (answer ∙ ap is_accepted same)) told;
+    is_shown = subst (λ y. IsOutput (flat_of session.chunks) y (message_lines r.messages ++ last_line (fault_at_end r))) (sym (answer ∙ ap is_accepted same)) told;
     appended = Appends-trans old mid new (message_lines r.messages) (last_line (fault_at_end r)) first (subst (λ e. Appends mid new (last_line e)) same last);
   }
 
@@ -130,3 +122,14 @@ module _ (known : Option (List ℕ)) (chunks : List (Side × Vec ℕ Global)) (r
   last_stopped old mid new ended (Err faults.ImageRead) same first left = absurd left
   last_stopped old mid new ended (Err (faults.ScriptLine n)) same first left = absurd left
   last_stopped old mid new ended (Err faults.ScriptRead) same first left = absurd left
+
+-- a capture that a session is over is a capture text
+pub capture_over : (known : Option (List ℕ)) (r : SessionView) → IsOverText known r → IsCapture known
+capture_over None r session = tt
+capture_over (Some text) r session = (session.chunks, session.is_text)
+
+-- what a fault of written lines says of the capture
+pub output_cause : {A : Type 0} (known : Option (List ℕ)) (fault : OutputFault) (o : Result A RunFault) → IsCapture known → IsErrAnd o (λ e. e ≡ of_output fault) → IfErr o (IsShowCause known)
+output_cause known fault (Ok a) is same = tt
+output_cause known output.Write (Err e) is same = subst (IsShowCause known) (sym same) is
+output_cause known output.Memory (Err e) is same = subst (IsShowCause known) (sym same) tt

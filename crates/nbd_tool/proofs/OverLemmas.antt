@@ -1,52 +1,46 @@
 -- A session over a capture's chunks: what it took, and how it stands at its end.
-use Rattle.std.proofs.Common.{◌≡◌, ℕ, zero, suc, ◌+◌, ◌<◌, ◌≤◌, List, [], ◌∷◌, ◌++◌, length, refl, sym, ◌∙◌, ap, subst, arith, take, drop, get_or, add-one, length-append, append_assoc, append-nil, Some, None, IfSome, Vec}
-use Rattle.std.proofs.lemmas.List.{length-map}
-use Rattle.std.specs.declared.alloc.Global.{Global}
+use Rattle.std.proofs.Common.{◌≡◌, ℕ, ◌+◌, ◌≤◌, List, [], ◌∷◌, ◌++◌, length, refl, sym, ◌∙◌, ap, subst, arith, length-append, append_assoc, append-nil, Option, Some, None, IfSome, Result, Ok, Err, IfOk, IfErr, OnOk, inl, inr}
+use Rattle.nbd_wire.specs.declared.fault.WireFault.{WireFault}
 use Rattle.nbd_wire.specs.declared.message.Side.{Side}
-use Rattle.nbd_wire.specs.protocol.Captures.{Pair, flat, side_pairs}
+use Rattle.nbd_wire.specs.protocol.Captures.{Pair, side_pairs}
+use Rattle.nbd_wire.specs.protocol.Explains.{Start}
+use Rattle.nbd_wire.specs.protocol.Marks.{Item, pairs}
+use Rattle.nbd_wire.specs.protocol.Reports.{Report}
+use Rattle.nbd_wire.specs.protocol.Rules.{IsRun}
+use Rattle.nbd_capture.specs.Capture.{Chunk}
+use Rattle.nbd_capture.specs.Reading.{NamesFirstBadLine, Reading, Reads}
+use Rattle.nbd_capture.specs.declared.reader.State.TheVariants.{Open}
+use Rattle.nbd_capture.proofs.ReadingStepLemmas.{reads-append}
+use Rattle.nbd_capture.specs.declared.capture.CaptureFault.{CaptureFault}
+use Rattle.nbd_capture.specs.declared.capture.CaptureFault.TheVariants as reader
 use Rattle.nbd_session.specs.declared.fault.SessionFault.{SessionFault}
-use Rattle.nbd_session.specs.Sessions.{AddsPrefix, SessionView, pairs_of, bytes_taken}
-use Rattle.nbd_judge.specs.Captures.{records_of}
+use Rattle.nbd_session.specs.declared.fault.SessionFault.TheVariants.{Memory, Wire}
+use Rattle.nbd_session.specs.Refusals.{EndsIn, IsWireFault, Refuses}
+use Rattle.nbd_session.specs.Sessions.{AddsPrefix, IsAtEnd, IsReported, SessionView, bytes_taken, end_by, fault_at_end, fault_of, open_end_fault, pairs_of}
+use Rattle.nbd_judge.specs.Captures.{IsChecked, IsFaultOf}
+use Rattle.nbd_judge.specs.Conclusions.{Answers, IsConclusion, IsReportOf}
+use Rattle.nbd_judge.specs.declared.verdict.Verdict.{Verdict}
+use Rattle.nbd_judge.specs.internal.Captures.{HasReport}
+use Rattle.nbd_judge.proofs.verdicts.ChunkLemmas.{checked, told_of}
+use Rattle.nbd_tool.specs.Faults.{of_capture}
+use Rattle.nbd_tool.specs.Runs.{IsCaptureCause, flat_of}
 use Rattle.nbd_tool.specs.internal.Ends.{IsOver, IsWireAt}
+
+-- one more chunk
+flat-snoc : (chunks : List Chunk) (c : Chunk) → flat_of (chunks ++ c ∷ []) ≡ flat_of chunks ++ side_pairs c.side c.bytes
+flat-snoc [] c = append-nil (side_pairs c.side c.bytes)
+flat-snoc (d ∷ chunks) c =
+    ap (λ r. side_pairs d.side d.bytes ++ r) (flat-snoc chunks c) ∙ sym (append_assoc (side_pairs d.side d.bytes) (flat_of chunks) (side_pairs c.side c.bytes))
 
 sent_both : (s : Side) (a b : List ℕ) → side_pairs s (a ++ b) ≡ side_pairs s a ++ side_pairs s b
 sent_both s [] b = refl
 sent_both s (x ∷ a) b = ap (λ ps. record { from = s; byte = x } ∷ ps) (sent_both s a b)
 
--- before a chunk, the chunk, and after it
-split_at : (cs : List (Side × Vec ℕ Global)) (i : ℕ) (c : Side × Vec ℕ Global) → i < length cs → c ≡ get_or cs i c →
-    flat (records_of cs) ≡ flat (records_of (take i cs)) ++ (side_pairs c.0 c.1.items ++ flat (records_of (drop (suc i) cs)))
-split_at [] i c w e = absurd (omega arith)
-split_at (d ∷ cs) zero c w e = go d e
-  where
-    go : (d : Side × Vec ℕ Global) → c ≡ d → side_pairs d.0 d.1.items ++ flat (records_of cs) ≡ side_pairs c.0 c.1.items ++ flat (records_of cs)
-    go d e = ap (λ (q : Side × Vec ℕ Global). side_pairs q.0 q.1.items ++ flat (records_of cs)) (sym e)
-split_at (d ∷ cs) (suc i) c w e =
-    ap (λ r. side_pairs d.0 d.1.items ++ r) (split_at cs i c (omega arith) e)
-    ∙ sym (append_assoc (side_pairs d.0 d.1.items) (flat (records_of (take i cs))) (side_pairs c.0 c.1.items ++ flat (records_of (drop (suc i) cs))))
-
--- with one more chunk
-prefix_suc : (cs : List (Side × Vec ℕ Global)) (i : ℕ) (c : Side × Vec ℕ Global) → i < length cs → c ≡ get_or cs i c →
-    flat (records_of (take (suc i) cs)) ≡ flat (records_of (take i cs)) ++ side_pairs c.0 c.1.items
-prefix_suc [] i c w e = absurd (omega arith)
-prefix_suc (d ∷ cs) zero c w e = go d (sym e)
-  where
-    go : (d : Side × Vec ℕ Global) → d ≡ c → side_pairs d.0 d.1.items ++ [] ≡ side_pairs c.0 c.1.items
-    go d e = append-nil (side_pairs d.0 d.1.items) ∙ ap (λ (q : Side × Vec ℕ Global). side_pairs q.0 q.1.items) e
-prefix_suc (d ∷ cs) (suc i) c w e = ap (λ r. side_pairs d.0 d.1.items ++ r) (prefix_suc cs i c (omega arith) e) ∙ sym (append_assoc (side_pairs d.0 d.1.items) (flat (records_of (take i cs))) (side_pairs c.0 c.1.items))
-
-pub prefix_more : (cs : List (Side × Vec ℕ Global)) (i : ℕ) (c : Side × Vec ℕ Global) → i < length cs → c ≡ get_or cs i c →
-    flat (records_of (take (i + 1) cs)) ≡ flat (records_of (take i cs)) ++ side_pairs c.0 c.1.items
-prefix_more cs i c w e = ap (λ n. flat (records_of (take n cs))) (add-one i) ∙ prefix_suc cs i c w e
-
--- the next chunk's bytes fit, where all do
-pub piece_fits : (cs : List (Side × Vec ℕ Global)) (i : ℕ) (c : Side × Vec ℕ Global) → i < length cs → c ≡ get_or cs i c →
-    length (flat (records_of (take i cs))) + length c.1.items ≤ length (flat (records_of cs))
-piece_fits cs i c w e =
-    let whole = ap length (split_at cs i c w e) in
-    let prefix = length-append (flat (records_of (take i cs))) (side_pairs c.0 c.1.items ++ flat (records_of (drop (suc i) cs))) in
-    let back = length-append (side_pairs c.0 c.1.items) (flat (records_of (drop (suc i) cs))) in
-    let piece : length (side_pairs c.0 c.1.items) ≡ length c.1.items = length-map c.1.items (λ b. record { from = c.0; byte = b }) in
+-- no more bytes were taken than there are
+pub taken_within : (capture : List Pair) (r : SessionView) → IsOver capture r → bytes_taken r ≤ length capture
+taken_within capture r over =
+    let whole = ap length over.parts in
+    let both = length-append (pairs_of r) over.left in
     omega arith
 
 -- a session that took all and is open
@@ -56,22 +50,97 @@ over_open capture r took unclosed = record {
   parts = append-nil (pairs_of r) ∙ took;
   all = λ e. refl;
   at = subst (λ c. IfSome c (IsWireAt (bytes_taken r))) (sym unclosed) tt;
+  refused = subst (λ c. IfSome c (Refuses r)) (sym unclosed) tt;
 }
 
--- a session that a wire fault closed in a chunk
-pub over_closed : (cs : List (Side × Vec ℕ Global)) (i : ℕ) (c : Side × Vec ℕ Global) (piece : List ℕ) (old new : SessionView) (fault : SessionFault) → i < length cs → c ≡ get_or cs i c → piece ≡ c.1.items →
-    pairs_of old ≡ flat (records_of (take i cs)) → AddsPrefix old new c.0 piece → new.closed ≡ Some fault → IsWireAt (bytes_taken new) fault → IsOver (flat (records_of cs)) new
-over_closed cs i c piece old new fault w e same took prefix closed at =
+-- all was taken of an open session's capture
+pub took_all : (capture : List Pair) (r : SessionView) → IsOver capture r → r.closed ≡ None → pairs_of r ≡ capture
+took_all capture r over unclosed = sym (append-nil (pairs_of r)) ∙ ap (λ ps. pairs_of r ++ ps) (sym (over.all unclosed)) ∙ over.parts
+
+-- a session that a wire fault closed in these bytes
+over_closed : (capture : List Pair) (s : Side) (piece : List ℕ) (old new : SessionView) (at : ℕ) (fault : WireFault) → pairs_of old ≡ capture → AddsPrefix old new s piece →
+    new.closed ≡ Some (Wire at fault) → at ≡ bytes_taken new → Refuses new (Wire at fault) → IsOver (capture ++ side_pairs s piece) new
+over_closed capture s piece old new at fault took prefix closed is refuses =
     let added = prefix.1 in
-    let behind : List Pair = flat (records_of (drop (suc i) cs)) in
-    let whole : side_pairs c.0 added.prefix ++ side_pairs c.0 prefix.0 ≡ side_pairs c.0 c.1.items = sym (sent_both c.0 added.prefix prefix.0) ∙ ap (side_pairs c.0) (added.parts ∙ same) in
     record {
-      left = side_pairs c.0 prefix.0 ++ behind;
-      parts = ap (λ ps. ps ++ (side_pairs c.0 prefix.0 ++ behind)) added.has_pairs
-          ∙ append_assoc (pairs_of old) (side_pairs c.0 added.prefix) (side_pairs c.0 prefix.0 ++ behind)
-          ∙ ap (λ ps. pairs_of old ++ ps) (sym (append_assoc (side_pairs c.0 added.prefix) (side_pairs c.0 prefix.0) behind) ∙ ap (λ ps. ps ++ behind) whole)
-          ∙ ap (λ ps. ps ++ (side_pairs c.0 c.1.items ++ behind)) took
-          ∙ sym (split_at cs i c w e);
-      all = λ none. absurd (let q : Some fault ≡ None = sym closed ∙ none in cc);
-      at = subst (λ o. IfSome o (IsWireAt (bytes_taken new))) (sym closed) at;
+      left = side_pairs s prefix.0;
+      parts = ap (λ ps. ps ++ side_pairs s prefix.0) added.has_pairs
+          ∙ append_assoc (pairs_of old) (side_pairs s added.prefix) (side_pairs s prefix.0)
+          ∙ ap (λ ps. pairs_of old ++ ps) (sym (sent_both s added.prefix prefix.0) ∙ ap (side_pairs s) added.parts)
+          ∙ ap (λ ps. ps ++ side_pairs s piece) took;
+      all = λ none. absurd (let q : Some (Wire at fault) ≡ None = sym closed ∙ none in cc);
+      at = subst (λ o. IfSome o (IsWireAt (bytes_taken new))) (sym closed) is;
+      refused = subst (λ o. IfSome o (Refuses new)) (sym closed) refuses;
     }
+
+-- a session that was closed before these bytes
+over_before : (capture more : List Pair) (r : SessionView) (fault : SessionFault) → IsOver capture r → r.closed ≡ Some fault → IsOver (capture ++ more) r
+over_before capture more r fault over closed = record {
+  left = over.left ++ more;
+  parts = sym (append_assoc (pairs_of r) over.left more) ∙ ap (λ ps. ps ++ more) over.parts;
+  all = λ none. absurd (let q : Some fault ≡ None = sym closed ∙ none in cc);
+  at = over.at;
+  refused = over.refused;
+}
+
+-- one more piece was pushed, and memory did not run out
+pub over_pushed : (capture : List Pair) (old new : SessionView) (s : Side) (piece : List ℕ) (o : Result (Unit {0}) SessionFault) → IsOver capture old →
+    OnOk o (pairs_of new ≡ pairs_of old ++ side_pairs s piece) → OnOk o (new.closed ≡ None) → AddsPrefix old new s piece → IfErr o (λ fault. new.closed ≡ Some fault) →
+    IfErr o (λ fault. old.closed ≡ None → IsAtEnd new fault) → ((fault : SessionFault) → old.closed ≡ Some fault → (o ≡ Err fault) × (new ≡ old)) → IfErr o (Refuses new) →
+    (o ≡ Err Memory → ⊥) → IsOver (capture ++ side_pairs s piece) new
+over_pushed capture old new s piece o over added unshut prefix closed at same wire some = go old.closed refl
+  where
+    once : (o : Result (Unit {0}) SessionFault) → old.closed ≡ None → OnOk o (pairs_of new ≡ pairs_of old ++ side_pairs s piece) → OnOk o (new.closed ≡ None) → IfErr o (λ fault. new.closed ≡ Some fault) →
+        IfErr o (λ fault. old.closed ≡ None → IsAtEnd new fault) → IfErr o (Refuses new) → (o ≡ Err Memory → ⊥) → IsOver (capture ++ side_pairs s piece) new
+    once (Ok u) unclosed added unshut closed at wire some = over_open (capture ++ side_pairs s piece) new (added ∙ ap (λ ps. ps ++ side_pairs s piece) (took_all capture old over unclosed)) unshut
+    once (Err (Wire n fault)) unclosed added unshut closed at wire some = over_closed capture s piece old new n fault (took_all capture old over unclosed) prefix closed (at unclosed) wire
+    once (Err Memory) unclosed added unshut closed at wire some = absurd (some refl)
+
+    go : (c : Option SessionFault) → old.closed ≡ c → IsOver (capture ++ side_pairs s piece) new
+    go None unclosed = once o unclosed added unshut closed at wire some
+    go (Some fault) shut = subst (IsOver (capture ++ side_pairs s piece)) (sym (same fault shut).1) (over_before capture (side_pairs s piece) old fault over shut)
+
+-- the report of a session that is over is that of its capture
+pub report_over : (capture : List Pair) (r : SessionView) (o : Result Report SessionFault) → IsOver capture r → fault_of o ≡ fault_at_end r → IfOk o (IsReported r) → IfOk o (HasReport capture)
+report_over capture r (Err fault) over same reported = tt
+report_over capture r (Ok told) over same reported = go r.closed refl
+  where
+    go : (c : Option SessionFault) → r.closed ≡ c → HasReport capture told
+    go None unclosed = told_of r capture told (took_all capture r over unclosed) reported
+    go (Some fault) closed =
+        let ends : fault_at_end r ≡ Some fault = ap (λ c. end_by c (open_end_fault r.client r.server (bytes_taken r))) closed in
+        absurd (let q : None ≡ Some fault = same ∙ ends in cc)
+
+-- so is its fault
+pub fault_over : {A : Type 0} (capture : List Pair) (r : SessionView) (o : Result A SessionFault) → IsOver capture r → fault_of o ≡ fault_at_end r → IfErr o (EndsIn r) → IfErr o (IsFaultOf capture)
+fault_over capture r (Ok told) over same ends = tt
+fault_over capture r (Err Memory) over same ends = tt
+fault_over capture r (Err (Wire at fault)) over same ends = go r.closed refl over.refused
+  where
+    go : (c : Option SessionFault) → r.closed ≡ c → IfSome c (Refuses r) → IsFaultOf capture (Wire at fault)
+    go None unclosed refused = (r.messages, subst (λ ps. IsWireFault ps r.messages at fault) (took_all capture r over unclosed) ends)
+    go (Some other) closed refused =
+        let now : fault_at_end r ≡ Some other = ap (λ c. end_by c (open_end_fault r.client r.server (bytes_taken r))) closed in
+        let is : other ≡ Wire at fault = (let q : Some (Wire at fault) ≡ Some other = same ∙ now in cc) in
+        let why = subst (Refuses r) is refused in
+        (r.messages, inl (record { prefix = pairs_of r; rest = over.left; parts = over.parts; at_is = why.0; refusal = why.1 }))
+
+-- a fault of the capture's reader is the cause that the run's fault states
+pub cause_of : (known : Option (List ℕ)) (fault : CaptureFault) → NamesFirstBadLine known fault → IsCaptureCause known (of_capture fault)
+cause_of known (reader.Line n) named = named
+cause_of known reader.Read named = tt
+cause_of known reader.Memory named = tt
+
+-- a chunk was read and pushed
+pub next_pushed : (first old next : Reading) (new : SessionView) (chunks : List Chunk) (s : Side) (bytes piece : List ℕ) → Reads first old chunks → Reads old next (record { side = s; bytes = bytes } ∷ []) →
+    next.state ≡ Open → piece ≡ bytes → IsOver (flat_of chunks ++ side_pairs s piece) new → (all : List Chunk) × Reads first next all × (next.state ≡ Open) × IsOver (flat_of all) new
+next_pushed first old next new chunks s bytes piece before chunk state same over =
+    let one : Chunk = record { side = s; bytes = bytes } in
+    (chunks ++ one ∷ [], reads-append first old next chunks (one ∷ []) before chunk, state, subst (λ ps. IsOver ps new) (ap (λ bs. flat_of chunks ++ side_pairs s bs) same ∙ sym (flat-snoc chunks one)) over)
+
+-- the conclusion from a session that is over is the verdict on its capture
+pub checked_over : (capture : List Pair) (r : SessionView) (order : List ℕ) (initial : Start) (finished : Result Report SessionFault) (v : Verdict) → IsOver capture r →
+    fault_of finished ≡ fault_at_end r → IfOk finished (IsReported r) → IfErr finished (EndsIn r) → IsConclusion finished order initial v →
+    ((items : List Item) → IsRun items → IsReportOf items finished → Answers (pairs items) order initial v) → IsChecked capture order initial v
+checked_over capture r order initial finished v over same reported ends =
+    checked capture order initial finished v (report_over capture r finished over same reported) (fault_over capture r finished over same ends)

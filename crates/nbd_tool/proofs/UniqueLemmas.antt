@@ -53,6 +53,6 @@ one_output capture _ _ _ _ (refused prefix messages fault leads is none) (refuse
     let one = one_wire_fault capture messages more (length prefix) (length other) fault again is is' in (
       refl,
       ap (λ ms. message_lines ms ++ line (Wire (length prefix) fault)) one.2
-      ∙ ap (λ n. message_lines more ++ line (Wire n fault)) one.0
-      ∙ ap (λ f. message_lines more ++ line (Wire (length other) f)) one.1,
+          ∙ ap (λ n. message_lines more ++ line (Wire n fault)) one.0
+          ∙ ap (λ f. message_lines more ++ line (Wire (length other) f)) one.1,
     )

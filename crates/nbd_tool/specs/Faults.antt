@@ -1,7 +1,7 @@
 -- The faults of a run.
 use Rattle.std.specs.Prelude.{ℕ}
 use Rattle.nbd_tool.specs.declared.fault.RunFault.{RunFault}
-use Rattle.nbd_tool.specs.declared.fault.RunFault.TheVariants.{CaptureLine, OrderLine, ScriptLine, Write, Memory}
+use Rattle.nbd_tool.specs.declared.fault.RunFault.TheVariants.{CaptureLine, CaptureRead, OrderLine, ScriptLine, Write, Memory}
 use Rattle.nbd_capture.specs.declared.capture.CaptureFault.{CaptureFault}
 use Rattle.nbd_capture.specs.declared.capture.CaptureFault.TheVariants as capture_faults
 use Rattle.nbd_capture.specs.declared.order.OrderTextFault.{OrderTextFault}
@@ -19,6 +19,7 @@ status _ = 3
 -- a fault of the capture's text as a fault of the run
 abbrev pub of_capture : CaptureFault → RunFault
 of_capture (capture_faults.Line n) = CaptureLine n
+of_capture capture_faults.Read = CaptureRead
 of_capture capture_faults.Memory = Memory
 
 -- the same of the order's text

@@ -71,6 +71,7 @@ impl From<CaptureFault> for RunFault {
     fn from(fault: CaptureFault) -> RunFault {
         match fault {
             CaptureFault::Line(number) => RunFault::CaptureLine(number),
+            CaptureFault::Read => RunFault::CaptureRead,
             CaptureFault::Memory => RunFault::Memory,
         }
     }

@@ -1,6 +1,7 @@
 //! What the commands `check`, `show` and `make` do, over any readers and writer.
 #![tactic(auto)]
 
+mod capture;
 mod check;
 pub mod fault;
 mod input;

@@ -1,27 +1,24 @@
 //! The command `show`, over any reader and writer.
-ghost use Rattle.std.specs.Prelude.{◌≡◌, ◌<◌, ◌^◌, IfErr, IfOk, OnOk, None, Some, false, length, true};
+ghost use Rattle.std.specs.Prelude.{◌≡◌, IfErr, IfOk, OnOk, None, Some, false, true};
 ghost use Rattle.std.specs.Io.KnownBytes.{Appends};
-ghost use Rattle.nbd_wire.specs.protocol.Captures.{flat};
 ghost use Rattle.nbd_session.specs.declared.fault.SessionFault.TheVariants.{Wire};
 ghost use Rattle.nbd_session.specs.Sessions.{fault_of};
-ghost use Rattle.nbd_judge.specs.Captures.{records_of};
 ghost use Rattle.nbd_tool.specs.Runs.{IsCapture};
-ghost use Rattle.nbd_tool.specs.internal.Ends.{IsOver, LeavesLast, is_accepted, last_line};
+ghost use Rattle.nbd_tool.specs.internal.Ends.{LeavesLast, is_accepted, last_line};
 ghost use Rattle.nbd_tool.specs.Starts.{IsWithinLimit};
 ghost use Rattle.nbd_tool.specs.Shown.{IsShowCause, LeavesShown, WritesAll};
 
-use crate::check::read_capture;
+use crate::capture::session_over;
 use crate::fault::RunFault;
 use crate::verdict::Line;
 use nbd_capture::write_whole;
 use nbd_judge::Verdict;
 use nbd_lines::show;
-use nbd_session::{Session, SessionFault, Transcript, WireFault};
-use nbd_wire::Side;
-use std::alloc::{AllocError, Global};
+use nbd_session::{SessionFault, Transcript, WireFault};
+use std::alloc::Global;
 use std::io::{BufRead, Write};
 
-/// Reads a capture text whole, and writes a line for each message that its session accepts, in the order
+/// Reads a capture text to its end, chunk by chunk, and writes a line for each message that its session accepts, in the order
 /// of their completion, and then `ok`, or where and why the session was refused. Answers true where it
 /// was accepted.
 ///
@@ -29,7 +26,7 @@ use std::io::{BufRead, Write};
 /// lines stands written, after `Memory` a prefix of the message lines, possibly nothing.
 pub fn run_show<C: BufRead + Drop, W: Write>(
     alloc: Global,
-    mut capture: C,
+    capture: C,
     out: &mut W,
 ) -> Result<bool, RunFault>
     ensures written { IfOk result
@@ -39,26 +36,9 @@ pub fn run_show<C: BufRead + Drop, W: Write>(
     ensures cause { IfErr result (IsShowCause (C.remaining capture)) }
     ensures left { IfErr result (LeavesShown (C.remaining capture) (W.contents out.old) (W.contents out.new)) }
 {
-    let chunks = read_capture(alloc, &mut capture)?;
-    let session = session_over(alloc, chunks.as_slice())?;
+    let session = session_over(alloc, capture)?;
     show(alloc, session.messages(), out)?;
     write_end(alloc, session.finish(), out)
-}
-
-/// A session over these chunks, up to the byte at which it is refused.
-fn session_over(alloc: Global, chunks: &[(Side, Vec<u8>)]) -> Result<Session, AllocError>
-    requires { length (flat (records_of chunks.now)) < 2 ^ 63 }
-    ensures { IfOk result (IsOver (flat (records_of chunks.now))) }
-{
-    let mut session = Session::new(alloc);
-    for (side, bytes) in chunks {
-        match session.push(*side, bytes) {
-            Ok(()) => {}
-            Err(SessionFault::Wire { .. }) => return Ok(session),
-            Err(SessionFault::Memory) => return Err(AllocError),
-        }
-    }
-    Ok(session)
 }
 
 /// Writes how the session ended: `ok`, or where and why it was refused. Answers true where it was

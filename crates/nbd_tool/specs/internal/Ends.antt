@@ -2,13 +2,16 @@
 use Rattle.std.specs.Prelude.{◌≡◌, ℕ, List, [], ◌++◌, Bool, true, false, Option, Some, None, IfSome, codes}
 use Rattle.std.specs.Io.KnownBytes.{Keeps}
 use Rattle.nbd_wire.specs.protocol.Captures.{Pair}
+use Rattle.nbd_capture.specs.Capture.{Chunk, IsCaptureText}
 use Rattle.nbd_capture.specs.Writing.{AppendsPrefix}
 use Rattle.nbd_session.specs.declared.fault.SessionFault.{SessionFault}
 use Rattle.nbd_session.specs.declared.fault.SessionFault.TheVariants as session
+use Rattle.nbd_session.specs.Refusals.{Refuses}
 use Rattle.nbd_session.specs.Sessions.{SessionView, pairs_of, bytes_taken}
 use Rattle.nbd_judge.specs.declared.verdict.Verdict.TheVariants.{Wire}
 use Rattle.nbd_tool.specs.declared.fault.RunFault.{RunFault}
 use Rattle.nbd_tool.specs.declared.fault.RunFault.TheVariants.{Write, Memory}
+use Rattle.nbd_tool.specs.Runs.{flat_of}
 use Rattle.nbd_tool.specs.Verdicts.{line}
 
 -- a fault of the wire at this byte
@@ -22,6 +25,13 @@ pub record IsOver (capture : List Pair) (r : SessionView) : Type 0 where
   pub parts : pairs_of r ++ left ≡ capture
   pub all : r.closed ≡ None → left ≡ []
   pub at : IfSome r.closed (IsWireAt (bytes_taken r))
+  pub refused : IfSome r.closed (Refuses r)
+
+-- a session over the chunks of a capture text, where its bytes are known
+pub record IsOverText (known : Option (List ℕ)) (r : SessionView) : Type 0 where
+  pub chunks : List Chunk
+  pub is_text : IfSome known (λ text. IsCaptureText text chunks)
+  pub over : IsOver (flat_of chunks) r
 
 -- the session was accepted
 abbrev pub is_accepted : Option SessionFault → Bool

@@ -1,45 +1,49 @@
 use Rattle.std.proofs.Common.{rules, ◌∙◌, subst}
 use Rattle.std.specs.Io.KnownBytes.{Appends}
 use Rattle.nbd_capture.specs.Writing.{AppendsPrefix}
-use Rattle.nbd_wire.specs.protocol.Captures.{flat}
 use Rattle.nbd_judge.specs.Beginnings.{initial_of}
-use Rattle.nbd_judge.specs.Captures.{IsChecked, records_of}
-use Rattle.nbd_tool.specs.Runs.{LeavesWritten}
+use Rattle.nbd_judge.specs.Captures.{IsChecked}
+use Rattle.nbd_tool.specs.Runs.{LeavesWritten, flat_of}
 use Rattle.nbd_tool.specs.Starts.{initial_from}
 use Rattle.nbd_tool.proofs.JudgedLemmas.{verdict_on, write_alone}
+use Rattle.nbd_tool.proofs.OverLemmas.{checked_over}
 use Rattle.nbd_tool.proofs.SayLemmas.{says_prefix, says_line, says_nothing}
 use Rattle.nbd_tool.proofs.check.run_check.Goals as goal
 
 pub returns-in_err-write_whole-clause-left : goal.returns-in_err-write_whole-clause-left
 returns-in_err-write_whole-clause-left g c =
-    let checked : IsChecked (flat (records_of c.in_ok-chunks.chunks.items)) c.in_ok-order.order.items (initial_of c.in_ok-start.start) c.in_ok-verdict.verdict =
-    subst (λ chunks. IsChecked (flat (records_of chunks)) c.in_ok-order.order.items (initial_of c.in_ok-start.start) c.in_ok-verdict.verdict) c.as_slice.ensures.value
-    (subst (λ order. IsChecked (flat (records_of c.as_slice.result.now)) order (initial_of c.in_ok-start.start) c.in_ok-verdict.verdict) c.as_slice-2.ensures.value c.in_ok-verdict.ensures.verdict) in
+    let over = c.in_ok-session.ensures.over in
+    let checked : IsChecked (flat_of over.chunks) c.in_ok-order.order.items (initial_of c.in_ok-start.start) c.in_ok-verdict.verdict =
+    subst (λ order. IsChecked (flat_of over.chunks) order (initial_of c.in_ok-start.start) c.in_ok-verdict.verdict) c.as_slice.ensures.value
+    (checked_over (flat_of over.chunks) c.in_ok-session.session c.as_slice.result.now (initial_of c.in_ok-start.start) c.finish.result c.in_ok-verdict.verdict over.over
+    c.finish.ensures.fault c.finish.ensures.report c.finish.ensures.wire c.in_ok-verdict.ensures.verdict c.in_ok-verdict.ensures.answers) in
     write_alone _ c.from_residual-in_err-write_whole.result
     (LeavesWritten (g.C.Read.remaining c.args.capture) (g.O.Read.remaining c.args.order) (initial_from g.I.Read.remaining c.args.start) (g.W.Write.contents c.args.out.now) (g.W.Write.contents c.write_whole.new.out))
     c.from_residual-in_err-write_whole.ensures.1
     (record {
       verdict = c.in_ok-verdict.verdict;
-      is_verdict = verdict_on (g.C.Read.remaining c.args.capture) (g.O.Read.remaining c.args.order) (initial_from g.I.Read.remaining c.args.start) c.in_ok-chunks.chunks.items c.in_ok-order.order.items (initial_of c.in_ok-start.start)
-          c.in_ok-verdict.verdict c.in_ok-chunks.ensures.text c.in_ok-order.ensures.text c.in_ok-start.ensures.read checked;
+      is_verdict = verdict_on (g.C.Read.remaining c.args.capture) (g.O.Read.remaining c.args.order) (initial_from g.I.Read.remaining c.args.start) over.chunks c.in_ok-order.order.items (initial_of c.in_ok-start.start)
+          c.in_ok-verdict.verdict over.is_text c.in_ok-order.ensures.text c.in_ok-start.ensures.read checked;
       appended = subst (AppendsPrefix (g.W.Write.contents c.args.out.now) (g.W.Write.contents c.write_whole.new.out)) (c.as_bytes.ensures.value ∙ c.in_ok-line.ensures.ok) c.in_err-write_whole.ensures.err;
     })
 
 pub returns-clause-written : goal.returns-clause-written
 returns-clause-written g c =
-    let checked : IsChecked (flat (records_of c.in_ok-chunks.chunks.items)) c.in_ok-order.order.items (initial_of c.in_ok-start.start) c.in_ok-verdict.verdict =
-    subst (λ chunks. IsChecked (flat (records_of chunks)) c.in_ok-order.order.items (initial_of c.in_ok-start.start) c.in_ok-verdict.verdict) c.as_slice.ensures.value
-    (subst (λ order. IsChecked (flat (records_of c.as_slice.result.now)) order (initial_of c.in_ok-start.start) c.in_ok-verdict.verdict) c.as_slice-2.ensures.value c.in_ok-verdict.ensures.verdict) in
+    let over = c.in_ok-session.ensures.over in
+    let checked : IsChecked (flat_of over.chunks) c.in_ok-order.order.items (initial_of c.in_ok-start.start) c.in_ok-verdict.verdict =
+    subst (λ order. IsChecked (flat_of over.chunks) order (initial_of c.in_ok-start.start) c.in_ok-verdict.verdict) c.as_slice.ensures.value
+    (checked_over (flat_of over.chunks) c.in_ok-session.session c.as_slice.result.now (initial_of c.in_ok-start.start) c.finish.result c.in_ok-verdict.verdict over.over
+    c.finish.ensures.fault c.finish.ensures.report c.finish.ensures.wire c.in_ok-verdict.ensures.verdict c.in_ok-verdict.ensures.answers) in
     record {
       verdict = c.in_ok-verdict.verdict;
-      is_verdict = verdict_on (g.C.Read.remaining c.args.capture) (g.O.Read.remaining c.args.order) (initial_from g.I.Read.remaining c.args.start) c.in_ok-chunks.chunks.items c.in_ok-order.order.items (initial_of c.in_ok-start.start)
-          c.in_ok-verdict.verdict c.in_ok-chunks.ensures.text c.in_ok-order.ensures.text c.in_ok-start.ensures.read checked;
+      is_verdict = verdict_on (g.C.Read.remaining c.args.capture) (g.O.Read.remaining c.args.order) (initial_from g.I.Read.remaining c.args.start) over.chunks c.in_ok-order.order.items (initial_of c.in_ok-start.start)
+          c.in_ok-verdict.verdict over.is_text c.in_ok-order.ensures.text c.in_ok-start.ensures.read checked;
       answer = c.is_yes.ensures;
       appended = search rules;
     }
 
-pub returns-in_err-chunks-clause-yes : goal.returns-in_err-chunks-clause-yes
-returns-in_err-chunks-clause-yes g c = says_nothing (g.C.Read.remaining c.args.capture) (g.O.Read.remaining c.args.order) (initial_from g.I.Read.remaining c.args.start) (g.W.Write.contents c.args.out.now)
+pub returns-in_err-session-clause-yes : goal.returns-in_err-session-clause-yes
+returns-in_err-session-clause-yes g c = says_nothing (g.C.Read.remaining c.args.capture) (g.O.Read.remaining c.args.order) (initial_from g.I.Read.remaining c.args.start) (g.W.Write.contents c.args.out.now)
 
 pub returns-in_err-order-clause-yes : goal.returns-in_err-order-clause-yes
 returns-in_err-order-clause-yes g c = says_nothing (g.C.Read.remaining c.args.capture) (g.O.Read.remaining c.args.order) (initial_from g.I.Read.remaining c.args.start) (g.W.Write.contents c.args.out.now)
@@ -55,20 +59,24 @@ returns-in_err-line-clause-yes g c = says_nothing (g.C.Read.remaining c.args.cap
 
 pub returns-in_err-write_whole-clause-yes : goal.returns-in_err-write_whole-clause-yes
 returns-in_err-write_whole-clause-yes g c =
-    let checked : IsChecked (flat (records_of c.in_ok-chunks.chunks.items)) c.in_ok-order.order.items (initial_of c.in_ok-start.start) c.in_ok-verdict.verdict =
-    subst (λ chunks. IsChecked (flat (records_of chunks)) c.in_ok-order.order.items (initial_of c.in_ok-start.start) c.in_ok-verdict.verdict) c.as_slice.ensures.value
-    (subst (λ order. IsChecked (flat (records_of c.as_slice.result.now)) order (initial_of c.in_ok-start.start) c.in_ok-verdict.verdict) c.as_slice-2.ensures.value c.in_ok-verdict.ensures.verdict) in
-    let on = verdict_on (g.C.Read.remaining c.args.capture) (g.O.Read.remaining c.args.order) (initial_from g.I.Read.remaining c.args.start) c.in_ok-chunks.chunks.items c.in_ok-order.order.items (initial_of c.in_ok-start.start)
-    c.in_ok-verdict.verdict c.in_ok-chunks.ensures.text c.in_ok-order.ensures.text c.in_ok-start.ensures.read checked in
+    let over = c.in_ok-session.ensures.over in
+    let checked : IsChecked (flat_of over.chunks) c.in_ok-order.order.items (initial_of c.in_ok-start.start) c.in_ok-verdict.verdict =
+    subst (λ order. IsChecked (flat_of over.chunks) order (initial_of c.in_ok-start.start) c.in_ok-verdict.verdict) c.as_slice.ensures.value
+    (checked_over (flat_of over.chunks) c.in_ok-session.session c.as_slice.result.now (initial_of c.in_ok-start.start) c.finish.result c.in_ok-verdict.verdict over.over
+    c.finish.ensures.fault c.finish.ensures.report c.finish.ensures.wire c.in_ok-verdict.ensures.verdict c.in_ok-verdict.ensures.answers) in
+    let on = verdict_on (g.C.Read.remaining c.args.capture) (g.O.Read.remaining c.args.order) (initial_from g.I.Read.remaining c.args.start) over.chunks c.in_ok-order.order.items (initial_of c.in_ok-start.start)
+    c.in_ok-verdict.verdict over.is_text c.in_ok-order.ensures.text c.in_ok-start.ensures.read checked in
     says_prefix (g.C.Read.remaining c.args.capture) (g.O.Read.remaining c.args.order) (initial_from g.I.Read.remaining c.args.start) (g.W.Write.contents c.args.out.now) (g.W.Write.contents c.write_whole.new.out) c.in_ok-verdict.verdict on
     (subst (AppendsPrefix (g.W.Write.contents c.args.out.now) (g.W.Write.contents c.write_whole.new.out)) (c.as_bytes.ensures.value ∙ c.in_ok-line.ensures.ok) c.in_err-write_whole.ensures.err)
 
 pub returns-clause-yes : goal.returns-clause-yes
 returns-clause-yes g c =
-    let checked : IsChecked (flat (records_of c.in_ok-chunks.chunks.items)) c.in_ok-order.order.items (initial_of c.in_ok-start.start) c.in_ok-verdict.verdict =
-    subst (λ chunks. IsChecked (flat (records_of chunks)) c.in_ok-order.order.items (initial_of c.in_ok-start.start) c.in_ok-verdict.verdict) c.as_slice.ensures.value
-    (subst (λ order. IsChecked (flat (records_of c.as_slice.result.now)) order (initial_of c.in_ok-start.start) c.in_ok-verdict.verdict) c.as_slice-2.ensures.value c.in_ok-verdict.ensures.verdict) in
-    let on = verdict_on (g.C.Read.remaining c.args.capture) (g.O.Read.remaining c.args.order) (initial_from g.I.Read.remaining c.args.start) c.in_ok-chunks.chunks.items c.in_ok-order.order.items (initial_of c.in_ok-start.start)
-    c.in_ok-verdict.verdict c.in_ok-chunks.ensures.text c.in_ok-order.ensures.text c.in_ok-start.ensures.read checked in
+    let over = c.in_ok-session.ensures.over in
+    let checked : IsChecked (flat_of over.chunks) c.in_ok-order.order.items (initial_of c.in_ok-start.start) c.in_ok-verdict.verdict =
+    subst (λ order. IsChecked (flat_of over.chunks) order (initial_of c.in_ok-start.start) c.in_ok-verdict.verdict) c.as_slice.ensures.value
+    (checked_over (flat_of over.chunks) c.in_ok-session.session c.as_slice.result.now (initial_of c.in_ok-start.start) c.finish.result c.in_ok-verdict.verdict over.over
+    c.finish.ensures.fault c.finish.ensures.report c.finish.ensures.wire c.in_ok-verdict.ensures.verdict c.in_ok-verdict.ensures.answers) in
+    let on = verdict_on (g.C.Read.remaining c.args.capture) (g.O.Read.remaining c.args.order) (initial_from g.I.Read.remaining c.args.start) over.chunks c.in_ok-order.order.items (initial_of c.in_ok-start.start)
+    c.in_ok-verdict.verdict over.is_text c.in_ok-order.ensures.text c.in_ok-start.ensures.read checked in
     says_line (g.C.Read.remaining c.args.capture) (g.O.Read.remaining c.args.order) (initial_from g.I.Read.remaining c.args.start) (g.W.Write.contents c.args.out.now) (g.W.Write.contents c.write_whole.new.out) c.in_ok-verdict.verdict on
     (subst (Appends (g.W.Write.contents c.args.out.now) (g.W.Write.contents c.write_whole.new.out)) (c.as_bytes.ensures.value ∙ c.in_ok-line.ensures.ok) c.in_ok-write_whole.ensures.ok)
