@@ -1,6 +1,6 @@
 -- What is kept of a line, and the line.
-use Rattle.std.proofs.Common.{◌≡◌, ℕ, Bool, true, false, List, [], ◌∷◌, sym, subst}
-use Rattle.nbd_capture.specs.Capture.{IsCaptureLine, hash}
+use Rattle.std.proofs.Common.{◌≡◌, ℕ, Bool, true, false, List, [], sym, subst}
+use Rattle.nbd_capture.specs.Capture.{IsCaptureLine}
 use Rattle.nbd_capture.specs.Capture.IsCaptureLine.{comment}
 use Rattle.nbd_capture.specs.internal.Kept.{IsKeptAs}
 

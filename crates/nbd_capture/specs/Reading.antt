@@ -1,12 +1,12 @@
 -- What a capture reader has read of its text, and what its answers say of that.
 --
--- A caller that loops over `next_into` or `next_chunk` keeps `Reads start now chunks`, from the reader as `new` made it to the
--- reader as it is, with the chunks so far, and that its state is `Open`; `room` falls with each chunk. After `None` the laws
--- `steps_are_joined` and `chunks_read_to_the_end` say that the chunks are those of the text, after a line fault
--- `refused_line_is_the_first_bad_one` that the text's first bad line has this number. src/tests/whole.rt does so.
+-- A caller that loops over `next_into` or `next_chunk` keeps `Reads start now chunks`, from the reader as `new` made it
+-- to the reader as it is, with the chunks so far, and that its state is `Open`; `room` falls with each chunk. After
+-- `None` the laws `steps_are_joined` and `chunks_read_to_the_end` say that these are the text's chunks; after a line
+-- fault `refused_line_is_the_first_bad_one` says that the text's first bad line has this number. src/tests/whole.rt is
+-- such a caller.
 use Rattle.std.specs.Prelude.{◌≡◌, ◌+◌, ◌++◌, ◌==◌, ℕ, List, [], Option, Some, None, OnSome, IfSome, Result, Ok, Err, count_by, length}
 use Rattle.std.specs.Io.KnownBytes.{Consumes, IsAtEnd}
-use Rattle.nbd_wire.specs.declared.message.Side.{Side}
 use Rattle.nbd_capture.specs.declared.capture.CaptureFault.{CaptureFault}
 use Rattle.nbd_capture.specs.declared.capture.CaptureFault.TheVariants.{Line, Memory, Read}
 use Rattle.nbd_capture.specs.declared.reader.State.{State}
@@ -14,8 +14,8 @@ use Rattle.nbd_capture.specs.declared.reader.State.TheVariants.{Open, Ended, Fai
 use Rattle.nbd_capture.specs.Lines.{IsUnbroken, line_feed}
 use Rattle.nbd_capture.specs.Capture.{Chunk, IsCaptureText, IsFirstBadCaptureLine}
 
--- A capture reader: the bytes that its reader has left, where these are known; how many bytes the rest of the text may have;
--- how many lines were read; and whether there may be more to read.
+-- A capture reader: the bytes that its reader has left, where these are known; how many bytes the rest of the text may
+-- have; how many lines were read; and whether there may be more to read.
 pub record Reading : Type 0 where
   pub rest : Option (List ℕ)
   pub room : ℕ
@@ -65,7 +65,7 @@ pub record Refuses (old new : Reading) (number : ℕ) : Type 0 where
   pub ended : IsUnbroken bad → OnSome old.rest (IsAtEnd new.rest)
   pub is_number : number ≡ old.lines + lines_ended silent + 1
 
--- what a fault says of what was read
+-- what a fault says of what was read; that the reader failed, or the text is too long, no contract can say
 abbrev pub IsReaderFault : (old new : Reading) → CaptureFault → Type 0
 IsReaderFault old new (Line n) = Refuses old new n
 IsReaderFault old new Read = StopsWithin old new

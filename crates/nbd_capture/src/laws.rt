@@ -33,7 +33,8 @@ pub fn steps_are_joined()
 /// Where the text has a reading, the chunks that were read are its next ones, and the others are those of the rest.
 pub fn chunks_read_are_the_next_ones()
     ensures { (old new : Reading) (chunks all : List Chunk) → Reads old new chunks → IfSome old.rest
-        (λ text. IsCaptureText text all → (more : List Chunk) × (all ≡ chunks ++ more) × IfSome new.rest (λ rest. IsCaptureText rest more)) }
+        (λ text. IsCaptureText text all → (more : List Chunk) × (all ≡ chunks ++ more)
+        × IfSome new.rest (λ rest. IsCaptureText rest more)) }
 {}
 
 /// The chunks that were read to the end are those of the text, and it has no more bytes than it may have.

@@ -45,7 +45,8 @@ impl LineBuffer {
 
     // Adds these bytes. The memory grows with the bytes, and not for a comment.
     pub(crate) fn add(&mut self, part: &[u8]) -> Result<(), AllocError>
-        ensures ok { OnOk result ((bytes : List ℕ) → IsKept self.old bytes → IsKept self.new (bytes ++ part.now)) }
+        ensures ok { OnOk result ((bytes : List ℕ) → IsKept self.old bytes →
+            IsKept self.new (bytes ++ part.now)) }
     {
         if self.bytes.is_empty() && begins_comment(part) {
             self.is_comment = true;

@@ -59,8 +59,10 @@ impl<R: BufRead> Source<R> {
 
     // Reads lines up to one that stands for a chunk, whose bytes `bytes` then are, or to the end.
     pub(crate) fn read_chunk(&mut self, bytes: &mut Vec<u8>) -> Result<Option<Side>, CaptureFault>
-        ensures answer { IsAnswer (reading R.remaining self.old Open) (reading R.remaining self.new Open) bytes.new.items result }
-        ensures shrinks { IfOk result (λ said. IfSome said (λ side. length bytes.new.items + self.new.room < self.old.room)) }
+        ensures answer { IsAnswer (reading R.remaining self.old Open) (reading R.remaining self.new Open)
+            bytes.new.items result }
+        ensures shrinks { IfOk result (λ said. IfSome said
+            (λ side. length bytes.new.items + self.new.room < self.old.room)) }
     {
         loop {
             match self.read_line()? {
@@ -76,7 +78,8 @@ impl<R: BufRead> Source<R> {
 
     // Reads a line.
     fn read_line(&mut self) -> Result<Ending, CaptureFault>
-        ensures { IsLine (reading R.remaining self.old Open) (reading R.remaining self.new Open) self.new.line result }
+        ensures { IsLine (reading R.remaining self.old Open) (reading R.remaining self.new Open) self.new.line
+            result }
     {
         self.line.clear();
         loop {
@@ -88,9 +91,10 @@ impl<R: BufRead> Source<R> {
         }
     }
 
-    // Reads what the reader has at hand of a line.
+    // Reads what the reader has at hand of a line. Memory comes first, so that a refusal loses no byte.
     fn read_piece(&mut self) -> Result<Piece, CaptureFault>
-        ensures { IsPiece (reading R.remaining self.old Open) (reading R.remaining self.new Open) self.old.line self.new.line result }
+        ensures { IsPiece (reading R.remaining self.old Open) (reading R.remaining self.new Open) self.old.line
+            self.new.line result }
     {
         let Ok(shown) = self.reader.fill_buf() else {
             return Err(CaptureFault::Read);

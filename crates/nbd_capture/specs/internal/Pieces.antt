@@ -1,5 +1,5 @@
 -- Words of the private functions' contracts, which read a capture piece by piece. No public clause names them.
-use Rattle.std.specs.Prelude.{◌≡◌, ◌++◌, ◌∷◌, ◌<◌, ℕ, Bool, true, false, List, [], OnSome, Option, Some, None, Result, Ok, Err, length}
+use Rattle.std.specs.Prelude.{◌≡◌, ◌++◌, ◌∷◌, ◌<◌, ℕ, List, [], OnSome, Option, Some, None, Result, Ok, Err, length}
 use Rattle.std.specs.Io.KnownBytes.{IsAtEnd}
 use Rattle.nbd_wire.specs.declared.message.Side.{Side}
 use Rattle.nbd_capture.specs.declared.capture.CaptureFault.{CaptureFault}
@@ -12,7 +12,6 @@ use Rattle.nbd_capture.specs.declared.source.Piece.{Piece}
 use Rattle.nbd_capture.specs.declared.source.Piece.TheVariants.{Part, Last, End}
 use Rattle.nbd_capture.specs.declared.source.Source.{Source}
 use Rattle.nbd_capture.specs.Lines.{IsUnbroken, line_feed}
-use Rattle.nbd_capture.specs.Capture.{Chunk}
 use Rattle.nbd_capture.specs.Reading.{IsReaderFault, Reading, Reads, ReadsToEnd, Takes}
 use Rattle.nbd_capture.specs.internal.Kept.{IsKept}
 
@@ -26,16 +25,20 @@ Adds old new part = (bytes : List ℕ) → IsKept old bytes → IsKept new (byte
 
 -- a part of a line was read and kept, if any
 abbrev pub IsPiece : (old new : Reading) → (before after : LineBuffer) → Result Piece CaptureFault → Type 0
-IsPiece old new before after (Ok Part) = (bytes : List ℕ) × Takes old new bytes × IsUnbroken bytes × (0 < length bytes) × Adds before after bytes
-IsPiece old new before after (Ok Last) = (bytes : List ℕ) × Takes old new (bytes ++ line_feed ∷ []) × IsUnbroken bytes × Adds before after bytes
+IsPiece old new before after (Ok Part) =
+    (bytes : List ℕ) × Takes old new bytes × IsUnbroken bytes × (0 < length bytes) × Adds before after bytes
+IsPiece old new before after (Ok Last) =
+    (bytes : List ℕ) × Takes old new (bytes ++ line_feed ∷ []) × IsUnbroken bytes × Adds before after bytes
 IsPiece old new before after (Ok End) = Takes old new [] × OnSome old.rest (IsAtEnd new.rest) × (after ≡ before)
 IsPiece old new before after (Err (Line n)) = ⊥
 IsPiece old new before after (Err fault) = Takes old new []
 
 -- a line was read and kept
 abbrev pub IsLine : (old new : Reading) → LineBuffer → Result Ending CaptureFault → Type 0
-IsLine old new kept (Ok LineFeed) = (bytes : List ℕ) × Takes old new (bytes ++ line_feed ∷ []) × IsUnbroken bytes × IsKept kept bytes
-IsLine old new kept (Ok Text) = (bytes : List ℕ) × Takes old new bytes × IsUnbroken bytes × IsKept kept bytes × OnSome old.rest (IsAtEnd new.rest)
+IsLine old new kept (Ok LineFeed) =
+    (bytes : List ℕ) × Takes old new (bytes ++ line_feed ∷ []) × IsUnbroken bytes × IsKept kept bytes
+IsLine old new kept (Ok Text) =
+    (bytes : List ℕ) × Takes old new bytes × IsUnbroken bytes × IsKept kept bytes × OnSome old.rest (IsAtEnd new.rest)
 IsLine old new kept (Err (Line n)) = ⊥
 IsLine old new kept (Err fault) = (bytes : List ℕ) × Takes old new bytes × IsUnbroken bytes
 

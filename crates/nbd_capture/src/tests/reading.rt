@@ -2,6 +2,7 @@
 
 use super::examples::EXAMPLES;
 use super::readers::{After, Endless, Told, by_chunks, cut, into_one, parsed, parsed_up_to};
+use super::whole::read_capture;
 use crate::{CaptureFault, CaptureReader, write_chunk};
 use nbd_wire::Side;
 use std::alloc::Global;
@@ -111,6 +112,24 @@ fn reads_as_many_bytes_as_the_limit(rt: HostRuntime) -> Result<(), Fail> {
         assert!(rt; matches!(capture.next_chunk(), Ok(None)));
         assert!(rt; matches!(capture.next_chunk(), Ok(None)));
     }
+    Ok(())
+}
+
+#[test]
+fn reads_a_whole_capture(rt: HostRuntime) -> Result<(), Fail> {
+    let alloc = rt.alloc();
+    let text = b"C 0A\n# x\n\nS \n".as_slice();
+    let chunks = read_capture(alloc, text, 13)?;
+    assert_eq!(rt; chunks.len(), 2);
+    assert_eq!(rt; chunks[0].1.as_slice(), [10].as_slice());
+    assert_eq!(rt;
+        read_capture(alloc, text, 12).err(),
+        Some(CaptureFault::Read)
+    );
+    assert_eq!(rt;
+        read_capture(alloc, b"\nC 0\n".as_slice(), 14).err(),
+        Some(CaptureFault::Line(2))
+    );
     Ok(())
 }
 

@@ -1,11 +1,7 @@
-use Rattle.std.proofs.Common.{◌≡◌, ◌≤◌, ◌+◌, ◌<◌, ◌∷◌, [], Ok, Err, refl, subst, sym, arith}
+use Rattle.std.proofs.Common.{◌∷◌, [], refl, arith}
 use Rattle.std.proofs.KnownBytes.{Keeps-refl}
 use Rattle.std.proofs.lemmas.Result.{err_from_is_err_and}
-use Rattle.nbd_capture.specs.Capture.{Chunk, IsCaptureLine}
-use Rattle.nbd_capture.specs.declared.reader.State.TheVariants.{Open}
-use Rattle.nbd_capture.specs.internal.Kept.{said_into}
-use Rattle.nbd_capture.specs.internal.Pieces.{IsAnswer, IsLine, reading}
-use Rattle.nbd_capture.proofs.PieceLemmas.{bad_line, countable_end, next_line, no_line, no_more_lines, unended_line}
+use Rattle.nbd_capture.proofs.PieceLemmas.{bad_line, countable_end, next_line, no_line, unended_line}
 use Rattle.nbd_capture.proofs.ReadingStepLemmas.{reads_none, takes_none}
 use Rattle.nbd_capture.proofs.SizeLemmas.{chunk_shrinks}
 use Rattle.nbd_capture.proofs.source.Source.read_chunk.Goals as goal

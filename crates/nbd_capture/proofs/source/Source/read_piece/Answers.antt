@@ -1,7 +1,6 @@
-use Rattle.std.proofs.Common.{◌≡◌, ◌+◌, ◌≤◌, ◌∷◌, ◌++◌, [], length, min, take, sym, ◌∙◌, subst, rules, arith, refl}
-use Rattle.std.specs.Io.BufRead.{FillKeeps, DropsConsumable}
+use Rattle.std.proofs.Common.{◌≡◌, length, take, sym, ◌∙◌, subst, arith, refl}
+use Rattle.std.specs.Io.BufRead.{FillKeeps}
 use Rattle.std.proofs.lemmas.Bool.{eqb-true}
-use Rattle.nbd_capture.specs.Lines.{IsUnbroken, line_feed}
 use Rattle.nbd_capture.proofs.PieceLemmas.{at_end, some_left, takes_last, takes_part}
 use Rattle.nbd_capture.proofs.ReadingStepLemmas.{takes_none}
 use Rattle.nbd_capture.proofs.source.Source.read_piece.Goals as goal

@@ -1,9 +1,9 @@
-use Rattle.std.proofs.Common.{◌≡◌, ◌∷◌, ◌++◌, [], append-nil, Ok, None, ap, refl, subst, sym, ◌∙◌}
+use Rattle.std.proofs.Common.{◌≡◌, ◌∷◌, ◌++◌, [], append-nil, Ok, ap, refl, subst, sym, ◌∙◌}
 use Rattle.std.proofs.lemmas.Result.{err_from_is_err_and}
 use Rattle.std.proofs.lemmas.List.{map-append}
 use Rattle.std.proofs.lemmas.Option.{IfSome_then}
 use Rattle.nbd_capture.specs.Capture.{chunk_of, chunks_of}
-use Rattle.nbd_capture.specs.Reading.{Reads, ReadsToEnd, at_start}
+use Rattle.nbd_capture.specs.Reading.{Reads, at_start}
 use Rattle.nbd_capture.proofs.ReadToEndLemmas.{names_first_bad, reads_to_end, whole_text}
 use Rattle.nbd_capture.proofs.ReadingStepLemmas.{reads-append, reads_same}
 use Rattle.nbd_capture.proofs.tests.whole.read_capture.Goals as goal
