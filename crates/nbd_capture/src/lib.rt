@@ -8,7 +8,6 @@ pub mod laws;
 mod line_buffer;
 mod lines;
 pub mod order;
-mod parse;
 pub mod reader;
 mod source;
 #[cfg(test)]
@@ -18,6 +17,5 @@ pub mod writing;
 pub use capture::CaptureFault;
 pub use lines::first_line;
 pub use order::{OrderTextFault, parse_order};
-pub use parse::parse_capture;
 pub use reader::CaptureReader;
 pub use writing::{WriteFault, write_chunk, write_whole};

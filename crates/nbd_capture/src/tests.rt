@@ -1,13 +1,15 @@
 //! Tables of texts and their answers, and writers that fail.
 
 mod examples;
+mod parse;
 mod readers;
 mod reading;
 mod whole;
 mod writers;
 
-use crate::{CaptureFault, OrderTextFault, parse_capture, parse_order};
+use crate::{CaptureFault, OrderTextFault, parse_order};
 use nbd_wire::Side;
+use parse::parse_capture;
 use std::test::Fail;
 
 #[test]

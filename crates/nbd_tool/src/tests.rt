@@ -24,7 +24,7 @@ use crate::fault::RunFault;
 use crate::make::run_make;
 use crate::show::run_show;
 use crate::start::StartFrom;
-use nbd_capture::{parse_capture, write_chunk};
+use nbd_capture::{CaptureReader, write_chunk};
 use nbd_wire::Side;
 use std::alloc::Global;
 use std::test::Fail;
@@ -82,10 +82,20 @@ fn ended(alloc: Global, out: Vec<u8>, answer: Result<bool, RunFault>) -> Result<
     }
 }
 
+/// The chunks of a capture text.
+fn chunks_in(alloc: Global, capture: &[u8]) -> Result<Vec<(Side, Vec<u8>)>, Fail> {
+    let mut reader = CaptureReader::new(alloc, capture, 1 << 20);
+    let mut chunks = Vec::new(alloc);
+    while let Some(chunk) = reader.next_chunk()? {
+        chunks.push(chunk)?;
+    }
+    Ok(chunks)
+}
+
 /// The same capture as chunks of one byte.
 fn one_by_one(alloc: Global, capture: &[u8]) -> Result<Vec<u8>, Fail> {
     let mut text = Vec::new(alloc);
-    for (side, bytes) in parse_capture(alloc, capture)? {
+    for (side, bytes) in chunks_in(alloc, capture)? {
         for byte in bytes.as_slice().chunks(1) {
             write_chunk(&mut text, side, byte)?;
         }
@@ -97,7 +107,7 @@ fn one_by_one(alloc: Global, capture: &[u8]) -> Result<Vec<u8>, Fail> {
 fn with_empty_chunks(alloc: Global, capture: &[u8]) -> Result<Vec<u8>, Fail> {
     let none: &[u8] = b"";
     let mut text = Vec::new(alloc);
-    for (side, bytes) in parse_capture(alloc, capture)? {
+    for (side, bytes) in chunks_in(alloc, capture)? {
         write_chunk(&mut text, Side::Client, none)?;
         write_chunk(&mut text, Side::Server, none)?;
         write_chunk(&mut text, side, bytes.as_slice())?;
@@ -110,7 +120,7 @@ fn with_empty_chunks(alloc: Global, capture: &[u8]) -> Result<Vec<u8>, Fail> {
 fn longest_runs(alloc: Global, capture: &[u8]) -> Result<Vec<u8>, Fail> {
     let mut text = Vec::new(alloc);
     let mut run: Option<(Side, Vec<u8>)> = None;
-    for (side, bytes) in parse_capture(alloc, capture)? {
+    for (side, bytes) in chunks_in(alloc, capture)? {
         match &mut run {
             Some((last, collected)) if *last == side => {
                 collected.extend_from_slice(bytes.as_slice())?;

@@ -1,7 +1,8 @@
 //! Readers that give a capture in pieces, fail, or never end, and all that a capture reader tells of one.
 
+use super::parse::parse_capture;
 use crate::lines::first_line;
-use crate::{CaptureFault, CaptureReader, parse_capture, write_chunk};
+use crate::{CaptureFault, CaptureReader, write_chunk};
 use std::alloc::Global;
 use std::io;
 use std::io::{BufRead, ErrorKind, Read};

@@ -1,6 +1,7 @@
 //! Writers over memory that take little, or fail.
 
-use crate::{parse_capture, write_chunk};
+use super::parse::parse_capture;
+use crate::write_chunk;
 use nbd_wire::Side;
 use std::alloc::Global;
 use std::io;

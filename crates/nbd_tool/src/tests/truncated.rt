@@ -1,8 +1,8 @@
 //! A session that is cut off, or of which a byte is damaged.
 
 use super::messages::{BEGUN, DONE_1, READ_2_OF_4, WRITE_ABCD};
-use super::{Start, answer, longest_runs};
-use nbd_capture::{parse_capture, write_chunk};
+use super::{Start, answer, chunks_in, longest_runs};
+use nbd_capture::write_chunk;
 use nbd_wire::Side;
 use std::alloc::Global;
 use std::test::Fail;
@@ -15,7 +15,7 @@ const FOUND: &str = "S 67446698000000000000000000000002abcd0000\n";
 fn session(alloc: Global) -> Result<Vec<(Side, u8)>, Fail> {
     let mut pairs = Vec::new(alloc);
     for part in [BEGUN, WRITE_ABCD, DONE_1, READ_2_OF_4, FOUND] {
-        for (side, bytes) in parse_capture(alloc, part.as_bytes())? {
+        for (side, bytes) in chunks_in(alloc, part.as_bytes())? {
             for byte in bytes.as_slice() {
                 pairs.push((side, *byte))?;
             }

@@ -3,7 +3,7 @@ use Rattle.nbd_capture.proofs.DigitLemmas.{spelled}
 use Rattle.nbd_capture.proofs.FormLemmas.{undecodable}
 use Rattle.nbd_capture.specs.Capture.{IsCaptureLine, chunk_of, letter, space}
 use Rattle.nbd_capture.specs.Capture.IsCaptureLine.{chunk}
-use Rattle.nbd_capture.proofs.parse.chunk_on.Goals as goal
+use Rattle.nbd_capture.proofs.tests.parse.chunk_on.Goals as goal
 
 pub returns-in-Ok-clause-said : goal.returns-in-Ok-clause-said
 returns-in-Ok-clause-said c =

@@ -1,7 +1,7 @@
 use Rattle.std.proofs.Common.{length}
 use Rattle.nbd_capture.specs.Capture.{IsCaptureLine, chunks_of}
 use Rattle.nbd_capture.proofs.ProgressLemmas.{Progress}
-use Rattle.nbd_capture.proofs.parse.parse_capture.Given as goal
+use Rattle.nbd_capture.proofs.tests.parse.parse_capture.Given as goal
 
 abbrev pub invariant-loop-rest : goal.invariant-loop-rest
 invariant-loop-rest l = Progress IsCaptureLine l.text l.rest (chunks_of l.chunks.items) l.number

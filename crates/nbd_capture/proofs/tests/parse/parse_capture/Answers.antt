@@ -8,7 +8,7 @@ use Rattle.nbd_capture.proofs.FaultLemmas.{only_memory_of_capture, stopped_captu
 use Rattle.nbd_capture.proofs.FormLemmas.{one_saying}
 use Rattle.nbd_capture.proofs.ReadingLemmas.{one_reading}
 use Rattle.nbd_capture.proofs.ProgressLemmas.{Progress, advance, done, cut_off}
-use Rattle.nbd_capture.proofs.parse.parse_capture.Goals as goal
+use Rattle.nbd_capture.proofs.tests.parse.parse_capture.Goals as goal
 
 pub returns-in_err-line-clause-fault : goal.returns-in_err-line-clause-fault
 returns-in_err-line-clause-fault c =

@@ -1,4 +1,4 @@
-//! A capture text that is at hand, read whole.
+//! The plain form of reading a capture: a text that is at hand, read whole.
 
 ghost use Rattle.std.specs.Prelude.{◌≡◌, List, IfOk, IfErr, MatchResult};
 ghost use Rattle.nbd_capture.specs.Capture.{Chunk, IsCaptureLine, IsCaptureText, chunks_of};
@@ -19,7 +19,10 @@ use std::alloc::Global;
 /// that begins with `#` say nothing. This format is this project's choice. The text is read once, from
 /// its prefix, and each chunk's bytes are a vector of their own. Memory may run out before a bad line is
 /// reached.
-pub fn parse_capture(alloc: Global, text: &[u8]) -> Result<Vec<(Side, Vec<u8>)>, CaptureFault>
+pub(super) fn parse_capture(
+    alloc: Global,
+    text: &[u8],
+) -> Result<Vec<(Side, Vec<u8>)>, CaptureFault>
     ensures chunks { IfOk result (λ chunks. IsCaptureText text.now (chunks_of chunks.items)) }
     ensures fault { IfErr result (IsCaptureFault text.now) }
     // What reads as chunks gives these chunks, unless memory runs out.
