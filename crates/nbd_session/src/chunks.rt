@@ -21,7 +21,7 @@ ghost use Rattle.nbd_session.specs.internal.Readings.{reading_of};
 
 use crate::leading::leading_chunk;
 use crate::reading::Reading;
-use crate::spans::{Span, content_span, bytes_in, is_apart_from, is_inside};
+use crate::spans::{Span, bytes_in, content_span, is_apart_from, is_inside};
 use nbd_state::{Asked, Exchange};
 use nbd_wire::flags::has;
 use nbd_wire::{

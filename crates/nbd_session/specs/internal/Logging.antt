@@ -1,13 +1,9 @@
 -- The messages of a session in the order of their completion, each with how much was known when it started.
-use Rattle.std.specs.Prelude.{ℕ, List, [], ◌∷◌, ◌++◌, Result, Ok, Err, length}
-use Rattle.nbd_wire.specs.protocol.Marks.{Item, Byte, Starts, Completes, Serves}
+use Rattle.std.specs.Prelude.{List, [], ◌∷◌, ◌++◌, Result, Ok, Err, length}
 use Rattle.nbd_wire.specs.protocol.Captures.{Pair}
-use Rattle.nbd_wire.specs.protocol.Reports.{Report, export_in, asked_list}
-use Rattle.nbd_wire.specs.protocol.Rules.{complete}
-use Rattle.nbd_wire.specs.protocol.States.{Core, start}
 use Rattle.nbd_wire.specs.declared.fault.WireFault.{WireFault}
-use Rattle.nbd_laws.specs.internal.Machine.{Bad, Both, Judge, Machine, More, Reading, Rest, Whole, get, rest_with, put, step}
-use Rattle.nbd_state.specs.Logs.{LogEntry, known_by}
+use Rattle.nbd_laws.specs.internal.Machine.{Bad, Judge, Machine, More, Reading, Rest, Whole, get, rest_with, step}
+use Rattle.nbd_state.specs.Logs.{LogEntry}
 
 -- what completes with a byte, by the side's bytes
 abbrev pub log_with : Rest → Reading → List LogEntry
