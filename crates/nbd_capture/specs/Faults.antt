@@ -7,7 +7,8 @@ use Rattle.nbd_capture.specs.declared.order.OrderTextFault.TheVariants as order_
 use Rattle.nbd_capture.specs.Capture.{IsFirstBadCaptureLine}
 use Rattle.nbd_capture.specs.Order.{IsFirstBadOrderLine}
 
--- a line fault names the first bad line; out of memory says nothing of the text; a text that needs no reader has no fault of one
+-- a line fault names the first bad line; out of memory says nothing of the text; no reader can fail where the text is
+-- at hand
 abbrev pub IsCaptureFault : List ℕ → CaptureFault → Type 0
 IsCaptureFault text (capture_faults.Line n) = IsFirstBadCaptureLine text n
 IsCaptureFault text capture_faults.Read = ⊥

@@ -2,7 +2,7 @@
 
 use super::examples::EXAMPLES;
 use super::readers::{After, Endless, Told, by_chunks, cut, into_one, parsed, parsed_up_to};
-use super::whole::read_capture;
+use super::whole::{count_bytes, read_capture};
 use crate::{CaptureFault, CaptureReader, write_chunk};
 use nbd_wire::Side;
 use std::alloc::Global;
@@ -120,6 +120,7 @@ fn reads_a_whole_capture(rt: HostRuntime) -> Result<(), Fail> {
     let alloc = rt.alloc();
     let text = b"C 0A\n# x\n\nS \n".as_slice();
     let chunks = read_capture(alloc, text, 13)?;
+    assert_eq!(rt; count_bytes(alloc, text, 13)?, 1);
     assert_eq!(rt; chunks.len(), 2);
     assert_eq!(rt; chunks[0].1.as_slice(), [10].as_slice());
     assert_eq!(rt;
