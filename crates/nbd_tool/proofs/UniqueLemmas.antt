@@ -1,12 +1,11 @@
 -- Each run has one line, or one output, to write.
-use Rattle.std.proofs.Common.{◌≡◌, ℕ, List, [], ◌∷◌, ◌++◌, length, refl, sym, ◌∙◌, ap, subst, Bool, true, false}
+use Rattle.std.proofs.Common.{◌≡◌, ℕ, List, [], ◌∷◌, ◌++◌, length, refl, sym, ◌∙◌, ap, subst}
 use Rattle.std.specs.Prelude.{codes}
-use Rattle.nbd_wire.specs.declared.fault.WireFault.{WireFault}
 use Rattle.nbd_wire.specs.declared.message.Message.{Message}
 use Rattle.nbd_wire.specs.protocol.Captures.{Pair}
 use Rattle.nbd_wire.specs.protocol.Marks.{Item, Byte, Starts, Completes, Serves, completed_messages, without_service}
-use Rattle.nbd_capture.specs.Capture.{Chunk, IsCaptureLine, IsCaptureText}
-use Rattle.nbd_capture.specs.Order.{IsOrderLine, IsOrderText}
+use Rattle.nbd_capture.specs.Capture.{Chunk, IsCaptureLine}
+use Rattle.nbd_capture.specs.Order.{IsOrderLine}
 use Rattle.nbd_capture.proofs.FormLemmas.{one_saying}
 use Rattle.nbd_capture.proofs.NumeralLemmas.{one_number}
 use Rattle.nbd_capture.proofs.ReadingLemmas.{one_reading}
