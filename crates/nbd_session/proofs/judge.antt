@@ -2,4 +2,3 @@ pub mod BeginningLemmas
 pub mod ChunkFaultLemmas
 pub mod PieceLemmas
 pub mod RefusalLemmas
-pub mod ReplyLemmas

@@ -1,4 +1,2 @@
 pub mod LeadingLemmas
 pub mod ShownOperationLemmas
-pub mod WholeForLemmas
-pub mod WholeMessageLemmas

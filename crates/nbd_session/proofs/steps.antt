@@ -1,5 +1,11 @@
 pub mod AcceptLemmas
-pub mod AwaitedHeldLemmas
+pub mod ConcludeLemmas
+pub mod EmptiedLemmas
+pub mod HoldingLemmas
+pub mod IncomingLemmas
+pub mod KnownLemmas
+pub mod MissingLemmas
 pub mod SettleLemmas
 pub mod StepLemmas
+pub mod TakenLemmas
 pub mod TakeLemmas

@@ -1,7 +1,8 @@
 -- A session as the program has it.
 use Rattle.std.specs.Prelude.{List, map, Option}
+use Rattle.nbd_session.specs.Incoming.{bytes_come}
 use Rattle.nbd_session.specs.Pushed.{Stretch}
-use Rattle.nbd_session.specs.declared.held.Stretch as program
+use Rattle.nbd_session.specs.declared.stretches.Stretch as program
 use Rattle.nbd_session.specs.declared.fault.SessionFault.{SessionFault}
 use Rattle.nbd_session.specs.declared.held.Held.{Held}
 use Rattle.nbd_session.specs.Sessions.{SessionView}
@@ -17,8 +18,8 @@ stretches_of stretches = map stretch_of stretches
 abbrev pub session_view : Held → Option SessionFault → SessionView
 session_view held closed = record {
   messages = held.messages.items;
-  client = held.client.items;
-  server = held.server.items;
+  client = bytes_come held.client;
+  server = bytes_come held.server;
   stretches = stretches_of held.stretches.items;
   closed = closed;
 }

@@ -1,9 +1,10 @@
 pub mod Asking
+pub mod Expecting
 pub mod Holdings
+pub mod Incoming
+pub mod Known
 pub mod Leading
 pub mod Logging
-pub mod Readings
 pub mod Standing
 pub mod Steps
 pub mod Stopped
-pub mod WholeMessage

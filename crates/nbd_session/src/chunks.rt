@@ -2,8 +2,6 @@
 //! "Structured reply types").
 
 ghost use Rattle.std.specs.Prelude.{◌≡◌, ◌≤◌, ◌+◌, ◌==◌, ◌&&◌, ◌||◌, ℕ, IsTrue, Option, length, not};
-ghost use Rattle.std.specs.Option.{option_copied};
-ghost use Rattle.nbd_wire.specs.declared.magics.TheConstants.{CHUNK_MAGIC};
 ghost use Rattle.nbd_wire.specs.declared.chunks.TheConstants as chunks;
 ghost use Rattle.nbd_wire.specs.declared.payloads.Piece.{Piece};
 ghost use Rattle.nbd_wire.specs.declared.command_flags.TheConstants as command_flags;
@@ -17,79 +15,19 @@ ghost use Rattle.nbd_session.specs.internal.Asking.{ShownIf, done_by, finish_by,
 ghost use Rattle.nbd_state.specs.Showing.{IsShown};
 ghost use Rattle.nbd_places.specs.internal.Decisions.{fault_if};
 ghost use Rattle.nbd_places.specs.internal.JudgeTransmission.{begins, chunk_to, chunk_fault, fits_read, fits_failure, total};
-ghost use Rattle.nbd_session.specs.internal.Readings.{reading_of};
 
-use crate::leading::leading_chunk;
-use crate::reading::Reading;
 use crate::spans::{Span, bytes_in, content_span, is_apart_from, is_inside};
 use nbd_state::{Asked, Exchange};
 use nbd_wire::flags::has;
-use nbd_wire::{
-    ChunkHead, WireFault, chunks, command_flags, commands, content_of, failure_of, head_lengths,
-};
+use nbd_wire::{WireFault, chunks, command_flags, commands, content_of, failure_of};
 
-/// What a server's bytes are that begin as a chunk; the exchange, if any, is the one that the chunk's
-/// cookie names.
-pub(crate) fn read_chunk(
-    bytes: &[u8],
-    exchange: Option<&Exchange>,
-    structured: bool,
-) -> Result<Reading, WireFault>
-    requires { IsTrue (begins CHUNK_MAGIC bytes.now) }
-    ensures { (export : Exporting) (now : Core) (to : Option Operation) → now.structured ≡ structured →
-        (16 ≤ length bytes.now → ShownIf export to (option_copied exchange.entry)) →
-        result ≡ reading_of (chunk_to export now to bytes.now) bytes.now }
-{
-    if bytes.len() < head_lengths::CHUNK {
-        return Ok(Reading::Await(head_lengths::CHUNK));
-    }
-    let Some(head) = leading_chunk(bytes) else {
-        return Err(WireFault::BadMagic);
-    };
-    match exchange {
-        Some(exchange) => read_chunk_to(bytes, &head, exchange, structured),
-        None => Err(WireFault::UnknownCookie),
-    }
-}
-
-// What a chunk with this head to this request is, once its head is whole.
-fn read_chunk_to(
-    bytes: &[u8],
-    head: &ChunkHead,
+/// Why a whole chunk may not stand in the reply to its request.
+pub(crate) fn chunk_fault(
+    flags: u16,
+    kind: u16,
+    payload: &[u8],
     exchange: &Exchange,
-    structured: bool,
-) -> Result<Reading, WireFault>
-    requires whole { 20 ≤ length bytes.now }
-    requires head { head.now ≡ record {
-      flags = number_at 4 2 bytes.now;
-      kind = number_at 6 2 bytes.now;
-      cookie
-          = number_at 8 8 bytes.now;
-      length = number_at 16 4 bytes.now;
-    } }
-    ensures { (export : Exporting) (now : Core) (e : Operation) → now.structured ≡ structured →
-        IsShown export e exchange.now → result ≡ reading_of (chunk_to export now (Some e) bytes.now) bytes.now }
-{
-    if !structured {
-        return Err(WireFault::ChunkForbidden);
-    }
-    let length = head_lengths::CHUNK + head.length as usize;
-    if bytes.len() != length {
-        return Ok(Reading::Await(length));
-    }
-    match fault_of(
-        head.flags,
-        head.kind,
-        &bytes[head_lengths::CHUNK..],
-        exchange,
-    ) {
-        Some(fault) => Err(fault),
-        None => Ok(Reading::Whole),
-    }
-}
-
-// Why a whole chunk may not stand in the reply to its request.
-fn fault_of(flags: u16, kind: u16, payload: &[u8], exchange: &Exchange) -> Option<WireFault>
+) -> Option<WireFault>
     ensures { (export : Exporting) (e : Operation) (cookie : ℕ) → IsShown export e exchange.now →
         result ≡ chunk_fault (kind == chunks.NONE) export e
         (with_reply e (Chunk flags kind cookie payload.now)) flags kind payload.now }

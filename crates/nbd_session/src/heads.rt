@@ -1,34 +1,26 @@
-//! The number that a reply begins with and its cookie, where they stand in a side's bytes.
+//! The number that a reply begins with.
 
-ghost use Rattle.std.specs.Prelude.{◌≡◌, length, nat_le, if◌then◌else◌};
-ghost use Rattle.nbd_wire.specs.protocol.Payloads.{number_at};
+ghost use Rattle.std.specs.Prelude.{◌≤◌, IfErr, IfOk};
+ghost use Rattle.nbd_session.specs.internal.Expecting.{HasReplyLength, IsNoReply};
 
 use byteorder::{BigEndian, ByteOrder};
-use nbd_wire::head_lengths;
+use nbd_wire::{WireFault, head_lengths, magics};
 
 /// The length of the number that a reply begins with, in bytes.
-pub(crate) const MAGIC_LENGTH: usize = 4;
-/// Where the cookie stands in a reply of either kind, in bytes.
-const COOKIE: usize = 8;
+const MAGIC_LENGTH: usize = 4;
 
-/// The number that bytes begin with, if there are four.
-pub(crate) fn magic_in(bytes: &[u8]) -> Option<u32>
-    ensures { result ≡ (if nat_le 4 (length bytes.now) then Some (number_at 0 4 bytes.now) else None) }
+/// The length of a reply's head, or of the number that it begins with while that has not come.
+pub(crate) fn reply_head_length(head: &[u8]) -> Result<usize, WireFault>
+    ensures known { IfOk result (HasReplyLength head.now) }
+    ensures fits { IfOk result (λ n. n ≤ 28) }
+    ensures refused { IfErr result (IsNoReply head.now) }
 {
-    if bytes.len() < MAGIC_LENGTH {
-        None
-    } else {
-        Some(BigEndian::read_u32(bytes))
+    if head.len() < MAGIC_LENGTH {
+        return Ok(MAGIC_LENGTH);
     }
-}
-
-/// The cookie of a reply, if there are as many bytes as a simple reply's head.
-pub(crate) fn cookie_in(bytes: &[u8]) -> Option<u64>
-    ensures { result ≡ (if nat_le 16 (length bytes.now) then Some (number_at 8 8 bytes.now) else None) }
-{
-    if bytes.len() < head_lengths::SIMPLE {
-        None
-    } else {
-        Some(BigEndian::read_u64(&bytes[COOKIE..]))
+    match BigEndian::read_u32(head) {
+        magics::SIMPLE_MAGIC => Ok(head_lengths::SIMPLE),
+        magics::CHUNK_MAGIC => Ok(head_lengths::CHUNK),
+        _ => Err(WireFault::BadMagic),
     }
 }

@@ -1,34 +1,26 @@
 //! What a session under way holds of the bytes that it was given.
 
-ghost use Rattle.std.specs.Prelude.{◌≡◌, ◌+◌, ◌-◌, ◌<◌, ◌≤◌, ◌^◌, ◌++◌, [], drop, length, if◌then◌else◌, IfErr, IfOk, None, OnErr, OnOk, Ok, slice_get};
-ghost use Rattle.nbd_wire.specs.declared.message.Side.TheVariants.{Client, Server};
-ghost use Rattle.nbd_wire.specs.protocol.Sides.{same_side};
-ghost use Rattle.nbd_wire.specs.protocol.States.{Core, start};
-ghost use Rattle.nbd_session.specs.declared.reading.Reading.TheVariants.{Whole};
-ghost use Rattle.nbd_session.specs.internal.Holdings.{holding_of, is_of};
+ghost use Rattle.std.specs.Prelude.{◌≡◌, ◌+◌, ◌<◌, ◌≤◌, ◌^◌, [], drop, length, IfErr, IfOk, None, OnErr, OnOk, Some};
+ghost use Rattle.nbd_wire.specs.protocol.States.{start};
+ghost use Rattle.nbd_session.specs.Incoming.{incoming_with, nothing_come};
+ghost use Rattle.nbd_session.specs.internal.Holdings.{holding_of, incoming_of, with_expected, with_incoming};
 ghost use Rattle.nbd_session.specs.Views.{stretches_of, session_view};
-ghost use Rattle.nbd_places.specs.internal.Judge.{awaited_length, decision_by_count};
-ghost use Rattle.nbd_laws.specs.internal.Machine.{Machine, get, old_of};
-ghost use Rattle.nbd_session.specs.internal.Readings.{reading_if, until};
+ghost use Rattle.nbd_session.specs.internal.Known.{awaited};
 ghost use Rattle.nbd_session.specs.Sessions.{IsReported, fault_at_end, fault_of};
 ghost use Rattle.nbd_state.specs.Shows.{Shows};
-ghost use Rattle.nbd_session.specs.internal.Standing.{IsReadTo, stretches_with, rest_of, stretch_total, with_bytes};
-ghost use Rattle.nbd_session.specs.internal.Steps.{AddsHeld, IsRefused, IsSame, IsShut, IsTaken, Stands};
+ghost use Rattle.nbd_session.specs.internal.Standing.{count_at_server, rest_of, stretch_total, stretches_with};
+ghost use Rattle.nbd_session.specs.internal.Steps.{AddsHeld, IsExpecting, IsHeadRefused, IsRefused, IsSame, IsShut, IsTaken, IsWhole, Knows, Stands};
+ghost use Rattle.nbd_session.specs.declared.fault.SessionFault.TheVariants.{Memory};
 
+use crate::deciding::{decide, head_length};
+use crate::ending::last_fault;
+use crate::expected::Expected;
 use crate::fault::SessionFault;
-use crate::reading::Reading;
-use crate::reading_state::read;
-use crate::whole::whole_message;
+use crate::incoming::Incoming;
+use crate::stretches::Stretch;
 use nbd_state::{State, Transcript};
 use nbd_wire::{Message, Side, WireFault};
 use std::alloc::{AllocError, Global};
-
-/// Bytes of one side that follow each other, by their number.
-#[derive(Clone, Copy, Drop)]
-pub(crate) struct Stretch {
-    pub from: Side,
-    pub length: u64,
-}
 
 /// What a session under way holds.
 #[derive(Drop)]
@@ -37,9 +29,9 @@ pub(crate) struct Held {
     /// The accepted messages, in the order of their completion.
     pub messages: Vec<Message>,
     /// The client's bytes after its messages.
-    pub client: Vec<u8>,
+    pub client: Incoming,
     /// The server's.
-    pub server: Vec<u8>,
+    pub server: Incoming,
     /// How many numbered requests had completed before the first of the server's.
     pub counted: u64,
     /// All bytes, by their sides.
@@ -52,46 +44,20 @@ impl Held {
     /// Before the first byte; takes no memory.
     pub(crate) fn new(alloc: Global) -> Held
         ensures shows { Shows result.state start.core }
-        ensures holds { holding_of result ≡ record {
-          messages = [];
-          client = [];
-          server = [];
-          counted = 0;
-          stretches = [];
-        } }
         ensures none { result.state.exchanges.items ≡ [] }
-        ensures taken { result.taken ≡ 0 }
+        ensures client { result.client ≡ nothing_come }
+        ensures server { result.server ≡ nothing_come }
+        ensures empty { (result.messages.items ≡ []) × (result.stretches.items ≡ []) × (result.counted ≡ 0) × (result.taken ≡ 0) }
     {
         Held {
             state: State::new(alloc),
             messages: Vec::new(alloc),
-            client: Vec::new(alloc),
-            server: Vec::new(alloc),
+            client: Incoming::new(alloc),
+            server: Incoming::new(alloc),
             counted: 0,
             stretches: Vec::new(alloc),
             taken: 0,
         }
-    }
-
-    /// A side's bytes after its messages.
-    pub(crate) fn rest(&self, side: Side) -> &[u8]
-        ensures { result.now ≡ rest_of (holding_of self.now) side }
-    {
-        match side {
-            Side::Client => self.client.as_slice(),
-            Side::Server => self.server.as_slice(),
-        }
-    }
-
-    /// The next length of a side's bytes at which something is decided of them.
-    pub(crate) fn awaited_length(&self, side: Side) -> usize
-        ensures { (machine : Machine) → IsReadTo (holding_of self.now) machine →
-            Shows self.now.state machine.core →
-            result ≡ awaited_length (old_of machine.core (get machine.rests side)) machine.core side
-            (rest_of (holding_of self.now) side) }
-    {
-        let rest = self.rest(side);
-        until(read(&self.state, side, rest, self.counted), rest.len())
     }
 
     /// Takes a piece of a side's bytes. The condition on its length is that all bytes have fewer than
@@ -116,8 +82,8 @@ impl Held {
         Ok(())
     }
 
-    /// Takes the prefix of these bytes of a side up to the next length at which something is decided, and
-    /// states its length.
+    // Takes the prefix of these bytes of a side up to the next length at which something is decided, and
+    // states its length.
     fn step(&mut self, alloc: Global, side: Side, left: &[u8]) -> Result<usize, SessionFault>
         requires stands { Stands self.old }
         requires filled { 0 < length left.now }
@@ -128,29 +94,64 @@ impl Held {
         ensures adds { IfOk result (λ count. AddsHeld self.old self.new side left.now (drop count left.now)) }
         ensures refused { IfErr result (λ fault. IsRefused self.old self.new side left.now fault) }
     {
-        let missing = self.awaited_length(side) - self.rest(side).len();
-        let count = missing.min(left.len());
+        let count = self.missing(side).min(left.len());
         self.take(side, &left[..count])?;
         self.settle(alloc, side)?;
         Ok(count)
     }
 
-    /// Takes bytes of a side. After an `Err`, that memory ran out, no byte was taken.
+    // A side's bytes after its messages.
+    fn incoming(&self, side: Side) -> &Incoming
+        ensures { result.now ≡ incoming_of self.now side }
+    {
+        match side {
+            Side::Client => &self.client,
+            Side::Server => &self.server,
+        }
+    }
+
+    // How many more bytes of a side are wanted until something is decided of them.
+    fn missing(&self, side: Side) -> usize
+        requires { Stands self.now }
+        ensures awaited { (st : Stands self.now) →
+            length (rest_of (holding_of self.now) side) + result ≡ awaited st.machine side }
+        ensures room { (incoming_of self.now side).expected ≡ None →
+            length (incoming_of self.now side).head + result ≤ 28 }
+    {
+        let incoming = self.incoming(side);
+        match incoming.expected() {
+            Some(expected) => expected.payload_length() - incoming.payload().len(),
+            None => match head_length(&self.state, side, incoming.head()) {
+                Ok(length) => length - incoming.head().len(),
+                Err(_) => 1,
+            },
+        }
+    }
+
+    // Takes bytes of a side. After an `Err`, that memory ran out, no byte was taken.
     fn take(&mut self, side: Side, piece: &[u8]) -> Result<(), AllocError>
+        requires room { (incoming_of self.old side).expected ≡ None →
+            length (incoming_of self.old side).head + length piece.now ≤ 28 }
         requires stretches { stretch_total side (stretches_of self.old.stretches.items) + length piece.now < 2 ^ 64 }
         requires fits { self.old.taken + length piece.now < 2 ^ 64 }
-        ensures taken { OnOk result (holding_of self.new ≡ with_bytes (holding_of self.old) side piece.now
+        ensures incoming { OnOk result (self.new ≡ record (with_incoming self.old side (incoming_with
+            (incoming_of self.old side) piece.now)) {
+              counted = self.new.counted;
+              stretches = self.new.stretches;
+              taken = self.old.taken + length piece.now;
+            }) }
+        ensures counted { OnOk result (self.new.counted ≡ count_at_server side self.old.server.head self.old.counted
             (length self.old.state.exchanges.items)) }
-        ensures state { self.new.state ≡ self.old.state }
-        ensures count { OnOk result (self.new.taken ≡ self.old.taken + length piece.now) }
+        ensures stretches { OnOk result (stretches_of self.new.stretches.items ≡ stretches_with
+            (stretches_of self.old.stretches.items) side (length piece.now)) }
         ensures unchanged { OnErr result ((holding_of self.new ≡ holding_of self.old)
             × (self.new.taken ≡ self.old.taken)) }
     {
         match side {
-            Side::Client => append(&mut self.client, &mut self.stretches, side, piece)?,
+            Side::Client => self.client.add(&mut self.stretches, side, piece)?,
             Side::Server => {
                 let is_first = self.server.is_empty();
-                append(&mut self.server, &mut self.stretches, side, piece)?;
+                self.server.add(&mut self.stretches, side, piece)?;
                 if is_first {
                     self.counted = self.state.exchanges.len() as u64;
                 }
@@ -160,17 +161,16 @@ impl Held {
         Ok(())
     }
 
-    /// Judges the bytes that were taken: they go on, or are a whole message, which is accepted, or break
-    /// a rule.
+    // Decides what a head is that has become whole, and accepts a message that has.
     fn settle(&mut self, alloc: Global, side: Side) -> Result<(), SessionFault>
-        requires taken { IsTaken self.old side }
+        requires { IsTaken self.old side }
         ensures stands { OnOk result (Stands self.new) }
         ensures same { IsSame self.old self.new }
         ensures shut { IfErr result (λ fault. IsShut self.new fault) }
     {
-        match read(&self.state, side, self.rest(side), self.counted) {
-            Ok(Reading::Await(_)) => Ok(()),
-            Ok(Reading::Whole) => Ok(self.accept(alloc, side)?),
+        match self.expect(side) {
+            Ok(Some(expected)) => self.conclude(alloc, side, expected),
+            Ok(None) => Ok(()),
             Err(fault) => Err(SessionFault::Wire {
                 at: self.taken,
                 fault,
@@ -178,22 +178,97 @@ impl Held {
         }
     }
 
-    /// Accepts the whole message that a side's bytes are. After an `Err`, that memory ran out, what is
-    /// held is as it was but for the state, of which nothing is known.
-    fn accept(&mut self, alloc: Global, side: Side) -> Result<(), AllocError>
+    // What a side's head says, once it is whole.
+    fn expect(&mut self, side: Side) -> Result<Option<Expected>, WireFault>
+        requires { IsTaken self.old side }
+        ensures known { IfOk result (λ expected. Knows self.old side expected) }
+        ensures kept { IfOk result (λ expected. self.new ≡ with_expected self.old side expected) }
+        ensures refused { IfErr result (λ fault. IsHeadRefused self.old side fault) }
+        ensures same { IfErr result (λ fault. self.new ≡ self.old) }
+    {
+        match self.incoming(side).expected() {
+            Some(expected) => Ok(Some(expected)),
+            None => self.decide(side),
+        }
+    }
+
+    // What a side's head says, if its last byte has come.
+    fn decide(&mut self, side: Side) -> Result<Option<Expected>, WireFault>
         requires taken { IsTaken self.old side }
-        requires whole { (core : Core) → Shows self.old.state core →
-            reading_if (decision_by_count self.old.counted core side (rest_of (holding_of self.old) side))
-            (rest_of (holding_of self.old) side) ≡ Ok Whole }
+        requires none { (incoming_of self.old side).expected ≡ None }
+        ensures known { IfOk result (λ expected. Knows self.old side expected) }
+        ensures kept { IfOk result (λ expected. self.new ≡ with_expected self.old side expected) }
+        ensures refused { IfErr result (λ fault. IsHeadRefused self.old side fault) }
+        ensures same { IfErr result (λ fault. self.new ≡ self.old) }
+    {
+        let head = self.incoming(side).head();
+        if head.len() < head_length(&self.state, side, head)? {
+            return Ok(None);
+        }
+        let expected = decide(&self.state, side, head, self.counted)?;
+        self.note_expected(side, expected);
+        Ok(Some(expected))
+    }
+
+    // The head of a side's message is whole, and says this.
+    fn note_expected(&mut self, side: Side, expected: Expected)
+        ensures { self.new ≡ with_expected self.old side (Some expected) }
+    {
+        match side {
+            Side::Client => self.client.expect(expected),
+            Side::Server => self.server.expect(expected),
+        }
+    }
+
+    // Accepts a side's message if all of its bytes have come and its last one breaks no rule.
+    fn conclude(
+        &mut self,
+        alloc: Global,
+        side: Side,
+        expected: Expected,
+    ) -> Result<(), SessionFault>
+        requires { IsExpecting self.old side expected }
         ensures stands { OnOk result (Stands self.new) }
         ensures same { IsSame self.old self.new }
-        ensures unchanged { OnErr result (holding_of self.new ≡ holding_of self.old) }
+        ensures shut { IfErr result (λ fault. IsShut self.new fault) }
     {
-        let message = whole_message(alloc, &self.state, side, self.rest(side))?;
-        self.state.complete(alloc, &message, self.counted)?;
+        let payload = self.incoming(side).payload();
+        if payload.len() < expected.payload_length() {
+            return Ok(());
+        }
+        if let Some(fault) = last_fault(&self.state, &expected, payload) {
+            return Err(SessionFault::Wire {
+                at: self.taken,
+                fault,
+            });
+        }
+        Ok(self.accept(alloc, side, expected)?)
+    }
+
+    // Accepts a message whose last byte has come. After an `Err`, that memory ran out, it may stand among
+    // the messages, and nothing is known of the state.
+    fn accept(&mut self, alloc: Global, side: Side, expected: Expected) -> Result<(), AllocError>
+        requires { IsWhole self.old side expected }
+        ensures stands { OnOk result (Stands self.new) }
+        ensures same { IsSame self.old self.new }
+        ensures shut { OnErr result (IsShut self.new Memory) }
+    {
+        self.messages.reserve(1)?;
+        let message = expected.message(self.take_payload(alloc, side));
+        let completed = self.state.complete(alloc, &message, self.counted);
         self.messages.push(message)?;
-        self.clear(side);
-        Ok(())
+        completed
+    }
+
+    // Empties what has come of a side, and returns the bytes after the head.
+    fn take_payload(&mut self, alloc: Global, side: Side) -> Vec<u8>
+        ensures payload { result.items ≡ (incoming_of self.old side).payload }
+        ensures empty { self.new ≡ with_incoming self.old side nothing_come }
+    {
+        match side {
+            Side::Client => self.client.take(alloc),
+            Side::Server => self.server.take(alloc),
+        }
     }
 
     /// What the session states, unless bytes stand after a side's messages.
@@ -210,79 +285,5 @@ impl Held {
                 fault: WireFault::Unfinished,
             })
         }
-    }
-
-    /// No more bytes of a side are after its messages.
-    fn clear(&mut self, side: Side)
-        ensures client { self.new.client.items ≡ (if same_side side Client then [] else self.old.client.items) }
-        ensures server { self.new.server.items ≡ (if same_side side Server then [] else self.old.server.items) }
-        ensures kept { self.new ≡ record self.old { client = self.new.client; server = self.new.server } }
-    {
-        match side {
-            Side::Client => self.client.clear(),
-            Side::Server => self.server.clear(),
-        }
-    }
-}
-
-/// These bytes of a side after its others and after all. After an `Err`, that memory ran out, both are
-/// as they were.
-fn append(
-    bytes: &mut Vec<u8>,
-    stretches: &mut Vec<Stretch>,
-    side: Side,
-    piece: &[u8],
-) -> Result<(), AllocError>
-    requires { stretch_total side (stretches_of stretches.old.items) + length piece.now < 2 ^ 64 }
-    ensures bytes { OnOk result (bytes.new.items ≡ bytes.old.items ++ piece.now) }
-    ensures stretches { OnOk result (stretches_of stretches.new.items ≡ stretches_with (stretches_of stretches.old.items) side
-        (length piece.now)) }
-    ensures unchanged { OnErr result ((bytes.new.items ≡ bytes.old.items)
-        × (stretches_of stretches.new.items ≡ stretches_of stretches.old.items)) }
-{
-    bytes.reserve(piece.len())?;
-    note(stretches, side, piece.len() as u64)?;
-    bytes.extend_from_slice(piece)
-}
-
-/// The length that is awaited of bytes that were read so and of which so many are there; where none is,
-/// the next one is.
-fn until(reading: Result<Reading, WireFault>, have: usize) -> usize
-    requires { have < 2 ^ 63 }
-    ensures { result ≡ until reading have }
-{
-    match reading {
-        Ok(Reading::Await(length)) => length,
-        Ok(Reading::Whole) => have + 1,
-        Err(_) => have + 1,
-    }
-}
-
-/// So many more bytes of a side after all others. After an `Err`, that memory ran out, nothing changed.
-fn note(stretches: &mut Vec<Stretch>, side: Side, count: u64) -> Result<(), AllocError>
-    requires { stretch_total side (stretches_of stretches.old.items) + count < 2 ^ 64 }
-    ensures noted { OnOk result (stretches_of stretches.new.items ≡ stretches_with (stretches_of stretches.old.items) side count) }
-    ensures unchanged { OnErr result (stretches_of stretches.new.items ≡ stretches_of stretches.old.items) }
-{
-    if !is_last(stretches, side) {
-        stretches.push(Stretch {
-            from: side,
-            length: count,
-        })?;
-        return Ok(());
-    }
-    if let Some(last) = stretches.last_mut() {
-        last.length += count;
-    }
-    Ok(())
-}
-
-/// The last bytes are of this side.
-fn is_last(stretches: &[Stretch], side: Side) -> bool
-    ensures { result ≡ is_of side (slice_get stretches.now (length stretches.now - 1)) }
-{
-    match stretches.last() {
-        Some(last) => side == last.from,
-        None => false,
     }
 }

@@ -2,23 +2,23 @@
 #![tactic(auto)]
 
 mod chunks;
+mod deciding;
+mod ending;
+mod expected;
 pub mod fault;
 mod heads;
 mod held;
+mod incoming;
 pub mod laws;
-mod leading;
-mod messages;
 mod negotiation;
 mod options;
-mod reading;
-mod reading_state;
 mod replies;
 mod requests;
 mod session;
 mod spans;
+mod stretches;
 #[cfg(test)]
 mod tests;
-mod whole;
 
 pub use fault::SessionFault;
 pub use nbd_state::{Asked, Outcome, Transcript};

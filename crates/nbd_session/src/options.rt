@@ -1,88 +1,94 @@
 //! Options and their answers (proto.md, "Fixed newstyle negotiation", "Option types", "Option reply
 //! types").
 
-ghost use Rattle.std.specs.Prelude.{◌≡◌, ◌≤◌, ◌==◌, drop, length};
+ghost use Rattle.std.specs.Prelude.{◌≡◌, ◌++◌, ℕ, List, IfErr, IfOk, Some, length};
 ghost use Rattle.nbd_wire.specs.protocol.Options.{is_error};
 ghost use Rattle.nbd_wire.specs.protocol.Payloads.{info_of, number_at};
 ghost use Rattle.nbd_places.specs.internal.JudgeNegotiation.{abort_answer, abort_fault, ack_fault, answer, answer_fault, answers_option, choice, info_fault, is_bad_payload, is_followed, is_good_info, payload_fault, success_fault};
 ghost use Rattle.nbd_session.specs.internal.Leading.{answer_fields_of, unless_fault};
-ghost use Rattle.nbd_session.specs.internal.Readings.{at_end, reading_of};
+ghost use Rattle.nbd_session.specs.internal.Expecting.{IsPlaced, expected_decision};
+ghost use Rattle.nbd_wire.specs.protocol.States.{Core};
 ghost use Rattle.nbd_state.specs.Showing.{exporting_if};
 
-use crate::leading::{leading_answer, leading_choice, of_length};
-use crate::reading::Reading;
+use crate::expected::Expected;
 use nbd_state::Chosen;
 use nbd_wire::answers::is_error;
 use nbd_wire::flags::has;
 use nbd_wire::{
-    AnswerHead, Info, WireFault, answers, head_lengths, info_of, limits, listed_of, options,
-    transmission,
+    AnswerHead, Info, WireFault, answer_head, answers, choice_head, info_of, limits, listed_of,
+    options, transmission,
 };
 
-/// The client's option.
-pub(crate) fn read_choice(bytes: &[u8]) -> Result<Reading, WireFault>
-    ensures { result ≡ reading_of (choice bytes.now) bytes.now }
+/// The client's option, by its head.
+pub(crate) fn choice(head: &[u8]) -> Result<Expected, WireFault>
+    requires { length head.now ≡ 16 }
+    ensures expected { IfOk result (λ expected. (now : Core) (payload : List ℕ) →
+        choice (head.now ++ payload) ≡ expected_decision now expected 16 payload) }
+    ensures placed { IfOk result (λ expected. (core : Core) → IsPlaced core expected) }
+    ensures refused { IfErr result (λ fault. (choice head.now).head_fault ≡ Some fault) }
 {
-    if bytes.len() < head_lengths::CHOICE {
-        return Ok(Reading::Await(head_lengths::CHOICE));
+    match choice_head(head) {
+        Some(head) => Ok(Expected::Choice(head)),
+        None => Err(WireFault::BadMagic),
     }
-    let head = leading_choice(bytes).ok_or(WireFault::BadMagic)?;
-    Ok(of_length(head_lengths::CHOICE + head.length as usize, bytes))
 }
 
-/// The answer to ABORT.
-pub(crate) fn read_abort_answer(bytes: &[u8]) -> Result<Reading, WireFault>
-    ensures { result ≡ reading_of (abort_answer bytes.now) bytes.now }
+/// The answer to ABORT, by its head.
+pub(crate) fn abort_answer(head: &[u8]) -> Result<Expected, WireFault>
+    requires { length head.now ≡ 20 }
+    ensures expected { IfOk result (λ expected. (now : Core) (payload : List ℕ) →
+        abort_answer (head.now ++ payload) ≡ expected_decision now expected 20 payload) }
+    ensures placed { IfOk result (λ expected. (core : Core) → IsPlaced core expected) }
+    ensures refused { IfErr result (λ fault. (abort_answer head.now).head_fault ≡ Some fault) }
 {
-    if bytes.len() < head_lengths::ANSWER {
-        return Ok(Reading::Await(head_lengths::ANSWER));
-    }
-    let head = answer_to(options::ABORT, bytes)?;
+    let head = answer_to(options::ABORT, head)?;
     may_end(head)?;
-    Ok(of_length(head_lengths::ANSWER + head.length as usize, bytes))
+    Ok(Expected::Answer { head, proper: None })
 }
 
-/// An answer to another option.
-pub(crate) fn read_answer(bytes: &[u8], chosen: Chosen) -> Result<Reading, WireFault>
-    ensures { result ≡ reading_of (answer chosen.option chosen.proper (exporting_if chosen.info) bytes.now) bytes.now }
+/// An answer to another option, by its head.
+pub(crate) fn answer(head: &[u8], chosen: Chosen) -> Result<Expected, WireFault>
+    requires { length head.now ≡ 20 }
+    ensures expected { IfOk result (λ expected. (now : Core) (payload : List ℕ) →
+        answer chosen.option chosen.proper (exporting_if chosen.info) (head.now ++ payload)
+        ≡ expected_decision now expected 20 payload) }
+    ensures placed { IfOk result (λ expected. (core : Core) → IsPlaced core expected) }
+    ensures refused { IfErr result (λ fault.
+        (answer chosen.option chosen.proper (exporting_if chosen.info) head.now).head_fault ≡ Some fault) }
 {
-    if bytes.len() < head_lengths::ANSWER {
-        return Ok(Reading::Await(head_lengths::ANSWER));
-    }
-    let head = answer_to(chosen.option, bytes)?;
-    let whole = head_lengths::ANSWER + head.length as usize;
+    let head = answer_to(chosen.option, head)?;
     if is_error(head.kind) {
-        return Ok(of_length(whole, bytes));
+        return Ok(Expected::Answer { head, proper: None });
     }
     may_succeed(head, chosen)?;
-    read_success(bytes, whole, head.kind, chosen.proper)
+    Ok(Expected::Answer {
+        head,
+        proper: Some(chosen.proper),
+    })
 }
 
-/// An answer of success to an option that may be proper, whose head has no fault and says how many
-/// bytes it has in all.
-fn read_success(bytes: &[u8], whole: usize, kind: u32, proper: bool) -> Result<Reading, WireFault>
-    requires { 20 ≤ length bytes.now }
-    ensures { result ≡ at_end (length bytes.now == whole) whole (payload_fault proper kind (drop 20 bytes.now)) }
+/// The fault at the last byte of an answer of success, by its payload.
+pub(crate) fn payload_fault(kind: u32, proper: bool, payload: &[u8]) -> Option<WireFault>
+    ensures { result ≡ payload_fault proper kind payload.now }
 {
-    if bytes.len() != whole {
-        return Ok(Reading::Await(whole));
-    }
-    if is_bad_payload(kind, &bytes[head_lengths::ANSWER..]) {
-        return Err(WireFault::BadReplyPayload);
+    if is_bad_payload(kind, payload) {
+        return Some(WireFault::BadReplyPayload);
     }
     if !proper {
-        return Err(WireFault::SuccessOfImproper);
+        return Some(WireFault::SuccessOfImproper);
     }
-    Ok(Reading::Whole)
+    None
 }
 
 /// The head of an answer to this option.
-fn answer_to(option: u32, bytes: &[u8]) -> Result<AnswerHead, WireFault>
-    requires { 20 ≤ length bytes.now }
-    ensures { result ≡ unless_fault (answer_fault option (number_at 0 8 bytes.now) (number_at 8 4 bytes.now)
-        None) (answer_fields_of bytes.now) }
+fn answer_to(option: u32, head: &[u8]) -> Result<AnswerHead, WireFault>
+    requires { length head.now ≡ 20 }
+    ensures { result ≡ unless_fault (answer_fault option (number_at 0 8 head.now) (number_at 8 4 head.now)
+        None) (answer_fields_of head.now) }
 {
-    let head = leading_answer(bytes).ok_or(WireFault::BadMagic)?;
+    let Some(head) = answer_head(head) else {
+        return Err(WireFault::BadMagic);
+    };
     if head.option != option {
         return Err(WireFault::WrongOption);
     }

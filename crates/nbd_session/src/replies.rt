@@ -1,91 +1,96 @@
-//! Replies (proto.md, "Simple reply message", "Structured reply chunk message").
+//! Replies (proto.md, "Simple reply message", "Structured reply chunk message"), each by its head.
 
-ghost use Rattle.std.specs.Prelude.{◌≡◌, ◌<◌, ◌≤◌, ◌^◌, ◌==◌, ◌&&◌, ◌||◌, length, IsTrue, Option, is_some, if◌then◌else◌};
-ghost use Rattle.std.specs.Option.{option_copied};
-ghost use Rattle.nbd_wire.specs.protocol.Operations.{Operation, Exporting};
-ghost use Rattle.nbd_wire.specs.protocol.States.{Core};
-ghost use Rattle.nbd_wire.specs.protocol.Payloads.{number_at};
-ghost use Rattle.nbd_wire.specs.declared.magics.TheConstants.{CHUNK_MAGIC, SIMPLE_MAGIC};
+ghost use Rattle.std.specs.Prelude.{◌≡◌, ◌==◌, ◌&&◌, ◌||◌, ◌++◌, ℕ, List, IfErr, IfOk, None, Some, if◌then◌else◌, is_some, length};
 ghost use Rattle.nbd_wire.specs.declared.commands.TheConstants as commands;
-ghost use Rattle.nbd_session.specs.internal.Asking.{ShownIf};
-ghost use Rattle.nbd_state.specs.Showing.{IsShown};
-ghost use Rattle.nbd_places.specs.internal.JudgeTransmission.{begins, reply_by, simple_to};
-ghost use Rattle.nbd_session.specs.internal.Readings.{reading_of};
+ghost use Rattle.nbd_wire.specs.protocol.Operations.{Exporting};
+ghost use Rattle.nbd_wire.specs.protocol.States.{Core};
+ghost use Rattle.nbd_wire.specs.protocol.States as definitions;
+ghost use Rattle.nbd_places.specs.internal.JudgeTransmission.{chunk_head_fault, operation_counted, reply_with, simple_fault};
+ghost use Rattle.nbd_session.specs.internal.Expecting.{IsChunkOf, IsPlaced, IsPlaceOf, IsReplyHead, IsSimpleOf, expected_decision};
+ghost use Rattle.nbd_state.specs.Shows.{Shows};
 
-use crate::chunks::read_chunk;
-use crate::heads::{MAGIC_LENGTH, magic_in};
-use crate::leading::leading_simple;
-use crate::reading::Reading;
-use nbd_state::{Asked, Exchange};
-use nbd_wire::{WireFault, commands, head_lengths, magics};
+use crate::expected::Expected;
+use nbd_state::{Asked, State};
+use nbd_wire::{
+    ChunkHead, SimpleHead, WireFault, chunk_head, commands, head_lengths, simple_head,
+};
 
-/// What a server's bytes are; the exchange, if any, is the one that the reply's cookie names.
-pub(crate) fn read_reply(
-    bytes: &[u8],
-    exchange: Option<&Exchange>,
-    structured: bool,
-) -> Result<Reading, WireFault>
-    ensures { (export : Exporting) (now : Core) (to : Option Operation) → now.structured ≡ structured →
-        (16 ≤ length bytes.now → ShownIf export to (option_copied exchange.entry)) →
-        result ≡ reading_of (reply_by (begins CHUNK_MAGIC bytes.now) (begins SIMPLE_MAGIC bytes.now) export now
-        to bytes.now) bytes.now }
+/// A reply, by its head; it began when `counted` numbered requests had completed.
+pub(crate) fn reply(state: &State, head: &[u8], counted: u64) -> Result<Expected, WireFault>
+    requires { IsReplyHead head.now }
+    ensures expected { IfOk result (λ expected. (core : Core) (export : Exporting) → Shows state.now core →
+        core.phase ≡ definitions.Transmission export → (payload : List ℕ) →
+        reply_with export (operation_counted counted core) core (head.now ++ payload)
+        ≡ expected_decision core expected (length head.now) payload) }
+    ensures placed { IfOk result (λ expected. (core : Core) (export : Exporting) → Shows state.now core →
+        core.phase ≡ definitions.Transmission export → IsPlaced core expected) }
+    ensures refused { IfErr result (λ fault. (core : Core) (export : Exporting) → Shows state.now core →
+        core.phase ≡ definitions.Transmission export →
+        (reply_with export (operation_counted counted core) core head.now).head_fault ≡ Some fault) }
 {
-    match magic_in(bytes) {
-        Some(magics::SIMPLE_MAGIC) => read_simple(bytes, exchange, structured),
-        Some(magics::CHUNK_MAGIC) => read_chunk(bytes, exchange, structured),
-        Some(_) => Err(WireFault::BadMagic),
-        None => Ok(Reading::Await(MAGIC_LENGTH)),
+    if head.len() == head_lengths::SIMPLE {
+        simple(state, simple_head(head).unwrap(), counted)
+    } else {
+        chunk(state, chunk_head(head).unwrap(), counted)
     }
 }
 
-/// What a server's bytes are that begin as a simple reply; the exchange, if any, is the one that the
-/// reply's cookie names.
-fn read_simple(
-    bytes: &[u8],
-    exchange: Option<&Exchange>,
-    structured: bool,
-) -> Result<Reading, WireFault>
-    requires { IsTrue (begins SIMPLE_MAGIC bytes.now) }
-    ensures { (export : Exporting) (now : Core) (to : Option Operation) → now.structured ≡ structured →
-        (16 ≤ length bytes.now → ShownIf export to (option_copied exchange.entry)) →
-        result ≡ reading_of (simple_to export now to bytes.now) bytes.now }
+// A simple reply.
+fn simple(state: &State, head: SimpleHead, counted: u64) -> Result<Expected, WireFault>
+    ensures expected { IfOk result (λ expected. (core : Core) (export : Exporting) → Shows state.now core →
+        core.phase ≡ definitions.Transmission export →
+        IsSimpleOf export core (operation_counted counted core head.cookie) head.error head.cookie expected) }
+    ensures refused { IfErr result (λ fault. (core : Core) (export : Exporting) → Shows state.now core →
+        core.phase ≡ definitions.Transmission export →
+        simple_fault core.structured (operation_counted counted core head.cookie) ≡ Some fault) }
 {
-    if bytes.len() < head_lengths::SIMPLE {
-        return Ok(Reading::Await(head_lengths::SIMPLE));
-    }
-    let Some(head) = leading_simple(bytes) else {
-        return Err(WireFault::BadMagic);
+    let Some(place) = place_of(state, head.cookie, counted) else {
+        return Err(WireFault::UnknownCookie);
     };
-    match exchange {
-        Some(exchange) => read_simple_to(bytes, head.error, exchange, structured),
-        None => Err(WireFault::UnknownCookie),
-    }
-}
-
-// What a simple reply with this error to this request is, once its head is whole.
-fn read_simple_to(
-    bytes: &[u8],
-    error: u32,
-    exchange: &Exchange,
-    structured: bool,
-) -> Result<Reading, WireFault>
-    requires head { 16 ≤ length bytes.now }
-    requires error { number_at 4 4 bytes.now ≡ error }
-    ensures { (export : Exporting) (now : Core) (e : Operation) → now.structured ≡ structured →
-        IsShown export e exchange.now → result ≡ reading_of (simple_to export now (Some e) bytes.now) bytes.now }
-{
-    let asked = &exchange.asked;
-    if is_simple_forbidden(asked, structured) {
+    let Some(exchange) = state.exchanges.get(place) else {
+        return Err(WireFault::UnknownCookie);
+    };
+    if is_simple_forbidden(&exchange.asked, state.structured) {
         return Err(WireFault::SimpleForbidden);
     }
-    let length = head_lengths::SIMPLE + payload_length(asked, error);
-    if bytes.len() != length {
-        return Ok(Reading::Await(length));
+    let length = simple_length(&exchange.asked, head.error);
+    Ok(Expected::Simple {
+        head,
+        place,
+        length,
+    })
+}
+
+// A chunk.
+fn chunk(state: &State, head: ChunkHead, counted: u64) -> Result<Expected, WireFault>
+    ensures expected { IfOk result (λ expected. (core : Core) (export : Exporting) → Shows state.now core →
+        core.phase ≡ definitions.Transmission export →
+        IsChunkOf export core (operation_counted counted core head.cookie) head expected) }
+    ensures refused { IfErr result (λ fault. (core : Core) (export : Exporting) → Shows state.now core →
+        core.phase ≡ definitions.Transmission export →
+        chunk_head_fault core.structured (operation_counted counted core head.cookie) ≡ Some fault) }
+{
+    let Some(place) = place_of(state, head.cookie, counted) else {
+        return Err(WireFault::UnknownCookie);
+    };
+    if !state.structured {
+        return Err(WireFault::ChunkForbidden);
     }
-    if error == 0 && !asked.proper {
-        return Err(WireFault::SuccessOfImproper);
+    Ok(Expected::Chunk { head, place })
+}
+
+// The place of the outstanding request with this cookie, if it had completed when the reply began.
+fn place_of(state: &State, cookie: u64, counted: u64) -> Option<usize>
+    ensures { (core : Core) (export : Exporting) → Shows state.now core →
+        core.phase ≡ definitions.Transmission export →
+        IsPlaceOf export core counted cookie state.now.exchanges.items result }
+{
+    let place = *state.outstanding.get(&cookie)?;
+    if (place as u64) < counted {
+        Some(place)
+    } else {
+        None
     }
-    Ok(Reading::Whole)
 }
 
 // A chunk came before, or it answers a READ where structured replies are in force.
@@ -96,12 +101,11 @@ fn is_simple_forbidden(asked: &Asked, structured: bool) -> bool
 }
 
 // How many bytes follow the head: those that a READ has read.
-fn payload_length(asked: &Asked, error: u32) -> usize
-    ensures short { result < 2 ^ 32 }
-    ensures value { result ≡ (if (asked.now.command == commands.READ) && (error == 0) then asked.now.length else 0) }
+fn simple_length(asked: &Asked, error: u32) -> u32
+    ensures { result ≡ (if (asked.now.command == commands.READ) && (error == 0) then asked.now.length else 0) }
 {
     if asked.command == commands::READ && error == 0 {
-        asked.length as usize
+        asked.length
     } else {
         0
     }

@@ -1,53 +1,35 @@
 //! Requests (proto.md, "Request message").
 
-ghost use Rattle.std.specs.Prelude.{◌≡◌, ℕ, is_some};
-ghost use Rattle.std.specs.BTreeMap.{get};
-ghost use Rattle.std.specs.Ordering.{nat_cmp};
-ghost use Rattle.nbd_wire.specs.protocol.States.{Core, target};
-ghost use Rattle.nbd_places.specs.internal.JudgeTransmission.{request, request_payload_length};
-ghost use Rattle.nbd_session.specs.internal.Readings.{reading_of};
+ghost use Rattle.std.specs.Prelude.{◌≡◌, ◌==◌, ◌&&◌, ◌++◌, not, ℕ, List, IfErr, IfOk, Some, length};
+ghost use Rattle.nbd_wire.specs.declared.commands.TheConstants as commands;
+ghost use Rattle.nbd_wire.specs.protocol.States.{Core};
+ghost use Rattle.nbd_places.specs.internal.JudgeTransmission.{request};
+ghost use Rattle.nbd_session.specs.internal.Expecting.{IsPlaced, expected_decision};
 
-use crate::leading::leading_request;
-use crate::reading::Reading;
-use nbd_wire::{RequestHead, WireFault, commands, head_lengths};
-use std::collections::BTreeMap;
+use crate::expected::Expected;
+use nbd_wire::{RequestHead, WireFault, commands, request_head};
 
-/// What a client's bytes are; the map has the cookies of the outstanding requests.
-pub(crate) fn read_request(
-    bytes: &[u8],
-    outstanding: &BTreeMap<u64, usize>,
-) -> Result<Reading, WireFault>
-    ensures { (now : Core) →
-        ((cookie : ℕ) → is_some (get nat_cmp outstanding.now cookie) ≡ is_some (target cookie now.entries)) →
-        result ≡ reading_of (request now bytes.now) bytes.now }
+/// A request, by its head.
+pub(crate) fn request(head: &[u8]) -> Result<Expected, WireFault>
+    requires { length head.now ≡ 28 }
+    ensures expected { IfOk result (λ expected. (now : Core) (payload : List ℕ) →
+        request now (head.now ++ payload) ≡ expected_decision now expected 28 payload) }
+    ensures placed { IfOk result (λ expected. (core : Core) → IsPlaced core expected) }
+    ensures refused { IfErr result (λ fault. (now : Core) → (request now head.now).head_fault ≡ Some fault) }
 {
-    if bytes.len() < head_lengths::REQUEST {
-        return Ok(Reading::Await(head_lengths::REQUEST));
-    }
-    let Some(head) = leading_request(bytes) else {
+    let Some(head) = request_head(head) else {
         return Err(WireFault::BadMagic);
     };
-    let is_disc = head.command == commands::DISC;
-    if is_disc && (head.offset != 0 || head.length != 0) {
+    if is_bad_disconnect(&head) {
         return Err(WireFault::BadDisconnect);
     }
-    let length = head_lengths::REQUEST + payload_length(&head);
-    if bytes.len() != length {
-        return Ok(Reading::Await(length));
-    }
-    if !is_disc && outstanding.contains_key(&head.cookie) {
-        return Err(WireFault::CookieInUse);
-    }
-    Ok(Reading::Whole)
+    Ok(Expected::Request(head))
 }
 
-// How many bytes follow a request's head: those that a WRITE writes.
-fn payload_length(head: &RequestHead) -> usize
-    ensures { result ≡ request_payload_length head.now.command head.now.length }
+// A DISC with an offset or a length.
+fn is_bad_disconnect(head: &RequestHead) -> bool
+    ensures { result ≡ ((head.now.command == commands.DISC)
+        && not ((head.now.offset == 0) && (head.now.length == 0))) }
 {
-    if head.command == commands::WRITE {
-        head.length as usize
-    } else {
-        0
-    }
+    head.command == commands::DISC && !(head.offset == 0 && head.length == 0)
 }

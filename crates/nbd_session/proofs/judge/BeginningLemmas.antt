@@ -7,14 +7,17 @@ use Rattle.nbd_state.specs.declared.asked.Exchange.{Exchange}
 use Rattle.nbd_session.specs.declared.fault.SessionFault.{SessionFault}
 use Rattle.nbd_session.specs.declared.held.Held.{Held}
 use Rattle.nbd_places.specs.internal.Concrete.{concrete}
-use Rattle.nbd_session.specs.internal.Holdings.{holding_of}
+use Rattle.nbd_session.specs.internal.Holdings.{holding_of, incoming_of}
+use Rattle.nbd_session.specs.Incoming.{bytes_come, nothing_come}
+use Rattle.nbd_session.specs.internal.Known.{IsKnown, decided}
+use Rattle.nbd_session.proofs.steps.KnownLemmas.{nothing_known}
 use Rattle.nbd_session.specs.internal.Logging.{log_of_pairs}
 use Rattle.nbd_laws.specs.internal.Machine.{fresh, get}
 use Rattle.nbd_session.specs.Sessions.{AddsPrefix, IsOfRun, SessionView, pairs_of}
 use Rattle.nbd_state.specs.Shows.{AreKnown, Shows}
 use Rattle.nbd_session.specs.internal.Standing.{Holding, IsReadTo, held_pairs, rest_of}
 use Rattle.nbd_session.specs.internal.Steps.{HoldsRun, IsKept, Stands}
-use Rattle.nbd_session.specs.Views.{session_view}
+use Rattle.nbd_session.specs.Views.{session_view, stretches_of}
 use Rattle.nbd_session.proofs.judge.PieceLemmas.{standing_run}
 
 abbrev empty : Holding
@@ -31,14 +34,22 @@ none_known : (xs : List Exchange) → xs ≡ [] → AreKnown (log_of_pairs concr
 none_known [] e place x at = absurd (cc)
 none_known (y ∷ xs) e place x at = absurd (cc)
 
-pub begins : (held : Held) → Shows held.state start.core → holding_of held ≡ empty → held.state.exchanges.items ≡ [] → held.taken ≡ 0 → Stands held
-begins held shows holds none zero = record {
-  machine = fresh;
-  read_to = subst (λ h. IsReadTo h fresh) (sym holds) read_empty;
-  shows = shows;
-  known = subst (λ h. AreKnown (log_of_pairs concrete fresh (held_pairs h)) held.state.exchanges.items) (sym holds) (none_known held.state.exchanges.items none);
-  taken_is = zero ∙ sym (ap (λ h. length (held_pairs h)) holds);
-}
+pub begins : (held : Held) → Shows held.state start.core → held.state.exchanges.items ≡ [] → held.client ≡ nothing_come → held.server ≡ nothing_come →
+    (held.messages.items ≡ []) × (held.stretches.items ≡ []) × (held.counted ≡ 0) × (held.taken ≡ 0) → Stands held
+begins held shows none client server nothing =
+    let holds : holding_of held ≡ empty = (λ i. record { messages = nothing.0 i; client = bytes_come (client i); server = bytes_come (server i); counted = nothing.2 i; stretches = stretches_of (nothing.1 i) }) in
+    record {
+      machine = fresh;
+      read_to = subst (λ h. IsReadTo h fresh) (sym holds) read_empty;
+      shows = shows;
+      known = subst (λ h. AreKnown (log_of_pairs concrete fresh (held_pairs h)) held.state.exchanges.items) (sym holds) (none_known held.state.exchanges.items none);
+      taken_is = nothing.3 ∙ sym (ap (λ h. length (held_pairs h)) holds);
+      knows = known;
+    }
+  where
+    known : (s : Side) → IsKnown (decided fresh s) fresh.core (incoming_of held s)
+    known Client = subst (IsKnown (decided fresh Client) fresh.core) (sym client) (nothing_known fresh.core Client fresh.rests.client refl)
+    known Server = subst (IsKnown (decided fresh Server) fresh.core) (sym server) (nothing_known fresh.core Server fresh.rests.server refl)
 
 -- what is held is of a run, whether it stands or is closed
 kept_run : (held : Held) (closed : Option SessionFault) → IsKept held closed → HoldsRun (holding_of held)

@@ -11,15 +11,18 @@ use Rattle.nbd_session.specs.Pushed.{Stretch, mixture}
 use Rattle.nbd_session.specs.declared.fault.SessionFault.{SessionFault}
 use Rattle.nbd_session.specs.declared.fault.SessionFault.TheVariants.{Memory}
 use Rattle.nbd_session.specs.declared.held.Held.{Held}
-use Rattle.nbd_session.specs.internal.Holdings.{holding_of}
+use Rattle.nbd_session.specs.internal.Holdings.{holding_of, incoming_of}
+use Rattle.nbd_session.specs.Incoming.{bytes_come, incoming_with}
+use Rattle.nbd_session.specs.internal.Known.{IsCome, IsKnown, awaited, decided}
+use Rattle.nbd_session.proofs.steps.KnownLemmas.{come_with}
+use Rattle.nbd_session.proofs.steps.HoldingLemmas.{rest_is}
 use Rattle.nbd_session.specs.Views.{stretches_of}
-use Rattle.nbd_places.specs.internal.Judge.{awaited_length}
-use Rattle.nbd_laws.specs.internal.Machine.{IsFilled, Machine, fresh, get, old_of}
+use Rattle.nbd_laws.specs.internal.Machine.{IsFilled, Machine, fresh, get}
 use Rattle.nbd_session.specs.Sessions.{Adds}
 use Rattle.nbd_places.specs.internal.Concrete.{concrete}
 use Rattle.nbd_session.specs.internal.Logging.{log_of_pairs}
 use Rattle.nbd_state.specs.Shows.{AreKnown, Shows}
-use Rattle.nbd_session.specs.internal.Standing.{AreStretchesOf, IsReadTo, held_pairs, rest_of, stretch_total, with_bytes}
+use Rattle.nbd_session.specs.internal.Standing.{AreStretchesOf, Holding, IsReadTo, held_pairs, rest_of, stretch_total, with_bytes}
 use Rattle.nbd_session.specs.internal.Steps.{AddsHeld, HoldsRun, IsRefused, IsSame, IsShut, IsTaken, Stands}
 use Rattle.nbd_places.proofs.judge.AwaitedLemmas.{held_short}
 use Rattle.nbd_state.proofs.PlacedLemmas.{shown_length}
@@ -53,17 +56,15 @@ pub total_fits : (held : Held) (s : Side) → Stands held → stretch_total s (s
 total_fits held s st =
     let one : stretch_total s (stretches_of held.stretches.items) ≤ stretch_total Client (stretches_of held.stretches.items) + stretch_total Server (stretches_of held.stretches.items) = side_total s (stretches_of held.stretches.items) in
     let all : length (held_pairs (holding_of held)) ≡ stretch_total Client (stretches_of held.stretches.items) + stretch_total Server (stretches_of held.stretches.items) =
-    length-mixed (stretches_of held.stretches.items) (bytes_of Client held.messages.items ++ held.client.items) (bytes_of Server held.messages.items ++ held.server.items) st.read_to.are_stretches in
+    length-mixed (stretches_of held.stretches.items) (bytes_of Client held.messages.items ++ (bytes_come held.client)) (bytes_of Server held.messages.items ++ (bytes_come held.server)) st.read_to.are_stretches in
     omega (arith, one, all, st.taken_is)
 
-pub awaits_some : (held : Held) (s : Side) (n : ℕ) → Stands held → ((machine : Machine) → IsReadTo (holding_of held) machine → Shows held.state machine.core → n ≡ awaited_length (old_of machine.core (get machine.rests s)) machine.core s (rest_of (holding_of held) s)) →
-    length (rest_of (holding_of held) s) < n
+-- something is missing until the next length at which something is decided
+pub awaits_some : (held : Held) (s : Side) (n : ℕ) (st : Stands held) → length (rest_of (holding_of held) s) + n ≡ awaited st.machine s → 0 < n
 awaits_some held s n st is =
     let short = (held_short (held_of (holding_of held) st.machine st.read_to s)).short in
     let same : length (get st.machine.rests s).bytes ≡ length (rest_of (holding_of held) s) = ap length (st.read_to.rests_are s) in
-    let n_is : n ≡ awaited_length (old_of st.machine.core (get st.machine.rests s)) st.machine.core s (get st.machine.rests s).bytes =
-    is st.machine st.read_to st.shows ∙ sym (ap (awaited_length (old_of st.machine.core (get st.machine.rests s)) st.machine.core s) (st.read_to.rests_are s)) in
-    omega (arith, short, same, n_is)
+    omega (arith, short, same, is)
 
 are_bytes : (bytes : List ℕ) → ((i : ℕ) → Fits w8 (slice_index_or bytes i 0)) → AreBytes bytes
 are_bytes [] fits = tt
@@ -98,13 +99,12 @@ module _ (held taken : Held) (s : Side) (left : List ℕ) (count : ℕ) (st : St
       omega (arith, e, n, st.taken_is)
 
   pub is_taken : taken.state ≡ held.state → taken.taken ≡ held.taken + length (take count left) → ((i : ℕ) → Fits w8 (slice_index_or left i 0)) →
-      (n : ℕ) → ((machine : Machine) → IsReadTo (holding_of held) machine → Shows held.state machine.core → n ≡ awaited_length (old_of machine.core (get machine.rests s)) machine.core s (rest_of (holding_of held) s)) →
-      length (rest_of (holding_of held) s) + count ≤ n → IsTaken taken s
-  is_taken state_is e fits n is up =
+      (n : ℕ) → length (rest_of (holding_of held) s) + n ≡ awaited st.machine s → count ≤ n →
+      incoming_of taken s ≡ incoming_with (incoming_of held s) (take count left) → ((u : Side) → (s ≡ u → ⊥) → incoming_of taken u ≡ incoming_of held u) → IsTaken taken s
+  is_taken state_is e fits n is up here others =
       let same : length (get st.machine.rests s).bytes ≡ length (rest_of (holding_of held) s) = ap length (st.read_to.rests_are s) in
-      let n_is : n ≡ awaited_length (old_of st.machine.core (get st.machine.rests s)) st.machine.core s (get st.machine.rests s).bytes =
-      is st.machine st.read_to st.shows ∙ sym (ap (awaited_length (old_of st.machine.core (get st.machine.rests s)) st.machine.core s) (st.read_to.rests_are s)) in
       let len : length (take count left) ≡ count = length-take-le count left within in
+      let up_to : length ((get st.machine.rests s).bytes ++ take count left) ≤ awaited st.machine s = omega (arith, up, is, same, len, length-append (get st.machine.rests s).bytes (take count left)) in
       record {
         before = holding_of held;
         machine = st.machine;
@@ -112,11 +112,14 @@ module _ (held taken : Held) (s : Side) (left : List ℕ) (count : ℕ) (st : St
         more = take count left;
         filled = prefix_filled count left some within;
         are_bytes = bytes_prefix count left (are_bytes left fits);
-        up_to = omega (arith, up, n_is, same, len, length-append (get st.machine.rests s).bytes (take count left));
+        up_to = up_to;
         holding_is = counts;
         shows = subst (λ state. Shows state st.machine.core) (sym state_is) st.shows;
         known = subst (λ state. AreKnown (log_of_pairs concrete fresh (held_pairs (holding_of held))) state.exchanges.items) (sym state_is) st.known;
         taken_is = taken_counts e;
+        come = subst (IsCome (decided st.machine s) st.machine.core) (sym here)
+            (come_with (held_of (holding_of held) st.machine st.read_to s) (incoming_of held s) (sym (rest_is held s) ∙ sym (st.read_to.rests_are s)) (take count left) up_to (st.knows s));
+        knows = λ u ne. subst (IsKnown (decided st.machine u) st.machine.core) (sym (others u ne)) (st.knows u);
       }
 
   pub prefix_added : AddsHeld held taken s left (drop count left)
@@ -160,12 +163,14 @@ settled_added held taken new s piece left x same =
     added_then (held_pairs (holding_of held)) (held_pairs (holding_of taken)) (held_pairs (holding_of new)) held.messages.items taken.messages.items new.messages.items s piece left left x
     (same_left (held_pairs (holding_of taken)) (held_pairs (holding_of new)) taken.messages.items new.messages.items s left (same.adds s))
 
--- what stands is of a run
-pub standing_run : (held : Held) → Stands held → HoldsRun (holding_of held)
-standing_run held st =
-    let r = read_is_run_but (held_pairs (holding_of held)) st.machine held.messages.items held.client.items held.server.items st.read_to.are_pairs st.read_to.reads_it
-    st.read_to.messages_are (st.read_to.rests_are Client) (st.read_to.rests_are Server) in
+-- what the machine has read is of a run
+pub read_run : (h : Holding) (machine : Machine) → IsReadTo h machine → HoldsRun h
+read_run h machine read =
+    let r = read_is_run_but (held_pairs h) machine h.messages h.client h.server read.are_pairs read.reads_it read.messages_are (read.rests_are Client) (read.rests_are Server) in
     record { items = r.0; is_run = r.1; has_pairs = r.2; has_messages = r.3 }
+
+pub standing_run : (held : Held) → Stands held → HoldsRun (holding_of held)
+standing_run held st = read_run (holding_of held) st.machine st.read_to
 
 -- memory ran out before a byte was taken
 pub refused_memory : (held new : Held) (s : Side) (piece : List ℕ) → Stands held → holding_of new ≡ holding_of held → new.taken ≡ held.taken → IsRefused held new s piece Memory

@@ -29,6 +29,7 @@ use Rattle.nbd_session.specs.Refusals.{EndsIn, HasNoPlace, IsAccepted, IsComplet
 use Rattle.nbd_session.specs.Sessions.{HasRun, SessionView, fault_at_end, fault_of, pairs_of, bytes_taken, open_end_fault}
 use Rattle.nbd_session.specs.internal.Standing.{Holding, IsReadTo, held_pairs, with_bytes}
 use Rattle.nbd_session.specs.internal.Steps.{IsKept, IsShut, Stands}
+use Rattle.nbd_session.specs.Incoming.{bytes_come}
 use Rattle.nbd_session.specs.Views.{session_view}
 use Rattle.nbd_session.specs.internal.Stopped.{IsStopped}
 use Rattle.nbd_places.proofs.judge.AwaitedLemmas.{reads_below}
@@ -237,13 +238,13 @@ open_end_of ps messages client server has accepted some = record { accepted = ac
             append_cancel_left (bytes_of s messages) rest []
             (ap (λ ms. bytes_of s ms ++ rest) (sym has.has_messages) ∙ sym there ∙ ap (bytes_from s) (has.has_pairs ∙ sym is) ∙ here ∙ ap (λ ms. bytes_of s ms ++ []) are)
 
-held_run : (held : Held) → Stands held → HasRun (held_pairs (holding_of held)) held.messages.items held.client.items held.server.items
+held_run : (held : Held) → Stands held → HasRun (held_pairs (holding_of held)) held.messages.items (bytes_come held.client) (bytes_come held.server)
 held_run held st =
-    let r = read_is_run_but (held_pairs (holding_of held)) st.machine held.messages.items held.client.items held.server.items st.read_to.are_pairs st.read_to.reads_it
+    let r = read_is_run_but (held_pairs (holding_of held)) st.machine held.messages.items (bytes_come held.client) (bytes_come held.server) st.read_to.are_pairs st.read_to.reads_it
     st.read_to.messages_are (st.read_to.rests_are Client) (st.read_to.rests_are Server) in
     record { items = r.0; is_run = r.1; has_pairs = r.2; has_messages = r.3 }
 
-unfinished_end : (held : Held) → Stands held → (client server : List ℕ) → held.client.items ≡ client → held.server.items ≡ server → (at : ℕ) (fault : SessionFault) →
+unfinished_end : (held : Held) → Stands held → (client server : List ℕ) → (bytes_come held.client) ≡ client → (bytes_come held.server) ≡ server → (at : ℕ) (fault : SessionFault) →
     at ≡ length (held_pairs (holding_of held)) → open_end_fault client server at ≡ Some fault → EndsIn (session_view held None) fault
 unfinished_end held st client server c s at Memory n e = absurd (no_memory client server e)
   where
@@ -256,7 +257,7 @@ unfinished_end held st client server c s at (Wire place fault) n e =
     inr (
       sym is.0,
       sym is.1 ∙ n,
-      open_end_of (held_pairs (holding_of held)) held.messages.items held.client.items held.server.items (held_run held st) (stands_accepted held None st)
+      open_end_of (held_pairs (holding_of held)) held.messages.items (bytes_come held.client) (bytes_come held.server) (held_run held st) (stands_accepted held None st)
           (λ none. is.2 (sym c ∙ none.0, sym s ∙ none.1)),
     )
   where
@@ -267,7 +268,7 @@ unfinished_end held st client server c s at (Wire place fault) n e =
 
 -- why a session ends in a fault
 pub ends_in : (held : Held) (closed : Option SessionFault) → IsKept held closed → (fault : SessionFault) → fault_at_end (session_view held closed) ≡ Some fault → EndsIn (session_view held closed) fault
-ends_in held None st fault e = unfinished_end held st held.client.items held.server.items refl refl (bytes_taken (session_view held None)) fault refl e
+ends_in held None st fault e = unfinished_end held st (bytes_come held.client) (bytes_come held.server) refl refl (bytes_taken (session_view held None)) fault refl e
 ends_in held (Some Memory) shut fault e = subst (EndsIn (session_view held (Some Memory))) (let q : Memory ≡ fault = cc in q) tt
 ends_in held (Some (Wire at fault)) shut other e =
     subst (EndsIn (session_view held (Some (Wire at fault)))) (let q : Wire at fault ≡ other = cc in q)

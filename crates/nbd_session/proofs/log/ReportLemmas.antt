@@ -22,6 +22,7 @@ use Rattle.nbd_state.specs.Shows.{AreKnown, AreShown, Shows, phase_shown}
 use Rattle.nbd_laws.specs.Soundness.{IsSoundReport}
 use Rattle.nbd_session.specs.internal.Standing.{held_pairs}
 use Rattle.nbd_session.specs.internal.Steps.{HoldsRun, Stands}
+use Rattle.nbd_session.specs.Incoming.{bytes_come}
 use Rattle.nbd_session.specs.Views.{session_view}
 use Rattle.nbd_state.specs.Transcripts.{report_of_request, export_of, transcript_report}
 use Rattle.nbd_session.proofs.log.LogStepLemmas.{read_report}
@@ -82,7 +83,7 @@ told_by_log state core log shows known = λ i. record {
   asked = all_told 0 (export_in core.phase) (λ k. known_by start.core k log) core.entries state.exchanges.items shows.are_shown (by_place log state.exchanges.items known) i;
 }
 
-module _ (held : Held) (st : Stands held) (client : held.client.items ≡ []) (server : held.server.items ≡ []) where
+module _ (held : Held) (st : Stands held) (client : (bytes_come held.client) ≡ []) (server : (bytes_come held.server) ≡ []) where
   none_left : (s : Side) → (get st.machine.rests s).bytes ≡ []
   none_left Client = st.read_to.rests_are Client ∙ client
   none_left Server = st.read_to.rests_are Server ∙ server
@@ -94,7 +95,7 @@ module _ (held : Held) (st : Stands held) (client : held.client.items ≡ []) (s
       ∙ sym (told_by_log held.state st.machine.core (log_of_pairs concrete fresh (held_pairs (holding_of held))) st.shows st.known)
 
   whole_run : (run : HoldsRun (holding_of held)) → IsRun run.items
-  whole_run run = subst (λ c. IsRunBut run.items c []) client (subst (λ s. IsRunBut run.items held.client.items s) server run.is_run)
+  whole_run run = subst (λ c. IsRunBut run.items c []) client (subst (λ s. IsRunBut run.items (bytes_come held.client) s) server run.is_run)
 
   pub sound_told : IsSoundReport (transcript_report (export_of held.state.phase) held.state.exchanges.items)
   sound_told =

@@ -1,5 +1,5 @@
 -- The exchanges of a state, and the requests that they show.
-use Rattle.std.proofs.Common.{◌≡◌, ℕ, suc, ◌<◌, ◌≤◌, List, length, refl, sym, ◌∙◌, ap, subst, Option, Some, None, if◌then◌else◌, arith, slice_get, Bor}
+use Rattle.std.proofs.Common.{◌≡◌, ℕ, suc, ◌<◌, ◌≤◌, List, length, refl, sym, ◌∙◌, ap, subst, Option, Some, None, if◌then◌else◌, arith, add-one, slice_get, Bor}
 use Rattle.std.proofs.lemmas.Bool.{le-leb, lt-leb}
 use Rattle.std.proofs.lemmas.Option.{slice_get_past, slice_get_read}
 use Rattle.std.specs.BTreeMap.{get}
@@ -7,13 +7,30 @@ use Rattle.std.specs.Option.{option_copied}
 use Rattle.std.specs.Slice.{IsItemAt}
 use Rattle.std.specs.Ordering.{nat_cmp}
 use Rattle.nbd_wire.specs.protocol.Operations.{Exporting}
-use Rattle.nbd_wire.specs.protocol.States.{Core, Transmission}
+use Rattle.nbd_wire.specs.protocol.States.{Core, Transmission, operation}
 use Rattle.nbd_state.specs.declared.asked.Exchange.{Exchange}
 use Rattle.nbd_state.specs.declared.state.State.{State}
 use Rattle.nbd_session.specs.internal.Asking.{ShownIf}
+use Rattle.nbd_session.specs.internal.Expecting.{IsPlaceOf}
 use Rattle.nbd_places.specs.internal.JudgeTransmission.{operation_counted, operation_if, within}
 use Rattle.nbd_state.specs.Shows.{Shows}
 use Rattle.nbd_state.proofs.PlacedLemmas.{place_shows_operation}
+
+module _ (state : State) (core : Core) (export : Exporting) (cookie counted place : ℕ) (s : Shows state core) (p : core.phase ≡ Transmission export) (g : get nat_cmp state.outstanding cookie ≡ Some place) where
+  -- the place of a cookie is that of its request, where that is one of those up to the count
+  pub place_within : place < counted → IsPlaceOf export core counted cookie state.exchanges.items (Some place)
+  place_within l =
+      let a = place_shows_operation state core export cookie place s p g in
+      let low : suc place ≤ counted = omega arith in
+      let named : operation_counted counted core cookie ≡ Some a.e =
+      ap (λ t. operation_if (within counted t) core.entries) a.found ∙ ap (λ b. operation_if (if b then Some (suc place) else None) core.entries) (le-leb (suc place) counted low) ∙ a.numbered in
+      (a.e, a.x, named, ap (λ n. operation n core.entries) (add-one place) ∙ a.numbered, a.stands, a.shown)
+
+  pub none_beyond : counted ≤ place → IsPlaceOf export core counted cookie state.exchanges.items None
+  none_beyond l =
+      let a = place_shows_operation state core export cookie place s p g in
+      let high : counted < suc place = omega arith in
+      ap (λ t. operation_if (within counted t) core.entries) a.found ∙ ap (λ b. operation_if (if b then Some (suc place) else None) core.entries) (lt-leb (suc place) counted high)
 
 -- what a cookie finds of the requests up to a number
 pub within_count : (state : State) (core : Core) (export : Exporting) (cookie counted place : ℕ) (o : Option Exchange) → Shows state core → core.phase ≡ Transmission export →

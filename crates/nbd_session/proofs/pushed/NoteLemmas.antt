@@ -6,7 +6,7 @@ use Rattle.std.proofs.lemmas.Option.{slice_get-get_or}
 use Rattle.nbd_wire.specs.declared.message.Side.{Side}
 use Rattle.nbd_session.specs.Pushed.{Stretch}
 use Rattle.nbd_wire.specs.protocol.Sides.{same_side}
-use Rattle.nbd_session.specs.declared.held.Stretch as program
+use Rattle.nbd_session.specs.declared.stretches.Stretch as program
 use Rattle.nbd_session.specs.internal.Holdings.{is_of}
 use Rattle.nbd_session.specs.Views.{stretch_of, stretches_of}
 use Rattle.nbd_session.specs.internal.Standing.{stretches_with, stretch_total}

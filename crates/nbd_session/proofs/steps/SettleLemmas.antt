@@ -1,30 +1,33 @@
 -- What was taken of a side is judged.
-use Rattle.std.proofs.Common.{◌≡◌, ℕ, [], ◌++◌, length, refl, sym, ◌∙◌, ap, subst, Result, Ok, Err, IfErr, IsErrAnd, append-nil}
+use Rattle.std.proofs.Common.{◌≡◌, ◌⊎◌, ℕ, List, [], ◌∷◌, ◌++◌, length, refl, sym, ◌∙◌, ap, subst, inl, inr, Option, Some, None, Result, Ok, Err, IfErr, IsErrAnd, append-nil, arith}
+use Rattle.std.proofs.lemmas.Option.{same_Some}
 use Rattle.nbd_wire.specs.declared.message.Side.{Side}
 use Rattle.nbd_wire.specs.declared.message.Side.TheVariants.{Client, Server}
 use Rattle.nbd_session.specs.declared.fault.SessionFault.{SessionFault}
 use Rattle.nbd_session.specs.declared.fault.SessionFault.TheVariants.{Memory, Wire}
 use Rattle.nbd_wire.specs.declared.fault.WireFault.{WireFault}
 use Rattle.nbd_session.specs.declared.held.Held.{Held}
-use Rattle.nbd_session.specs.declared.reading.Reading as program
-use Rattle.nbd_session.specs.declared.reading.Reading.TheVariants.{Await}
 use Rattle.nbd_wire.specs.protocol.States.{Core}
-use Rattle.nbd_places.specs.internal.Concrete.{concrete}
-use Rattle.nbd_session.specs.internal.Holdings.{holding_of}
-use Rattle.nbd_places.specs.internal.Judge.{decision_by_count}
+use Rattle.nbd_places.specs.internal.Concrete.{concrete, reading_by_decision}
+use Rattle.nbd_session.specs.internal.Holdings.{holding_of, incoming_of}
+use Rattle.nbd_places.specs.internal.Decisions.{Decision}
+use Rattle.nbd_places.specs.internal.Judge.{decision}
+use Rattle.nbd_session.specs.declared.expected.Expected.{Expected}
+use Rattle.nbd_session.specs.Incoming.{bytes_come}
+use Rattle.nbd_session.specs.internal.Known.{IsKnown, decided, is_known_by}
 use Rattle.nbd_session.specs.internal.Logging.{log_of_pairs}
-use Rattle.nbd_laws.specs.internal.Machine.{Machine, More, fresh, get, old_of, put}
-use Rattle.nbd_session.specs.internal.Readings.{reading_if}
+use Rattle.nbd_laws.specs.internal.Machine.{Bad, IsFilled, Machine, More, Reading, Rest, fresh, get, old_of, put}
+use Rattle.nbd_laws.proofs.machine.MachineLemmas.{get-put_other, get-put_same, old-filled, same_or_not}
 use Rattle.nbd_state.specs.Shows.{AreKnown, Shows}
-use Rattle.nbd_session.specs.internal.Standing.{Holding, IsReadTo, count_at_server, held_pairs, rest_of, with_bytes}
-use Rattle.nbd_session.specs.internal.Steps.{HoldsRun, IsSame, IsShut, IsTaken, Stands}
+use Rattle.nbd_session.specs.internal.Standing.{Holding, IsReadTo, held_pairs, rest_of, with_bytes}
+use Rattle.nbd_session.specs.internal.Steps.{HoldsRun, IsSame, IsShut, IsTaken, Stands, knows_by}
 use Rattle.nbd_session.specs.internal.Stopped.{IsStopped}
 use Rattle.nbd_places.proofs.judge.BlockLemmas.{extended}
 use Rattle.nbd_session.proofs.log.LogKnownLemmas.{logged-kept}
 use Rattle.nbd_session.proofs.pushed.OpenByteLemmas.{more_is_run_but}
 use Rattle.nbd_session.proofs.judge.RefusalLemmas.{stopped}
+use Rattle.nbd_session.proofs.steps.HoldingLemmas.{rest_is}
 use Rattle.nbd_session.proofs.steps.StepLemmas.{held_of, more_taken, pairs-taken, pairs_taken, refused_taken, says}
-use Rattle.nbd_session.proofs.steps.TakeLemmas.{judged_more}
 
 pub same_held : (held : Held) → IsSame held held
 same_held held = record {
@@ -32,35 +35,65 @@ same_held held = record {
   taken_is = refl;
 }
 
--- the program's answer on what was taken
-abbrev pub IsRead : Held → Side → Result program.Reading WireFault → Type 0
-IsRead held s answer = (core : Core) → Shows held.state core → reading_if (decision_by_count held.counted core s (rest_of (holding_of held) s)) (rest_of (holding_of held) s) ≡ answer
+-- the judge's word on what was taken
+abbrev pub IsRead : (held : Held) (s : Side) → IsTaken held s → Reading → Type 0
+IsRead held s t reading = reading_by_decision (decided t.machine s (bytes_come (incoming_of held s))) (bytes_come (incoming_of held s)) ≡ reading
+
+-- with bytes after it a side's rest began where it began
+same_old : (core : Core) (rest : Rest) (more : List ℕ) → IsFilled more → old_of core (extended core rest more) ≡ old_of core rest
+same_old core rest more f = old-filled core (extended core rest more) (filled_right rest.bytes more f)
+  where
+    filled_right : (xs ys : List ℕ) → IsFilled ys → IsFilled (xs ++ ys)
+    filled_right [] ys f = f
+    filled_right (x ∷ xs) ys f = tt
 
 module _ (held : Held) (s : Side) (t : IsTaken held s) where
   abbrev after : Holding
   after = with_bytes t.before s t.more (length t.machine.core.entries)
 
-  answers : (answer : Result program.Reading WireFault) → IsRead held s answer →
-      reading_if (decision_by_count (count_at_server s t.before.server t.before.counted (length t.machine.core.entries)) t.machine.core s (rest_of after s)) (rest_of after s) ≡ answer
-  answers answer e = subst (λ (h : Holding). reading_if (decision_by_count h.counted t.machine.core s (rest_of h s)) (rest_of h s) ≡ answer) t.holding_is (e t.machine.core t.shows)
+  -- the machine's word on them
+  pub says_so : (reading : Reading) → IsRead held s t reading → concrete (old_of t.machine.core (get t.machine.rests s)) t.machine.core s (rest_of after s) ≡ reading
+  says_so reading e =
+      subst (λ (h : Holding). concrete (old_of t.machine.core (get t.machine.rests s)) t.machine.core s (rest_of h s) ≡ reading) t.holding_is
+      (subst (λ bs. concrete (old_of t.machine.core (get t.machine.rests s)) t.machine.core s bs ≡ reading) (sym (rest_is held s)) e)
 
-  pub settled_more : (n : ℕ) → IsRead held s (Ok (Await n)) → Stands held
-  settled_more n e =
-      let machine : Machine = record t.machine { rests = put t.machine.rests s (extended t.machine.core (get t.machine.rests s) t.more) } in
-      let answer = answers (Ok (Await n)) e in
+  abbrev longer : Machine
+  longer = record t.machine { rests = put t.machine.rests s (extended t.machine.core (get t.machine.rests s) t.more) }
+
+  known_longer : (e : Option Expected) → knows_by (decided t.machine s) t.machine.core (incoming_of held s).head (incoming_of held s).payload e → (incoming_of held s).expected ≡ e →
+      IsKnown (decided t.machine s) t.machine.core (incoming_of held s)
+  known_longer e k is = subst (λ e. is_known_by (decided t.machine s) t.machine.core (incoming_of held s).head (incoming_of held s).payload e) (sym is) (go e k)
+    where
+      go : (e : Option Expected) → knows_by (decided t.machine s) t.machine.core (incoming_of held s).head (incoming_of held s).payload e →
+          is_known_by (decided t.machine s) t.machine.core (incoming_of held s).head (incoming_of held s).payload e
+      go (Some x) k = k.0
+      go None k = (k.0, λ d is. (let same : k.1 ≡ d = same_Some _ _ (sym k.2 ∙ is) in let len : k.1.head_length ≡ d.head_length = ap (λ (x : Decision). x.head_length) same in let short = k.3 in omega (arith, short, len)))
+
+  all_known : IsKnown (decided t.machine s) t.machine.core (incoming_of held s) → (u : Side) → IsKnown (decided longer u) t.machine.core (incoming_of held u)
+  all_known here u = elim (same_or_not s u) [
+    | inl e ↦ subst (λ v. IsKnown (decided longer v) t.machine.core (incoming_of held v)) e
+        (subst (λ (r : Rest). IsKnown (decision t.machine.core.phase (old_of t.machine.core r) t.machine.core s) t.machine.core (incoming_of held s)) (sym (get-put_same t.machine.rests s (extended t.machine.core (get t.machine.rests s) t.more)))
+        (subst (λ c. IsKnown (decision t.machine.core.phase c t.machine.core s) t.machine.core (incoming_of held s)) (sym (same_old t.machine.core (get t.machine.rests s) t.more t.filled)) here))
+    | inr ne ↦ subst (λ (r : Rest). IsKnown (decision t.machine.core.phase (old_of t.machine.core r) t.machine.core u) t.machine.core (incoming_of held u)) (sym (get-put_other t.machine.rests s u (extended t.machine.core (get t.machine.rests s) t.more) ne)) (t.knows u ne)
+  ]
+
+  -- more is awaited
+  pub settled_more : IsRead held s t More → (e : Option Expected) → (incoming_of held s).expected ≡ e → knows_by (decided t.machine s) t.machine.core (incoming_of held s).head (incoming_of held s).payload e → Stands held
+  settled_more more e is k =
+      let word = says_so More more in
       let judged_so : concrete (old_of t.machine.core (get t.machine.rests s)) t.machine.core s ((get t.machine.rests s).bytes ++ t.more) ≡ More =
-      says t.before t.machine t.read_to s t.more t.filled t.are_bytes t.up_to More
-      (judged_more (decision_by_count (count_at_server s t.before.server t.before.counted (length t.machine.core.entries)) t.machine.core s (rest_of after s)) (rest_of after s) n answer) in
+      says t.before t.machine t.read_to s t.more t.filled t.are_bytes t.up_to More word in
       let log : log_of_pairs concrete fresh (held_pairs after) ≡ log_of_pairs concrete fresh (held_pairs t.before) =
       ap (log_of_pairs concrete fresh) (pairs-taken t.before s t.more (length t.machine.core.entries) t.read_to.are_stretches)
       ∙ logged-kept (held_pairs t.before) t.machine s t.more t.read_to.reads_it (held_of t.before t.machine t.read_to) t.filled t.up_to judged_so in
       record {
-        machine = machine;
-        read_to = subst (λ h. IsReadTo h machine) (sym t.holding_is) (more_taken t.before t.machine t.read_to s t.more t.filled t.are_bytes t.up_to n answer);
+        machine = longer;
+        read_to = subst (λ h. IsReadTo h longer) (sym t.holding_is) (more_taken t.before t.machine t.read_to s t.more t.filled t.are_bytes t.up_to word);
         shows = t.shows;
         known = subst (λ h. AreKnown (log_of_pairs concrete fresh (held_pairs h)) held.state.exchanges.items) (sym t.holding_is)
             (subst (λ log. AreKnown log held.state.exchanges.items) (sym log) t.known);
         taken_is = t.taken_is;
+        knows = all_known (known_longer e k is);
       }
 
   pub taken_run : HoldsRun (holding_of held)
@@ -74,7 +107,8 @@ module _ (held : Held) (s : Side) (t : IsTaken held s) where
         has_messages = r.3;
       })
 
-  pub shut_wire : (fault : WireFault) → IsRead held s (Err fault) → IsShut held (Wire held.taken fault)
+  -- the bytes are refused
+  pub shut_wire : (fault : WireFault) → IsRead held s t (Bad fault) → IsShut held (Wire held.taken fault)
   shut_wire fault e = record {
     run = taken_run;
     taken_is = t.taken_is;
@@ -82,7 +116,7 @@ module _ (held : Held) (s : Side) (t : IsTaken held s) where
       refl,
       subst (λ h. IsStopped h fault) (sym t.holding_is)
           (stopped t.before t.machine t.read_to s t.more (length t.machine.core.entries) t.filled (pairs_taken t.before t.machine t.read_to s t.more t.filled t.are_bytes t.up_to) t.up_to fault
-          (refused_taken t.before t.machine t.read_to s t.more t.filled t.are_bytes t.up_to fault (answers (Err fault) e))),
+          (refused_taken t.before t.machine t.read_to s t.more t.filled t.are_bytes t.up_to fault (says_so (Bad fault) e))),
     );
   }
 

@@ -11,22 +11,19 @@ use Rattle.nbd_wire.specs.protocol.Rules.{complete}
 use Rattle.nbd_wire.specs.protocol.Sides.{side, same_side}
 use Rattle.nbd_wire.specs.protocol.States.{Core, Phase, Greet, Flags, Choosing, Naming, Aborting, Answering, Ended, Transmission}
 use Rattle.nbd_wire.specs.declared.fault.WireFault.{WireFault}
-use Rattle.nbd_session.specs.declared.reading.Reading.TheVariants as program
-use Rattle.nbd_places.specs.internal.Concrete.{concrete, reading_by_decision}
-use Rattle.nbd_places.specs.internal.Decisions.{Decision}
+use Rattle.nbd_places.specs.internal.Concrete.{concrete}
 use Rattle.nbd_places.specs.internal.Judge.{decision, decision_by_count, decision_with, awaited_length}
 use Rattle.nbd_places.specs.internal.JudgeTransmission.{operation_counted}
 use Rattle.nbd_laws.specs.internal.Machine.{Machine, Rest, Reading, More, Whole, Bad, get, put, reads, fresh, old_of, settle, on_ok, IsFilled}
 use Rattle.nbd_laws.proofs.machine.MachineLemmas.{IsSoundAt, AreHeld, reads_held, old-empty, old-filled}
 use Rattle.nbd_session.specs.internal.Standing.{Holding, IsReadTo, AreStretchesOf, stretches_with, held_pairs, rest_of, with_more, with_bytes, count_at_server}
-use Rattle.nbd_session.specs.internal.Readings.{reading_if}
 use Rattle.nbd_places.proofs.judge.AwaitedLemmas.{reads_up_to}
 use Rattle.nbd_places.proofs.judge.BlockLemmas.{judged_at_once, extended, reads-append}
 use Rattle.nbd_session.proofs.log.CountLemmas.{held_counted, count_of}
 use Rattle.nbd_session.proofs.pushed.PushLemmas.{bytes_of-snoc, mixed-noted, stretches-noted}
 use Rattle.nbd_laws.proofs.runs.RunLemmas.{fresh_held}
 use Rattle.nbd_places.proofs.judge.SoundLemmas.{sound}
-use Rattle.nbd_session.proofs.steps.TakeLemmas.{judged_bad, judged_more, judged_whole, kept_more}
+use Rattle.nbd_session.proofs.steps.TakeLemmas.{kept_more}
 
 -- with a message of a side whose bytes were its rest
 abbrev pub with_message : Holding → Side → Message → Holding
@@ -171,27 +168,21 @@ module _ (h : Holding) (machine : Machine) (r : IsReadTo h machine) (s : Side) (
   abbrev after : Holding
   after = with_bytes h s more (length machine.core.entries)
 
-  abbrev counted : ℕ
-  counted = count_at_server s h.server h.counted (length machine.core.entries)
-
-  -- what the judge says of the side's bytes with these, by what the program answers
-  pub says : (reading : Reading) → reading_by_decision (decision_by_count counted machine.core s (rest_of after s)) (rest_of after s) ≡ reading →
+  -- what the judge says of the side's bytes with these
+  pub says : (reading : Reading) → concrete (old_of machine.core (get machine.rests s)) machine.core s (rest_of after s) ≡ reading →
       concrete (old_of machine.core (get machine.rests s)) machine.core s ((get machine.rests s).bytes ++ more) ≡ reading
-  says reading e =
-      ap (λ l. concrete (old_of machine.core (get machine.rests s)) machine.core s l) (bytes_taken h machine s more (length machine.core.entries) r)
-      ∙ ap (λ o. reading_by_decision o (rest_of after s)) (decided_held h machine s r (rest_of after s))
-      ∙ e
+  says reading e = ap (λ l. concrete (old_of machine.core (get machine.rests s)) machine.core s l) (bytes_taken h machine s more (length machine.core.entries) r) ∙ e
 
-  settled : (reading : Reading) → reading_by_decision (decision_by_count counted machine.core s (rest_of after s)) (rest_of after s) ≡ reading →
+  settled : (reading : Reading) → concrete (old_of machine.core (get machine.rests s)) machine.core s (rest_of after s) ≡ reading →
       reads concrete fresh (held_pairs after) ≡ settle machine s (extended machine.core (get machine.rests s) more) reading
   settled reading e = reads_taken h machine r s more filled bytes up_to ∙ ap (settle machine s (extended machine.core (get machine.rests s) more)) (says reading e)
 
   -- more is awaited
-  pub more_taken : (n : ℕ) → reading_if (decision_by_count counted machine.core s (rest_of after s)) (rest_of after s) ≡ Ok (program.Await n) →
+  pub more_taken : concrete (old_of machine.core (get machine.rests s)) machine.core s (rest_of after s) ≡ More →
       IsReadTo after (record machine { rests = put machine.rests s (extended machine.core (get machine.rests s) more) })
-  more_taken n e = record {
+  more_taken e = record {
     are_pairs = pairs_taken h machine r s more filled bytes up_to;
-    reads_it = settled More (judged_more (decision_by_count counted machine.core s (rest_of after s)) (rest_of after s) n e);
+    reads_it = settled More e;
     messages_are = r.messages_are;
     rests_are = λ u. rest_taken h machine s u more (length machine.core.entries) r;
     count_is = count_taken h machine s more r;
@@ -199,9 +190,9 @@ module _ (h : Holding) (machine : Machine) (r : IsReadTo h machine) (s : Side) (
   }
 
   -- the bytes are refused
-  pub refused_taken : (fault : WireFault) → reading_if (decision_by_count counted machine.core s (rest_of after s)) (rest_of after s) ≡ Err fault →
+  pub refused_taken : (fault : WireFault) → concrete (old_of machine.core (get machine.rests s)) machine.core s (rest_of after s) ≡ Bad fault →
       reads concrete fresh (held_pairs after) ≡ Err fault
-  refused_taken fault e = settled (Bad fault) (judged_bad (decision_by_count counted machine.core s (rest_of after s)) (rest_of after s) fault e)
+  refused_taken fault e = settled (Bad fault) e
 
 -- a message's bytes are no longer a rest
 rest_message : (h : Holding) (machine : Machine) (s u : Side) (m : Message) (more : List ℕ) (entries : ℕ) → IsReadTo h machine →
@@ -220,40 +211,32 @@ count_message : (h : Holding) (machine : Machine) (s : Side) (m : Message) (more
 count_message h machine Client m more entries r f = r.count_is f
 count_message h machine Server m more entries r f = absurd f
 
--- what is held of a side whose bytes have become a whole message
-pub record IsWholeTaken (h : Holding) (machine : Machine) (s : Side) (after : Holding) (bytes : List ℕ) (counted : ℕ) : Type 0 where
-  pub decision : Decision
-  pub decided_is : decision_by_count counted machine.core s bytes ≡ Some decision
-  pub at : IsSoundAt (old_of machine.core (get machine.rests s)) machine.core s bytes decision.message
-  pub judged_so : concrete (old_of machine.core (get machine.rests s)) machine.core s bytes ≡ Whole decision.message
+-- what is held of a side whose bytes have become this message
+pub record IsWholeTaken (h : Holding) (machine : Machine) (s : Side) (after : Holding) (m : Message) : Type 0 where
+  pub at : IsSoundAt (old_of machine.core (get machine.rests s)) machine.core s (rest_of after s) m
   pub next : Rest
-  pub read_to : IsReadTo (with_message after s decision.message)
-      (record { core = complete machine.core decision.message; rests = put machine.rests s next; messages = machine.messages ++ decision.message ∷ [] })
+  pub next_empty : next.bytes ≡ []
+  pub read_to : IsReadTo (with_message after s m) (record { core = complete machine.core m; rests = put machine.rests s next; messages = machine.messages ++ m ∷ [] })
 
 module _ (h : Holding) (machine : Machine) (r : IsReadTo h machine) (s : Side) (more : List ℕ) (filled : IsFilled more) (bytes : AreBytes more)
     (up_to : length ((get machine.rests s).bytes ++ more) ≤ awaited_length (old_of machine.core (get machine.rests s)) machine.core s (get machine.rests s).bytes) where
-  pub whole_taken : reading_if (decision_by_count (counted h machine r s more filled bytes up_to) machine.core s (rest_of (after h machine r s more filled bytes up_to) s)) (rest_of (after h machine r s more filled bytes up_to) s) ≡ Ok program.Whole →
-      IsWholeTaken h machine s (after h machine r s more filled bytes up_to) (rest_of (after h machine r s more filled bytes up_to) s) (counted h machine r s more filled bytes up_to)
-  whole_taken e =
+  pub whole_taken : (m : Message) → concrete (old_of machine.core (get machine.rests s)) machine.core s (rest_of (after h machine r s more filled bytes up_to) s) ≡ Whole m →
+      IsWholeTaken h machine s (after h machine r s more filled bytes up_to) m
+  whole_taken m e =
       let held : Holding = after h machine r s more filled bytes up_to in
-      let w = judged_whole (decision_by_count (counted h machine r s more filled bytes up_to) machine.core s (rest_of held s)) (rest_of held s) e in
-      let m : Message = w.0.message in
       let b = bytes_taken h machine s more (length machine.core.entries) r in
-      let judged_so : concrete (old_of machine.core (get machine.rests s)) machine.core s ((get machine.rests s).bytes ++ more) ≡ Whole m = says h machine r s more filled bytes up_to (Whole m) w.2 in
       let good : IsSoundAt (old_of machine.core (get machine.rests s)) machine.core s ((get machine.rests s).bytes ++ more) m =
-      sound _ _ _ _ m (kept_more machine.core s (get machine.rests s) more (held_of h machine r s) filled bytes up_to) judged_so in
+      sound _ _ _ _ m (kept_more machine.core s (get machine.rests s) more (held_of h machine r s) filled bytes up_to) (says h machine r s more filled bytes up_to (Whole m) e) in
       let at : IsSoundAt (old_of machine.core (get machine.rests s)) machine.core s (rest_of held s) m = subst (λ l. IsSoundAt (old_of machine.core (get machine.rests s)) machine.core s l m) b good in
       let same : held_pairs (with_message held s m) ≡ held_pairs held = pairs-message held s m at.encodes at.sided in
       let both = both-completed held s m at.encodes at.sided in
       record {
-        decision = w.0;
-        decided_is = w.1;
         at = at;
-        judged_so = subst (λ l. concrete (old_of machine.core (get machine.rests s)) machine.core s l ≡ Whole m) b judged_so;
         next = record (extended machine.core (get machine.rests s) more) { bytes = [] };
+        next_empty = refl;
         read_to = record {
           are_pairs = subst ArePairs (sym same) (pairs_taken h machine r s more filled bytes up_to);
-          reads_it = ap (reads concrete fresh) same ∙ settled h machine r s more filled bytes up_to (Whole m) w.2;
+          reads_it = ap (reads concrete fresh) same ∙ settled h machine r s more filled bytes up_to (Whole m) e;
           messages_are = ap (λ l. l ++ m ∷ []) r.messages_are ∙ sym (messages_message held s m);
           rests_are = λ u. rest_message h machine s u m more (length machine.core.entries) r;
           count_is = count_message h machine s m more (length machine.core.entries) r;

@@ -8,8 +8,6 @@ use Rattle.nbd_wire.specs.declared.heads.transmission.SimpleHead.{SimpleHead}
 use Rattle.nbd_wire.specs.declared.heads.transmission.ChunkHead.{ChunkHead}
 use Rattle.nbd_wire.specs.protocol.Payloads.{number_at}
 use Rattle.nbd_wire.specs.declared.fault.WireFault.{WireFault}
-use Rattle.nbd_session.specs.declared.reading.Reading.{Reading}
-use Rattle.nbd_session.specs.declared.reading.Reading.TheVariants.{Await, Whole}
 
 -- this value where the condition holds
 abbrev pub some_if : {A : Type 0} → Bool → A → Option A
@@ -20,10 +18,6 @@ some_if false value = None
 abbrev pub unless_fault : {A : Type 0} → Option WireFault → A → Result A WireFault
 unless_fault (Some fault) value = Err fault
 unless_fault None value = Ok value
-
--- bytes of a message that has this many, and no fault at its last byte
-abbrev pub of_length : (whole : ℕ) → List ℕ → Reading
-of_length whole bytes = if length bytes == whole then Whole else Await whole
 
 -- a greeting's flags (proto.md, "Newstyle negotiation")
 abbrev pub greeting_flags_of : List ℕ → Option ℕ

@@ -1,15 +1,20 @@
 -- What holds of a session under way between two steps, and of one that is closed.
-use Rattle.std.specs.Prelude.{◌≡◌, ◌≤◌, ◌++◌, ℕ, List, [], length, Option, Some, None}
+use Rattle.std.specs.Prelude.{◌≡◌, ◌<◌, ◌≤◌, ◌++◌, ℕ, List, [], length, Option, Some, None}
+use Rattle.nbd_wire.specs.declared.fault.WireFault.{WireFault}
+use Rattle.nbd_wire.specs.protocol.States.{Core}
+use Rattle.nbd_session.specs.declared.expected.Expected.{Expected}
 use Rattle.nbd_wire.specs.declared.message.Side.{Side}
 use Rattle.nbd_wire.specs.protocol.Encoding.{AreBytes}
 use Rattle.nbd_session.specs.declared.fault.SessionFault.{SessionFault}
 use Rattle.nbd_session.specs.declared.fault.SessionFault.TheVariants.{Memory, Wire}
 use Rattle.nbd_session.specs.declared.held.Held.{Held}
-use Rattle.nbd_places.specs.internal.Concrete.{concrete}
-use Rattle.nbd_session.specs.internal.Holdings.{holding_of}
-use Rattle.nbd_places.specs.internal.Judge.{awaited_length}
+use Rattle.nbd_places.specs.internal.Concrete.{concrete, reading_by_decision}
+use Rattle.nbd_places.specs.internal.Decisions.{Decision}
+use Rattle.nbd_session.specs.internal.Holdings.{holding_of, incoming_of}
+use Rattle.nbd_session.specs.internal.Known.{IsCome, IsExpected, IsKnown, awaited, decided}
+use Rattle.nbd_session.specs.internal.Expecting.{last_fault_by, payload_length_of}
 use Rattle.nbd_session.specs.internal.Logging.{log_of_pairs}
-use Rattle.nbd_laws.specs.internal.Machine.{IsFilled, Machine, fresh, get, old_of}
+use Rattle.nbd_laws.specs.internal.Machine.{Bad, IsFilled, Machine, fresh, get}
 use Rattle.nbd_session.specs.Sessions.{Adds, HasRun}
 use Rattle.nbd_state.specs.Shows.{AreKnown, Shows}
 use Rattle.nbd_session.specs.internal.Standing.{Holding, IsReadTo, held_pairs, with_bytes}
@@ -22,6 +27,7 @@ pub record Stands (held : Held) : Type 0 where
   pub shows : Shows held.state machine.core
   pub known : AreKnown (log_of_pairs concrete fresh (held_pairs (holding_of held))) held.state.exchanges.items
   pub taken_is : held.taken ≡ length (held_pairs (holding_of held))
+  pub knows : (s : Side) → IsKnown (decided machine s) machine.core (incoming_of held s)
 
 -- what is held is of a run
 abbrev pub HoldsRun : Holding → Type 0
@@ -46,11 +52,38 @@ pub record IsTaken (held : Held) (s : Side) : Type 0 where
   pub more : List ℕ
   pub filled : IsFilled more
   pub are_bytes : AreBytes more
-  pub up_to : length ((get machine.rests s).bytes ++ more) ≤ awaited_length (old_of machine.core (get machine.rests s)) machine.core s (get machine.rests s).bytes
+  pub up_to : length ((get machine.rests s).bytes ++ more) ≤ awaited machine s
   pub holding_is : holding_of held ≡ with_bytes before s more (length machine.core.entries)
   pub shows : Shows held.state machine.core
   pub known : AreKnown (log_of_pairs concrete fresh (held_pairs before)) held.state.exchanges.items
   pub taken_is : held.taken ≡ length (held_pairs (holding_of held))
+  pub come : IsCome (decided machine s) machine.core (incoming_of held s)
+  pub knows : (u : Side) → (s ≡ u → ⊥) → IsKnown (decided machine u) machine.core (incoming_of held u)
+
+abbrev pub knows_by : (decided : List ℕ → Option Decision) → Core → (head payload : List ℕ) → Option Expected → Type 0
+knows_by decided core head payload (Some x) = IsExpected decided core head x × (length payload ≤ payload_length_of x)
+knows_by decided core head payload None = (payload ≡ []) × (d : Decision) × (decided head ≡ Some d) × (length head < d.head_length)
+
+-- after bytes were taken: this is what their head says, or it is not whole
+abbrev pub Knows : Held → Side → Option Expected → Type 0
+Knows held s expected = (t : IsTaken held s) → knows_by (decided t.machine s) t.machine.core (incoming_of held s).head (incoming_of held s).payload expected
+
+-- after bytes were taken: those of the head are refused
+abbrev pub IsHeadRefused : Held → Side → WireFault → Type 0
+IsHeadRefused held s fault = (t : IsTaken held s) → ((incoming_of held s).payload ≡ []) × (reading_by_decision (decided t.machine s (incoming_of held s).head) (incoming_of held s).head ≡ Bad fault)
+
+-- bytes were taken, and this is what their head says
+pub record IsExpecting (held : Held) (s : Side) (x : Expected) : Type 0 where
+  pub taken : IsTaken held s
+  pub expected_is : (incoming_of held s).expected ≡ Some x
+  pub is : IsExpected (decided taken.machine s) taken.machine.core (incoming_of held s).head x
+  pub within : length (incoming_of held s).payload ≤ payload_length_of x
+
+-- the same, and they are a whole message whose last byte breaks no rule
+pub record IsWhole (held : Held) (s : Side) (x : Expected) : Type 0 where
+  pub expecting : IsExpecting held s x
+  pub whole : length (incoming_of held s).payload ≡ payload_length_of x
+  pub no_fault : last_fault_by expecting.taken.machine.core.phase expecting.taken.machine.core x (incoming_of held s).payload ≡ None
 
 -- of a side's piece all but `left` was taken
 abbrev pub AddsHeld : (old new : Held) → Side → (piece left : List ℕ) → Type 0

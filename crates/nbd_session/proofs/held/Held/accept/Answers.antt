@@ -1,39 +1,90 @@
-use Rattle.std.proofs.Common.{◌∙◌, ◌++◌, ◌∷◌, [], ap, sym, subst}
-use Rattle.nbd_wire.specs.protocol.Rules.{complete}
+use Rattle.std.proofs.Common.{◌≡◌, ◌∙◌, ◌++◌, ◌∷◌, [], ap, sym, refl, subst, List}
+use Rattle.nbd_wire.specs.declared.message.Message.{Message}
+use Rattle.nbd_wire.specs.declared.message.Side.{Side}
+use Rattle.nbd_state.specs.Shows.{AreKnown, Shows}
 use Rattle.nbd_state.specs.declared.state.State.{State}
 use Rattle.nbd_places.specs.internal.Concrete.{concrete}
-use Rattle.nbd_session.specs.internal.Logging.{log_of_pairs}
-use Rattle.nbd_laws.specs.internal.Machine.{fresh}
-use Rattle.nbd_state.specs.Shows.{AreKnown, Shows}
-use Rattle.nbd_session.specs.internal.Standing.{held_pairs}
+use Rattle.nbd_laws.specs.internal.Machine.{Whole, fresh}
 use Rattle.nbd_session.specs.declared.held.Held.{Held}
-use Rattle.nbd_session.specs.internal.WholeMessage.{IsDecided, IsWholeFor}
-use Rattle.nbd_session.proofs.steps.AcceptLemmas.{accepted_holding, accepted_stands, is_whole_for, pairs_accepted, same_but_message}
+use Rattle.nbd_session.specs.Incoming.{IncomingView}
+use Rattle.nbd_session.specs.internal.Expecting.{message_of}
+use Rattle.nbd_session.specs.internal.Holdings.{incoming_of}
+use Rattle.nbd_session.specs.internal.Logging.{log_of_pairs}
+use Rattle.nbd_session.specs.internal.Standing.{held_pairs}
+use Rattle.nbd_session.specs.internal.Steps.{Stands}
+use Rattle.nbd_session.proofs.steps.ConcludeLemmas.{on_err, on_ok_both, whole_read}
+use Rattle.nbd_session.proofs.steps.EmptiedLemmas.{emptied_here, kept_other, mid_counted, mid_messages, mid_state, mid_stretches, mid_taken, new_holding, same_room, sides_same}
+use Rattle.nbd_session.proofs.steps.AcceptLemmas.{accepted_shut, accepted_stands, same_but_message}
+use Rattle.nbd_session.proofs.steps.SettleLemmas.{IsRead, shut_memory}
 use Rattle.nbd_session.proofs.held.Held.accept.Goals as goal
 
-pub whole_message-requires : goal.whole_message-requires
-whole_message-requires c = subst (IsWholeFor c.args.self.now.state c.args.side) (sym c.rest.ensures) (is_whole_for c.args.self.now c.args.side c.requires.taken c.requires.whole)
+pub returns-in_err-reserve-clause-shut : goal.returns-in_err-reserve-clause-shut
+returns-in_err-reserve-clause-shut c =
+    let held = c.args.self.now in
+    on_err c.from_residual.result _ (shut_memory held c.args.side c.requires.expecting.taken (record held { messages = c.reserve.new.self }) (same_room held (record held { messages = c.reserve.new.self }) c.reserve.ensures.items refl refl refl refl) refl)
 
 pub returns-clause-stands : goal.returns-clause-stands
 returns-clause-stands c =
-    let k = c.clear.ensures.kept in
-    let d = subst (λ bytes. IsDecided c.args.self.now.state c.args.side bytes c.in_ok-message.message) c.rest.ensures c.in_ok-message.ensures in
-    accepted_stands c.args.self.now c.args.side c.requires.taken c.requires.whole c.clear.new.self c.in_ok-message.message d
-    (accepted_holding c.args.self.now c.clear.new.self c.args.side c.in_ok-message.message
-    (ap (λ (h : Held). h.messages.items) k ∙ c.in_ok-push.ensures.items) c.clear.ensures.client c.clear.ensures.server (ap (λ (h : Held). h.counted) k) (ap (λ (h : Held). h.stretches) k))
-    (λ reached shows sendable completes. subst (λ state. Shows state (complete c.requires.taken.machine.core c.in_ok-message.message)) (sym (ap (λ (h : Held). h.state) k))
-    (c.in_ok-complete.ensures.shown c.requires.taken.machine.core reached shows sendable completes))
-    (λ reached shows completes folded known. subst (λ (state : State). AreKnown (log_of_pairs concrete fresh (held_pairs c.requires.taken.before) ++ record { message = c.in_ok-message.message; known = c.args.self.now.counted } ∷ []) state.exchanges.items) (sym (ap (λ (h : Held). h.state) k))
-    (c.in_ok-complete.ensures.known c.requires.taken.machine.core (log_of_pairs concrete fresh (held_pairs c.requires.taken.before)) reached shows completes folded known))
-    (ap (λ (h : Held). h.taken) k)
+    let held = c.args.self.now in
+    let s = c.args.side in
+    let roomy : Held = record held { messages = c.reserve.new.self } in
+    let mid = c.take_payload.new.self in
+    let m = c.message-message.result in
+    let new : Held = record mid { state = c.complete-completed.new.self; messages = c.push.new.self } in
+    let sides : (u : Side) → incoming_of roomy u ≡ incoming_of held u = sides_same roomy held refl refl in
+    let is = c.take_payload.ensures.empty in
+    let t = c.requires.expecting.taken in
+    let payload = c.take_payload.ensures.payload ∙ ap (λ (v : IncomingView). v.payload) (sides s) in
+    let is_m : m ≡ message_of c.args.expected (incoming_of held s).payload = c.message-message.ensures ∙ ap (message_of c.args.expected) payload in
+    let whole : IsRead held s t (Whole m) = subst (λ n. IsRead held s t (Whole n)) (sym is_m) (whole_read held s c.args.expected c.requires) in
+    let messages = c.in_ok-push.ensures.items ∙ ap (λ l. l ++ m ∷ []) (ap (λ v. v.items) (mid_messages held roomy mid new s is sides refl refl) ∙ c.reserve.ensures.items) in
+    let holding = new_holding held roomy mid new s is sides refl refl m messages (mid_counted held roomy mid new s is sides refl refl) (mid_stretches held roomy mid new s is sides refl refl) in
+    let same = mid_taken held roomy mid new s is sides refl refl in
+    let state = mid_state held roomy mid new s is sides refl refl in
+    let counted = mid_counted held roomy mid new s is sides refl refl in
+    let log = log_of_pairs concrete fresh (held_pairs t.before) in
+    on_ok_both c.complete-completed.result _ _ (Stands new) c.complete-completed.ensures.shown c.complete-completed.ensures.known (λ shown known.
+    accepted_stands held s t m whole new holding (emptied_here held roomy mid new s is sides refl refl) (kept_other held roomy mid new s is sides refl refl)
+    (λ reached shows sendable completes. shown t.machine.core reached (subst (λ state. Shows state t.machine.core) (sym state) shows) sendable completes)
+    (λ reached shows completes folded knew.
+    subst (λ n. AreKnown (log ++ record { message = m; known = n } ∷ []) c.complete-completed.new.self.exchanges.items) counted
+    (known t.machine.core log reached (subst (λ state. Shows state t.machine.core) (sym state) shows) completes folded (subst (λ (state : State). AreKnown log state.exchanges.items) (sym state) knew)))
+    same)
 
 pub returns-clause-same : goal.returns-clause-same
 returns-clause-same c =
-    let k = c.clear.ensures.kept in
-    let d = subst (λ bytes. IsDecided c.args.self.now.state c.args.side bytes c.in_ok-message.message) c.rest.ensures c.in_ok-message.ensures in
-    let messages = ap (λ (h : Held). h.messages.items) k ∙ c.in_ok-push.ensures.items in
-    same_but_message c.args.self.now c.clear.new.self c.args.side c.in_ok-message.message
-    (accepted_holding c.args.self.now c.clear.new.self c.args.side c.in_ok-message.message messages c.clear.ensures.client c.clear.ensures.server (ap (λ (h : Held). h.counted) k) (ap (λ (h : Held). h.stretches) k))
-    (pairs_accepted c.args.self.now c.args.side c.requires.taken c.requires.whole c.in_ok-message.message d)
-    messages
-    (ap (λ (h : Held). h.taken) k)
+    let held = c.args.self.now in
+    let s = c.args.side in
+    let roomy : Held = record held { messages = c.reserve.new.self } in
+    let mid = c.take_payload.new.self in
+    let m = c.message-message.result in
+    let new : Held = record mid { state = c.complete-completed.new.self; messages = c.push.new.self } in
+    let sides : (u : Side) → incoming_of roomy u ≡ incoming_of held u = sides_same roomy held refl refl in
+    let is = c.take_payload.ensures.empty in
+    let t = c.requires.expecting.taken in
+    let payload = c.take_payload.ensures.payload ∙ ap (λ (v : IncomingView). v.payload) (sides s) in
+    let is_m : m ≡ message_of c.args.expected (incoming_of held s).payload = c.message-message.ensures ∙ ap (message_of c.args.expected) payload in
+    let whole : IsRead held s t (Whole m) = subst (λ n. IsRead held s t (Whole n)) (sym is_m) (whole_read held s c.args.expected c.requires) in
+    let messages = c.in_ok-push.ensures.items ∙ ap (λ l. l ++ m ∷ []) (ap (λ v. v.items) (mid_messages held roomy mid new s is sides refl refl) ∙ c.reserve.ensures.items) in
+    let holding = new_holding held roomy mid new s is sides refl refl m messages (mid_counted held roomy mid new s is sides refl refl) (mid_stretches held roomy mid new s is sides refl refl) in
+    let same = mid_taken held roomy mid new s is sides refl refl in
+    same_but_message held s t m whole new holding messages same
+
+pub returns-clause-shut : goal.returns-clause-shut
+returns-clause-shut c =
+    let held = c.args.self.now in
+    let s = c.args.side in
+    let roomy : Held = record held { messages = c.reserve.new.self } in
+    let mid = c.take_payload.new.self in
+    let m = c.message-message.result in
+    let new : Held = record mid { state = c.complete-completed.new.self; messages = c.push.new.self } in
+    let sides : (u : Side) → incoming_of roomy u ≡ incoming_of held u = sides_same roomy held refl refl in
+    let is = c.take_payload.ensures.empty in
+    let t = c.requires.expecting.taken in
+    let payload = c.take_payload.ensures.payload ∙ ap (λ (v : IncomingView). v.payload) (sides s) in
+    let is_m : m ≡ message_of c.args.expected (incoming_of held s).payload = c.message-message.ensures ∙ ap (message_of c.args.expected) payload in
+    let whole : IsRead held s t (Whole m) = subst (λ n. IsRead held s t (Whole n)) (sym is_m) (whole_read held s c.args.expected c.requires) in
+    let messages = c.in_ok-push.ensures.items ∙ ap (λ l. l ++ m ∷ []) (ap (λ v. v.items) (mid_messages held roomy mid new s is sides refl refl) ∙ c.reserve.ensures.items) in
+    let holding = new_holding held roomy mid new s is sides refl refl m messages (mid_counted held roomy mid new s is sides refl refl) (mid_stretches held roomy mid new s is sides refl refl) in
+    let same = mid_taken held roomy mid new s is sides refl refl in
+    on_err c.complete-completed.result _ (accepted_shut held s t m whole new holding same)

@@ -1,26 +1,21 @@
-use Rattle.std.proofs.Common.{◌∙◌, ap, sym, Ok}
-use Rattle.nbd_places.specs.internal.Judge.{decision_by_count}
-use Rattle.nbd_session.specs.internal.Readings.{reading_if}
-use Rattle.nbd_session.specs.internal.Steps.{IsShut}
-use Rattle.nbd_session.proofs.steps.SettleLemmas.{memory_alone, same_held, settled_more, shut_memory, shut_wire}
+use Rattle.std.proofs.Common.{◌≡◌, ◌∙◌, ap, sym, subst, Some, None}
+use Rattle.nbd_session.specs.declared.held.Held.{Held}
+use Rattle.nbd_session.specs.declared.fault.SessionFault.TheVariants.{Wire}
+use Rattle.nbd_session.specs.internal.Holdings.{with_expected}
+use Rattle.nbd_session.specs.internal.Steps.{IsExpecting, IsShut, Knows, Stands}
+use Rattle.nbd_session.proofs.steps.ConcludeLemmas.{head_missing, head_shut, is_expecting}
 use Rattle.nbd_session.proofs.held.Held.settle.Goals as goal
 
-pub returns-in_err-accept-in-Ok-Whole-clause-shut : goal.returns-in_err-accept-in-Ok-Whole-clause-shut
-returns-in_err-accept-in-Ok-Whole-clause-shut c =
-    memory_alone _ c.from_residual.result (IsShut c.accept.new.self) c.from_residual.ensures.1
-    (shut_memory c.args.self.now c.args.side c.requires.taken c.accept.new.self c.in_err-accept-in-Ok-Whole.ensures.unchanged c.in_err-accept-in-Ok-Whole.ensures.same.taken_is)
+pub conclude-requires : goal.conclude-requires
+conclude-requires c =
+    subst (λ h. IsExpecting h c.args.side c.in-Ok-Some.expected) (sym (c.in-Ok-Some.ensures.kept ∙ ap (with_expected c.args.self.now c.args.side) c.in-Ok-Some.field-0-is))
+    (is_expecting c.args.self.now c.args.side c.in-Ok-Some.expected c.requires (subst (Knows c.args.self.now c.args.side) c.in-Ok-Some.field-0-is c.in-Ok-Some.ensures.known))
 
-pub returns-in-Ok-Await-clause-stands : goal.returns-in-Ok-Await-clause-stands
-returns-in-Ok-Await-clause-stands c =
-    settled_more c.args.self.now c.args.side c.requires.taken c.in-Ok-Await.field-0-0 (λ core shows.
-    ap (λ bytes. reading_if (decision_by_count c.args.self.now.counted core c.args.side bytes) bytes) (sym c.rest.ensures)
-    ∙ sym (c.read.ensures core shows) ∙ c.in-Ok-Await.is ∙ ap Ok c.in-Ok-Await.field-0-is)
-
-pub returns-in-Err-clause-same : goal.returns-in-Err-clause-same
-returns-in-Err-clause-same c = same_held c.args.self.now
+pub returns-in-Ok-None-clause-stands : goal.returns-in-Ok-None-clause-stands
+returns-in-Ok-None-clause-stands c = 
+    subst Stands (sym (c.in-Ok-None.ensures.kept ∙ ap (with_expected c.args.self.now c.args.side) c.in-Ok-None.field-0-is))
+    (head_missing c.args.self.now c.args.side c.requires (subst (Knows c.args.self.now c.args.side) c.in-Ok-None.field-0-is c.in-Ok-None.ensures.known))
 
 pub returns-in-Err-clause-shut : goal.returns-in-Err-clause-shut
 returns-in-Err-clause-shut c =
-    shut_wire c.args.self.now c.args.side c.requires.taken c.in-Err.fault (λ core shows.
-    ap (λ bytes. reading_if (decision_by_count c.args.self.now.counted core c.args.side bytes) bytes) (sym c.rest.ensures)
-    ∙ sym (c.read.ensures core shows) ∙ c.in-Err.is)
+    subst (λ (h : Held). IsShut h (Wire h.taken c.in-Err.fault)) (sym c.in-Err.ensures.same) (head_shut c.args.self.now c.args.side c.requires c.in-Err.fault c.in-Err.ensures.refused)

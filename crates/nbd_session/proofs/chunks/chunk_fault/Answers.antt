@@ -1,0 +1,34 @@
+use Rattle.std.proofs.Common.{◌≡◌, ◌∙◌, ◌+◌, ◌==◌, ◌||◌, not, length, sym, ap, None, true}
+use Rattle.nbd_wire.specs.declared.payloads.Piece.{Piece}
+use Rattle.nbd_wire.specs.declared.chunks.TheConstants as chunks
+use Rattle.nbd_wire.specs.codec.Contents.{piece_of}
+use Rattle.nbd_wire.specs.protocol.Flags.{has}
+use Rattle.nbd_wire.specs.protocol.Operations.{has_failed, is_proper, pieces}
+use Rattle.nbd_wire.specs.declared.fault.WireFault.TheVariants.{BadChunk, BadContent}
+use Rattle.nbd_session.specs.internal.Asking.{done_by, finish_by}
+use Rattle.nbd_places.specs.internal.Decisions.{fault_if}
+use Rattle.nbd_places.specs.internal.JudgeTransmission.{fits_read, fits_failure, total}
+use Rattle.nbd_session.proofs.judge.ChunkFaultLemmas.{none-chunk, content-chunk, failure-chunk}
+use Rattle.nbd_session.proofs.chunks.chunk_fault.Goals as goal
+
+pub returns-then-kind-eq-NONE : goal.returns-then-kind-eq-NONE
+returns-then-kind-eq-NONE c = λ export e cookie h.
+    let payload = c.args.payload.now in
+    c.none_fault.ensures export e h
+    ∙ ap (λ d. fault_if (not (length payload == 0) || not d) BadChunk (done_by d (finish_by e.command e.length (is_proper export e) (has_failed e) (total (pieces e))))) c.has-done.ensures
+    ∙ sym (none-chunk export e c.args.flags c.args.kind cookie payload c.if-kind-eq-NONE.true)
+
+pub returns-in-Some : goal.returns-in-Some
+returns-in-Some c = λ export e cookie h.
+    let piece : Piece = piece_of c.in-Some.content in
+    c.content_fault.ensures export e piece h (sym c.content_span.ensures)
+    ∙ ap (λ d. fault_if (not (fits_read export e piece)) BadContent (done_by d (finish_by e.command e.length (is_proper export e) (has_failed e) (total (pieces e) + c.content_span.result.size)))) c.has-done.ensures
+    ∙ ap (λ s. fault_if (not (fits_read export e piece)) BadContent (done_by (has c.args.flags chunks.DONE) (finish_by e.command e.length (is_proper export e) (has_failed e) (total (pieces e) + s.size)))) c.content_span.ensures
+    ∙ sym (content-chunk export e c.args.flags c.args.kind cookie c.args.payload.now piece (sym c.in-Some.ensures.same))
+
+pub returns-then-fits_failure : goal.returns-then-fits_failure
+returns-then-fits_failure c = λ export e cookie h.
+    let failure = c.in-Some-failure_of.failure in
+    let fits : fits_failure e failure.offset ≡ true = sym (c.fits_failure.ensures e (sym h.offset) (sym h.length)) ∙ c.if-fits_failure.true in
+    sym (failure-chunk export e c.args.flags c.args.kind cookie c.args.payload.now failure (sym c.in-Some-failure_of.ensures.same)
+    ∙ ap (λ b. fault_if (not b) BadContent None) fits)

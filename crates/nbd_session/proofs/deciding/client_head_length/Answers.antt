@@ -1,0 +1,22 @@
+use Rattle.std.proofs.Common.{◌≡◌, refl, sym, ◌∙◌, ap, not, true, false}
+use Rattle.nbd_wire.specs.declared.message.Side.TheVariants.{Client}
+use Rattle.nbd_wire.specs.protocol.States as definitions
+use Rattle.nbd_places.specs.internal.Judge.{request_unless}
+use Rattle.nbd_places.specs.internal.JudgeNegotiation.{choice, client_flags}
+use Rattle.nbd_places.specs.internal.JudgeTransmission.{request}
+use Rattle.nbd_session.proofs.expecting.PhaseLemmas.{choosing_of, decided_in, flags_of, head_in, transmission_of}
+use Rattle.nbd_session.proofs.deciding.client_head_length.Goals as goal
+
+pub returns-in-Flags-clause-known : goal.returns-in-Flags-clause-known
+returns-in-Flags-clause-known c = λ head. head_in c.args.state.now Client head 4 _ c.in-Flags.is
+    (λ core counted s. decided_in counted core Client head definitions.Flags (client_flags core.offered head) (flags_of core.phase (sym c.in-Flags.is ∙ s.phase_is)) refl) (λ e. e)
+
+pub returns-in-Choosing-clause-known : goal.returns-in-Choosing-clause-known
+returns-in-Choosing-clause-known c = λ head. head_in c.args.state.now Client head 16 _ c.in-Choosing.is
+    (λ core counted s. decided_in counted core Client head definitions.Choosing (choice head) (choosing_of core.phase (sym c.in-Choosing.is ∙ s.phase_is)) refl) (λ e. e)
+
+pub returns-in-Transmission-clause-known : goal.returns-in-Transmission-clause-known
+returns-in-Transmission-clause-known c = λ head. head_in c.args.state.now Client head 28 _ c.in-Transmission.is
+    (λ core counted s. let t = transmission_of core.phase _ (sym c.in-Transmission.is ∙ s.phase_is) in
+    decided_in counted core Client head (definitions.Transmission t.0) (request core head) t.1 (ap (λ b. request_unless b core head) (sym s.disconnected_is ∙ c.if-not-state.true)))
+    (λ e. (c.if-not-state.true, e))

@@ -1,0 +1,36 @@
+use Rattle.std.proofs.Common.{◌≡◌, refl, sym, ◌∙◌, ap}
+use Rattle.nbd_wire.specs.declared.handshake.TheConstants as handshake
+use Rattle.nbd_wire.specs.declared.message.Side.TheVariants.{Server}
+use Rattle.nbd_wire.specs.protocol.Flags.{has}
+use Rattle.nbd_wire.specs.protocol.States as definitions
+use Rattle.nbd_places.specs.internal.JudgeNegotiation.{abort_answer, export_answer, greeting}
+use Rattle.nbd_places.specs.internal.JudgeTransmission.{operation_counted, reply_with}
+use Rattle.nbd_session.proofs.expecting.PhaseLemmas.{aborting_of, answering_of, decided_in, exported_head, greet_of, head_in, naming_of, transmission_of}
+use Rattle.nbd_session.proofs.expecting.ReplyLemmas.{if_ok, reply_begins, reply_whole}
+use Rattle.nbd_session.proofs.deciding.server_head_length.Goals as goal
+
+pub returns-in-Greet-clause-known : goal.returns-in-Greet-clause-known
+returns-in-Greet-clause-known c = head_in c.args.state.now Server c.args.head.now 18 _ c.in-Greet.is
+    (λ core counted s. decided_in counted core Server c.args.head.now definitions.Greet (greeting c.args.head.now) (greet_of core.phase (sym c.in-Greet.is ∙ s.phase_is)) refl) (λ e. e)
+
+pub returns-in-Naming-clause-known : goal.returns-in-Naming-clause-known
+returns-in-Naming-clause-known c = head_in c.args.state.now Server c.args.head.now 10 _ c.in-Naming.is
+    (λ core counted s. let no_zeroes = has core.client_flags handshake.C_NO_ZEROES in
+    let d = decided_in counted core Server c.args.head.now definitions.Naming (export_answer no_zeroes c.args.head.now) (naming_of core.phase (sym c.in-Naming.is ∙ s.phase_is)) refl in
+    (d.0, d.1, d.2 ∙ exported_head no_zeroes c.args.head.now)) (λ e. e)
+
+pub returns-in-Aborting-clause-known : goal.returns-in-Aborting-clause-known
+returns-in-Aborting-clause-known c = head_in c.args.state.now Server c.args.head.now 20 _ c.in-Aborting.is
+    (λ core counted s. decided_in counted core Server c.args.head.now definitions.Aborting (abort_answer c.args.head.now) (aborting_of core.phase (sym c.in-Aborting.is ∙ s.phase_is)) refl) (λ e. e)
+
+pub returns-in-Answering-clause-known : goal.returns-in-Answering-clause-known
+returns-in-Answering-clause-known c = head_in c.args.state.now Server c.args.head.now 20 _ c.in-Answering.is
+    (λ core counted s. let a = answering_of core.phase _ (sym c.in-Answering.is ∙ s.phase_is) in
+    decided_in counted core Server c.args.head.now (definitions.Answering a.0 a.1 a.2) _ a.3 refl) (λ e. e)
+
+pub returns-in-Transmission-clause-known : goal.returns-in-Transmission-clause-known
+returns-in-Transmission-clause-known c = if_ok c.reply_head_length.result _ _ c.reply_head_length.ensures.known
+    (λ n has. head_in c.args.state.now Server c.args.head.now n _ c.in-Transmission.is
+    (λ core counted s. let t = transmission_of core.phase _ (sym c.in-Transmission.is ∙ s.phase_is) in
+    let d = decided_in counted core Server c.args.head.now (definitions.Transmission t.0) (reply_with t.0 (operation_counted counted core) core c.args.head.now) t.1 refl in
+    (d.0, d.1, d.2 ∙ reply_begins t.0 core counted c.args.head.now n has)) (reply_whole c.args.head.now n has))

@@ -1,0 +1,15 @@
+use Rattle.std.proofs.Common.{◌≡◌, ◌==◌, ◌&&◌, ℕ, List, [], ◌∷◌, refl, ◌∙◌, ap, rules, tests}
+use Rattle.std.specs.List.{list_all}
+use Rattle.std.proofs.lemmas.Iterator.{YieldsList-from_slice}
+use Rattle.std.proofs.lemmas.Iterator.Search.{all_from_yields_List}
+use Rattle.nbd_places.specs.internal.JudgeNegotiation.{are_zeroes}
+use Rattle.nbd_session.proofs.ending.are_zeroes.Goals as goal
+
+are_zeroes-all : (bytes : List ℕ) → list_all (λ b. b == 0) bytes ≡ are_zeroes bytes
+are_zeroes-all [] = refl
+are_zeroes-all (b ∷ bytes) = ap (λ rest. (b == 0) && rest) (are_zeroes-all bytes)
+
+pub returns : goal.returns
+returns c =
+    all_from_yields_List (λ b. b == 0) _ _ c.all.result c.all.ensures.ran (YieldsList-from_slice c.args.bytes.now cc) (λ x b q h. search (rules, tests))
+    ∙ are_zeroes-all c.args.bytes.now

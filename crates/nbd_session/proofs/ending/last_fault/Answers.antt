@@ -1,0 +1,18 @@
+use Rattle.std.proofs.Common.{◌≡◌, ◌∙◌, ap, sym, subst, rules}
+use Rattle.nbd_session.specs.declared.expected.Expected.{Expected}
+use Rattle.nbd_session.specs.internal.Expecting.{StandsIn, last_fault_by}
+use Rattle.nbd_session.proofs.expecting.EndLemmas.{chunk_end, simple_end}
+use Rattle.nbd_session.proofs.ending.last_fault.Goals as goal
+
+pub returns-in-Simple : goal.returns-in-Simple
+returns-in-Simple c = λ core s.
+    let l = subst (λ (x : Expected). StandsIn c.args.state.now.exchanges.items x) c.in-Simple.is c.requires in
+    simple_end c.args.state.now core c.in-Simple.place s l c.index.result.now c.index.ensures c.in-Simple.head c.in-Simple.length c.args.payload.now c.success_fault.result c.success_fault.ensures
+    ∙ ap (λ (x : Expected). last_fault_by core.phase core x c.args.payload.now) (sym c.in-Simple.is)
+
+pub returns-in-Chunk : goal.returns-in-Chunk
+returns-in-Chunk c = λ core s.
+    let l = subst (λ (x : Expected). StandsIn c.args.state.now.exchanges.items x) c.in-Chunk.is c.requires in
+    chunk_end c.args.state.now core c.in-Chunk.place s l c.index-in-Chunk.result.now c.index-in-Chunk.ensures c.in-Chunk.head c.args.payload.now c.chunk_fault.result
+        (λ export e h. c.chunk_fault.ensures export e c.in-Chunk.head.cookie h)
+    ∙ ap (λ (x : Expected). last_fault_by core.phase core x c.args.payload.now) (sym c.in-Chunk.is)

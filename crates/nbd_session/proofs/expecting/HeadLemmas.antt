@@ -1,0 +1,32 @@
+-- A head that is whole, and the same with more bytes after it.
+use Rattle.std.proofs.Common.{◌≡◌, ℕ, ◌+◌, ◌≤◌, List, ◌++◌, length, take, drop, refl, sym, ◌∙◌, ap, subst, Option, Some, None, Bool, true, false, not, arith}
+use Rattle.std.proofs.Math.Seq.{drop-append_seam}
+use Rattle.nbd_wire.specs.protocol.Encoding.{AreBytes}
+use Rattle.nbd_wire.specs.protocol.Payloads.{number_at}
+use Rattle.nbd_wire.proofs.FieldLemmas.{number_at-append}
+use Rattle.nbd_session.specs.internal.Leading.{some_if}
+use Rattle.nbd_session.proofs.parsing.LeadingLemmas.{IsFront}
+
+-- a whole head stands before itself
+pub whole_front : (n : ℕ) (head : List ℕ) → AreBytes head → length head ≡ n → IsFront n head head
+whole_front n head are len = record { length_is = len; are_bytes = are; at = λ p w fits. refl }
+
+-- its fields stand where they stood, with more bytes after it
+pub fields_stay : (n : ℕ) (head payload : List ℕ) → length head ≡ n → (p w : ℕ) → p + w ≤ n → number_at p w (head ++ payload) ≡ number_at p w head
+fields_stay n head payload len p w fits = number_at-append p w head payload (omega (arith, len, fits))
+
+pub after_head : (n : ℕ) (head payload : List ℕ) → length head ≡ n → drop n (head ++ payload) ≡ payload
+after_head n head payload len = subst (λ k. drop k (head ++ payload) ≡ payload) len (drop-append_seam head payload)
+
+-- what was read where the condition holds
+pub some_read : {A : Type 0} (b : Bool) (value a : A) → Some a ≡ some_if b value → (b ≡ true) × (a ≡ value)
+some_read true value a e = (refl, (cc))
+some_read false value a e = absurd (let q : Some a ≡ None = e in cc)
+
+pub none_read : {A : Type 0} (b : Bool) (value : A) → None ≡ some_if b value → b ≡ false
+none_read true value e = absurd (let q : None ≡ Some value = e in cc)
+none_read false value e = refl
+
+pub not_is : (b c : Bool) → not b ≡ c → b ≡ not c
+not_is true c e = ap not e
+not_is false c e = ap not e

@@ -1,0 +1,55 @@
+-- What is known of a side's bytes, and what is read of them.
+use Rattle.std.proofs.Common.{◌≡◌, ℕ, ◌+◌, ◌<◌, ◌≤◌, ◌==◌, List, [], ◌++◌, length, refl, sym, ◌∙◌, ap, subst, Option, Some, None, Bool, true, false, nat_lt, if◌then◌else◌, arith, length-append}
+use Rattle.std.proofs.lemmas.Bool.{le-ltb, lt-ltb, eq-eqb}
+use Rattle.nbd_wire.specs.declared.message.Message.{Message}
+use Rattle.nbd_wire.specs.declared.fault.WireFault.{WireFault}
+use Rattle.nbd_wire.specs.protocol.States.{Core}
+use Rattle.nbd_places.specs.internal.Concrete.{last_reading, read_by, reading_by_decision, staged_reading_by}
+use Rattle.nbd_places.specs.internal.Decisions.{Decision, awaited_length_by}
+use Rattle.nbd_places.proofs.judge.AwaitedLemmas.{in_head, in_payload}
+use Rattle.nbd_laws.specs.internal.Machine.{Bad, More, Whole}
+use Rattle.nbd_session.specs.declared.expected.Expected.{Expected}
+use Rattle.nbd_session.specs.internal.Expecting.{expected_decision, last_fault_by, message_of, payload_length_of}
+use Rattle.nbd_session.specs.internal.Known.{IsExpected, IsShort}
+
+at_last : (d : Decision) (bytes : List ℕ) (fault : Option WireFault) → length bytes ≡ d.head_length + d.payload_length → d.head_fault ≡ None → d.last_fault ≡ fault →
+    read_by d bytes ≡ last_reading fault d.message
+at_last d bytes fault len clean last =
+    let a : nat_lt (length bytes) d.head_length ≡ false = le-ltb (length bytes) d.head_length (omega (arith, len)) in
+    let b : (length bytes == d.head_length + d.payload_length) ≡ true = eq-eqb (length bytes) (d.head_length + d.payload_length) len in
+    λ i. staged_reading_by (a i) (clean i) (b i) (last_reading (last i) d.message)
+
+module _ (decided : List ℕ → Option Decision) (core : Core) (head payload : List ℕ) (x : Expected) (known : IsExpected decided core head x) where
+  abbrev d : Decision
+  d = expected_decision core x (length head) payload
+
+  read_is : reading_by_decision (decided (head ++ payload)) (head ++ payload) ≡ read_by d (head ++ payload)
+  read_is = ap (λ o. reading_by_decision o (head ++ payload)) (known.is payload)
+
+  -- as long as bytes are missing more is awaited
+  pub expected_more : length payload < payload_length_of x → reading_by_decision (decided (head ++ payload)) (head ++ payload) ≡ More
+  expected_more l = read_is ∙ in_payload d (head ++ payload) (omega (arith, length-append head payload)) refl (omega (arith, l, length-append head payload))
+
+  -- at its last byte it has the fault, or is a message
+  pub expected_bad : (fault : WireFault) → length payload ≡ payload_length_of x → last_fault_by core.phase core x payload ≡ Some fault → reading_by_decision (decided (head ++ payload)) (head ++ payload) ≡ Bad fault
+  expected_bad fault l bad = read_is ∙ at_last d (head ++ payload) (Some fault) (omega (arith, l, length-append head payload)) refl bad
+
+  pub expected_whole : length payload ≡ payload_length_of x → last_fault_by core.phase core x payload ≡ None → reading_by_decision (decided (head ++ payload)) (head ++ payload) ≡ Whole (message_of x payload)
+  expected_whole l good = read_is ∙ at_last d (head ++ payload) None (omega (arith, l, length-append head payload)) refl good
+
+  -- the length of all is awaited
+  pub expected_awaited : awaited_length_by (decided (head ++ payload)) (head ++ payload) ≡ length head + payload_length_of x
+  expected_awaited =
+      ap (λ o. awaited_length_by o (head ++ payload)) (known.is payload)
+      ∙ ap (λ (b : Bool). if b then length head else length head + payload_length_of x) (le-ltb (length (head ++ payload)) (length head) (omega (arith, length-append head payload)))
+
+-- a head that is not whole
+pub short_more : (o : Option Decision) (d : Decision) (head : List ℕ) → o ≡ Some d → length head < d.head_length → reading_by_decision o head ≡ More
+short_more o d head is l = ap (λ o. reading_by_decision o head) is ∙ in_head d head l
+
+-- a head whose last byte has a fault
+pub refused_head : (o : Option Decision) (d : Decision) (head : List ℕ) (fault : WireFault) → o ≡ Some d → d.head_length ≡ length head → d.head_fault ≡ Some fault → reading_by_decision o head ≡ Bad fault
+refused_head o d head fault is len bad =
+    let a : nat_lt (length head) d.head_length ≡ false = le-ltb (length head) d.head_length (omega (arith, len)) in
+    ap (λ o. reading_by_decision o head) is
+    ∙ (λ i. staged_reading_by (a i) (bad i) (length head == d.head_length + d.payload_length) (last_reading d.last_fault d.message))

@@ -1,0 +1,141 @@
+-- An option, or an option reply, whose head has come.
+use Rattle.std.proofs.Common.{◌≡◌, ℕ, ◌+◌, ◌≤◌, ◌==◌, ◌&&◌, not, List, ◌++◌, length, drop, refl, sym, ◌∙◌, ap, subst, Option, Some, None, Result, Ok, Err, Bool, true, false, eq-eqb, arith}
+use Rattle.std.proofs.lemmas.Bool.{ne_eqb}
+use Rattle.nbd_wire.specs.declared.fault.WireFault.{WireFault}
+use Rattle.nbd_wire.specs.declared.fault.WireFault.TheVariants.{BadMagic, WrongOption}
+use Rattle.nbd_wire.specs.declared.heads.negotiation.AnswerHead.{AnswerHead}
+use Rattle.nbd_wire.specs.declared.heads.negotiation.ChoiceHead.{ChoiceHead}
+use Rattle.nbd_wire.specs.declared.magics.TheConstants.{ANSWER_MAGIC, OPTION_MAGIC}
+use Rattle.nbd_wire.specs.declared.message.Message.TheVariants as messages
+use Rattle.nbd_wire.specs.declared.options.TheConstants as options
+use Rattle.nbd_wire.specs.protocol.Operations.{Exporting}
+use Rattle.nbd_wire.specs.protocol.Options.{is_error}
+use Rattle.nbd_wire.specs.protocol.Payloads.{number_at}
+use Rattle.nbd_wire.specs.protocol.States.{Core}
+use Rattle.nbd_places.specs.internal.Decisions.{Decision, fault_if}
+use Rattle.nbd_places.specs.internal.JudgeNegotiation.{abort_answer, abort_fault, answer, answer_fault, choice, choice_fault, payload_fault, success_fault, unless_error}
+use Rattle.nbd_session.specs.declared.expected.Expected.TheVariants.{Answer, Choice}
+use Rattle.nbd_session.specs.internal.Expecting.{expected_decision}
+use Rattle.nbd_session.specs.internal.Leading.{answer_fields_of, answer_head_of, choice_head_of, some_if, unless_fault}
+use Rattle.nbd_session.proofs.expecting.HeadLemmas.{after_head, fields_stay, none_read, some_read}
+
+pub no_choice : (head : List ℕ) → None ≡ choice_head_of head → (choice head).head_fault ≡ Some BadMagic
+no_choice head e = ap (λ b. fault_if (not b) BadMagic None) (none_read (number_at 0 8 head == OPTION_MAGIC) (record { id = number_at 8 4 head; length = number_at 12 4 head }) e)
+
+pub good_choice : (head payload : List ℕ) (h : ChoiceHead) (now : Core) → length head ≡ 16 → Some h ≡ choice_head_of head → choice (head ++ payload) ≡ expected_decision now (Choice h) 16 payload
+good_choice head payload h now len e =
+    let r = some_read (number_at 0 8 head == OPTION_MAGIC) (record { id = number_at 8 4 head; length = number_at 12 4 head }) h e in
+    let at = fields_stay 16 head payload len in
+    let same : record { id = number_at 8 4 (head ++ payload); length = number_at 12 4 (head ++ payload) } ≡ h =
+    (λ i. record { id = at 8 4 (omega arith) i; length = at 12 4 (omega arith) i }) ∙ sym r.1 in
+    let magic : (number_at 0 8 (head ++ payload) == OPTION_MAGIC) ≡ true = ap (λ n. n == OPTION_MAGIC) (at 0 8 (omega arith)) ∙ r.0 in
+    (λ i. record {
+      head_length = 16;
+      head_fault = fault_if (not (magic i)) BadMagic None;
+      payload_length = (same i).length;
+      last_fault = None;
+      message = messages.Choice (same i).id (after_head 16 head payload len i);
+    })
+
+-- what an answer that is a value or a fault says
+pub ok_parts : {A : Type 0} (fault : Option WireFault) (value a : A) → Ok a ≡ unless_fault fault value → (fault ≡ None) × (a ≡ value)
+ok_parts None value a e = (refl, (cc))
+ok_parts (Some f) value a e = absurd (let q : Ok a ≡ Err f = e in cc)
+
+pub err_parts : {A : Type 0} (fault : Option WireFault) (value : A) (f : WireFault) → Err f ≡ unless_fault fault value → fault ≡ Some f
+err_parts None value f e = absurd (let q : Err f ≡ Ok value = e in cc)
+err_parts (Some g) value f e = (let q : Err f ≡ Err g = e in cc)
+
+-- the fault of an answer's head, where its number and its option are right and where not
+by_kind : (m o : Bool) (by : Option WireFault) → fault_if (not m) BadMagic (fault_if (not o) WrongOption None) ≡ None → fault_if (not m) BadMagic (fault_if (not o) WrongOption by) ≡ by
+by_kind true true by e = refl
+by_kind true false by e = absurd (let q : Some WrongOption ≡ None = e in cc)
+by_kind false o by e = absurd (let q : Some BadMagic ≡ None = e in cc)
+
+by_head : (m o : Bool) (by : Option WireFault) (f : WireFault) → fault_if (not m) BadMagic (fault_if (not o) WrongOption None) ≡ Some f → fault_if (not m) BadMagic (fault_if (not o) WrongOption by) ≡ Some f
+by_head true true by f e = absurd (let q : None ≡ Some f = e in cc)
+by_head true false by f e = e
+by_head false o by f e = e
+
+module _ (asked : ℕ) (head : List ℕ) where
+  pub right_answer : (by : Option WireFault) → answer_fault asked (number_at 0 8 head) (number_at 8 4 head) None ≡ None → answer_fault asked (number_at 0 8 head) (number_at 8 4 head) by ≡ by
+  right_answer by e = by_kind (number_at 0 8 head == ANSWER_MAGIC) (number_at 8 4 head == asked) by e
+
+  pub wrong_answer : (by : Option WireFault) (f : WireFault) → answer_fault asked (number_at 0 8 head) (number_at 8 4 head) None ≡ Some f → answer_fault asked (number_at 0 8 head) (number_at 8 4 head) by ≡ Some f
+  wrong_answer by f e = by_head (number_at 0 8 head == ANSWER_MAGIC) (number_at 8 4 head == asked) by f e
+
+-- the fields of a head, with more bytes after it
+pub fields_same : (head payload : List ℕ) → length head ≡ 20 → answer_fields_of (head ++ payload) ≡ answer_fields_of head
+fields_same head payload len =
+    let at = fields_stay 20 head payload len in
+    (λ i. record { option = at 8 4 (omega arith) i; kind = at 12 4 (omega arith) i; length = at 16 4 (omega arith) i })
+
+fault_same : (asked : ℕ) (head payload : List ℕ) → length head ≡ 20 → answer_fault asked (number_at 0 8 (head ++ payload)) (number_at 8 4 (head ++ payload)) None ≡ answer_fault asked (number_at 0 8 head) (number_at 8 4 head) None
+fault_same asked head payload len =
+    let at = fields_stay 20 head payload len in
+    (λ i. answer_fault asked (at 0 8 (omega arith) i) (at 8 4 (omega arith) i) None)
+
+pub good_abort : (head payload : List ℕ) (h : AnswerHead) (now : Core) → length head ≡ 20 → answer_fault options.ABORT (number_at 0 8 head) (number_at 8 4 head) None ≡ None → h ≡ answer_fields_of head →
+    abort_fault h.kind h.length ≡ None → abort_answer (head ++ payload) ≡ expected_decision now (Answer h None) 20 payload
+good_abort head payload h now len none is fits =
+    let same : answer_fields_of (head ++ payload) ≡ h = fields_same head payload len ∙ sym is in
+    let fault : (abort_answer (head ++ payload)).head_fault ≡ None =
+    right_answer options.ABORT (head ++ payload) (abort_fault (number_at 12 4 (head ++ payload)) (number_at 16 4 (head ++ payload))) (fault_same options.ABORT head payload len ∙ none)
+    ∙ (λ i. abort_fault (same i).kind (same i).length) ∙ fits in
+    (λ i. record { head_length = 20; head_fault = fault i; payload_length = (same i).length; last_fault = None; message = messages.Answer (same i).option (same i).kind (after_head 20 head payload len i) })
+
+-- an error
+pub good_error : (asked : ℕ) (proper : Bool) (info : Option Exporting) (head payload : List ℕ) (h : AnswerHead) (now : Core) → length head ≡ 20 → answer_fault asked (number_at 0 8 head) (number_at 8 4 head) None ≡ None → h ≡ answer_fields_of head →
+    is_error h.kind ≡ true → answer asked proper info (head ++ payload) ≡ expected_decision now (Answer h None) 20 payload
+good_error asked proper info head payload h now len none is error =
+    let same : answer_fields_of (head ++ payload) ≡ h = fields_same head payload len ∙ sym is in
+    let kind : is_error (number_at 12 4 (head ++ payload)) ≡ true = ap (λ f. is_error f.kind) same ∙ error in
+    let success = success_fault asked proper info (number_at 12 4 (head ++ payload)) (number_at 16 4 (head ++ payload)) in
+    let fault : (answer asked proper info (head ++ payload)).head_fault ≡ None =
+    right_answer asked (head ++ payload) (unless_error (is_error (number_at 12 4 (head ++ payload))) success) (fault_same asked head payload len ∙ none) ∙ ap (λ b. unless_error b success) kind in
+    (λ i. record {
+      head_length = 20;
+      head_fault = fault i;
+      payload_length = (same i).length;
+      last_fault = ap (λ b. unless_error b (payload_fault proper (number_at 12 4 (head ++ payload)) (drop 20 (head ++ payload)))) kind i;
+      message = messages.Answer (same i).option (same i).kind (after_head 20 head payload len i);
+    })
+
+-- a success
+pub good_success : (asked : ℕ) (proper : Bool) (info : Option Exporting) (head payload : List ℕ) (h : AnswerHead) (now : Core) → length head ≡ 20 → answer_fault asked (number_at 0 8 head) (number_at 8 4 head) None ≡ None → h ≡ answer_fields_of head →
+    is_error h.kind ≡ false → success_fault asked proper info h.kind h.length ≡ None → answer asked proper info (head ++ payload) ≡ expected_decision now (Answer h (Some proper)) 20 payload
+good_success asked proper info head payload h now len none is error fits =
+    let same : answer_fields_of (head ++ payload) ≡ h = fields_same head payload len ∙ sym is in
+    let kind : is_error (number_at 12 4 (head ++ payload)) ≡ false = ap (λ f. is_error f.kind) same ∙ error in
+    let success = success_fault asked proper info (number_at 12 4 (head ++ payload)) (number_at 16 4 (head ++ payload)) in
+    let fault : (answer asked proper info (head ++ payload)).head_fault ≡ None =
+    right_answer asked (head ++ payload) (unless_error (is_error (number_at 12 4 (head ++ payload))) success) (fault_same asked head payload len ∙ none)
+    ∙ ap (λ b. unless_error b success) kind ∙ (λ i. success_fault asked proper info (same i).kind (same i).length) ∙ fits in
+    let last : (answer asked proper info (head ++ payload)).last_fault ≡ payload_fault proper h.kind payload =
+    ap (λ b. unless_error b (payload_fault proper (number_at 12 4 (head ++ payload)) (drop 20 (head ++ payload)))) kind ∙ (λ i. payload_fault proper (same i).kind (after_head 20 head payload len i)) in
+    (λ i. record { head_length = 20; head_fault = fault i; payload_length = (same i).length; last_fault = last i; message = messages.Answer (same i).option (same i).kind (after_head 20 head payload len i) })
+
+module _ (asked : ℕ) (head : List ℕ) where
+  pub no_answer : None ≡ answer_head_of head → answer_fault asked (number_at 0 8 head) (number_at 8 4 head) None ≡ Some BadMagic
+  no_answer e = ap (λ b. fault_if (not b) BadMagic (fault_if (not (number_at 8 4 head == asked)) WrongOption None)) (none_read (number_at 0 8 head == ANSWER_MAGIC) (answer_fields_of head) e)
+
+  pub other_answer : (h : AnswerHead) → Some h ≡ answer_head_of head → (h.option ≡ asked → ⊥) → answer_fault asked (number_at 0 8 head) (number_at 8 4 head) None ≡ Some WrongOption
+  other_answer h e ne =
+      let r = some_read (number_at 0 8 head == ANSWER_MAGIC) (answer_fields_of head) h e in
+      let other : (number_at 8 4 head == asked) ≡ false = ne_eqb _ _ (λ q. ne (ap (λ (f : AnswerHead). f.option) r.1 ∙ q)) in
+      (λ i. fault_if (not (r.0 i)) BadMagic (fault_if (not (other i)) WrongOption None))
+
+  pub this_answer : (h : AnswerHead) → Some h ≡ answer_head_of head → h.option ≡ asked → (answer_fault asked (number_at 0 8 head) (number_at 8 4 head) None ≡ None) × (h ≡ answer_fields_of head)
+  this_answer h e is =
+      let r = some_read (number_at 0 8 head == ANSWER_MAGIC) (answer_fields_of head) h e in
+      let same : (number_at 8 4 head == asked) ≡ true = eq-eqb _ _ (sym (ap (λ (f : AnswerHead). f.option) r.1) ∙ is) in
+      ((λ i. fault_if (not (r.0 i)) BadMagic (fault_if (not (same i)) WrongOption None)), r.1)
+
+pub bad_success : (asked : ℕ) (proper : Bool) (info : Option Exporting) (head : List ℕ) (h : AnswerHead) (f : WireFault) → answer_fault asked (number_at 0 8 head) (number_at 8 4 head) None ≡ None → h ≡ answer_fields_of head →
+    is_error h.kind ≡ false → success_fault asked proper info h.kind h.length ≡ Some f → (answer asked proper info head).head_fault ≡ Some f
+bad_success asked proper info head h f none is error bad =
+    let success = success_fault asked proper info (number_at 12 4 head) (number_at 16 4 head) in
+    right_answer asked head (unless_error (is_error (number_at 12 4 head)) success) none
+    ∙ ap (λ b. unless_error b success) (sym (ap (λ (f : AnswerHead). is_error f.kind) is) ∙ error)
+    ∙ sym (ap (λ (f : AnswerHead). success_fault asked proper info f.kind f.length) is)
+    ∙ bad

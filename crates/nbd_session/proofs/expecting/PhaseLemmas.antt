@@ -1,0 +1,120 @@
+-- The phase that a state's phase shows, and what is refused of a head there.
+use Rattle.std.proofs.Common.{◌≡◌, ℕ, List, length, refl, sym, ◌∙◌, ap, subst, Option, Some, None, Bool, true, false}
+use Rattle.nbd_wire.specs.declared.fault.WireFault.{WireFault}
+use Rattle.nbd_wire.specs.declared.message.Side.{Side}
+use Rattle.nbd_wire.specs.declared.message.Side.TheVariants.{Client, Server}
+use Rattle.nbd_wire.specs.protocol.Operations.{Exporting}
+use Rattle.nbd_wire.specs.protocol.States.{Core, Phase, Greet, Flags, Choosing, Naming, Aborting, Answering, Ended, Transmission}
+use Rattle.nbd_places.specs.internal.Decisions.{Decision}
+use Rattle.nbd_places.specs.internal.Judge.{decision_by_count, decision_with}
+use Rattle.nbd_places.specs.internal.JudgeTransmission.{operation_counted}
+use Rattle.nbd_wire.specs.protocol.Options.{is_proper_option}
+use Rattle.nbd_state.specs.Showing.{exporting_if}
+use Rattle.nbd_places.specs.internal.JudgeNegotiation.{export_answer}
+use Rattle.nbd_state.specs.Shows.{Shows, export_shown_if, phase_shown}
+use Rattle.nbd_state.specs.declared.state.State.{State}
+use Rattle.nbd_state.specs.declared.state.Phase as program_phase
+use Rattle.nbd_state.specs.declared.state.Chosen.{Chosen}
+use Rattle.nbd_state.specs.declared.state.Export.{Export}
+use Rattle.nbd_state.specs.declared.state.Phase.TheVariants as program
+use Rattle.nbd_session.specs.internal.Expecting.{HasHeadLength, IsRefusedHead, whole_head_by}
+
+pub flags_of : (p : Phase) → program.Flags ≡ phase_shown p → p ≡ Flags
+flags_of Greet e = absurd (cc)
+flags_of Flags e = refl
+flags_of Choosing e = absurd (cc)
+flags_of Naming e = absurd (cc)
+flags_of Aborting e = absurd (cc)
+flags_of (Answering option given info) e = absurd (cc)
+flags_of Ended e = absurd (cc)
+flags_of (Transmission export) e = absurd (cc)
+
+pub choosing_of : (p : Phase) → program.Choosing ≡ phase_shown p → p ≡ Choosing
+choosing_of Greet e = absurd (cc)
+choosing_of Flags e = absurd (cc)
+choosing_of Choosing e = refl
+choosing_of Naming e = absurd (cc)
+choosing_of Aborting e = absurd (cc)
+choosing_of (Answering option given info) e = absurd (cc)
+choosing_of Ended e = absurd (cc)
+choosing_of (Transmission export) e = absurd (cc)
+
+pub greet_of : (p : Phase) → program.Greet ≡ phase_shown p → p ≡ Greet
+greet_of Greet e = refl
+greet_of Flags e = absurd (cc)
+greet_of Choosing e = absurd (cc)
+greet_of Naming e = absurd (cc)
+greet_of Aborting e = absurd (cc)
+greet_of (Answering option given info) e = absurd (cc)
+greet_of Ended e = absurd (cc)
+greet_of (Transmission export) e = absurd (cc)
+
+pub aborting_of : (p : Phase) → program.Aborting ≡ phase_shown p → p ≡ Aborting
+aborting_of Greet e = absurd (cc)
+aborting_of Flags e = absurd (cc)
+aborting_of Choosing e = absurd (cc)
+aborting_of Naming e = absurd (cc)
+aborting_of Aborting e = refl
+aborting_of (Answering option given info) e = absurd (cc)
+aborting_of Ended e = absurd (cc)
+aborting_of (Transmission export) e = absurd (cc)
+
+pub transmission_of : (p : Phase) (x : Export) → program.Transmission x ≡ phase_shown p → (export : Exporting) × (p ≡ Transmission export)
+transmission_of Greet x e = absurd (cc)
+transmission_of Flags x e = absurd (cc)
+transmission_of Choosing x e = absurd (cc)
+transmission_of Naming x e = absurd (cc)
+transmission_of Aborting x e = absurd (cc)
+transmission_of (Answering option given info) x e = absurd (cc)
+transmission_of Ended x e = absurd (cc)
+transmission_of (Transmission export) x e = (export, refl)
+
+pub answering_of : (p : Phase) (c : Chosen) → program.Answering c ≡ phase_shown p →
+    (option : ℕ) × (given : List ℕ) × (info : Option Exporting) × (p ≡ Answering option given info) × (c ≡ record { option = option; proper = is_proper_option option given; info = export_shown_if info })
+answering_of Greet c e = absurd (cc)
+answering_of Flags c e = absurd (cc)
+answering_of Choosing c e = absurd (cc)
+answering_of Naming c e = absurd (cc)
+answering_of Aborting c e = absurd (cc)
+answering_of (Answering option given info) c e = (option, given, info, refl, (cc))
+answering_of Ended c e = absurd (cc)
+answering_of (Transmission export) c e = absurd (cc)
+
+-- a head of a phase's message is refused where the judge's decision of it has the fault
+pub refused_in : (counted : ℕ) (core : Core) (s : Side) (head : List ℕ) (fault : WireFault) (p : Phase) (d : Decision) → core.phase ≡ p →
+    decision_with p (operation_counted counted core) core s head ≡ Some d → d.head_length ≡ length head → d.head_fault ≡ Some fault → IsRefusedHead counted core s head fault
+refused_in counted core s head fault p d phase is len bad = record {
+  decision = d;
+  decided = ap (λ q. decision_with q (operation_counted counted core) core s head) phase ∙ is;
+  length_is = len;
+  fault_is = bad;
+}
+
+pub exporting-shown : (info : Option Exporting) → exporting_if (export_shown_if info) ≡ info
+exporting-shown None = refl
+exporting-shown (Some export) = refl
+
+pub naming_of : (p : Phase) → program.Naming ≡ phase_shown p → p ≡ Naming
+naming_of Greet e = absurd (cc)
+naming_of Flags e = absurd (cc)
+naming_of Choosing e = absurd (cc)
+naming_of Naming e = refl
+naming_of Aborting e = absurd (cc)
+naming_of (Answering option given info) e = absurd (cc)
+naming_of Ended e = absurd (cc)
+naming_of (Transmission export) e = absurd (cc)
+
+-- a phase's message has this length of its head, and bytes of this length are whole
+pub head_in : (state : State) (s : Side) (head : List ℕ) (n : ℕ) (phase : program_phase.Phase) → state.phase ≡ phase →
+    ((core : Core) (counted : ℕ) → Shows state core → (d : Decision) × (decision_by_count counted core s head ≡ Some d) × (d.head_length ≡ n)) →
+    (length head ≡ n → whole_head_by phase state.disconnected s head) → HasHeadLength state s head n
+head_in state s head n phase is decided whole = record { decided = decided; whole = λ e. subst (λ p. whole_head_by p state.disconnected s head) (sym is) (whole e) }
+
+-- what is decided in a phase
+pub decided_in : (counted : ℕ) (core : Core) (s : Side) (head : List ℕ) (p : Phase) (d : Decision) → core.phase ≡ p → decision_with p (operation_counted counted core) core s head ≡ Some d →
+    (e : Decision) × (decision_by_count counted core s head ≡ Some e) × (e.head_length ≡ d.head_length)
+decided_in counted core s head p d phase is = (d, ap (λ q. decision_with q (operation_counted counted core) core s head) phase ∙ is, refl)
+
+pub exported_head : (no_zeroes : Bool) (head : List ℕ) → (export_answer no_zeroes head).head_length ≡ 10
+exported_head true head = refl
+exported_head false head = refl

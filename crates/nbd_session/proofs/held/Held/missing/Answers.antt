@@ -1,0 +1,73 @@
+use Rattle.std.proofs.Common.{◌≡◌, ◌+◌, ◌-◌, ◌≤◌, ◌<◌, ◌∙◌, ◌++◌, ap, sym, subst, length, length-append, arith, None}
+use Rattle.nbd_session.specs.Incoming.{IncomingView, bytes_come}
+use Rattle.nbd_session.specs.internal.Holdings.{holding_of, incoming_of}
+use Rattle.nbd_session.specs.internal.Known.{awaited}
+use Rattle.nbd_session.specs.internal.Standing.{rest_of}
+use Rattle.nbd_session.proofs.steps.HoldingLemmas.{rest_is}
+use Rattle.nbd_session.proofs.steps.MissingLemmas.{bare, first_is_missing, head_is_missing, payload_missing}
+use Rattle.nbd_session.proofs.held.Held.missing.Goals as goal
+
+pub overflow_sub-result : goal.overflow_sub-result
+overflow_sub-result c =
+    let here = sym (c.expected.ensures ∙ ap (λ (v : IncomingView). v.expected) c.incoming-incoming.ensures) ∙ c.in-Some.is in
+    let p = ap length (c.payload.ensures ∙ ap (λ (v : IncomingView). v.payload) c.incoming-incoming.ensures) in
+    let m = (payload_missing c.args.self.now c.args.side c.requires c.in-Some.expected here).0 in
+    let n = c.payload_length.ensures in
+    omega (arith, m, n, p)
+
+pub overflow_sub-result-in-Ok : goal.overflow_sub-result-in-Ok
+overflow_sub-result-in-Ok c =
+    let none : (incoming_of c.args.self.now c.args.side).expected ≡ None = sym (c.expected.ensures ∙ ap (λ (v : IncomingView). v.expected) c.incoming-incoming.ensures) ∙ c.in-None.is in
+    let is = c.head.ensures ∙ ap (λ (v : IncomingView). v.head) c.incoming-incoming.ensures in
+    let again = ap length (c.head-in-Ok.ensures ∙ ap (λ (v : IncomingView). v.head) c.incoming-incoming.ensures ∙ sym is) in
+    let m = (head_is_missing c.args.self.now c.args.side c.requires none c.head.result.now c.in-Ok.length is c.in-Ok.ensures.known).0 in
+    omega (arith, m, again)
+
+pub returns-in-Some-clause-awaited : goal.returns-in-Some-clause-awaited
+returns-in-Some-clause-awaited c = λ st.
+    let here = sym (c.expected.ensures ∙ ap (λ (v : IncomingView). v.expected) c.incoming-incoming.ensures) ∙ c.in-Some.is in
+    let p = ap length (c.payload.ensures ∙ ap (λ (v : IncomingView). v.payload) c.incoming-incoming.ensures) in
+    let m = payload_missing c.args.self.now c.args.side st c.in-Some.expected here in
+    let short = m.0 in
+    let all = m.1 in
+    let n = c.payload_length.ensures in
+    let rest = ap length (rest_is c.args.self.now c.args.side) in
+    let len = length-append (incoming_of c.args.self.now c.args.side).head (incoming_of c.args.self.now c.args.side).payload in
+    omega (arith, short, all, n, p, rest, len)
+
+pub returns-in-Ok-clause-awaited : goal.returns-in-Ok-clause-awaited
+returns-in-Ok-clause-awaited c = λ st.
+    let none : (incoming_of c.args.self.now c.args.side).expected ≡ None = sym (c.expected.ensures ∙ ap (λ (v : IncomingView). v.expected) c.incoming-incoming.ensures) ∙ c.in-None.is in
+    let is = c.head.ensures ∙ ap (λ (v : IncomingView). v.head) c.incoming-incoming.ensures in
+    let again = ap length (c.head-in-Ok.ensures ∙ ap (λ (v : IncomingView). v.head) c.incoming-incoming.ensures ∙ sym is) in
+    let m = head_is_missing c.args.self.now c.args.side st none c.head.result.now c.in-Ok.length is c.in-Ok.ensures.known in
+    let short = m.0 in
+    let all = m.1 in
+    let rest = ap length (rest_is c.args.self.now c.args.side ∙ bare c.args.self.now c.args.side st none ∙ sym is) in
+    omega (arith, short, all, again, rest)
+
+pub returns-in-Ok-clause-room : goal.returns-in-Ok-clause-room
+returns-in-Ok-clause-room c = λ none.
+    let is = c.head.ensures ∙ ap (λ (v : IncomingView). v.head) c.incoming-incoming.ensures in
+    let len = ap length is in
+    let again = ap length (c.head-in-Ok.ensures ∙ ap (λ (v : IncomingView). v.head) c.incoming-incoming.ensures ∙ sym is) in
+    let short = (head_is_missing c.args.self.now c.args.side c.requires none c.head.result.now c.in-Ok.length is c.in-Ok.ensures.known).0 in
+    let fits = c.in-Ok.ensures.fits in
+    omega (arith, short, again, len, fits)
+
+pub returns-in-Err-clause-awaited : goal.returns-in-Err-clause-awaited
+returns-in-Err-clause-awaited c = λ st.
+    let none : (incoming_of c.args.self.now c.args.side).expected ≡ None = sym (c.expected.ensures ∙ ap (λ (v : IncomingView). v.expected) c.incoming-incoming.ensures) ∙ c.in-None.is in
+    let is = c.head.ensures ∙ ap (λ (v : IncomingView). v.head) c.incoming-incoming.ensures in
+    let m = first_is_missing c.args.self.now c.args.side st none c.head.result.now c.in-Err.field-0 is c.in-Err.ensures.refused in
+    let one = m.0 in
+    let zero = m.1 in
+    let rest = ap length (rest_is c.args.self.now c.args.side ∙ bare c.args.self.now c.args.side st none ∙ sym is) in
+    omega (arith, one, zero, rest)
+
+pub returns-in-Err-clause-room : goal.returns-in-Err-clause-room
+returns-in-Err-clause-room c = λ none.
+    let is = c.head.ensures ∙ ap (λ (v : IncomingView). v.head) c.incoming-incoming.ensures in
+    let len = ap length is in
+    let zero = (first_is_missing c.args.self.now c.args.side c.requires none c.head.result.now c.in-Err.field-0 is c.in-Err.ensures.refused).1 in
+    omega (arith, len, zero)

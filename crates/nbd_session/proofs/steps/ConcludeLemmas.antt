@@ -1,0 +1,227 @@
+-- What is decided of a side's bytes once they were taken.
+use Rattle.std.proofs.Common.{◌≡◌, ◌⊎◌, ◌==◌, ℕ, zero, suc, ◌+◌, ◌<◌, ◌≤◌, List, [], ◌∷◌, ◌++◌, length, take, refl, sym, ◌∙◌, ap, subst, inl, inr, Option, Some, None, Result, Ok, Err, IfErr, IsErrAnd, OnOk, OnErr, Bool, true, append-nil, arith}
+use Rattle.std.proofs.lemmas.Option.{same_Some}
+use Rattle.nbd_wire.specs.declared.fault.WireFault.{WireFault}
+use Rattle.nbd_wire.specs.declared.message.Side.{Side}
+use Rattle.nbd_wire.specs.declared.message.Side.TheVariants.{Client, Server}
+use Rattle.nbd_wire.specs.protocol.States.{Core}
+use Rattle.nbd_state.proofs.PlacedLemmas.{shown_length}
+use Rattle.nbd_state.specs.Shows.{AreKnown, Shows}
+use Rattle.nbd_state.specs.declared.state.State.{State}
+use Rattle.nbd_places.specs.internal.Concrete.{concrete, reading_by_decision}
+use Rattle.nbd_places.specs.internal.Decisions.{Decision, awaited_length_by}
+use Rattle.nbd_places.specs.internal.Judge.{decision_by_count}
+use Rattle.nbd_places.proofs.judge.AwaitedLemmas.{held_short}
+use Rattle.nbd_laws.specs.internal.Machine.{Bad, IsFilled, More, Whole, fresh, get}
+use Rattle.nbd_session.specs.declared.expected.Expected.{Expected}
+use Rattle.nbd_session.specs.declared.expected.Expected.TheVariants as expectations
+use Rattle.nbd_session.specs.declared.fault.SessionFault.{SessionFault}
+use Rattle.nbd_session.specs.declared.fault.SessionFault.TheVariants.{Memory, Wire}
+use Rattle.nbd_session.specs.declared.held.Held.{Held}
+use Rattle.nbd_session.specs.Incoming.{IncomingView, bytes_come, nothing_come}
+use Rattle.nbd_session.specs.internal.Expecting.{HasHeadLength, IsExpectedOf, IsPlaced, IsRefusedHead, IsWholeHead, StandsIn, last_fault_by, message_of, payload_length_of}
+use Rattle.nbd_session.specs.internal.Holdings.{holding_of, incoming_of, with_expected}
+use Rattle.nbd_session.specs.internal.Known.{IsCome, IsExpected, IsKnown, awaited, decided, is_come_by}
+use Rattle.nbd_session.specs.internal.Logging.{log_of_pairs}
+use Rattle.nbd_session.specs.internal.Standing.{Holding, count_at_server, held_pairs, rest_of, with_bytes}
+use Rattle.nbd_session.specs.internal.Steps.{IsExpecting, IsHeadRefused, IsShut, IsTaken, IsWhole, Knows, Stands, knows_by}
+use Rattle.nbd_session.proofs.expecting.KnownLemmas.{expected_awaited, expected_bad, expected_more, expected_whole, refused_head, short_more}
+use Rattle.nbd_session.proofs.steps.HoldingLemmas.{holding_expected, incoming_here, incoming_other, rest_is}
+use Rattle.nbd_session.proofs.steps.SettleLemmas.{IsRead, settled_more, shut_wire}
+use Rattle.nbd_session.proofs.steps.StepLemmas.{decided_held}
+
+-- the request that a reply answers has its exchange
+pub stands_in : (state : State) (core : Core) → Shows state core → (x : Expected) → IsPlaced core x → StandsIn state.exchanges.items x
+stands_in state core s (expectations.Simple head place len) l = omega (arith, l, shown_length _ core.entries state.exchanges.items s.are_shown)
+stands_in state core s (expectations.Chunk head place) l = omega (arith, l, shown_length _ core.entries state.exchanges.items s.are_shown)
+stands_in state core s (expectations.Greeting flags) l = tt
+stands_in state core s (expectations.ClientFlags flags) l = tt
+stands_in state core s (expectations.Choice head) l = tt
+stands_in state core s (expectations.Answer head proper) l = tt
+stands_in state core s (expectations.Exported size flags padded) l = tt
+stands_in state core s (expectations.Request head) l = tt
+
+module _ (held : Held) (s : Side) (x : Expected) (e : IsExpecting held s x) (payload : List ℕ) (is : payload ≡ (incoming_of held s).payload) where
+  -- bytes are missing
+  pub still_missing : length payload < payload_length_of x → Stands held
+  still_missing l =
+      settled_more held s e.taken
+      (expected_more (decided e.taken.machine s) e.taken.machine.core (incoming_of held s).head (incoming_of held s).payload x e.is (subst (λ p. length p < payload_length_of x) is l))
+      (Some x) e.expected_is (e.is, e.within)
+
+  all_come : payload_length_of x ≤ length payload → length (incoming_of held s).payload ≡ payload_length_of x
+  all_come l = let same = ap length is in let within = e.within in omega (arith, l, same, within)
+
+  -- the last byte breaks a rule
+  pub refused_at_end : payload_length_of x ≤ length payload → (fault : WireFault) → ((core : Core) → Shows held.state core → Some fault ≡ last_fault_by core.phase core x payload) → IsShut held (Wire held.taken fault)
+  refused_at_end l fault bad =
+      shut_wire held s e.taken fault
+      (expected_bad (decided e.taken.machine s) e.taken.machine.core (incoming_of held s).head (incoming_of held s).payload x e.is fault (all_come l)
+      (ap (last_fault_by e.taken.machine.core.phase e.taken.machine.core x) (sym is) ∙ sym (bad e.taken.machine.core e.taken.shows)))
+
+  pub whole_at_end : payload_length_of x ≤ length payload → ((core : Core) → Shows held.state core → None ≡ last_fault_by core.phase core x payload) → IsWhole held s x
+  whole_at_end l good = record {
+    expecting = e;
+    whole = all_come l;
+    no_fault = ap (last_fault_by e.taken.machine.core.phase e.taken.machine.core x) (sym is) ∙ sym (good e.taken.machine.core e.taken.shows);
+  }
+
+pub whole_read : (held : Held) (s : Side) (x : Expected) (w : IsWhole held s x) → IsRead held s w.expecting.taken (Whole (message_of x (incoming_of held s).payload))
+whole_read held s x w =
+    expected_whole (decided w.expecting.taken.machine s) w.expecting.taken.machine.core (incoming_of held s).head (incoming_of held s).payload x w.expecting.is w.whole w.no_fault
+
+-- what a head says changes no byte
+module _ (held : Held) (s : Side) (e : Option Expected) (t : IsTaken held s) (k : knows_by (decided t.machine s) t.machine.core (incoming_of held s).head (incoming_of held s).payload e) where
+  here : incoming_of (with_expected held s e) s ≡ record (incoming_of held s) { expected = e }
+  here = incoming_here held s (record (incoming_of held s) { expected = e })
+
+  come : (e : Option Expected) → knows_by (decided t.machine s) t.machine.core (incoming_of held s).head (incoming_of held s).payload e →
+      is_come_by (decided t.machine s) t.machine.core (incoming_of held s).head (incoming_of held s).payload e
+  come (Some x) k = k
+  come None k = (k.0, λ d is. (let same : k.1 ≡ d = same_Some _ _ (sym k.2 ∙ is) in let len : k.1.head_length ≡ d.head_length = ap (λ (x : Decision). x.head_length) same in let short = k.3 in omega (arith, short, len)))
+
+  state_same : (u : Side) → (with_expected held u e).state ≡ held.state
+  state_same Client = refl
+  state_same Server = refl
+
+  taken_same : (u : Side) → (with_expected held u e).taken ≡ held.taken
+  taken_same Client = refl
+  taken_same Server = refl
+
+  pub taken_expecting : IsTaken (with_expected held s e) s
+  taken_expecting = record {
+    before = t.before;
+    machine = t.machine;
+    read_to = t.read_to;
+    more = t.more;
+    filled = t.filled;
+    are_bytes = t.are_bytes;
+    up_to = t.up_to;
+    holding_is = holding_expected held s e ∙ t.holding_is;
+    shows = subst (λ state. Shows state t.machine.core) (sym (state_same s)) t.shows;
+    known = subst (λ (state : State). AreKnown (log_of_pairs concrete fresh (held_pairs t.before)) state.exchanges.items) (sym (state_same s)) t.known;
+    taken_is = taken_same s ∙ t.taken_is ∙ sym (ap (λ h. length (held_pairs h)) (holding_expected held s e));
+    come = subst (IsCome (decided t.machine s) t.machine.core) (sym here) (come e k);
+    knows = λ u ne. subst (IsKnown (decided t.machine u) t.machine.core) (sym (incoming_other held s u (record (incoming_of held s) { expected = e }) ne)) (t.knows u ne);
+  }
+
+pub is_expecting : (held : Held) (s : Side) (x : Expected) (t : IsTaken held s) → Knows held s (Some x) → IsExpecting (with_expected held s (Some x)) s x
+unfolding taken_expecting
+is_expecting held s x t known =
+    let k = known t in
+    let here = incoming_here held s (record (incoming_of held s) { expected = Some x }) in
+    record {
+      taken = taken_expecting held s (Some x) t k;
+      expected_is = ap (λ (v : IncomingView). v.expected) here;
+      is = subst (λ (v : IncomingView). IsExpected (decided t.machine s) t.machine.core v.head x) (sym here) k.0;
+      within = subst (λ (v : IncomingView). length v.payload ≤ payload_length_of x) (sym here) k.1;
+    }
+
+-- the head is not whole
+pub head_missing : (held : Held) (s : Side) (t : IsTaken held s) → Knows held s None → Stands (with_expected held s None)
+unfolding taken_expecting
+head_missing held s t known =
+    let k = known t in
+    let here = incoming_here held s (record (incoming_of held s) { expected = None }) in
+    let bare : (incoming_of held s).head ++ (incoming_of held s).payload ≡ (incoming_of held s).head = ap (λ l. (incoming_of held s).head ++ l) k.0 ∙ append-nil (incoming_of held s).head in
+    settled_more (with_expected held s None) s (taken_expecting held s None t k)
+    (subst (λ bs. reading_by_decision (decided t.machine s bs) bs ≡ More) (sym (ap bytes_come here ∙ bare)) (short_more (decided t.machine s (incoming_of held s).head) k.1 (incoming_of held s).head k.2 k.3))
+    None (ap (λ (v : IncomingView). v.expected) here)
+    (subst (λ (v : IncomingView). knows_by (decided t.machine s) t.machine.core v.head v.payload None) (sym here) k)
+
+-- it is refused
+pub head_shut : (held : Held) (s : Side) (t : IsTaken held s) (fault : WireFault) → IsHeadRefused held s fault → IsShut held (Wire held.taken fault)
+head_shut held s t fault refused =
+    let r = refused t in
+    let bare : (incoming_of held s).head ++ (incoming_of held s).payload ≡ (incoming_of held s).head = ap (λ l. (incoming_of held s).head ++ l) r.0 ∙ append-nil (incoming_of held s).head in
+    shut_wire held s t fault (subst (λ bs. reading_by_decision (decided t.machine s bs) bs ≡ Bad fault) (sym bare) r.1)
+
+-- a head that is to be decided
+module _ (held : Held) (s : Side) (head : List ℕ) (is : head ≡ (incoming_of held s).head) (none : (incoming_of held s).expected ≡ None) where
+  bare_come : (t : IsTaken held s) → ((incoming_of held s).payload ≡ []) × ((d : Decision) → decided t.machine s (incoming_of held s).head ≡ Some d → length (incoming_of held s).head ≤ d.head_length)
+  bare_come t = subst (is_come_by (decided t.machine s) t.machine.core (incoming_of held s).head (incoming_of held s).payload) none t.come
+
+  decided_so : (t : IsTaken held s) (bytes : List ℕ) → decided t.machine s bytes ≡ decision_by_count (count_at_server s t.before.server t.before.counted (length t.machine.core.entries)) t.machine.core s bytes
+  decided_so t bytes = decided_held t.before t.machine s t.read_to bytes
+
+  counted_so : (t : IsTaken held s) (bytes : List ℕ) → decided t.machine s bytes ≡ decision_by_count held.counted t.machine.core s bytes
+  counted_so t bytes = decided_so t bytes ∙ ap (λ n. decision_by_count n t.machine.core s bytes) (sym (ap (λ (h : Holding). h.counted) t.holding_is))
+
+  pub length_refused : (fault : WireFault) → ((core : Core) (counted : ℕ) → Shows held.state core → reading_by_decision (decision_by_count counted core s head) head ≡ Bad fault) → IsHeadRefused held s fault
+  length_refused fault bad t = (
+      (bare_come t).0,
+      ap (λ o. reading_by_decision o (incoming_of held s).head) (decided_so t (incoming_of held s).head)
+          ∙ subst (λ h. reading_by_decision (decision_by_count (count_at_server s t.before.server t.before.counted (length t.machine.core.entries)) t.machine.core s h) h ≡ Bad fault) is
+          (bad t.machine.core (count_at_server s t.before.server t.before.counted (length t.machine.core.entries)) t.shows),
+    )
+
+  module _ (n : ℕ) (known : HasHeadLength held.state s head n) where
+    length_decided : (t : IsTaken held s) → (d : Decision) × (decided t.machine s (incoming_of held s).head ≡ Some d) × (d.head_length ≡ n)
+    length_decided t =
+        let d = known.decided t.machine.core (count_at_server s t.before.server t.before.counted (length t.machine.core.entries)) t.shows in
+        (d.0, decided_so t (incoming_of held s).head ∙ subst (λ h. decision_by_count (count_at_server s t.before.server t.before.counted (length t.machine.core.entries)) t.machine.core s h ≡ Some d.0) is d.1, d.2)
+
+    pub knows_short : length head < n → Knows held s None
+    knows_short l t =
+        let d = length_decided t in
+        let same = ap length is in
+        let len = d.2 in
+        ((bare_come t).0, d.0, d.1, omega (arith, l, same, len))
+
+    pub head_whole : IsTaken held s → n ≤ length head → IsWholeHead held.state s head
+    head_whole t l =
+        let d = length_decided t in
+        let low : length (incoming_of held s).head ≤ d.0.head_length = (bare_come t).1 d.0 d.1 in
+        let same = ap length is in
+        let len = d.2 in
+        known.whole (omega (arith, l, same, len, low))
+
+  pub head_refused : (fault : WireFault) → ((core : Core) → Shows held.state core → IsRefusedHead held.counted core s head fault) → IsHeadRefused held s fault
+  head_refused fault bad t =
+      let b = bad t.machine.core t.shows in (
+        (bare_come t).0,
+        refused_head (decided t.machine s (incoming_of held s).head) b.decision (incoming_of held s).head fault
+            (counted_so t (incoming_of held s).head ∙ subst (λ h. decision_by_count held.counted t.machine.core s h ≡ Some b.decision) is b.decided)
+            (b.length_is ∙ ap length is) b.fault_is,
+      )
+
+  filled_right : (xs ys : List ℕ) → IsFilled ys → IsFilled (xs ++ ys)
+  filled_right [] ys f = f
+  filled_right (x ∷ xs) ys f = tt
+
+  rest_filled : (u : Side) (h : Holding) (more : List ℕ) (entries : ℕ) → IsFilled more → IsFilled (rest_of (with_bytes h u more entries) u)
+  rest_filled Client h more entries f = filled_right h.client more f
+  rest_filled Server h more entries f = filled_right h.server more f
+
+  head_filled : (t : IsTaken held s) → IsFilled (incoming_of held s).head
+  head_filled t =
+      subst IsFilled (ap (λ l. (incoming_of held s).head ++ l) (bare_come t).0 ∙ append-nil (incoming_of held s).head)
+      (subst IsFilled (rest_is held s) (subst (λ h. IsFilled (rest_of h s)) (sym t.holding_is) (rest_filled s t.before t.more (length t.machine.core.entries) t.filled)))
+
+  pub knows_expected : (x : Expected) → ((core : Core) → Shows held.state core → IsExpectedOf held.counted core s head x) → ((core : Core) → Shows held.state core → IsPlaced core x) → Knows held s (Some x)
+  knows_expected x expected placed t = (
+      record {
+        filled = head_filled t;
+        placed = placed t.machine.core t.shows;
+        is = λ payload. counted_so t ((incoming_of held s).head ++ payload) ∙ subst (λ h. IsExpectedOf held.counted t.machine.core s h x) is (expected t.machine.core t.shows) payload;
+      },
+      (let none = ap length (bare_come t).0 in omega (arith, none)),
+    )
+
+-- a head that was decided before
+pub knows_again : (held : Held) (s : Side) (x : Expected) → (incoming_of held s).expected ≡ Some x → Knows held s (Some x)
+knows_again held s x is t = subst (is_come_by (decided t.machine s) t.machine.core (incoming_of held s).head (incoming_of held s).payload) is t.come
+
+-- the fault of a call is handed on
+pub handed_wire : (A : Type 0) (r : Result A WireFault) (fault : WireFault) (Q : WireFault → Type 0) → IsErrAnd r (λ other. other ≡ fault) → Q fault → IfErr r Q
+handed_wire A (Ok a) fault Q e q = tt
+handed_wire A (Err other) fault Q e q = subst Q (sym e) q
+
+-- of a result that both clauses speak of
+pub on_ok_both : {A E : Type 0} (r : Result A E) (P Q R : Type 0) → OnOk r P → OnOk r Q → (P → Q → R) → OnOk r R
+on_ok_both (Ok a) P Q R p q f = f p q
+on_ok_both (Err e) P Q R p q f = tt
+
+pub on_err : {A E : Type 0} (r : Result A E) (P : Type 0) → P → OnErr r P
+on_err (Ok a) P p = tt
+on_err (Err e) P p = p

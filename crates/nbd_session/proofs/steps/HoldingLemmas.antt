@@ -1,0 +1,35 @@
+-- What is held of each side.
+use Rattle.std.proofs.Common.{◌≡◌, refl, sym, ap, Option}
+use Rattle.nbd_wire.specs.declared.message.Side.{Side}
+use Rattle.nbd_wire.specs.declared.message.Side.TheVariants.{Client, Server}
+use Rattle.nbd_session.specs.declared.expected.Expected.{Expected}
+use Rattle.nbd_session.specs.declared.held.Held.{Held}
+use Rattle.nbd_session.specs.Incoming.{IncomingView, bytes_come}
+use Rattle.nbd_session.specs.internal.Holdings.{holding_of, incoming_of, with_expected, with_incoming}
+use Rattle.nbd_session.specs.internal.Standing.{rest_of}
+
+-- what was taken of a side, as it is held
+pub rest_is : (held : Held) (s : Side) → rest_of (holding_of held) s ≡ bytes_come (incoming_of held s)
+rest_is held Client = refl
+rest_is held Server = refl
+
+-- a side's bytes replaced
+pub incoming_here : (held : Held) (s : Side) (v : IncomingView) → incoming_of (with_incoming held s v) s ≡ v
+incoming_here held Client v = refl
+incoming_here held Server v = refl
+
+pub incoming_other : (held : Held) (s u : Side) (v : IncomingView) → (s ≡ u → ⊥) → incoming_of (with_incoming held s v) u ≡ incoming_of held u
+incoming_other held Client Client v ne = absurd (ne refl)
+incoming_other held Client Server v ne = refl
+incoming_other held Server Client v ne = refl
+incoming_other held Server Server v ne = absurd (ne refl)
+
+-- what a head says is no byte
+pub holding_expected : (held : Held) (s : Side) (e : Option Expected) → holding_of (with_expected held s e) ≡ holding_of held
+holding_expected held Client e = refl
+holding_expected held Server e = refl
+
+-- where it says what it said nothing changes
+pub same_expected : (held : Held) (s : Side) (e : Option Expected) → (incoming_of held s).expected ≡ e → with_expected held s e ≡ held
+same_expected held Client e is = ap (λ e. with_expected held Client e) (sym is)
+same_expected held Server e is = ap (λ e. with_expected held Server e) (sym is)

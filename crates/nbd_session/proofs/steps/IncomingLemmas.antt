@@ -1,0 +1,37 @@
+-- The bytes that have come of a side, with more.
+use Rattle.std.proofs.Common.{◌≡◌, ◌==◌, ℕ, List, [], ◌∷◌, ◌++◌, length, refl, ap, subst, Option, Some, None, Bool, true, false, is_some, arith}
+use Rattle.std.proofs.lemmas.Bool.{ne_eqb}
+use Rattle.nbd_wire.specs.protocol.States.{Core}
+use Rattle.nbd_places.specs.internal.Decisions.{Decision}
+use Rattle.nbd_laws.specs.internal.Machine.{IsFilled}
+use Rattle.nbd_session.specs.declared.expected.Expected.{Expected}
+use Rattle.nbd_session.specs.Incoming.{IncomingView, bytes_come, incoming_with}
+use Rattle.nbd_session.specs.internal.Incoming.{is_nothing}
+use Rattle.nbd_session.specs.internal.Known.{IsKnown, is_known_by}
+
+pub none_of : {A : Type 0} (o : Option A) → is_some o ≡ false → o ≡ None
+none_of None e = refl
+none_of (Some a) e = absurd (cc)
+
+-- more bytes of a head
+pub head_with : (e : Option Expected) (head longer more payload : List ℕ) → e ≡ None → longer ≡ head ++ more →
+    record { head = longer; expected = e; payload = payload } ≡ incoming_with (record { head = head; expected = e; payload = payload }) more
+head_with None head longer more payload n is = λ i. record { head = is i; expected = None; payload = payload }
+head_with (Some x) head longer more payload n is = absurd (cc)
+
+-- no byte has come
+pub none_come : (n : ℕ) (bytes : List ℕ) → n ≡ length bytes → (n == 0) ≡ is_nothing bytes
+none_come n [] e = ap (λ k. k == 0) e
+none_come n (b ∷ bytes) e = ne_eqb n 0 (λ z. omega (arith, e, z))
+
+pub nothing_in : (bytes : List ℕ) → is_nothing bytes ≡ true → bytes ≡ []
+nothing_in [] e = refl
+nothing_in (b ∷ bytes) e = absurd (cc)
+
+-- where no byte of a head has come none has
+pub none_of_known : (decided : List ℕ → Option Decision) (core : Core) (v : IncomingView) → IsKnown decided core v → is_nothing v.head ≡ true → bytes_come v ≡ []
+none_of_known decided core v known e = go v.expected known
+  where
+    go : (x : Option Expected) → is_known_by decided core v.head v.payload x → bytes_come v ≡ []
+    go None k = (λ i. nothing_in v.head e i ++ k.0 i)
+    go (Some x) k = absurd (subst IsFilled (nothing_in v.head e) k.filled)

@@ -1,0 +1,283 @@
+-- What is known of a side's bytes stays, where the other side's messages complete meanwhile.
+use Rattle.std.proofs.Common.{◌≡◌, ◌⊎◌, ℕ, suc, ◌+◌, ◌<◌, ◌≤◌, List, [], ◌∷◌, ◌++◌, length, refl, sym, ◌∙◌, ap, subst, inl, inr, Option, Some, None, zero, Bool, true, false, if◌then◌else◌, arith, add-one, append-nil, length-append}
+use Rattle.std.proofs.lemmas.Bool.{lt-ltb}
+use Rattle.std.proofs.lemmas.Option.{same_Some}
+use Rattle.nbd_wire.specs.declared.magics.TheConstants.{CHUNK_MAGIC, SIMPLE_MAGIC}
+use Rattle.nbd_wire.specs.declared.message.Message.{Message}
+use Rattle.nbd_wire.specs.declared.message.Message.TheVariants as messages
+use Rattle.nbd_wire.specs.declared.message.Side.{Side}
+use Rattle.nbd_wire.specs.declared.message.Side.TheVariants.{Client, Server}
+use Rattle.nbd_wire.specs.declared.fault.WireFault.{WireFault}
+use Rattle.nbd_wire.specs.declared.fault.WireFault.TheVariants.{BadMagic, UnknownCookie}
+use Rattle.nbd_wire.specs.protocol.Operations.{Exporting, Operation}
+use Rattle.nbd_wire.specs.protocol.Options.{turn}
+use Rattle.nbd_wire.specs.protocol.Payloads.{number_at}
+use Rattle.nbd_wire.specs.protocol.States.{Core, Phase, Transmission, operation, target}
+use Rattle.nbd_places.specs.internal.Concrete.{concrete}
+use Rattle.nbd_places.specs.internal.Decisions.{Decision, awaited_length_by}
+use Rattle.nbd_places.specs.internal.Judge.{awaited_length, decision, request_unless}
+use Rattle.nbd_places.specs.internal.JudgeTransmission.{begins, chunk_head_fault, chunk_last_fault, chunk_of, cookie_fault, operation_if, operation_of, reply, reply_by, request, request_of, simple_fault, simple_last_fault, simple_of, simple_payload_length}
+use Rattle.nbd_places.proofs.judge.AwaitedLemmas.{decision_of}
+use Rattle.nbd_places.proofs.judge.PhaseLemmas.{IsAppended, Later-appended, Later-disconnected, Later-transmission, Later-turn}
+use Rattle.nbd_places.proofs.judge.SoundLemmas.{kept_later, turn_of_reading}
+use Rattle.nbd_places.proofs.judge.SteadyLemmas.{IsBegun, IsDeciding, as_chunk, as_neither, as_simple, bytes_are_begun, deciding, entry-append, is_chunk_reply, is_no_reply, is_simple_reply}
+use Rattle.nbd_laws.proofs.machine.MachineLemmas.{Held, Later, Later-trans, at_once, none_held, old-empty, old-filled, some_held}
+use Rattle.nbd_laws.specs.internal.Machine.{IsFilled, More, Rest, old_of}
+use Rattle.nbd_wire.specs.declared.heads.transmission.RequestHead.{RequestHead}
+use Rattle.nbd_session.specs.declared.expected.Expected.{Expected}
+use Rattle.nbd_session.specs.declared.expected.Expected.TheVariants as expectations
+use Rattle.nbd_session.specs.internal.Expecting.{IsPlaced, chunk_fault_to, expected_decision, last_fault_by, message_of, payload_length_of}
+use Rattle.nbd_session.specs.Incoming.{IncomingView, bytes_come, incoming_with, incoming_with_by, nothing_come}
+use Rattle.nbd_session.specs.internal.Known.{IsCome, IsExpected, IsKnown, IsShort, is_known_by}
+use Rattle.nbd_session.proofs.expecting.KnownLemmas.{expected_awaited}
+
+-- where something is decided of a rest, it goes on as it began
+pub deciding_rest : {core : Core} {s : Side} {rest : Rest} → Held concrete core s rest → (bytes : List ℕ) (d : Decision) → decision core.phase (old_of core rest) core s bytes ≡ Some d →
+    IsDeciding s (old_of core rest) × Later s (old_of core rest) core
+deciding_rest {core} {s} {rest} (none_held r e) bytes d is =
+    let o : old_of core rest ≡ core = old-empty core rest e in
+    subst (λ c. IsDeciding s c × Later s c core) (sym o) (deciding core.phase s core bytes d refl (subst (λ c. decision core.phase c core s bytes ≡ Some d) o is), at_once)
+deciding_rest {core} {s} {rest} (some_held r now f k m l) bytes d is =
+    subst (λ c. IsDeciding s c × Later s c core) (sym (old-filled core rest f)) (decision_of k m, Later-trans (kept_later k) l)
+
+-- before the first byte of a message no head is whole
+pub nothing_short : (core : Core) (s : Side) → IsShort (decision core.phase core core s) []
+nothing_short core s d is =
+    let D = deciding core.phase s core [] d refl is in
+    let two : 2 ≤ (D.F core []).head_length = (D.steady core at_once).two [] in
+    let same : D.F core [] ≡ d = same_Some _ _ (sym (D.decides core at_once []) ∙ is) in
+    let len : (D.F core []).head_length ≡ d.head_length = ap (λ (x : Decision). x.head_length) same in
+    omega (arith, two, len)
+
+-- a head that is not whole
+pub short_stays : (s : Side) (old core next : Core) (head : List ℕ) → IsDeciding s old → Later s old core → Later s core next → IsShort (decision core.phase old core s) head → IsShort (decision next.phase old next s) head
+short_stays s old core next head D l k short d is =
+    let here : length head < (D.F core head).head_length = short (D.F core head) (D.decides core l head) in
+    let below : (D.F next head).head_length ≡ (D.F core head).head_length =
+    subst (λ bs. (D.F next bs).head_length ≡ (D.F core head).head_length) (append-nil head) ((D.steady core l).below next k head [] (omega (arith, here, length-append head []))) in
+    let same : D.F next head ≡ d = same_Some _ _ (sym (D.decides next (Later-trans l k) head) ∙ is) in
+    let len : (D.F next head).head_length ≡ d.head_length = ap (λ (x : Decision). x.head_length) same in
+    omega (arith, here, below, len)
+
+-- more bytes of it lie within what was awaited
+pub taken_within : (s : Side) (old core : Core) (head more : List ℕ) (d : Decision) → IsDeciding s old → Later s old core → IsShort (decision core.phase old core s) head →
+    length (head ++ more) ≤ awaited_length old core s head → decision core.phase old core s (head ++ more) ≡ Some d → length (head ++ more) ≤ d.head_length
+taken_within s old core head more d D l short up is =
+    let here : length head < (D.F core head).head_length = short (D.F core head) (D.decides core l head) in
+    let awaited : awaited_length old core s head ≡ (D.F core head).head_length =
+    ap (λ o. awaited_length_by o head) (D.decides core l head) ∙ ap (λ (b : Bool). if b then (D.F core head).head_length else (D.F core head).head_length + (D.F core head).payload_length) (lt-ltb (length head) (D.F core head).head_length here) in
+    let grows : (D.F core head).head_length ≤ (D.F core (head ++ more)).head_length = (D.steady core l).grows core at_once head more in
+    let same : D.F core (head ++ more) ≡ d = same_Some _ _ (sym (D.decides core l (head ++ more)) ∙ is) in
+    let len : (D.F core (head ++ more)).head_length ≡ d.head_length = ap (λ (x : Decision). x.head_length) same in
+    omega (arith, up, awaited, grows, len)
+
+-- requests were added, and the request of a number stays
+operation_stays : (core next : Core) → IsAppended core next → (place : ℕ) → place < length core.entries → operation (place + 1) next.entries ≡ operation (place + 1) core.entries
+operation_stays core next a place l =
+    let o = within core.entries place l in
+    ap (λ n. operation n next.entries) (add-one place) ∙ ap (operation (suc place)) a.entries_are ∙ entry-append (suc place) core.entries a.more o.0 o.1 ∙ sym o.1 ∙ sym (ap (λ n. operation n core.entries) (add-one place))
+  where
+    within : (es : List Operation) (k : ℕ) → k < length es → (e : Operation) × (operation (suc k) es ≡ Some e)
+    within [] k l = absurd (omega (arith, l))
+    within (e ∷ es) zero l = (e, refl)
+    within (e ∷ es) (suc k) l = within es k (omega (arith, l))
+
+placed_stays : (core next : Core) → IsAppended core next → (x : Expected) → IsPlaced core x → IsPlaced next x
+placed_stays core next a (expectations.Simple head place len) l = omega (arith, l, ap length a.entries_are, length-append core.entries a.more)
+placed_stays core next a (expectations.Chunk head place) l = omega (arith, l, ap length a.entries_are, length-append core.entries a.more)
+placed_stays core next a (expectations.Greeting flags) l = tt
+placed_stays core next a (expectations.ClientFlags flags) l = tt
+placed_stays core next a (expectations.Choice head) l = tt
+placed_stays core next a (expectations.Answer head proper) l = tt
+placed_stays core next a (expectations.Exported size flags padded) l = tt
+placed_stays core next a (expectations.Request head) l = tt
+
+-- a request looks at what is outstanding at its last byte alone
+request_stays : (core next : Core) (bytes payload : List ℕ) (h : ℕ) (x : Expected) → request core bytes ≡ expected_decision core x h payload → request next bytes ≡ expected_decision next x h payload
+request_stays core next bytes payload h (expectations.Request r) e =
+    let m : request_of bytes ≡ messages.Request r.flags r.command r.cookie r.offset r.length payload = ap (λ (d : Decision). d.message) e in
+    let c : number_at 6 2 bytes ≡ r.command = cc in
+    let k : number_at 8 8 bytes ≡ r.cookie = cc in
+    λ i. record { head_length = (e i).head_length; head_fault = (e i).head_fault; payload_length = (e i).payload_length; last_fault = cookie_fault (c i) (target (k i) next.entries); message = (e i).message }
+request_stays core next bytes payload h (expectations.Greeting flags) e = absurd (let m : request_of bytes ≡ messages.Greeting flags = ap (λ (d : Decision). d.message) e in cc)
+request_stays core next bytes payload h (expectations.ClientFlags flags) e = absurd (let m : request_of bytes ≡ messages.ClientFlags flags = ap (λ (d : Decision). d.message) e in cc)
+request_stays core next bytes payload h (expectations.Choice head) e = absurd (let m : request_of bytes ≡ messages.Choice head.id payload = ap (λ (d : Decision). d.message) e in cc)
+request_stays core next bytes payload h (expectations.Answer head proper) e = absurd (let m : request_of bytes ≡ messages.Answer head.option head.kind payload = ap (λ (d : Decision). d.message) e in cc)
+request_stays core next bytes payload h (expectations.Exported size flags padded) e = absurd (let m : request_of bytes ≡ messages.Exported size flags padded = ap (λ (d : Decision). d.message) e in cc)
+request_stays core next bytes payload h (expectations.Simple head place len) e = absurd (let m : request_of bytes ≡ messages.Simple head.error head.cookie payload = ap (λ (d : Decision). d.message) e in cc)
+request_stays core next bytes payload h (expectations.Chunk head place) e = absurd (let m : request_of bytes ≡ messages.Chunk head.flags head.kind head.cookie payload = ap (λ (d : Decision). d.message) e in cc)
+
+module _ (export : Exporting) (old core next : Core) (bytes : List ℕ) (a : IsAppended core next) where
+  abbrev cookie : ℕ
+  cookie = number_at 8 8 bytes
+
+  same_operation : (e : Operation) → operation_of old core cookie ≡ Some e → operation_of old next cookie ≡ operation_of old core cookie
+  same_operation e h = go (target cookie old.entries) h ∙ sym h
+    where
+      go : (o : Option ℕ) → operation_if o core.entries ≡ Some e → operation_if o next.entries ≡ Some e
+      go (Some k) h = ap (operation k) a.entries_are ∙ entry-append k core.entries a.more e h
+      go None h = absurd (cc)
+
+  found_chunk : (o : Option Operation) → chunk_head_fault core.structured o ≡ None → (e : Operation) × (o ≡ Some e)
+  found_chunk (Some e) h = (e, refl)
+  found_chunk None h = absurd (let q : Some UnknownCookie ≡ None = h in cc)
+
+  found_simple : (o : Option Operation) → simple_fault core.structured o ≡ None → (e : Operation) × (o ≡ Some e)
+  found_simple (Some e) h = (e, refl)
+  found_simple None h = absurd (let q : Some UnknownCookie ≡ None = h in cc)
+
+  -- what is decided of a reply without a fault in its head does not change as requests are added
+  reply_stays : IsBegun bytes → (reply export old core bytes).head_fault ≡ None → reply export old next bytes ≡ reply export old core bytes
+  reply_stays (as_chunk c) clean =
+      let is = is_chunk_reply export old core bytes c in
+      let f = found_chunk (operation_of old core cookie) (sym (ap (λ (d : Decision). d.head_fault) is) ∙ clean) in
+      let o = same_operation f.0 f.1 in
+      is_chunk_reply export old next bytes c
+      ∙ (λ i. record { head_length = 20; head_fault = chunk_head_fault (a.structured_is i) (o i); payload_length = number_at 16 4 bytes; last_fault = chunk_last_fault export (o i) bytes; message = chunk_of bytes })
+      ∙ sym is
+  reply_stays (as_simple c s) clean =
+      let is = is_simple_reply export old core bytes c s in
+      let f = found_simple (operation_of old core cookie) (sym (ap (λ (d : Decision). d.head_fault) is) ∙ clean) in
+      let o = same_operation f.0 f.1 in
+      is_simple_reply export old next bytes c s
+      ∙ (λ i. record { head_length = 16; head_fault = simple_fault (a.structured_is i) (o i); payload_length = simple_payload_length (o i) (number_at 4 4 bytes); last_fault = simple_last_fault export (o i) (number_at 4 4 bytes); message = simple_of bytes })
+      ∙ sym is
+  reply_stays (as_neither c s) clean = absurd (let q : Some BadMagic ≡ None = sym (ap (λ (d : Decision). d.head_fault) (is_no_reply export old core bytes c s)) ∙ clean in cc)
+
+no_request : (chunk simple : Bool) (export : Exporting) (core : Core) (o : Option Operation) (bytes : List ℕ) (flags command cookie offset len : ℕ) (payload : List ℕ) →
+    (reply_by chunk simple export core o bytes).message ≡ messages.Request flags command cookie offset len payload → ⊥
+no_request true simple export core o bytes flags command cookie offset len payload e = (cc)
+no_request false true export core o bytes flags command cookie offset len payload e = (cc)
+no_request false false export core o bytes flags command cookie offset len payload e = (cc)
+
+-- the fault at a reply's last byte
+last_stays : (core next : Core) (export : Exporting) → IsAppended core next → (x : Expected) (payload : List ℕ) → IsPlaced core x →
+    ((head : RequestHead) → x ≡ expectations.Request head → ⊥) →
+    last_fault_by (Transmission export) core x payload ≡ last_fault_by (Transmission export) next x payload
+last_stays core next export a (expectations.Simple head place len) payload l other = ap (λ o. simple_last_fault export o head.error) (sym (operation_stays core next a place l))
+last_stays core next export a (expectations.Chunk head place) payload l other = ap (λ o. chunk_fault_to export o head.flags head.kind head.cookie payload) (sym (operation_stays core next a place l))
+last_stays core next export a (expectations.Request head) payload l other = absurd (other head refl)
+last_stays core next export a (expectations.Greeting flags) payload l other = refl
+last_stays core next export a (expectations.ClientFlags flags) payload l other = refl
+last_stays core next export a (expectations.Choice head) payload l other = refl
+last_stays core next export a (expectations.Answer head proper) payload l other = refl
+last_stays core next export a (expectations.Exported size flags padded) payload l other = refl
+
+module _ (old core next : Core) (export : Exporting) (before : core.phase ≡ Transmission export) (after : next.phase ≡ Transmission export) (head : List ℕ) (x : Expected) where
+  expected_reply : IsAppended core next → IsExpected (decision core.phase old core Server) core head x → IsExpected (decision next.phase old next Server) next head x
+  expected_reply a known = record { filled = known.filled; placed = placed_stays core next a x known.placed; is = is }
+    where
+      is : (payload : List ℕ) → decision next.phase old next Server (head ++ payload) ≡ Some (expected_decision next x (length head) payload)
+      is payload =
+          let b : List ℕ = head ++ payload in
+          let e : reply export old core b ≡ expected_decision core x (length head) payload =
+          same_Some _ _ (sym (ap (λ p. decision p old core Server b) before) ∙ known.is payload) in
+          let no : (r : RequestHead) → x ≡ expectations.Request r → ⊥ = λ r q.
+          no_request (begins CHUNK_MAGIC b) (begins SIMPLE_MAGIC b) export core (operation_of old core (number_at 8 8 b)) b r.flags r.command r.cookie r.offset r.length payload
+          (ap (λ (d : Decision). d.message) e ∙ ap (λ y. message_of y payload) q) in
+          let last : last_fault_by core.phase core x payload ≡ last_fault_by next.phase next x payload =
+          ap (λ p. last_fault_by p core x payload) before ∙ last_stays core next export a x payload known.placed no ∙ sym (ap (λ p. last_fault_by p next x payload) after) in
+          ap (λ p. decision p old next Server b) after
+          ∙ ap Some (reply_stays export old core next b a (bytes_are_begun b) (ap (λ (d : Decision). d.head_fault) e) ∙ e
+          ∙ (λ i. record { head_length = length head; head_fault = None; payload_length = payload_length_of x; last_fault = last i; message = message_of x payload }))
+
+  expected_request : next.disconnected ≡ core.disconnected → IsPlaced next x → IsExpected (decision core.phase old core Client) core head x → IsExpected (decision next.phase old next Client) next head x
+  expected_request disconnected placed known = record { filled = known.filled; placed = placed; is = is }
+    where
+      by : (b : Bool) (payload : List ℕ) → request_unless b core (head ++ payload) ≡ Some (expected_decision core x (length head) payload) → request_unless b next (head ++ payload) ≡ Some (expected_decision next x (length head) payload)
+      by true payload e = absurd (cc)
+      by false payload e = ap Some (request_stays core next (head ++ payload) payload (length head) x (same_Some _ _ e))
+
+      is : (payload : List ℕ) → decision next.phase old next Client (head ++ payload) ≡ Some (expected_decision next x (length head) payload)
+      is payload =
+          ap (λ p. decision p old next Client (head ++ payload)) after
+          ∙ ap (λ b. request_unless b next (head ++ payload)) disconnected
+          ∙ by core.disconnected payload (sym (ap (λ p. decision p old core Client (head ++ payload)) before) ∙ known.is payload)
+
+-- a request answers no request
+placed_request : (core next : Core) (bytes payload : List ℕ) (h : ℕ) (x : Expected) → request core bytes ≡ expected_decision core x h payload → IsPlaced next x
+placed_request core next bytes payload h (expectations.Simple head place len) e = absurd (let m : request_of bytes ≡ messages.Simple head.error head.cookie payload = ap (λ (d : Decision). d.message) e in cc)
+placed_request core next bytes payload h (expectations.Chunk head place) e = absurd (let m : request_of bytes ≡ messages.Chunk head.flags head.kind head.cookie payload = ap (λ (d : Decision). d.message) e in cc)
+placed_request core next bytes payload h (expectations.Greeting flags) e = tt
+placed_request core next bytes payload h (expectations.ClientFlags flags) e = tt
+placed_request core next bytes payload h (expectations.Choice head) e = tt
+placed_request core next bytes payload h (expectations.Answer head proper) e = tt
+placed_request core next bytes payload h (expectations.Exported size flags padded) e = tt
+placed_request core next bytes payload h (expectations.Request head) e = tt
+
+by_side : (s : Side) (old core next : Core) (export : Exporting) (head : List ℕ) (x : Expected) → Later s core next → core.phase ≡ Transmission export → next.phase ≡ Transmission export →
+    IsExpected (decision core.phase old core s) core head x → IsExpected (decision next.phase old next s) next head x
+by_side Server old core next export head x l before after known = expected_reply old core next export before after head x (Later-appended l export before) known
+by_side Client old core next export head x l before after known =
+    expected_request old core next export before after head x (Later-disconnected l) (go core.disconnected (sym (ap (λ p. decision p old core Client (head ++ [])) before) ∙ known.is [])) known
+  where
+    go : (b : Bool) → request_unless b core (head ++ []) ≡ Some (expected_decision core x (length head) []) → IsPlaced next x
+    go true e = absurd (cc)
+    go false e = placed_request core next (head ++ []) [] (length head) x (same_Some _ _ e)
+
+-- what a whole head says stays
+pub expected_stays : {core : Core} {s : Side} {rest : Rest} → Held concrete core s rest → IsFilled rest.bytes → (next : Core) → Later s core next → (head : List ℕ) (x : Expected) →
+    IsExpected (decision core.phase (old_of core rest) core s) core head x → IsExpected (decision next.phase (old_of next rest) next s) next head x
+expected_stays {core} {s} {rest} (none_held r e) f next l head x known = absurd (subst IsFilled e f)
+expected_stays {core} {s} {rest} (some_held r now f k m j) filled next l head x known =
+    let old : old_of core rest ≡ rest.since = old-filled core rest f in
+    let here : IsExpected (decision core.phase rest.since core s) core head x = subst (λ c. IsExpected (decision core.phase c core s) core head x) old known in
+    let later : Later s rest.since core = Later-trans (kept_later k) j in
+    subst (λ c. IsExpected (decision next.phase c next s) next head x) (sym (old-filled next rest f))
+    (elim (turn_of_reading More k m (λ q. (cc))) [
+      | inl t ↦ (let same : core ≡ next = sym (Later-turn later t) ∙ Later-turn (Later-trans later l) t in
+          subst (λ (c : Core). IsExpected (decision c.phase rest.since c s) c head x) same here)
+      | inr (export, t) ↦ (let before : core.phase ≡ Transmission export = Later-transmission later export t in
+          by_side s rest.since core next export head x l before (Later-transmission l export before) here)
+    ])
+
+no_head : (head payload : List ℕ) → head ++ payload ≡ [] → head ≡ []
+no_head [] payload e = refl
+no_head (b ∷ head) payload e = absurd (cc)
+
+filled_with : (head payload : List ℕ) → IsFilled head → IsFilled (head ++ payload)
+filled_with [] payload f = absurd f
+filled_with (b ∷ head) payload f = tt
+
+short_held : {core : Core} {s : Side} {rest : Rest} → Held concrete core s rest → (next : Core) → Later s core next → (head payload : List ℕ) → head ++ payload ≡ rest.bytes →
+    IsShort (decision core.phase (old_of core rest) core s) head → IsShort (decision next.phase (old_of next rest) next s) head
+short_held {core} {s} {rest} (none_held r e) next l head payload is short =
+    subst (λ bs. IsShort (decision next.phase (old_of next rest) next s) bs) (sym (no_head head payload (is ∙ e)))
+    (subst (λ c. IsShort (decision next.phase c next s) []) (sym (old-empty next rest e)) (nothing_short next s))
+short_held {core} {s} {rest} (some_held r now f k m j) next l head payload is short =
+    subst (λ c. IsShort (decision next.phase c next s) head) (sym (old-filled next rest f))
+    (short_stays s rest.since core next head (decision_of k m) (Later-trans (kept_later k) j) l (subst (λ c. IsShort (decision core.phase c core s) head) (old-filled core rest f) short))
+
+-- what is known of a side's bytes stays
+pub known_stays : {core : Core} {s : Side} {rest : Rest} → Held concrete core s rest → (next : Core) → Later s core next → (v : IncomingView) → bytes_come v ≡ rest.bytes →
+    IsKnown (decision core.phase (old_of core rest) core s) core v → IsKnown (decision next.phase (old_of next rest) next s) next v
+known_stays {core} {s} {rest} held next l v is known = go v.expected known
+  where
+    go : (e : Option Expected) → is_known_by (decision core.phase (old_of core rest) core s) core v.head v.payload e → is_known_by (decision next.phase (old_of next rest) next s) next v.head v.payload e
+    go (Some x) k = expected_stays held (subst IsFilled is (filled_with v.head v.payload k.filled)) next l v.head x k
+    go None k = (k.0, short_held held next l v.head v.payload is k.1)
+
+-- before the first byte of a message
+pub nothing_known : (core : Core) (s : Side) (rest : Rest) → rest.bytes ≡ [] → IsKnown (decision core.phase (old_of core rest) core s) core nothing_come
+nothing_known core s rest e = (refl, subst (λ c. IsShort (decision core.phase c core s) []) (sym (old-empty core rest e)) (nothing_short core s))
+
+-- bytes that were taken up to the awaited length
+pub come_with : {core : Core} {s : Side} {rest : Rest} → Held concrete core s rest → (v : IncomingView) → bytes_come v ≡ rest.bytes → (more : List ℕ) →
+    length (rest.bytes ++ more) ≤ awaited_length (old_of core rest) core s rest.bytes →
+    IsKnown (decision core.phase (old_of core rest) core s) core v → IsCome (decision core.phase (old_of core rest) core s) core (incoming_with v more)
+come_with {core} {s} {rest} held v is more up known = go v.expected known
+  where
+    decided : List ℕ → Option Decision
+    decided = decision core.phase (old_of core rest) core s
+
+    up_to : length ((v.head ++ v.payload) ++ more) ≤ awaited_length_by (decided (v.head ++ v.payload)) (v.head ++ v.payload)
+    up_to = subst (λ bs. length (bs ++ more) ≤ awaited_length (old_of core rest) core s bs) (sym is) up
+
+    go : (e : Option Expected) → is_known_by decided core v.head v.payload e → IsCome decided core (incoming_with_by e (record v { expected = e }) more)
+    go (Some x) k =
+        let n : awaited_length_by (decided (v.head ++ v.payload)) (v.head ++ v.payload) ≡ length v.head + payload_length_of x = expected_awaited decided core v.head v.payload x k in
+        (k, omega (arith, up_to, n, length-append (v.head ++ v.payload) more, length-append v.head v.payload, length-append v.payload more))
+    go None k = (k.0, λ d e.
+        let D = deciding_rest held (v.head ++ more) d e in
+        let bare : v.head ++ v.payload ≡ v.head = ap (λ l. v.head ++ l) k.0 ∙ append-nil v.head in
+        taken_within s (old_of core rest) core v.head more d D.0 D.1 k.1 (subst (λ bs. length (bs ++ more) ≤ awaited_length_by (decided bs) bs) bare up_to) e)

@@ -1,0 +1,111 @@
+-- How many bytes of a side are missing until something is decided of them.
+use Rattle.std.proofs.Common.{◌≡◌, ◌⊎◌, ℕ, ◌+◌, ◌<◌, ◌≤◌, List, [], ◌∷◌, ◌++◌, length, refl, sym, ◌∙◌, ap, subst, inl, inr, Option, Some, None, append-nil, arith, length-append, Bool, if◌then◌else◌}
+use Rattle.std.proofs.lemmas.Bool.{lt-ltb}
+use Rattle.std.proofs.lemmas.Option.{same_Some}
+use Rattle.nbd_wire.specs.declared.message.Side.{Side}
+use Rattle.nbd_wire.specs.declared.fault.WireFault.{WireFault}
+use Rattle.nbd_wire.specs.protocol.States.{Core}
+use Rattle.nbd_places.specs.internal.Concrete.{concrete, reading_by_decision}
+use Rattle.nbd_places.specs.internal.Decisions.{Decision, awaited_length_by}
+use Rattle.nbd_places.specs.internal.Judge.{awaited_length, decision, decision_by_count}
+use Rattle.nbd_places.proofs.judge.AwaitedLemmas.{held_short, in_head}
+use Rattle.nbd_places.proofs.judge.SteadyLemmas.{IsDeciding, deciding}
+use Rattle.nbd_laws.specs.internal.Machine.{Bad, IsFilled, More, Rest, get, old_of}
+use Rattle.nbd_laws.proofs.machine.MachineLemmas.{Held, at_once, none_held, old-empty, some_held}
+use Rattle.nbd_state.specs.Shows.{Shows}
+use Rattle.nbd_session.specs.declared.expected.Expected.{Expected}
+use Rattle.nbd_session.specs.declared.held.Held as program
+use Rattle.nbd_session.specs.Incoming.{bytes_come}
+use Rattle.nbd_session.specs.internal.Expecting.{HasHeadLength, payload_length_of}
+use Rattle.nbd_session.specs.internal.Holdings.{holding_of, incoming_of}
+use Rattle.nbd_session.specs.internal.Known.{IsKnown, awaited, decided, is_known_by}
+use Rattle.nbd_session.specs.internal.Standing.{count_at_server, rest_of}
+use Rattle.nbd_session.specs.internal.Steps.{Stands}
+use Rattle.nbd_session.proofs.expecting.KnownLemmas.{expected_awaited}
+use Rattle.nbd_session.proofs.steps.HoldingLemmas.{rest_is}
+use Rattle.nbd_session.proofs.steps.StepLemmas.{decided_held, held_of}
+
+-- bytes are judged to go on, or there are none and the side may not send
+abbrev IsOpen : Option Decision → List ℕ → Type 0
+IsOpen o bytes = (reading_by_decision o bytes ≡ More) ⊎ (o ≡ None) × (bytes ≡ [])
+
+open_first : (core : Core) (s : Side) → IsOpen (decision core.phase core core s []) []
+open_first core s = go (decision core.phase core core s []) refl
+  where
+    go : (o : Option Decision) → decision core.phase core core s [] ≡ o → IsOpen o []
+    go None e = inr (refl, refl)
+    go (Some x) e =
+        let d : IsDeciding s core = deciding core.phase s core [] x refl e in
+        let two : 2 ≤ (d.F core []).head_length = (d.steady core at_once).two [] in
+        let is : Some (d.F core []) ≡ Some x = sym (d.decides core at_once []) ∙ e in
+        inl (ap (λ o. reading_by_decision o []) (sym is) ∙ in_head (d.F core []) [] (omega (arith, two)))
+
+open_held : {core : Core} {s : Side} {rest : Rest} → Held concrete core s rest → IsOpen (decision core.phase (old_of core rest) core s rest.bytes) rest.bytes
+open_held {core} {s} {rest} (none_held r e) =
+    subst (λ c. IsOpen (decision core.phase c core s rest.bytes) rest.bytes) (sym (old-empty core rest e)) (subst (λ bytes. IsOpen (decision core.phase core core s bytes) bytes) (sym e) (open_first core s))
+open_held {core} {s} {rest} (some_held r now f k m l) =
+    let held : Held concrete core s rest = some_held r now f k m l in
+    let short = (held_short held).short in
+    inl (subst (λ bytes. concrete (old_of core rest) core s bytes ≡ More) (append-nil rest.bytes)
+    ((held_short held).goes [] (subst IsFilled (sym (append-nil rest.bytes)) f) (subst (λ bytes. length bytes < awaited_length (old_of core rest) core s rest.bytes) (sym (append-nil rest.bytes)) short)))
+
+-- bytes that are refused are none, of a side that may not send
+refused_first : (o : Option Decision) (bytes : List ℕ) (fault : WireFault) → IsOpen o bytes → reading_by_decision o bytes ≡ Bad fault → (awaited_length_by o bytes ≡ 1) × (length bytes ≡ 0)
+refused_first o bytes fault (inl more) e = absurd (let q : More ≡ Bad fault = sym more ∙ e in cc)
+refused_first o bytes fault (inr (none, empty)) e = (ap (λ p. awaited_length_by p bytes) none, ap length empty)
+
+module _ (held : program.Held) (s : Side) (st : Stands held) where
+  come_is : bytes_come (incoming_of held s) ≡ (get st.machine.rests s).bytes
+  come_is = sym (rest_is held s) ∙ sym (st.read_to.rests_are s)
+
+  awaited_of : awaited_length_by (decided st.machine s (bytes_come (incoming_of held s))) (bytes_come (incoming_of held s)) ≡ awaited st.machine s
+  awaited_of = ap (λ bs. awaited_length_by (decided st.machine s bs) bs) come_is
+
+  pub come_short : length (bytes_come (incoming_of held s)) < awaited st.machine s
+  come_short =
+      let short = (held_short (held_of (holding_of held) st.machine st.read_to s)).short in
+      let same : length (bytes_come (incoming_of held s)) ≡ length (get st.machine.rests s).bytes = ap length come_is in
+      omega (arith, short, same)
+
+  -- the bytes after a head that is whole
+  pub payload_missing : (x : Expected) → (incoming_of held s).expected ≡ Some x → (length (incoming_of held s).payload < payload_length_of x) × (awaited st.machine s ≡ length (incoming_of held s).head + payload_length_of x)
+  payload_missing x is =
+      let known = subst (is_known_by (decided st.machine s) st.machine.core (incoming_of held s).head (incoming_of held s).payload) is (st.knows s) in
+      let all : awaited st.machine s ≡ length (incoming_of held s).head + payload_length_of x = sym awaited_of ∙ expected_awaited (decided st.machine s) st.machine.core (incoming_of held s).head (incoming_of held s).payload x known in
+      let short = come_short in
+      let len = length-append (incoming_of held s).head (incoming_of held s).payload in
+      (omega (arith, all, short, len), all)
+
+  module _ (none : (incoming_of held s).expected ≡ None) where
+    bare_known : is_known_by (decided st.machine s) st.machine.core (incoming_of held s).head (incoming_of held s).payload None
+    bare_known = subst (is_known_by (decided st.machine s) st.machine.core (incoming_of held s).head (incoming_of held s).payload) none (st.knows s)
+
+    pub bare : bytes_come (incoming_of held s) ≡ (incoming_of held s).head
+    bare = ap (λ l. (incoming_of held s).head ++ l) bare_known.0 ∙ append-nil (incoming_of held s).head
+
+    decided_so : (bytes : List ℕ) → decided st.machine s bytes ≡ decision_by_count (count_at_server s (holding_of held).server held.counted (length st.machine.core.entries)) st.machine.core s bytes
+    decided_so bytes = decided_held (holding_of held) st.machine s st.read_to bytes
+
+    -- the bytes of a head that is not whole
+    pub head_is_missing : (head : List ℕ) (n : ℕ) → head ≡ (incoming_of held s).head → HasHeadLength held.state s head n → (length head < n) × (awaited st.machine s ≡ n)
+    head_is_missing head n is known =
+        let d = known.decided st.machine.core (count_at_server s (holding_of held).server held.counted (length st.machine.core.entries)) st.shows in
+        let decides : decided st.machine s (incoming_of held s).head ≡ Some d.0 = subst (λ h. decided st.machine s h ≡ Some d.0) is (decided_so head ∙ d.1) in
+        let short : length (incoming_of held s).head < d.0.head_length = bare_known.1 d.0 decides in
+        let all : awaited st.machine s ≡ d.0.head_length =
+        sym awaited_of ∙ ap (λ bs. awaited_length_by (decided st.machine s bs) bs) bare ∙ ap (λ o. awaited_length_by o (incoming_of held s).head) decides
+        ∙ ap (λ (b : Bool). if b then d.0.head_length else d.0.head_length + d.0.payload_length) (lt-ltb (length (incoming_of held s).head) d.0.head_length short) in
+        let len = d.2 in
+        let same = ap length is in
+        (omega (arith, short, len, same), all ∙ len)
+
+    -- the first byte of a side that may not send
+    pub first_is_missing : (head : List ℕ) (fault : WireFault) → head ≡ (incoming_of held s).head → ((core : Core) (counted : ℕ) → Shows held.state core → reading_by_decision (decision_by_count counted core s head) head ≡ Bad fault) →
+        (awaited st.machine s ≡ 1) × (length head ≡ 0)
+    first_is_missing head fault is bad =
+        let word : reading_by_decision (decided st.machine s head) head ≡ Bad fault = ap (λ o. reading_by_decision o head) (decided_so head) ∙ bad st.machine.core (count_at_server s (holding_of held).server held.counted (length st.machine.core.entries)) st.shows in
+        let same : bytes_come (incoming_of held s) ≡ head = bare ∙ sym is in
+        let opened : IsOpen (decided st.machine s (bytes_come (incoming_of held s))) (bytes_come (incoming_of held s)) =
+        subst (λ bs. IsOpen (decided st.machine s bs) bs) (sym come_is) (open_held (held_of (holding_of held) st.machine st.read_to s)) in
+        let r = refused_first (decided st.machine s head) head fault (subst (λ bs. IsOpen (decided st.machine s bs) bs) same opened) word in
+        (sym awaited_of ∙ ap (λ bs. awaited_length_by (decided st.machine s bs) bs) same ∙ r.0, r.1)

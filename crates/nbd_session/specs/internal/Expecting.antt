@@ -1,0 +1,163 @@
+-- What is expected of a message whose head has come: which message it is with the bytes after its head, how many those are, and what
+-- its last byte shows to be wrong.
+use Rattle.std.specs.Prelude.{◌≡◌, ◌⊎◌, ◌<◌, ◌≤◌, ◌+◌, ◌==◌, ◌++◌, ◌&&◌, not, ℕ, List, Bool, true, false, Option, Some, None, length, if◌then◌else◌, slice_get}
+use Rattle.nbd_wire.specs.declared.commands.TheConstants as commands
+use Rattle.nbd_wire.specs.declared.chunks.TheConstants as chunks
+use Rattle.nbd_wire.specs.declared.fault.WireFault.{WireFault}
+use Rattle.nbd_wire.specs.declared.fault.WireFault.TheVariants.{BadMagic}
+use Rattle.nbd_wire.specs.declared.head_lengths.TheConstants as head_lengths
+use Rattle.nbd_wire.specs.declared.magics.TheConstants.{CHUNK_MAGIC, SIMPLE_MAGIC}
+use Rattle.nbd_wire.specs.declared.message.Message.{Message}
+use Rattle.nbd_wire.specs.declared.message.Message.TheVariants as messages
+use Rattle.nbd_wire.specs.declared.message.Side.{Side}
+use Rattle.nbd_wire.specs.protocol.Operations.{Exporting, Operation}
+use Rattle.nbd_wire.specs.protocol.States.{Core, Transmission, operation, target, with_reply}
+use Rattle.nbd_wire.specs.protocol.States as definitions
+use Rattle.nbd_places.specs.internal.Decisions.{Decision}
+use Rattle.nbd_places.specs.internal.Judge.{decision_by_count}
+use Rattle.nbd_places.specs.internal.JudgeNegotiation.{padding_fault, payload_fault}
+use Rattle.nbd_places.specs.internal.JudgeTransmission.{begins, chunk_fault, chunk_head_fault, cookie_fault, operation_counted, request_payload_length, simple_fault, simple_last_fault, simple_payload_length}
+use Rattle.nbd_wire.specs.declared.message.Side.TheVariants.{Client, Server}
+use Rattle.nbd_state.specs.Showing.{IsShown}
+use Rattle.nbd_state.specs.declared.state.Phase.{Phase}
+use Rattle.nbd_state.specs.declared.state.Phase.TheVariants as program
+use Rattle.nbd_state.specs.declared.state.State.{State}
+use Rattle.nbd_state.specs.Shows.{Shows}
+use Rattle.nbd_state.specs.declared.asked.Exchange.{Exchange}
+use Rattle.nbd_wire.specs.declared.heads.transmission.ChunkHead.{ChunkHead}
+use Rattle.nbd_session.specs.declared.expected.Expected.{Expected}
+use Rattle.nbd_session.specs.declared.expected.Expected.TheVariants.{Greeting, ClientFlags, Choice, Answer, Exported, Request, Simple, Chunk}
+
+-- the message, with the bytes after its head
+abbrev pub message_of : Expected → List ℕ → Message
+message_of (Greeting flags) payload = messages.Greeting flags
+message_of (ClientFlags flags) payload = messages.ClientFlags flags
+message_of (Choice head) payload = messages.Choice head.id payload
+message_of (Answer head proper) payload = messages.Answer head.option head.kind payload
+message_of (Exported size flags padded) payload = messages.Exported size flags padded
+message_of (Request head) payload = messages.Request head.flags head.command head.cookie head.offset head.length payload
+message_of (Simple head place len) payload = messages.Simple head.error head.cookie payload
+message_of (Chunk head place) payload = messages.Chunk head.flags head.kind head.cookie payload
+
+-- how many bytes come after its head
+abbrev pub payload_length_of : Expected → ℕ
+payload_length_of (Greeting flags) = 0
+payload_length_of (ClientFlags flags) = 0
+payload_length_of (Choice head) = head.length
+payload_length_of (Answer head proper) = head.length
+payload_length_of (Exported size flags padded) = if padded then head_lengths.PADDING else 0
+payload_length_of (Request head) = request_payload_length head.command head.length
+payload_length_of (Simple head place len) = len
+payload_length_of (Chunk head place) = head.length
+
+abbrev pub success_fault_if : Option Bool → (kind : ℕ) → List ℕ → Option WireFault
+success_fault_if (Some proper) kind payload = payload_fault proper kind payload
+success_fault_if None kind payload = None
+
+abbrev pub padding_fault_if : Bool → List ℕ → Option WireFault
+padding_fault_if true payload = padding_fault payload
+padding_fault_if false payload = None
+
+abbrev pub chunk_fault_to : Exporting → Option Operation → (flags kind cookie : ℕ) → List ℕ → Option WireFault
+chunk_fault_to export None flags kind cookie payload = None
+chunk_fault_to export (Some e) flags kind cookie payload =
+    chunk_fault (kind == chunks.NONE) export e (with_reply e (messages.Chunk flags kind cookie payload)) flags kind payload
+
+-- what its last byte shows to be wrong, where so much has completed
+abbrev pub last_fault_by : definitions.Phase → Core → Expected → List ℕ → Option WireFault
+last_fault_by phase core (Answer head proper) payload = success_fault_if proper head.kind payload
+last_fault_by phase core (Exported size flags padded) payload = padding_fault_if padded payload
+last_fault_by phase core (Request head) payload = cookie_fault head.command (target head.cookie core.entries)
+last_fault_by (Transmission export) core (Simple head place len) payload = simple_last_fault export (operation (place + 1) core.entries) head.error
+last_fault_by (Transmission export) core (Chunk head place) payload =
+    chunk_fault_to export (operation (place + 1) core.entries) head.flags head.kind head.cookie payload
+last_fault_by phase core expected payload = None
+
+-- the request that a reply answers has completed
+abbrev pub IsPlaced : Core → Expected → Type 0
+IsPlaced core (Simple head place len) = place < length core.entries
+IsPlaced core (Chunk head place) = place < length core.entries
+IsPlaced core expected = Unit {0}
+
+-- the request that a reply answers has its exchange
+abbrev pub StandsIn : List Exchange → Expected → Type 0
+StandsIn exchanges (Simple head place len) = place < length exchanges
+StandsIn exchanges (Chunk head place) = place < length exchanges
+StandsIn exchanges expected = Unit {0}
+
+-- what is decided of its head and the bytes after it
+abbrev pub expected_decision : Core → Expected → (head_length : ℕ) → List ℕ → Decision
+expected_decision core expected head payload = record {
+  head_length = head;
+  head_fault = None;
+  payload_length = payload_length_of expected;
+  last_fault = last_fault_by core.phase core expected payload;
+  message = message_of expected payload;
+}
+
+-- the head is whole and without a fault, and this is decided of it and any bytes after it
+abbrev pub IsExpectedOf : (counted : ℕ) → Core → Side → (head : List ℕ) → Expected → Type 0
+IsExpectedOf counted core s head expected = (payload : List ℕ) →
+    decision_by_count counted core s (head ++ payload) ≡ Some (expected_decision core expected (length head) payload)
+
+-- the place of the request that a cookie names, of those up to the count, where an exchange shows it; none where it names none
+abbrev pub IsPlaceOf : Exporting → Core → (counted cookie : ℕ) → List Exchange → Option ℕ → Type 0
+IsPlaceOf export core counted cookie exchanges None = operation_counted counted core cookie ≡ None
+IsPlaceOf export core counted cookie exchanges (Some place) = (e : Operation) × (x : Exchange) × (operation_counted counted core cookie ≡ Some e)
+    × (operation (place + 1) core.entries ≡ Some e) × (slice_get exchanges place ≡ Some x) × IsShown export e x
+
+-- what is decided of a simple reply with these fields, to the request that it names
+pub record IsSimpleOf (export : Exporting) (core : Core) (to : Option Operation) (error cookie : ℕ) (expected : Expected) : Type 0 where
+  pub no_fault : simple_fault core.structured to ≡ None
+  pub length_is : payload_length_of expected ≡ simple_payload_length to error
+  pub last_is : (payload : List ℕ) → last_fault_by (Transmission export) core expected payload ≡ simple_last_fault export to error
+  pub message_is : (payload : List ℕ) → message_of expected payload ≡ messages.Simple error cookie payload
+  pub placed : IsPlaced core expected
+
+-- what is decided of a chunk with these fields, to the request that it names
+pub record IsChunkOf (export : Exporting) (core : Core) (to : Option Operation) (h : ChunkHead) (expected : Expected) : Type 0 where
+  pub no_fault : chunk_head_fault core.structured to ≡ None
+  pub length_is : payload_length_of expected ≡ h.length
+  pub last_is : (payload : List ℕ) → last_fault_by (Transmission export) core expected payload ≡ chunk_fault_to export to h.flags h.kind h.cookie payload
+  pub message_is : (payload : List ℕ) → message_of expected payload ≡ messages.Chunk h.flags h.kind h.cookie payload
+  pub placed : IsPlaced core expected
+
+-- the whole head of a reply, by the number that it begins with
+abbrev pub IsReplyHead : List ℕ → Type 0
+IsReplyHead head = (begins SIMPLE_MAGIC head ≡ true) × (length head ≡ 16) ⊎ (begins CHUNK_MAGIC head ≡ true) × (length head ≡ 20)
+
+-- the whole head of the message that may come in a phase; none where the side may not send
+abbrev pub whole_head_by : Phase → (disconnected : Bool) → Side → List ℕ → Type 0
+whole_head_by program.Flags disconnected Client head = length head ≡ 4
+whole_head_by program.Choosing disconnected Client head = length head ≡ 16
+whole_head_by (program.Transmission export) disconnected Client head = (disconnected ≡ false) × (length head ≡ 28)
+whole_head_by program.Greet disconnected Server head = length head ≡ 18
+whole_head_by program.Naming disconnected Server head = length head ≡ 10
+whole_head_by program.Aborting disconnected Server head = length head ≡ 20
+whole_head_by (program.Answering chosen) disconnected Server head = length head ≡ 20
+whole_head_by (program.Transmission export) disconnected Server head = IsReplyHead head
+whole_head_by phase disconnected s head = ⊥
+
+abbrev pub IsWholeHead : State → Side → List ℕ → Type 0
+IsWholeHead state s head = whole_head_by state.phase state.disconnected s head
+
+-- the head is whole, and its last byte shows this fault
+pub record IsRefusedHead (counted : ℕ) (core : Core) (s : Side) (head : List ℕ) (fault : WireFault) : Type 0 where
+  pub decision : Decision
+  pub decided : decision_by_count counted core s head ≡ Some decision
+  pub length_is : decision.head_length ≡ length head
+  pub fault_is : decision.head_fault ≡ Some fault
+
+-- a reply's bytes tell this length of its head: 4 before its number has come, and then by the number
+abbrev pub HasReplyLength : List ℕ → ℕ → Type 0
+HasReplyLength head n = (length head < 4) × (n ≡ 4)
+    ⊎ ((begins SIMPLE_MAGIC head ≡ true) × (n ≡ 16) ⊎ (begins CHUNK_MAGIC head ≡ true) × (n ≡ 20))
+
+-- bytes begin with another number than a reply's
+abbrev pub IsNoReply : List ℕ → WireFault → Type 0
+IsNoReply head fault = (fault ≡ BadMagic) × (4 ≤ length head) × (begins SIMPLE_MAGIC head ≡ false) × (begins CHUNK_MAGIC head ≡ false)
+
+-- this is the length of the head that the judge sees in the bytes, and bytes of this length are whole
+pub record HasHeadLength (state : State) (s : Side) (head : List ℕ) (n : ℕ) : Type 0 where
+  pub decided : (core : Core) (counted : ℕ) → Shows state core → (d : Decision) × (decision_by_count counted core s head ≡ Some d) × (d.head_length ≡ n)
+  pub whole : length head ≡ n → IsWholeHead state s head

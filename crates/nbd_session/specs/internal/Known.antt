@@ -1,0 +1,44 @@
+-- What is known of the bytes that have come of a side, by what its head says.
+use Rattle.std.specs.Prelude.{◌≡◌, ◌<◌, ◌≤◌, ◌++◌, ℕ, List, [], Option, Some, None, length}
+use Rattle.nbd_wire.specs.declared.message.Side.{Side}
+use Rattle.nbd_wire.specs.protocol.States.{Core}
+use Rattle.nbd_places.specs.internal.Decisions.{Decision}
+use Rattle.nbd_places.specs.internal.Judge.{awaited_length, decision}
+use Rattle.nbd_laws.specs.internal.Machine.{IsFilled, Machine, get, old_of}
+use Rattle.nbd_session.specs.declared.expected.Expected.{Expected}
+use Rattle.nbd_session.specs.Incoming.{IncomingView}
+use Rattle.nbd_session.specs.internal.Expecting.{IsPlaced, expected_decision, payload_length_of}
+
+-- what is decided of these bytes of a side, where the machine stands
+abbrev pub decided : Machine → Side → List ℕ → Option Decision
+decided machine s bytes = decision machine.core.phase (old_of machine.core (get machine.rests s)) machine.core s bytes
+
+-- the next length at which something is decided of a side's bytes
+abbrev pub awaited : Machine → Side → ℕ
+awaited machine s = awaited_length (old_of machine.core (get machine.rests s)) machine.core s (get machine.rests s).bytes
+
+-- the head is whole, and this is decided of it and any bytes after it
+pub record IsExpected (decided : List ℕ → Option Decision) (core : Core) (head : List ℕ) (x : Expected) : Type 0 where
+  pub filled : IsFilled head
+  pub placed : IsPlaced core x
+  pub is : (payload : List ℕ) → decided (head ++ payload) ≡ Some (expected_decision core x (length head) payload)
+
+-- no head that is decided is as short as these bytes
+abbrev pub IsShort : (decided : List ℕ → Option Decision) → (head : List ℕ) → Type 0
+IsShort decided head = (d : Decision) → decided head ≡ Some d → length head < d.head_length
+
+abbrev pub is_known_by : (decided : List ℕ → Option Decision) → Core → (head payload : List ℕ) → Option Expected → Type 0
+is_known_by decided core head payload (Some x) = IsExpected decided core head x
+is_known_by decided core head payload None = (payload ≡ []) × IsShort decided head
+
+-- between two steps: the head is not whole, or what it says is known
+abbrev pub IsKnown : (decided : List ℕ → Option Decision) → Core → IncomingView → Type 0
+IsKnown decided core v = is_known_by decided core v.head v.payload v.expected
+
+abbrev pub is_come_by : (decided : List ℕ → Option Decision) → Core → (head payload : List ℕ) → Option Expected → Type 0
+is_come_by decided core head payload (Some x) = IsExpected decided core head x × (length payload ≤ payload_length_of x)
+is_come_by decided core head payload None = (payload ≡ []) × ((d : Decision) → decided head ≡ Some d → length head ≤ d.head_length)
+
+-- where bytes were taken up to the awaited length
+abbrev pub IsCome : (decided : List ℕ → Option Decision) → Core → IncomingView → Type 0
+IsCome decided core v = is_come_by decided core v.head v.payload v.expected

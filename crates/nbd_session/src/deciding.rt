@@ -1,0 +1,121 @@
+//! What a side's bytes begin: decided once, at the last byte of their head.
+
+ghost use Rattle.std.specs.Prelude.{◌≡◌, ◌≤◌, ℕ, List, IfErr, IfOk};
+ghost use Rattle.nbd_wire.specs.declared.message.Side.TheVariants.{Client, Server};
+ghost use Rattle.nbd_wire.specs.protocol.States.{Core};
+ghost use Rattle.nbd_places.specs.internal.Judge.{decision_by_count};
+ghost use Rattle.nbd_laws.specs.internal.Machine.{Bad};
+ghost use Rattle.nbd_places.specs.internal.Concrete.{reading_by_decision};
+ghost use Rattle.nbd_session.specs.internal.Expecting.{HasHeadLength, IsExpectedOf, IsPlaced, IsRefusedHead, IsWholeHead};
+ghost use Rattle.nbd_state.specs.Shows.{Shows};
+
+use crate::expected::Expected;
+use crate::heads::reply_head_length;
+use crate::negotiation::{client_flags, exported, greeting};
+use crate::options::{abort_answer, answer, choice};
+use crate::replies::reply;
+use crate::requests::request;
+use nbd_state::{Phase, State};
+use nbd_wire::{Side, WireFault, head_lengths};
+
+/// The next length at which something is decided of the bytes of a head, of which these have come. A side
+/// that may not send is `OutOfTurn`.
+pub(crate) fn head_length(state: &State, side: Side, head: &[u8]) -> Result<usize, WireFault>
+    ensures known { IfOk result (HasHeadLength state.now side head.now) }
+    ensures fits { IfOk result (λ n. n ≤ 28) }
+    ensures refused { IfErr result (λ fault. (core : Core) (counted : ℕ) → Shows state.now core →
+        reading_by_decision (decision_by_count counted core side head.now) head.now ≡ Bad fault) }
+{
+    match side {
+        Side::Client => client_head_length(state),
+        Side::Server => server_head_length(state, head),
+    }
+}
+
+// The length of a client's head.
+fn client_head_length(state: &State) -> Result<usize, WireFault>
+    ensures known { IfOk result (λ n. (head : List ℕ) → HasHeadLength state.now Client head n) }
+    ensures fits { IfOk result (λ n. n ≤ 28) }
+    ensures refused { IfErr result (λ fault. (core : Core) (counted : ℕ) (head : List ℕ) → Shows state.now core →
+        reading_by_decision (decision_by_count counted core Client head) head ≡ Bad fault) }
+{
+    match state.phase {
+        Phase::Flags => Ok(head_lengths::CLIENT_FLAGS),
+        Phase::Choosing => Ok(head_lengths::CHOICE),
+        Phase::Transmission(_) if !state.disconnected => Ok(head_lengths::REQUEST),
+        _ => Err(WireFault::OutOfTurn),
+    }
+}
+
+// The length of a server's head, as far as these bytes say.
+fn server_head_length(state: &State, head: &[u8]) -> Result<usize, WireFault>
+    ensures known { IfOk result (HasHeadLength state.now Server head.now) }
+    ensures fits { IfOk result (λ n. n ≤ 28) }
+    ensures refused { IfErr result (λ fault. (core : Core) (counted : ℕ) → Shows state.now core →
+        reading_by_decision (decision_by_count counted core Server head.now) head.now ≡ Bad fault) }
+{
+    match state.phase {
+        Phase::Greet => Ok(head_lengths::GREETING),
+        Phase::Naming => Ok(head_lengths::EXPORT),
+        Phase::Aborting => Ok(head_lengths::ANSWER),
+        Phase::Answering(_) => Ok(head_lengths::ANSWER),
+        Phase::Transmission(_) => reply_head_length(head),
+        _ => Err(WireFault::OutOfTurn),
+    }
+}
+
+/// What a message is whose head this is; a server's began when `counted` numbered requests had completed.
+pub(crate) fn decide(
+    state: &State,
+    side: Side,
+    head: &[u8],
+    counted: u64,
+) -> Result<Expected, WireFault>
+    requires { IsWholeHead state.now side head.now }
+    ensures expected { IfOk result (λ expected. (core : Core) → Shows state.now core →
+        IsExpectedOf counted core side head.now expected) }
+    ensures placed { IfOk result (λ expected. (core : Core) → Shows state.now core → IsPlaced core expected) }
+    ensures refused { IfErr result (λ fault. (core : Core) → Shows state.now core →
+        IsRefusedHead counted core side head.now fault) }
+{
+    match side {
+        Side::Client => decide_client(state, head),
+        Side::Server => decide_server(state, head, counted),
+    }
+}
+
+// What a client's message is.
+fn decide_client(state: &State, head: &[u8]) -> Result<Expected, WireFault>
+    requires { IsWholeHead state.now Client head.now }
+    ensures expected { IfOk result (λ expected. (core : Core) (counted : ℕ) → Shows state.now core →
+        IsExpectedOf counted core Client head.now expected) }
+    ensures placed { IfOk result (λ expected. (core : Core) → IsPlaced core expected) }
+    ensures refused { IfErr result (λ fault. (core : Core) (counted : ℕ) → Shows state.now core →
+        IsRefusedHead counted core Client head.now fault) }
+{
+    match state.phase {
+        Phase::Flags => client_flags(head, state.offered),
+        Phase::Choosing => choice(head),
+        Phase::Transmission(_) => request(head),
+        _ => unreachable!(),
+    }
+}
+
+// What a server's message is.
+fn decide_server(state: &State, head: &[u8], counted: u64) -> Result<Expected, WireFault>
+    requires { IsWholeHead state.now Server head.now }
+    ensures expected { IfOk result (λ expected. (core : Core) → Shows state.now core →
+        IsExpectedOf counted core Server head.now expected) }
+    ensures placed { IfOk result (λ expected. (core : Core) → Shows state.now core → IsPlaced core expected) }
+    ensures refused { IfErr result (λ fault. (core : Core) → Shows state.now core →
+        IsRefusedHead counted core Server head.now fault) }
+{
+    match state.phase {
+        Phase::Greet => greeting(head),
+        Phase::Naming => exported(head, state.client_flags),
+        Phase::Aborting => abort_answer(head),
+        Phase::Answering(chosen) => answer(head, chosen),
+        Phase::Transmission(_) => reply(state, head, counted),
+        _ => unreachable!(),
+    }
+}

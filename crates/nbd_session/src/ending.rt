@@ -1,0 +1,64 @@
+//! What the last byte of a message shows to be wrong with it.
+
+ghost use Rattle.std.specs.Prelude.{◌≡◌, Some};
+ghost use Rattle.nbd_wire.specs.protocol.Operations.{Exporting, Operation};
+ghost use Rattle.nbd_wire.specs.protocol.States.{Core};
+ghost use Rattle.nbd_places.specs.internal.JudgeNegotiation.{are_zeroes};
+ghost use Rattle.nbd_places.specs.internal.JudgeTransmission.{simple_last_fault};
+ghost use Rattle.nbd_state.specs.Showing.{IsShown};
+ghost use Rattle.nbd_session.specs.internal.Expecting.{StandsIn, last_fault_by};
+ghost use Rattle.nbd_state.specs.Shows.{Shows};
+
+use crate::chunks::chunk_fault;
+use crate::expected::Expected;
+use crate::options::payload_fault;
+use nbd_state::{Exchange, State};
+use nbd_wire::{WireFault, commands};
+
+/// The fault at the last byte of a message with this payload.
+pub(crate) fn last_fault(
+    state: &State,
+    expected: &Expected,
+    payload: &[u8],
+) -> Option<WireFault>
+    requires { StandsIn state.now.exchanges.items expected.now }
+    ensures { (core : Core) → Shows state.now core → result ≡ last_fault_by core.phase core expected.now payload.now }
+{
+    match expected {
+        Expected::Answer {
+            head,
+            proper: Some(proper),
+        } => payload_fault(head.kind, *proper, payload),
+        Expected::Exported { padded: true, .. } if !are_zeroes(payload) => {
+            Some(WireFault::BadExport)
+        }
+        Expected::Request(head)
+            if head.command != commands::DISC && state.outstanding.contains_key(&head.cookie) =>
+        {
+            Some(WireFault::CookieInUse)
+        }
+        Expected::Simple { head, place, .. } => success_fault(head.error, &state.exchanges[*place]),
+        Expected::Chunk { head, place } => {
+            chunk_fault(head.flags, head.kind, payload, &state.exchanges[*place])
+        }
+        _ => None,
+    }
+}
+
+// A request that is not proper, answered as successful.
+fn success_fault(error: u32, exchange: &Exchange) -> Option<WireFault>
+    ensures { (export : Exporting) (e : Operation) → IsShown export e exchange.now →
+        result ≡ simple_last_fault export (Some e) error }
+{
+    if error == 0 && !exchange.asked.proper {
+        Some(WireFault::SuccessOfImproper)
+    } else {
+        None
+    }
+}
+
+fn are_zeroes(bytes: &[u8]) -> bool
+    ensures { result ≡ are_zeroes bytes.now }
+{
+    bytes.iter().all(|byte| *byte == 0)
+}

@@ -1,0 +1,82 @@
+//! What a side's bytes begin, as their head says.
+
+ghost use Rattle.std.specs.Prelude.{◌≡◌};
+ghost use Rattle.nbd_session.specs.internal.Expecting.{message_of, payload_length_of};
+use nbd_wire::{AnswerHead, Bytes, ChoiceHead, ChunkHead, Message, RequestHead, SimpleHead, commands, head_lengths};
+
+/// A message whose head has come, and may stand where the session stands.
+#[derive(Clone, Copy, Drop)]
+pub(crate) enum Expected {
+    Greeting { flags: u16 },
+    ClientFlags { flags: u32 },
+    Choice(ChoiceHead),
+    /// An option reply; of one of success whether the option was proper.
+    Answer { head: AnswerHead, proper: Option<bool> },
+    Exported { size: u64, flags: u16, padded: bool },
+    Request(RequestHead),
+    /// A simple reply, the place of its request, and how many bytes follow.
+    Simple { head: SimpleHead, place: usize, length: u32 },
+    /// A chunk, and the place of its request.
+    Chunk { head: ChunkHead, place: usize },
+}
+
+impl Expected {
+    /// How many bytes follow the head.
+    pub(crate) fn payload_length(&self) -> usize
+        ensures { result ≡ payload_length_of self.now }
+    {
+        match self {
+            Expected::Greeting { .. } | Expected::ClientFlags { .. } => 0,
+            Expected::Choice(head) => head.length as usize,
+            Expected::Answer { head, .. } => head.length as usize,
+            Expected::Exported { padded, .. } => {
+                if *padded {
+                    head_lengths::PADDING
+                } else {
+                    0
+                }
+            }
+            Expected::Request(head) if head.command == commands::WRITE => head.length as usize,
+            Expected::Request(_) => 0,
+            Expected::Simple { length, .. } => *length as usize,
+            Expected::Chunk { head, .. } => head.length as usize,
+        }
+    }
+
+    /// The message, with the bytes that followed its head.
+    pub(crate) fn message(self, payload: Vec<u8>) -> Message
+        ensures { result ≡ message_of self payload.items }
+    {
+        let payload = Bytes::new(payload);
+        match self {
+            Expected::Greeting { flags } => Message::Greeting { flags },
+            Expected::ClientFlags { flags } => Message::ClientFlags { flags },
+            Expected::Choice(head) => Message::Choice { id: head.id, payload },
+            Expected::Answer { head, .. } => Message::Answer {
+                option: head.option,
+                kind: head.kind,
+                payload,
+            },
+            Expected::Exported { size, flags, padded } => Message::Exported { size, flags, padded },
+            Expected::Request(head) => Message::Request {
+                flags: head.flags,
+                command: head.command,
+                cookie: head.cookie,
+                offset: head.offset,
+                length: head.length,
+                payload,
+            },
+            Expected::Simple { head, .. } => Message::Simple {
+                error: head.error,
+                cookie: head.cookie,
+                payload,
+            },
+            Expected::Chunk { head, .. } => Message::Chunk {
+                flags: head.flags,
+                kind: head.kind,
+                cookie: head.cookie,
+                payload,
+            },
+        }
+    }
+}

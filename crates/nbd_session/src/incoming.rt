@@ -1,0 +1,146 @@
+//! The bytes of a side that belong to no completed message.
+
+ghost use Rattle.std.specs.Prelude.{◌≡◌, ◌+◌, ◌≤◌, ◌<◌, ◌^◌, ◌++◌, length, None, OnErr, OnOk, Some};
+ghost use Rattle.nbd_session.specs.Incoming.{incoming_with, nothing_come};
+ghost use Rattle.nbd_session.specs.Views.{stretches_of};
+ghost use Rattle.nbd_session.specs.internal.Incoming.{is_nothing};
+ghost use Rattle.nbd_session.specs.internal.Standing.{stretch_total, stretches_with};
+
+use crate::expected::Expected;
+use crate::stretches::{Stretch, note};
+use nbd_wire::Side;
+use std::alloc::{AllocError, Global};
+use std::marker::Model;
+
+/// The longest head of a message, a request's.
+const LONGEST_HEAD: usize = 28;
+
+/// The bytes of a side after its last completed message: those of the head, and once that is whole what
+/// it says and the bytes after it.
+#[derive(Drop)]
+pub(crate) struct Incoming {
+    head: [u8; LONGEST_HEAD],
+    // How many bytes of the head have come.
+    len: usize,
+    expected: Option<Expected>,
+    payload: Vec<u8>,
+}
+
+impl Model for Incoming {
+    ghost use Rattle.std.specs.Prelude.{◌≤◌, take};
+    ghost use Rattle.nbd_session.specs.Incoming.{IncomingView};
+
+    ghost Value = { IncomingView };
+
+    ghost view = { λ s. record {
+      head = take s.len s.head;
+      expected = s.expected;
+      payload = s.payload.items;
+    } };
+
+    ghost invariant = { λ s. s.len ≤ 28 };
+}
+
+impl Incoming {
+    /// No bytes; takes no memory.
+    pub(crate) fn new(alloc: Global) -> Incoming
+        ensures { result ≡ nothing_come }
+    {
+        Incoming {
+            head: [0; LONGEST_HEAD],
+            len: 0,
+            expected: None,
+            payload: Vec::new(alloc),
+        }
+    }
+
+    /// No byte has come.
+    pub(crate) fn is_empty(&self) -> bool
+        ensures { result ≡ is_nothing self.now.head }
+    {
+        self.head().is_empty()
+    }
+
+    /// The bytes of the head that have come.
+    pub(crate) fn head(&self) -> &[u8]
+        ensures { result.now ≡ self.now.head }
+    {
+        &self.head[..self.len]
+    }
+
+    /// What the head says, once it is whole.
+    pub(crate) fn expected(&self) -> Option<Expected>
+        ensures { result ≡ self.now.expected }
+    {
+        self.expected
+    }
+
+    /// The bytes that came after the head.
+    pub(crate) fn payload(&self) -> &[u8]
+        ensures { result.now ≡ self.now.payload }
+    {
+        self.payload.as_slice()
+    }
+
+    /// Takes more bytes of a side, after all others. After an `Err`, that memory ran out, all is as it was.
+    pub(crate) fn add(
+        &mut self,
+        stretches: &mut Vec<Stretch>,
+        side: Side,
+        piece: &[u8],
+    ) -> Result<(), AllocError>
+        requires room { self.old.expected ≡ None → length self.old.head + length piece.now ≤ 28 }
+        requires fits { stretch_total side (stretches_of stretches.old.items) + length piece.now < 2 ^ 64 }
+        ensures bytes { OnOk result (self.new ≡ incoming_with self.old piece.now) }
+        ensures stretches { OnOk result (stretches_of stretches.new.items ≡ stretches_with
+            (stretches_of stretches.old.items) side (length piece.now)) }
+        ensures unchanged { OnErr result ((self.new ≡ self.old)
+            × (stretches_of stretches.new.items ≡ stretches_of stretches.old.items)) }
+    {
+        if self.expected.is_some() {
+            return append(&mut self.payload, stretches, side, piece);
+        }
+        note(stretches, side, piece.len() as u64)?;
+        let end = self.len + piece.len();
+        self.head[self.len..end].copy_from_slice(piece);
+        self.len = end;
+        Ok(())
+    }
+
+    /// The head is whole, and says this.
+    pub(crate) fn expect(&mut self, expected: Expected)
+        ensures { self.new ≡ record self.old { expected = Some expected } }
+    {
+        self.expected = Some(expected);
+    }
+
+    /// Makes it empty, and returns the bytes after the head.
+    pub(crate) fn take(&mut self, alloc: Global) -> Vec<u8>
+        ensures payload { result.items ≡ self.old.payload }
+        ensures empty { self.new ≡ nothing_come }
+    {
+        self.len = 0;
+        self.expected = None;
+        std::mem::replace(&mut self.payload, Vec::new(alloc))
+    }
+}
+
+/// These bytes of a side after its others and after all. After an `Err`, that memory ran out, both are
+/// as they were.
+fn append(
+    bytes: &mut Vec<u8>,
+    stretches: &mut Vec<Stretch>,
+    side: Side,
+    piece: &[u8],
+) -> Result<(), AllocError>
+    requires { stretch_total side (stretches_of stretches.old.items) + length piece.now < 2 ^ 64 }
+    ensures bytes { OnOk result (bytes.new.items ≡ bytes.old.items ++ piece.now) }
+    ensures stretches { OnOk result (stretches_of stretches.new.items ≡ stretches_with (stretches_of stretches.old.items) side
+        (length piece.now)) }
+    ensures unchanged { OnErr result ((bytes.new.items ≡ bytes.old.items)
+        × (stretches_of stretches.new.items ≡ stretches_of stretches.old.items)) }
+{
+    bytes.reserve(piece.len())?;
+    note(stretches, side, piece.len() as u64)?;
+    bytes.extend_from_slice(piece)
+}

@@ -1,0 +1,46 @@
+//! The bytes of both sides, by whose they are.
+
+ghost use Rattle.std.specs.Prelude.{◌≡◌, ◌+◌, ◌-◌, ◌<◌, ◌^◌, length, OnErr, OnOk, slice_get};
+ghost use Rattle.nbd_session.specs.Views.{stretches_of};
+ghost use Rattle.nbd_session.specs.internal.Holdings.{is_of};
+ghost use Rattle.nbd_session.specs.internal.Standing.{stretch_total, stretches_with};
+
+use nbd_wire::Side;
+use std::alloc::AllocError;
+
+/// Bytes of one side that follow each other, by their number.
+#[derive(Clone, Copy, Drop)]
+pub(crate) struct Stretch {
+    pub from: Side,
+    pub length: u64,
+}
+
+/// So many more bytes of a side after all others. After an `Err`, that memory ran out, nothing changed.
+pub(crate) fn note(stretches: &mut Vec<Stretch>, side: Side, count: u64) -> Result<(), AllocError>
+    requires { stretch_total side (stretches_of stretches.old.items) + count < 2 ^ 64 }
+    ensures noted { OnOk result (stretches_of stretches.new.items ≡ stretches_with
+        (stretches_of stretches.old.items) side count) }
+    ensures unchanged { OnErr result (stretches_of stretches.new.items ≡ stretches_of stretches.old.items) }
+{
+    if !is_last(stretches, side) {
+        stretches.push(Stretch {
+            from: side,
+            length: count,
+        })?;
+        return Ok(());
+    }
+    if let Some(last) = stretches.last_mut() {
+        last.length += count;
+    }
+    Ok(())
+}
+
+/// The last bytes are of this side.
+fn is_last(stretches: &[Stretch], side: Side) -> bool
+    ensures { result ≡ is_of side (slice_get stretches.now (length stretches.now - 1)) }
+{
+    match stretches.last() {
+        Some(last) => side == last.from,
+        None => false,
+    }
+}
