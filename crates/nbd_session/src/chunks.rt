@@ -11,7 +11,7 @@ ghost use Rattle.nbd_wire.specs.protocol.States.{Core, with_reply};
 ghost use Rattle.nbd_wire.specs.declared.message.Message.TheVariants.{Chunk};
 ghost use Rattle.nbd_wire.specs.protocol.Payloads.{number_at};
 ghost use Rattle.nbd_wire.specs.declared.fault.WireFault.TheVariants.{BadChunk, BadContent};
-ghost use Rattle.nbd_session.specs.internal.Asking.{ShownIf, done_by, finish_by, span_of};
+ghost use Rattle.nbd_session.specs.internal.Asking.{done_by, finish_by, span_of};
 ghost use Rattle.nbd_state.specs.Showing.{IsShown};
 ghost use Rattle.nbd_places.specs.internal.Decisions.{fault_if};
 ghost use Rattle.nbd_places.specs.internal.JudgeTransmission.{begins, chunk_to, chunk_fault, fits_read, fits_failure, total};

@@ -16,11 +16,7 @@ use nbd_state::{Exchange, State};
 use nbd_wire::{WireFault, commands};
 
 /// The fault at the last byte of a message with this payload.
-pub(crate) fn last_fault(
-    state: &State,
-    expected: &Expected,
-    payload: &[u8],
-) -> Option<WireFault>
+pub(crate) fn last_fault(state: &State, expected: &Expected, payload: &[u8]) -> Option<WireFault>
     requires { StandsIn state.now.exchanges.items expected.now }
     ensures { (core : Core) → Shows state.now core → result ≡ last_fault_by core.phase core expected.now payload.now }
 {
@@ -33,8 +29,7 @@ pub(crate) fn last_fault(
             Some(WireFault::BadExport)
         }
         Expected::Request(head)
-            if head.command != commands::DISC && state.outstanding.contains_key(&head.cookie) =>
-        {
+            if head.command != commands::DISC && state.outstanding.contains_key(&head.cookie) => {
             Some(WireFault::CookieInUse)
         }
         Expected::Simple { head, place, .. } => success_fault(head.error, &state.exchanges[*place]),

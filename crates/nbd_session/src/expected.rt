@@ -2,22 +2,44 @@
 
 ghost use Rattle.std.specs.Prelude.{◌≡◌};
 ghost use Rattle.nbd_session.specs.internal.Expecting.{message_of, payload_length_of};
-use nbd_wire::{AnswerHead, Bytes, ChoiceHead, ChunkHead, Message, RequestHead, SimpleHead, commands, head_lengths};
+
+use nbd_wire::{
+    AnswerHead, Bytes, ChoiceHead, ChunkHead, Message, RequestHead, SimpleHead, commands,
+    head_lengths,
+};
 
 /// A message whose head has come, and may stand where the session stands.
 #[derive(Clone, Copy, Drop)]
 pub(crate) enum Expected {
-    Greeting { flags: u16 },
-    ClientFlags { flags: u32 },
+    Greeting {
+        flags: u16,
+    },
+    ClientFlags {
+        flags: u32,
+    },
     Choice(ChoiceHead),
     /// An option reply; of one of success whether the option was proper.
-    Answer { head: AnswerHead, proper: Option<bool> },
-    Exported { size: u64, flags: u16, padded: bool },
+    Answer {
+        head: AnswerHead,
+        proper: Option<bool>,
+    },
+    Exported {
+        size: u64,
+        flags: u16,
+        padded: bool,
+    },
     Request(RequestHead),
     /// A simple reply, the place of its request, and how many bytes follow.
-    Simple { head: SimpleHead, place: usize, length: u32 },
+    Simple {
+        head: SimpleHead,
+        place: usize,
+        length: u32,
+    },
     /// A chunk, and the place of its request.
-    Chunk { head: ChunkHead, place: usize },
+    Chunk {
+        head: ChunkHead,
+        place: usize,
+    },
 }
 
 impl Expected {
@@ -29,13 +51,7 @@ impl Expected {
             Expected::Greeting { .. } | Expected::ClientFlags { .. } => 0,
             Expected::Choice(head) => head.length as usize,
             Expected::Answer { head, .. } => head.length as usize,
-            Expected::Exported { padded, .. } => {
-                if *padded {
-                    head_lengths::PADDING
-                } else {
-                    0
-                }
-            }
+            Expected::Exported { padded, .. } => { if *padded { head_lengths::PADDING } else { 0 } }
             Expected::Request(head) if head.command == commands::WRITE => head.length as usize,
             Expected::Request(_) => 0,
             Expected::Simple { length, .. } => *length as usize,
@@ -51,13 +67,24 @@ impl Expected {
         match self {
             Expected::Greeting { flags } => Message::Greeting { flags },
             Expected::ClientFlags { flags } => Message::ClientFlags { flags },
-            Expected::Choice(head) => Message::Choice { id: head.id, payload },
+            Expected::Choice(head) => Message::Choice {
+                id: head.id,
+                payload,
+            },
             Expected::Answer { head, .. } => Message::Answer {
                 option: head.option,
                 kind: head.kind,
                 payload,
             },
-            Expected::Exported { size, flags, padded } => Message::Exported { size, flags, padded },
+            Expected::Exported {
+                size,
+                flags,
+                padded,
+            } => Message::Exported {
+                size,
+                flags,
+                padded,
+            },
             Expected::Request(head) => Message::Request {
                 flags: head.flags,
                 command: head.command,

@@ -11,9 +11,7 @@ ghost use Rattle.nbd_state.specs.Shows.{Shows};
 
 use crate::expected::Expected;
 use nbd_state::{Asked, State};
-use nbd_wire::{
-    ChunkHead, SimpleHead, WireFault, chunk_head, commands, head_lengths, simple_head,
-};
+use nbd_wire::{ChunkHead, SimpleHead, WireFault, chunk_head, commands, head_lengths, simple_head};
 
 /// A reply, by its head; it began when `counted` numbered requests had completed.
 pub(crate) fn reply(state: &State, head: &[u8], counted: u64) -> Result<Expected, WireFault>

@@ -62,8 +62,9 @@ impl Session {
     /// are below 2^63 together.
     ///
     /// After `Wire` or `Memory` the session is closed: each later call returns the same fault and changes
-    /// nothing, and `messages` are those that were accepted before. At `Wire` the bytes up to the refused
-    /// one were taken, at `Memory` some prefix of the piece.
+    /// nothing. At `Wire` the bytes up to the refused one were taken, and `messages` are those before it.
+    /// At `Memory` some prefix of the piece was taken, and `messages` are those whose last byte it has, but
+    /// perhaps for the last one.
     pub fn push(&mut self, side: Side, piece: &[u8]) -> Result<(), SessionFault>
         requires { bytes_taken self.old + length piece.now < 2 ^ 63 }
         ensures added { OnOk result (pairs_of self.new ≡ pairs_of self.old ++ side_pairs side piece.now) }

@@ -9,7 +9,6 @@ use Rattle.nbd_state.specs.declared.asked.Exchange.{Exchange}
 use Rattle.nbd_state.specs.declared.state.State.{State}
 use Rattle.nbd_state.specs.Showing.{IsShown}
 use Rattle.nbd_state.specs.Shows.{AreShown, Shows}
-use Rattle.nbd_wire.specs.declared.chunks.TheConstants as chunks
 use Rattle.nbd_wire.specs.declared.fault.WireFault.{WireFault}
 use Rattle.nbd_wire.specs.declared.heads.transmission.ChunkHead.{ChunkHead}
 use Rattle.nbd_wire.specs.declared.heads.transmission.SimpleHead.{SimpleHead}
@@ -48,6 +47,7 @@ exchange_shown_at state core place s l = go core.phase refl
   where
     none : (phase : definitions.Phase) → core.phase ≡ phase → export_in phase ≡ None → ⊥
     none phase p n = no_exchange core.entries state.exchanges.items place (subst (λ o. AreShown o core.entries state.exchanges.items) (ap export_in p ∙ n) s.are_shown) l
+
     go : (phase : definitions.Phase) → core.phase ≡ phase → IsShownAt core state.exchanges.items place
     go (Transmission export) p =
         let a = operation_at export core.entries state.exchanges.items place (subst (λ (q : definitions.Phase). AreShown (export_in q) core.entries state.exchanges.items) p s.are_shown) l in

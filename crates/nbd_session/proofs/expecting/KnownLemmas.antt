@@ -1,7 +1,6 @@
 -- What is known of a side's bytes, and what is read of them.
-use Rattle.std.proofs.Common.{◌≡◌, ℕ, ◌+◌, ◌<◌, ◌≤◌, ◌==◌, List, [], ◌++◌, length, refl, sym, ◌∙◌, ap, subst, Option, Some, None, Bool, true, false, nat_lt, if◌then◌else◌, arith, length-append}
-use Rattle.std.proofs.lemmas.Bool.{le-ltb, lt-ltb, eq-eqb}
-use Rattle.nbd_wire.specs.declared.message.Message.{Message}
+use Rattle.std.proofs.Common.{◌≡◌, ℕ, ◌+◌, ◌<◌, ◌==◌, List, ◌++◌, length, refl, ◌∙◌, ap, Option, Some, None, Bool, true, false, nat_lt, if◌then◌else◌, arith, length-append}
+use Rattle.std.proofs.lemmas.Bool.{le-ltb, eq-eqb}
 use Rattle.nbd_wire.specs.declared.fault.WireFault.{WireFault}
 use Rattle.nbd_wire.specs.protocol.States.{Core}
 use Rattle.nbd_places.specs.internal.Concrete.{last_reading, read_by, reading_by_decision, staged_reading_by}
@@ -10,7 +9,7 @@ use Rattle.nbd_places.proofs.judge.AwaitedLemmas.{in_head, in_payload}
 use Rattle.nbd_laws.specs.internal.Machine.{Bad, More, Whole}
 use Rattle.nbd_session.specs.declared.expected.Expected.{Expected}
 use Rattle.nbd_session.specs.internal.Expecting.{expected_decision, last_fault_by, message_of, payload_length_of}
-use Rattle.nbd_session.specs.internal.Known.{IsExpected, IsShort}
+use Rattle.nbd_session.specs.internal.Known.{IsExpected}
 
 at_last : (d : Decision) (bytes : List ℕ) (fault : Option WireFault) → length bytes ≡ d.head_length + d.payload_length → d.head_fault ≡ None → d.last_fault ≡ fault →
     read_by d bytes ≡ last_reading fault d.message

@@ -1,5 +1,5 @@
 -- The messages before the options whose heads have come, and the answer to EXPORT_NAME.
-use Rattle.std.proofs.Common.{◌≡◌, ℕ, ◌+◌, ◌≤◌, ◌==◌, ◌&&◌, not, List, ◌++◌, length, drop, refl, sym, ◌∙◌, ap, subst, Option, Some, None, Bool, true, false, nat_lt, arith}
+use Rattle.std.proofs.Common.{◌≡◌, ℕ, ◌==◌, ◌&&◌, not, List, ◌++◌, length, refl, sym, ◌∙◌, ap, Some, None, Bool, true, false, nat_lt, arith}
 use Rattle.nbd_wire.specs.declared.fault.WireFault.TheVariants.{BadMagic, NotFixedNewstyle, BadClientFlags, BadExport, ExportTooLarge}
 use Rattle.nbd_wire.specs.declared.fault.WireFault.{WireFault}
 use Rattle.nbd_wire.specs.declared.handshake.TheConstants as handshake
@@ -10,11 +10,11 @@ use Rattle.nbd_wire.specs.declared.transmission.TheConstants as transmission
 use Rattle.nbd_wire.specs.protocol.Flags.{has}
 use Rattle.nbd_wire.specs.protocol.Payloads.{number_at}
 use Rattle.nbd_wire.specs.protocol.States.{Core}
-use Rattle.nbd_places.specs.internal.Decisions.{Decision, fault_if}
-use Rattle.nbd_places.specs.internal.JudgeNegotiation.{client_flags, client_flags_fault, export_answer, export_fault, greeting, greeting_fault, padding_fault, sets_more}
+use Rattle.nbd_places.specs.internal.Decisions.{fault_if}
+use Rattle.nbd_places.specs.internal.JudgeNegotiation.{client_flags, client_flags_fault, export_answer, export_fault, greeting, padding_fault, sets_more}
 use Rattle.nbd_session.specs.declared.expected.Expected.TheVariants.{Greeting, ClientFlags, Exported}
 use Rattle.nbd_session.specs.internal.Expecting.{expected_decision}
-use Rattle.nbd_session.specs.internal.Leading.{some_if, greeting_flags_of}
+use Rattle.nbd_session.specs.internal.Leading.{greeting_flags_of}
 use Rattle.nbd_session.proofs.expecting.HeadLemmas.{after_head, fields_stay, none_read, some_read}
 
 abbrev begins_well : List ℕ → Bool

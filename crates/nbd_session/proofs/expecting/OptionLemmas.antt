@@ -1,5 +1,5 @@
 -- An option, or an option reply, whose head has come.
-use Rattle.std.proofs.Common.{◌≡◌, ℕ, ◌+◌, ◌≤◌, ◌==◌, ◌&&◌, not, List, ◌++◌, length, drop, refl, sym, ◌∙◌, ap, subst, Option, Some, None, Result, Ok, Err, Bool, true, false, eq-eqb, arith}
+use Rattle.std.proofs.Common.{◌≡◌, ℕ, ◌==◌, not, List, ◌++◌, length, drop, refl, sym, ◌∙◌, ap, Option, Some, None, Ok, Err, Bool, true, false, eq-eqb, arith}
 use Rattle.std.proofs.lemmas.Bool.{ne_eqb}
 use Rattle.nbd_wire.specs.declared.fault.WireFault.{WireFault}
 use Rattle.nbd_wire.specs.declared.fault.WireFault.TheVariants.{BadMagic, WrongOption}
@@ -12,11 +12,11 @@ use Rattle.nbd_wire.specs.protocol.Operations.{Exporting}
 use Rattle.nbd_wire.specs.protocol.Options.{is_error}
 use Rattle.nbd_wire.specs.protocol.Payloads.{number_at}
 use Rattle.nbd_wire.specs.protocol.States.{Core}
-use Rattle.nbd_places.specs.internal.Decisions.{Decision, fault_if}
-use Rattle.nbd_places.specs.internal.JudgeNegotiation.{abort_answer, abort_fault, answer, answer_fault, choice, choice_fault, payload_fault, success_fault, unless_error}
+use Rattle.nbd_places.specs.internal.Decisions.{fault_if}
+use Rattle.nbd_places.specs.internal.JudgeNegotiation.{abort_answer, abort_fault, answer, answer_fault, choice, payload_fault, success_fault, unless_error}
 use Rattle.nbd_session.specs.declared.expected.Expected.TheVariants.{Answer, Choice}
 use Rattle.nbd_session.specs.internal.Expecting.{expected_decision}
-use Rattle.nbd_session.specs.internal.Leading.{answer_fields_of, answer_head_of, choice_head_of, some_if, unless_fault}
+use Rattle.nbd_session.specs.internal.Leading.{answer_fields_of, answer_head_of, choice_head_of, unless_fault}
 use Rattle.nbd_session.proofs.expecting.HeadLemmas.{after_head, fields_stay, none_read, some_read}
 
 pub no_choice : (head : List ℕ) → None ≡ choice_head_of head → (choice head).head_fault ≡ Some BadMagic

@@ -1,5 +1,5 @@
 -- A reply whose head has come.
-use Rattle.std.proofs.Common.{◌≡◌, ℕ, zero, suc, ◌+◌, ◌<◌, ◌≤◌, [], ◌∷◌, add-one, ◌==◌, ◌&&◌, ◌||◌, ◌++◌, not, List, length, drop, arith, nat_le, inl, inr, Result, Ok, Err, IfOk, IfErr, refl, sym, ◌∙◌, ap, subst, Option, Some, None, Bool, true, false, is_some, if◌then◌else◌, slice_get}
+use Rattle.std.proofs.Common.{◌≡◌, ℕ, zero, suc, ◌+◌, ◌<◌, [], ◌∷◌, add-one, ◌==◌, ◌&&◌, ◌||◌, ◌++◌, not, List, length, drop, arith, nat_le, inl, inr, Result, Ok, Err, IfOk, IfErr, refl, sym, ◌∙◌, ap, subst, Option, Some, None, Bool, true, false, is_some, if◌then◌else◌, slice_get}
 use Rattle.nbd_wire.specs.declared.commands.TheConstants as commands
 use Rattle.nbd_wire.specs.declared.fault.WireFault.{WireFault}
 use Rattle.nbd_wire.specs.declared.fault.WireFault.TheVariants.{SimpleForbidden, ChunkForbidden}
@@ -102,8 +102,8 @@ module _ (export : Exporting) (core : Core) (counted : ℕ) (head : List ℕ) (h
       let fault = ap (chunk_head_fault core.structured) to ∙ o.no_fault in
       let more = ap (λ (g : ChunkHead). g.length) same ∙ sym o.length_is in
       let last = last_chunk (operation_counted counted core (number_at 8 8 (head ++ payload)))
-          ∙ (λ i. chunk_fault_to export (to i) (same i).flags (same i).kind (same i).cookie (after_head 20 head payload len i))
-          ∙ sym (ap (λ p. last_fault_by p core x payload) phase ∙ o.last_is payload) in
+      ∙ (λ i. chunk_fault_to export (to i) (same i).flags (same i).kind (same i).cookie (after_head 20 head payload len i))
+      ∙ sym (ap (λ p. last_fault_by p core x payload) phase ∙ o.last_is payload) in
       let message = (λ i. messages.Chunk (same i).flags (same i).kind (same i).cookie (after_head 20 head payload len i)) ∙ sym (o.message_is payload) in
       by_chunk (head ++ payload) (begun_true CHUNK_MAGIC head payload begun)
       ∙ (λ i. record { head_length = 20; head_fault = fault i; payload_length = more i; last_fault = last i; message = message i })

@@ -1,5 +1,5 @@
 -- A request whose head has come.
-use Rattle.std.proofs.Common.{◌≡◌, ℕ, ◌+◌, ◌≤◌, ◌==◌, ◌&&◌, not, List, ◌++◌, length, drop, refl, sym, ◌∙◌, ap, subst, Option, Some, None, Bool, true, false, eqb-true, arith}
+use Rattle.std.proofs.Common.{◌≡◌, ℕ, ◌==◌, ◌&&◌, not, List, ◌++◌, length, sym, ◌∙◌, ap, Some, None, Bool, true, false, arith}
 use Rattle.nbd_wire.specs.declared.commands.TheConstants as commands
 use Rattle.nbd_wire.specs.declared.fault.WireFault.TheVariants.{BadMagic, BadDisconnect}
 use Rattle.nbd_wire.specs.declared.heads.transmission.RequestHead.{RequestHead}
@@ -7,11 +7,11 @@ use Rattle.nbd_wire.specs.declared.magics.TheConstants.{REQUEST_MAGIC}
 use Rattle.nbd_wire.specs.declared.message.Message.TheVariants as messages
 use Rattle.nbd_wire.specs.protocol.Payloads.{number_at}
 use Rattle.nbd_wire.specs.protocol.States.{Core, target}
-use Rattle.nbd_places.specs.internal.Decisions.{Decision, fault_if}
-use Rattle.nbd_places.specs.internal.JudgeTransmission.{cookie_fault, request, request_fault, request_payload_length}
+use Rattle.nbd_places.specs.internal.Decisions.{fault_if}
+use Rattle.nbd_places.specs.internal.JudgeTransmission.{cookie_fault, request, request_payload_length}
 use Rattle.nbd_session.specs.declared.expected.Expected.TheVariants.{Request}
 use Rattle.nbd_session.specs.internal.Expecting.{expected_decision}
-use Rattle.nbd_session.specs.internal.Leading.{some_if, request_head_of}
+use Rattle.nbd_session.specs.internal.Leading.{request_head_of}
 use Rattle.nbd_session.proofs.expecting.HeadLemmas.{after_head, fields_stay, none_read, some_read}
 
 abbrev fields : List ℕ → RequestHead

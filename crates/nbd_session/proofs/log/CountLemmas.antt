@@ -5,18 +5,13 @@ use Rattle.nbd_wire.specs.declared.message.Side.{Side}
 use Rattle.nbd_wire.specs.declared.message.Side.TheVariants.{Client, Server}
 use Rattle.nbd_wire.specs.protocol.Operations.{Operation, Exporting}
 use Rattle.nbd_wire.specs.protocol.States.{Core, Phase, Greet, Flags, Choosing, Naming, Aborting, Answering, Ended, Transmission, is_awaiting, target, target_from}
-use Rattle.nbd_places.specs.internal.Decisions.{awaited_length_by}
-use Rattle.nbd_places.specs.internal.Judge.{awaited_length, decision, decision_by_count, decision_with}
+use Rattle.nbd_places.specs.internal.Judge.{decision, decision_by_count, decision_with}
 use Rattle.nbd_places.specs.internal.JudgeTransmission.{operation_counted, operation_if, operation_of, within}
 use Rattle.nbd_places.specs.internal.Concrete.{concrete}
 use Rattle.nbd_laws.proofs.machine.MachineLemmas.{Held, Kept, Later, Later-trans, none_held, old-empty, old-filled, some_held}
 use Rattle.nbd_laws.specs.internal.Machine.{More, Rest, old_of}
 use Rattle.nbd_places.proofs.judge.PhaseLemmas.{IsAppended, Later-appended, Later-turn}
 use Rattle.nbd_places.proofs.judge.SoundLemmas.{kept_later, turn_of_reading}
-
--- the next length at which something is decided, by how many requests had completed before the first byte
-abbrev pub awaited_length_by_count : (count : ℕ) → (now : Core) → Side → List ℕ → ℕ
-awaited_length_by_count count now s bytes = awaited_length_by (decision_by_count count now s bytes) bytes
 
 above : (n cookie : ℕ) (es : List Operation) (j : ℕ) → target_from n cookie es ≡ Some j → n < j
 above n cookie [] j h = absurd (cc)
@@ -95,6 +90,3 @@ count_of core rest = length (old_of core rest).entries
 -- what is decided of a machine's rest, by the count
 pub held_counted : {core : Core} {s : Side} {rest : Rest} → Held concrete core s rest → (bytes : List ℕ) → decision core.phase (old_of core rest) core s bytes ≡ decision_by_count (count_of core rest) core s bytes
 held_counted {core} {s} {rest} h bytes = decided_is_counted core.phase (old_of core rest) core s bytes (λ export t q. held_appended (subst (λ u. Held concrete core u rest) q h))
-
-pub awaited_held : {core : Core} {s : Side} {rest : Rest} → Held concrete core s rest → (bytes : List ℕ) → awaited_length (old_of core rest) core s bytes ≡ awaited_length_by_count (count_of core rest) core s bytes
-awaited_held h bytes = ap (λ o. awaited_length_by o bytes) (held_counted h bytes)

@@ -1,5 +1,5 @@
 -- What a session that ends states is the report of the runs with its bytes.
-use Rattle.std.proofs.Common.{◌≡◌, ℕ, suc, ◌+◌, List, [], ◌∷◌, map, length, refl, sym, ◌∙◌, ap, subst, arith, Option, Some, None, slice_get, ◌==◌, true, eqb-true}
+use Rattle.std.proofs.Common.{◌≡◌, ℕ, suc, ◌+◌, List, [], ◌∷◌, map, refl, sym, ◌∙◌, ap, subst, arith, Option, Some, None, slice_get}
 use Rattle.nbd_wire.specs.declared.message.Side.{Side}
 use Rattle.nbd_wire.specs.declared.message.Side.TheVariants.{Client, Server}
 use Rattle.nbd_wire.specs.protocol.Marks.{Item, pairs}
@@ -112,7 +112,3 @@ module _ (held : Held) (st : Stands held) (client : (bytes_come held.client) ≡
         has_messages = run.has_messages;
         same_report = told_of;
       }
-
-pub none_in : (n : ℕ) (bytes : List ℕ) → n ≡ length bytes → true ≡ (n == 0) → bytes ≡ []
-none_in n [] e is = refl
-none_in n (b ∷ bytes) e is = let z : n ≡ 0 = eqb-true n 0 (sym is) in absurd (omega (arith, z, e))

@@ -1,5 +1,5 @@
 -- The exchanges of a state, and the requests that they show.
-use Rattle.std.proofs.Common.{◌≡◌, ℕ, suc, ◌<◌, ◌≤◌, List, length, refl, sym, ◌∙◌, ap, subst, Option, Some, None, if◌then◌else◌, arith, add-one, slice_get, Bor}
+use Rattle.std.proofs.Common.{◌≡◌, ℕ, suc, ◌<◌, ◌≤◌, List, length, refl, sym, ◌∙◌, ap, Option, Some, None, if◌then◌else◌, arith, add-one, slice_get, Bor}
 use Rattle.std.proofs.lemmas.Bool.{le-leb, lt-leb}
 use Rattle.std.proofs.lemmas.Option.{slice_get_past, slice_get_read}
 use Rattle.std.specs.BTreeMap.{get}
@@ -10,7 +10,6 @@ use Rattle.nbd_wire.specs.protocol.Operations.{Exporting}
 use Rattle.nbd_wire.specs.protocol.States.{Core, Transmission, operation}
 use Rattle.nbd_state.specs.declared.asked.Exchange.{Exchange}
 use Rattle.nbd_state.specs.declared.state.State.{State}
-use Rattle.nbd_session.specs.internal.Asking.{ShownIf}
 use Rattle.nbd_session.specs.internal.Expecting.{IsPlaceOf}
 use Rattle.nbd_places.specs.internal.JudgeTransmission.{operation_counted, operation_if, within}
 use Rattle.nbd_state.specs.Shows.{Shows}
@@ -31,25 +30,6 @@ module _ (state : State) (core : Core) (export : Exporting) (cookie counted plac
       let a = place_shows_operation state core export cookie place s p g in
       let high : counted < suc place = omega arith in
       ap (λ t. operation_if (within counted t) core.entries) a.found ∙ ap (λ b. operation_if (if b then Some (suc place) else None) core.entries) (lt-leb (suc place) counted high)
-
--- what a cookie finds of the requests up to a number
-pub within_count : (state : State) (core : Core) (export : Exporting) (cookie counted place : ℕ) (o : Option Exchange) → Shows state core → core.phase ≡ Transmission export →
-    get nat_cmp state.outstanding cookie ≡ Some place → place < counted → o ≡ slice_get state.exchanges.items place → ShownIf export (operation_counted counted core cookie) o
-within_count state core export cookie counted place o s p g l is =
-    let a = place_shows_operation state core export cookie place s p g in
-    let low : suc place ≤ counted = omega arith in
-    let named : operation_counted counted core cookie ≡ Some a.e =
-    ap (λ t. operation_if (within counted t) core.entries) a.found ∙ ap (λ b. operation_if (if b then Some (suc place) else None) core.entries) (le-leb (suc place) counted low) ∙ a.numbered in
-    subst (λ t. ShownIf export t o) (sym named) (subst (λ y. ShownIf export (Some a.e) y) (sym (is ∙ a.stands)) a.shown)
-
-pub beyond_count : (state : State) (core : Core) (export : Exporting) (cookie counted place : ℕ) → Shows state core → core.phase ≡ Transmission export →
-    get nat_cmp state.outstanding cookie ≡ Some place → counted ≤ place → ShownIf export (operation_counted counted core cookie) None
-beyond_count state core export cookie counted place s p g l =
-    let a = place_shows_operation state core export cookie place s p g in
-    let high : counted < suc place = omega arith in
-    let named : operation_counted counted core cookie ≡ None =
-    ap (λ t. operation_if (within counted t) core.entries) a.found ∙ ap (λ b. operation_if (if b then Some (suc place) else None) core.entries) (lt-leb (suc place) counted high) in
-    subst (λ t. ShownIf export t None) (sym named) tt
 
 -- what a slice's `get` lends
 pub copied_at : (xs : List Exchange) (i : ℕ) (r : Option (Bor Exchange)) → IsItemAt xs i r → option_copied r ≡ slice_get xs i

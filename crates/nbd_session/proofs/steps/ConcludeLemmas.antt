@@ -1,5 +1,5 @@
 -- What is decided of a side's bytes once they were taken.
-use Rattle.std.proofs.Common.{◌≡◌, ◌⊎◌, ◌==◌, ℕ, zero, suc, ◌+◌, ◌<◌, ◌≤◌, List, [], ◌∷◌, ◌++◌, length, take, refl, sym, ◌∙◌, ap, subst, inl, inr, Option, Some, None, Result, Ok, Err, IfErr, IsErrAnd, OnOk, OnErr, Bool, true, append-nil, arith}
+use Rattle.std.proofs.Common.{◌≡◌, ℕ, ◌<◌, ◌≤◌, List, [], ◌∷◌, ◌++◌, length, refl, sym, ◌∙◌, ap, subst, Option, Some, None, Result, Ok, Err, IfErr, IsErrAnd, OnOk, OnErr, append-nil, arith}
 use Rattle.std.proofs.lemmas.Option.{same_Some}
 use Rattle.nbd_wire.specs.declared.fault.WireFault.{WireFault}
 use Rattle.nbd_wire.specs.declared.message.Side.{Side}
@@ -9,23 +9,21 @@ use Rattle.nbd_state.proofs.PlacedLemmas.{shown_length}
 use Rattle.nbd_state.specs.Shows.{AreKnown, Shows}
 use Rattle.nbd_state.specs.declared.state.State.{State}
 use Rattle.nbd_places.specs.internal.Concrete.{concrete, reading_by_decision}
-use Rattle.nbd_places.specs.internal.Decisions.{Decision, awaited_length_by}
+use Rattle.nbd_places.specs.internal.Decisions.{Decision}
 use Rattle.nbd_places.specs.internal.Judge.{decision_by_count}
-use Rattle.nbd_places.proofs.judge.AwaitedLemmas.{held_short}
-use Rattle.nbd_laws.specs.internal.Machine.{Bad, IsFilled, More, Whole, fresh, get}
+use Rattle.nbd_laws.specs.internal.Machine.{Bad, IsFilled, More, Whole, fresh}
 use Rattle.nbd_session.specs.declared.expected.Expected.{Expected}
 use Rattle.nbd_session.specs.declared.expected.Expected.TheVariants as expectations
-use Rattle.nbd_session.specs.declared.fault.SessionFault.{SessionFault}
-use Rattle.nbd_session.specs.declared.fault.SessionFault.TheVariants.{Memory, Wire}
+use Rattle.nbd_session.specs.declared.fault.SessionFault.TheVariants.{Wire}
 use Rattle.nbd_session.specs.declared.held.Held.{Held}
-use Rattle.nbd_session.specs.Incoming.{IncomingView, bytes_come, nothing_come}
+use Rattle.nbd_session.specs.Incoming.{IncomingView, bytes_come}
 use Rattle.nbd_session.specs.internal.Expecting.{HasHeadLength, IsExpectedOf, IsPlaced, IsRefusedHead, IsWholeHead, StandsIn, last_fault_by, message_of, payload_length_of}
-use Rattle.nbd_session.specs.internal.Holdings.{holding_of, incoming_of, with_expected}
-use Rattle.nbd_session.specs.internal.Known.{IsCome, IsExpected, IsKnown, awaited, decided, is_come_by}
+use Rattle.nbd_session.specs.internal.Holdings.{incoming_of, with_expected}
+use Rattle.nbd_session.specs.internal.Known.{IsCome, IsExpected, IsKnown, decided, is_come_by}
 use Rattle.nbd_session.specs.internal.Logging.{log_of_pairs}
 use Rattle.nbd_session.specs.internal.Standing.{Holding, count_at_server, held_pairs, rest_of, with_bytes}
 use Rattle.nbd_session.specs.internal.Steps.{IsExpecting, IsHeadRefused, IsShut, IsTaken, IsWhole, Knows, Stands, knows_by}
-use Rattle.nbd_session.proofs.expecting.KnownLemmas.{expected_awaited, expected_bad, expected_more, expected_whole, refused_head, short_more}
+use Rattle.nbd_session.proofs.expecting.KnownLemmas.{expected_bad, expected_more, expected_whole, refused_head, short_more}
 use Rattle.nbd_session.proofs.steps.HoldingLemmas.{holding_expected, incoming_here, incoming_other, rest_is}
 use Rattle.nbd_session.proofs.steps.SettleLemmas.{IsRead, settled_more, shut_wire}
 use Rattle.nbd_session.proofs.steps.StepLemmas.{decided_held}
@@ -149,11 +147,11 @@ module _ (held : Held) (s : Side) (head : List ℕ) (is : head ≡ (incoming_of 
 
   pub length_refused : (fault : WireFault) → ((core : Core) (counted : ℕ) → Shows held.state core → reading_by_decision (decision_by_count counted core s head) head ≡ Bad fault) → IsHeadRefused held s fault
   length_refused fault bad t = (
-      (bare_come t).0,
-      ap (λ o. reading_by_decision o (incoming_of held s).head) (decided_so t (incoming_of held s).head)
-          ∙ subst (λ h. reading_by_decision (decision_by_count (count_at_server s t.before.server t.before.counted (length t.machine.core.entries)) t.machine.core s h) h ≡ Bad fault) is
-          (bad t.machine.core (count_at_server s t.before.server t.before.counted (length t.machine.core.entries)) t.shows),
-    )
+    (bare_come t).0,
+    ap (λ o. reading_by_decision o (incoming_of held s).head) (decided_so t (incoming_of held s).head)
+        ∙ subst (λ h. reading_by_decision (decision_by_count (count_at_server s t.before.server t.before.counted (length t.machine.core.entries)) t.machine.core s h) h ≡ Bad fault) is
+        (bad t.machine.core (count_at_server s t.before.server t.before.counted (length t.machine.core.entries)) t.shows),
+  )
 
   module _ (n : ℕ) (known : HasHeadLength held.state s head n) where
     length_decided : (t : IsTaken held s) → (d : Decision) × (decided t.machine s (incoming_of held s).head ≡ Some d) × (d.head_length ≡ n)
@@ -200,13 +198,13 @@ module _ (held : Held) (s : Side) (head : List ℕ) (is : head ≡ (incoming_of 
 
   pub knows_expected : (x : Expected) → ((core : Core) → Shows held.state core → IsExpectedOf held.counted core s head x) → ((core : Core) → Shows held.state core → IsPlaced core x) → Knows held s (Some x)
   knows_expected x expected placed t = (
-      record {
-        filled = head_filled t;
-        placed = placed t.machine.core t.shows;
-        is = λ payload. counted_so t ((incoming_of held s).head ++ payload) ∙ subst (λ h. IsExpectedOf held.counted t.machine.core s h x) is (expected t.machine.core t.shows) payload;
-      },
-      (let none = ap length (bare_come t).0 in omega (arith, none)),
-    )
+    record {
+      filled = head_filled t;
+      placed = placed t.machine.core t.shows;
+      is = λ payload. counted_so t ((incoming_of held s).head ++ payload) ∙ subst (λ h. IsExpectedOf held.counted t.machine.core s h x) is (expected t.machine.core t.shows) payload;
+    },
+    (let none = ap length (bare_come t).0 in omega (arith, none)),
+  )
 
 -- a head that was decided before
 pub knows_again : (held : Held) (s : Side) (x : Expected) → (incoming_of held s).expected ≡ Some x → Knows held s (Some x)

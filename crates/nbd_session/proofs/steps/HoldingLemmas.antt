@@ -1,5 +1,5 @@
 -- What is held of each side.
-use Rattle.std.proofs.Common.{◌≡◌, refl, sym, ap, Option}
+use Rattle.std.proofs.Common.{◌≡◌, refl, Option}
 use Rattle.nbd_wire.specs.declared.message.Side.{Side}
 use Rattle.nbd_wire.specs.declared.message.Side.TheVariants.{Client, Server}
 use Rattle.nbd_session.specs.declared.expected.Expected.{Expected}
@@ -28,8 +28,3 @@ incoming_other held Server Server v ne = absurd (ne refl)
 pub holding_expected : (held : Held) (s : Side) (e : Option Expected) → holding_of (with_expected held s e) ≡ holding_of held
 holding_expected held Client e = refl
 holding_expected held Server e = refl
-
--- where it says what it said nothing changes
-pub same_expected : (held : Held) (s : Side) (e : Option Expected) → (incoming_of held s).expected ≡ e → with_expected held s e ≡ held
-same_expected held Client e is = ap (λ e. with_expected held Client e) (sym is)
-same_expected held Server e is = ap (λ e. with_expected held Server e) (sym is)

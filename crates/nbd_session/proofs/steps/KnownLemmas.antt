@@ -1,18 +1,15 @@
 -- What is known of a side's bytes stays, where the other side's messages complete meanwhile.
-use Rattle.std.proofs.Common.{◌≡◌, ◌⊎◌, ℕ, suc, ◌+◌, ◌<◌, ◌≤◌, List, [], ◌∷◌, ◌++◌, length, refl, sym, ◌∙◌, ap, subst, inl, inr, Option, Some, None, zero, Bool, true, false, if◌then◌else◌, arith, add-one, append-nil, length-append}
+use Rattle.std.proofs.Common.{◌≡◌, ℕ, suc, ◌+◌, ◌<◌, ◌≤◌, List, [], ◌∷◌, ◌++◌, length, refl, sym, ◌∙◌, ap, subst, inl, inr, Option, Some, None, zero, Bool, true, false, if◌then◌else◌, arith, add-one, append-nil, length-append}
 use Rattle.std.proofs.lemmas.Bool.{lt-ltb}
 use Rattle.std.proofs.lemmas.Option.{same_Some}
 use Rattle.nbd_wire.specs.declared.magics.TheConstants.{CHUNK_MAGIC, SIMPLE_MAGIC}
-use Rattle.nbd_wire.specs.declared.message.Message.{Message}
 use Rattle.nbd_wire.specs.declared.message.Message.TheVariants as messages
 use Rattle.nbd_wire.specs.declared.message.Side.{Side}
 use Rattle.nbd_wire.specs.declared.message.Side.TheVariants.{Client, Server}
-use Rattle.nbd_wire.specs.declared.fault.WireFault.{WireFault}
 use Rattle.nbd_wire.specs.declared.fault.WireFault.TheVariants.{BadMagic, UnknownCookie}
 use Rattle.nbd_wire.specs.protocol.Operations.{Exporting, Operation}
-use Rattle.nbd_wire.specs.protocol.Options.{turn}
 use Rattle.nbd_wire.specs.protocol.Payloads.{number_at}
-use Rattle.nbd_wire.specs.protocol.States.{Core, Phase, Transmission, operation, target}
+use Rattle.nbd_wire.specs.protocol.States.{Core, Transmission, operation, target}
 use Rattle.nbd_places.specs.internal.Concrete.{concrete}
 use Rattle.nbd_places.specs.internal.Decisions.{Decision, awaited_length_by}
 use Rattle.nbd_places.specs.internal.Judge.{awaited_length, decision, request_unless}
@@ -277,7 +274,10 @@ come_with {core} {s} {rest} held v is more up known = go v.expected known
     go (Some x) k =
         let n : awaited_length_by (decided (v.head ++ v.payload)) (v.head ++ v.payload) ≡ length v.head + payload_length_of x = expected_awaited decided core v.head v.payload x k in
         (k, omega (arith, up_to, n, length-append (v.head ++ v.payload) more, length-append v.head v.payload, length-append v.payload more))
-    go None k = (k.0, λ d e.
-        let D = deciding_rest held (v.head ++ more) d e in
-        let bare : v.head ++ v.payload ≡ v.head = ap (λ l. v.head ++ l) k.0 ∙ append-nil v.head in
-        taken_within s (old_of core rest) core v.head more d D.0 D.1 k.1 (subst (λ bs. length (bs ++ more) ≤ awaited_length_by (decided bs) bs) bare up_to) e)
+    go None k = (
+      k.0,
+      λ d e.
+          let D = deciding_rest held (v.head ++ more) d e in
+          let bare : v.head ++ v.payload ≡ v.head = ap (λ l. v.head ++ l) k.0 ∙ append-nil v.head in
+          taken_within s (old_of core rest) core v.head more d D.0 D.1 k.1 (subst (λ bs. length (bs ++ more) ≤ awaited_length_by (decided bs) bs) bare up_to) e,
+    )

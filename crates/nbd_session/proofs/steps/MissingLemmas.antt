@@ -1,7 +1,6 @@
 -- How many bytes of a side are missing until something is decided of them.
-use Rattle.std.proofs.Common.{◌≡◌, ◌⊎◌, ℕ, ◌+◌, ◌<◌, ◌≤◌, List, [], ◌∷◌, ◌++◌, length, refl, sym, ◌∙◌, ap, subst, inl, inr, Option, Some, None, append-nil, arith, length-append, Bool, if◌then◌else◌}
+use Rattle.std.proofs.Common.{◌≡◌, ◌⊎◌, ℕ, ◌+◌, ◌<◌, ◌≤◌, List, [], ◌++◌, length, refl, sym, ◌∙◌, ap, subst, inl, inr, Option, Some, None, append-nil, arith, length-append, Bool, if◌then◌else◌}
 use Rattle.std.proofs.lemmas.Bool.{lt-ltb}
-use Rattle.std.proofs.lemmas.Option.{same_Some}
 use Rattle.nbd_wire.specs.declared.message.Side.{Side}
 use Rattle.nbd_wire.specs.declared.fault.WireFault.{WireFault}
 use Rattle.nbd_wire.specs.protocol.States.{Core}
@@ -18,8 +17,8 @@ use Rattle.nbd_session.specs.declared.held.Held as program
 use Rattle.nbd_session.specs.Incoming.{bytes_come}
 use Rattle.nbd_session.specs.internal.Expecting.{HasHeadLength, payload_length_of}
 use Rattle.nbd_session.specs.internal.Holdings.{holding_of, incoming_of}
-use Rattle.nbd_session.specs.internal.Known.{IsKnown, awaited, decided, is_known_by}
-use Rattle.nbd_session.specs.internal.Standing.{count_at_server, rest_of}
+use Rattle.nbd_session.specs.internal.Known.{awaited, decided, is_known_by}
+use Rattle.nbd_session.specs.internal.Standing.{count_at_server}
 use Rattle.nbd_session.specs.internal.Steps.{Stands}
 use Rattle.nbd_session.proofs.expecting.KnownLemmas.{expected_awaited}
 use Rattle.nbd_session.proofs.steps.HoldingLemmas.{rest_is}

@@ -1,15 +1,11 @@
 -- One more piece of a side, up to the next length at which something is decided, as the machine reads it.
-use Rattle.std.proofs.Common.{◌≡◌, ℕ, ◌+◌, ◌<◌, ◌≤◌, List, [], ◌∷◌, ◌++◌, length, refl, sym, ap, subst, append_assoc, arith, length-append, Bool, true, false, Option, Some, None, Ok, Err, ◌==◌, nat_lt, if◌then◌else◌}
+use Rattle.std.proofs.Common.{◌≡◌, ℕ, ◌<◌, ◌≤◌, List, [], ◌∷◌, ◌++◌, length, sym, subst, append_assoc, arith, length-append}
 use Rattle.nbd_wire.specs.declared.message.Side.{Side}
-use Rattle.nbd_wire.specs.declared.message.Message.{Message}
 use Rattle.nbd_wire.specs.protocol.Encoding.{AreBytes}
 use Rattle.nbd_wire.specs.protocol.States.{Core}
-use Rattle.nbd_wire.specs.declared.fault.WireFault.{WireFault}
-use Rattle.nbd_wire.specs.declared.fault.WireFault.TheVariants.{OutOfTurn}
-use Rattle.nbd_places.specs.internal.Concrete.{concrete, reading_by_decision, staged_reading_by, last_reading}
-use Rattle.nbd_places.specs.internal.Decisions.{Decision, awaited_length_by}
+use Rattle.nbd_places.specs.internal.Concrete.{concrete}
 use Rattle.nbd_places.specs.internal.Judge.{awaited_length}
-use Rattle.nbd_laws.specs.internal.Machine.{Rest, More, Whole, Bad, old_of, IsFilled}
+use Rattle.nbd_laws.specs.internal.Machine.{Rest, More, old_of, IsFilled}
 use Rattle.nbd_laws.specs.Reached.{IsReached}
 use Rattle.nbd_laws.proofs.machine.MachineLemmas.{Kept, kept, Held, kept_next, reached_of, at_once, IsFilled-snoc}
 use Rattle.nbd_places.proofs.judge.AwaitedLemmas.{held_short}

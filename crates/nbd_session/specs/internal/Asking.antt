@@ -1,22 +1,12 @@
 -- The program's values as the definitions have them.
-use Rattle.std.specs.Prelude.{ℕ, Bool, true, false, not, ◌&&◌, Option, Some, None, ◌==◌}
+use Rattle.std.specs.Prelude.{ℕ, Bool, true, false, not, ◌&&◌, Option, None, ◌==◌}
 use Rattle.nbd_wire.specs.declared.commands.TheConstants as commands
 use Rattle.nbd_wire.specs.declared.payloads.Piece.{Piece}
-use Rattle.nbd_wire.specs.protocol.Operations.{Operation, Exporting}
 use Rattle.nbd_wire.specs.protocol.Pieces.{piece_offset, piece_size}
 use Rattle.nbd_wire.specs.declared.fault.WireFault.{WireFault}
 use Rattle.nbd_wire.specs.declared.fault.WireFault.TheVariants.{IncompleteRead, SuccessOfImproper}
 use Rattle.nbd_session.specs.declared.spans.Span.{Span}
 use Rattle.nbd_places.specs.internal.Decisions.{fault_if}
-use Rattle.nbd_state.specs.declared.asked.Exchange.{Exchange}
-use Rattle.nbd_state.specs.Showing.{IsShown}
-
--- an exchange shows a request where there is one, and there is none where there is no request
-abbrev pub ShownIf : Exporting → Option Operation → Option Exchange → Type 0
-ShownIf export (Some e) (Some x) = IsShown export e x
-ShownIf export (Some e) None = ⊥
-ShownIf export None (Some x) = ⊥
-ShownIf export None None = Unit {0}
 
 -- where a piece lies
 abbrev pub span_of : Piece → Span

@@ -1,7 +1,6 @@
 -- What is expected of a message whose head has come: which message it is with the bytes after its head, how many those are, and what
 -- its last byte shows to be wrong.
-use Rattle.std.specs.Prelude.{◌≡◌, ◌⊎◌, ◌<◌, ◌≤◌, ◌+◌, ◌==◌, ◌++◌, ◌&&◌, not, ℕ, List, Bool, true, false, Option, Some, None, length, if◌then◌else◌, slice_get}
-use Rattle.nbd_wire.specs.declared.commands.TheConstants as commands
+use Rattle.std.specs.Prelude.{◌≡◌, ◌⊎◌, ◌<◌, ◌≤◌, ◌+◌, ◌==◌, ◌++◌, ℕ, List, Bool, true, false, Option, Some, None, length, if◌then◌else◌, slice_get}
 use Rattle.nbd_wire.specs.declared.chunks.TheConstants as chunks
 use Rattle.nbd_wire.specs.declared.fault.WireFault.{WireFault}
 use Rattle.nbd_wire.specs.declared.fault.WireFault.TheVariants.{BadMagic}

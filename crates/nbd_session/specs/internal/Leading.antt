@@ -1,5 +1,5 @@
 -- What a side's bytes state once they are as long as a head.
-use Rattle.std.specs.Prelude.{ℕ, ◌≡◌, ◌≤◌, List, Bool, true, false, ◌==◌, ◌&&◌, Option, Some, None, Result, Ok, Err, length, if◌then◌else◌}
+use Rattle.std.specs.Prelude.{ℕ, List, Bool, true, false, ◌==◌, ◌&&◌, Option, Some, None, Result, Ok, Err}
 use Rattle.nbd_wire.specs.declared.magics.TheConstants.{GREETING_MAGIC, OPTION_MAGIC, ANSWER_MAGIC, REQUEST_MAGIC, SIMPLE_MAGIC, CHUNK_MAGIC}
 use Rattle.nbd_wire.specs.declared.heads.negotiation.ChoiceHead.{ChoiceHead}
 use Rattle.nbd_wire.specs.declared.heads.negotiation.AnswerHead.{AnswerHead}
@@ -47,14 +47,3 @@ simple_head_of bytes = some_if (number_at 0 4 bytes == SIMPLE_MAGIC) (record { e
 abbrev pub chunk_head_of : List ℕ → Option ChunkHead
 chunk_head_of bytes =
     some_if (number_at 0 4 bytes == CHUNK_MAGIC) (record { flags = number_at 4 2 bytes; kind = number_at 6 2 bytes; cookie = number_at 8 8 bytes; length = number_at 16 4 bytes })
-
--- bytes that are as long as a head, and begin with the number of this width that the head begins with
-pub record HasHead (size width magic : ℕ) (bytes : List ℕ) : Type 0 where
-  pub long : size ≤ length bytes
-  pub magic_is : number_at 0 width bytes ≡ magic
-
--- bytes that are as long as a greeting, and begin with its two numbers
-pub record HasGreeting (bytes : List ℕ) : Type 0 where
-  pub long : 18 ≤ length bytes
-  pub first_is : number_at 0 8 bytes ≡ GREETING_MAGIC
-  pub second_is : number_at 8 8 bytes ≡ OPTION_MAGIC

@@ -1,4 +1,4 @@
-use Rattle.std.proofs.Common.{◌≡◌, refl, sym, ◌∙◌, ap, not, true, false}
+use Rattle.std.proofs.Common.{refl, sym, ◌∙◌, ap}
 use Rattle.nbd_wire.specs.declared.message.Side.TheVariants.{Client}
 use Rattle.nbd_wire.specs.protocol.States as definitions
 use Rattle.nbd_places.specs.internal.Judge.{request_unless}

@@ -1,4 +1,4 @@
-use Rattle.std.proofs.Common.{◌≡◌, ◌∙◌, ap, sym, subst, rules}
+use Rattle.std.proofs.Common.{◌∙◌, ap, sym, subst}
 use Rattle.nbd_session.specs.declared.expected.Expected.{Expected}
 use Rattle.nbd_session.specs.internal.Expecting.{StandsIn, last_fault_by}
 use Rattle.nbd_session.proofs.expecting.EndLemmas.{chunk_end, simple_end}
@@ -14,5 +14,5 @@ pub returns-in-Chunk : goal.returns-in-Chunk
 returns-in-Chunk c = λ core s.
     let l = subst (λ (x : Expected). StandsIn c.args.state.now.exchanges.items x) c.in-Chunk.is c.requires in
     chunk_end c.args.state.now core c.in-Chunk.place s l c.index-in-Chunk.result.now c.index-in-Chunk.ensures c.in-Chunk.head c.args.payload.now c.chunk_fault.result
-        (λ export e h. c.chunk_fault.ensures export e c.in-Chunk.head.cookie h)
+    (λ export e h. c.chunk_fault.ensures export e c.in-Chunk.head.cookie h)
     ∙ ap (λ (x : Expected). last_fault_by core.phase core x c.args.payload.now) (sym c.in-Chunk.is)

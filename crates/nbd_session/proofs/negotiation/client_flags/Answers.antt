@@ -1,4 +1,4 @@
-use Rattle.std.proofs.Common.{◌≡◌, arith, refl, rules, sym, ◌∙◌, ap, true, false}
+use Rattle.std.proofs.Common.{arith, refl, rules, sym, ◌∙◌, true, false}
 use Rattle.std.proofs.lemmas.Option.{same_Some}
 use Rattle.nbd_wire.specs.declared.fault.WireFault.TheVariants.{NotFixedNewstyle, BadClientFlags}
 use Rattle.nbd_wire.proofs.NumberLemmas.{AreBytes-from_places}

@@ -1,4 +1,4 @@
-use Rattle.std.proofs.Common.{◌≡◌, arith, rules, refl, sym, ◌∙◌, ap, not, true, false, subst}
+use Rattle.std.proofs.Common.{arith, rules, refl, sym, ◌∙◌, ap, not, true, false}
 use Rattle.std.proofs.lemmas.Option.{same_Some}
 use Rattle.nbd_wire.specs.declared.fault.WireFault.TheVariants.{BadExport, ExportTooLarge}
 use Rattle.nbd_wire.specs.declared.handshake.TheConstants as handshake

@@ -1,4 +1,4 @@
-use Rattle.std.proofs.Common.{◌≡◌, arith, sym, ◌∙◌, ap, Ok, Err}
+use Rattle.std.proofs.Common.{arith, sym, ◌∙◌, ap, Ok}
 use Rattle.nbd_wire.proofs.NumberLemmas.{AreBytes-from_places}
 use Rattle.nbd_session.specs.internal.Leading.{answer_fields_of, unless_fault}
 use Rattle.nbd_session.proofs.expecting.HeadLemmas.{whole_front}

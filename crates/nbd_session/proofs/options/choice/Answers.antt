@@ -1,4 +1,4 @@
-use Rattle.std.proofs.Common.{◌≡◌, arith, sym, ◌∙◌}
+use Rattle.std.proofs.Common.{arith, sym, ◌∙◌}
 use Rattle.nbd_wire.proofs.NumberLemmas.{AreBytes-from_places}
 use Rattle.nbd_session.proofs.expecting.HeadLemmas.{whole_front}
 use Rattle.nbd_session.proofs.expecting.OptionLemmas.{good_choice, no_choice}

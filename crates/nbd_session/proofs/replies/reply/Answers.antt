@@ -1,4 +1,4 @@
-use Rattle.std.proofs.Common.{◌≡◌, List, ℕ, ◌++◌, arith, rules, length, subst, sym, ◌∙◌, Some, IfOk, IfErr}
+use Rattle.std.proofs.Common.{arith, rules, sym, ◌∙◌}
 use Rattle.std.proofs.lemmas.Option.{same_Some}
 use Rattle.nbd_wire.proofs.NumberLemmas.{AreBytes-from_places}
 use Rattle.nbd_session.specs.internal.Expecting.{expected_decision}

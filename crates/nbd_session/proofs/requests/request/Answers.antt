@@ -1,6 +1,5 @@
-use Rattle.std.proofs.Common.{◌≡◌, arith, sym, ◌∙◌, Option}
+use Rattle.std.proofs.Common.{arith, sym, ◌∙◌}
 use Rattle.nbd_wire.proofs.NumberLemmas.{AreBytes-from_places}
-use Rattle.nbd_session.specs.internal.Leading.{request_head_of}
 use Rattle.nbd_session.proofs.expecting.HeadLemmas.{whole_front}
 use Rattle.nbd_session.proofs.expecting.RequestLemmas.{bad_request, good_request, no_request}
 use Rattle.nbd_session.proofs.parsing.LeadingLemmas.{leading_request-is}

@@ -1,4 +1,4 @@
-use Rattle.std.proofs.Common.{◌≡◌, ◌∙◌, ap, sym}
+use Rattle.std.proofs.Common.{◌∙◌, ap}
 use Rattle.nbd_session.specs.Incoming.{IncomingView}
 use Rattle.nbd_session.specs.internal.Steps.{IsHeadRefused}
 use Rattle.nbd_session.proofs.steps.ConcludeLemmas.{handed_wire, head_refused, head_whole, knows_expected, knows_short, length_refused}

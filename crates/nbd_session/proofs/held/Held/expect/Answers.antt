@@ -1,4 +1,4 @@
-use Rattle.std.proofs.Common.{◌≡◌, ◌∙◌, ap, sym}
+use Rattle.std.proofs.Common.{◌∙◌, ap, sym}
 use Rattle.nbd_session.specs.Incoming.{IncomingView}
 use Rattle.nbd_session.proofs.steps.ConcludeLemmas.{knows_again}
 use Rattle.nbd_session.proofs.held.Held.expect.Goals as goal

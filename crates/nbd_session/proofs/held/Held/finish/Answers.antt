@@ -1,4 +1,4 @@
-use Rattle.std.proofs.Common.{◌∙◌, sym, subst, ap, refl, None}
+use Rattle.std.proofs.Common.{sym, subst, None}
 use Rattle.nbd_wire.specs.declared.message.Side.TheVariants.{Client, Server}
 use Rattle.nbd_session.specs.Sessions.{IsReported, bytes_taken, open_end_fault}
 use Rattle.nbd_session.specs.Views.{session_view}

@@ -1,4 +1,4 @@
-use Rattle.std.proofs.Common.{◌≡◌, ◌∙◌, ap, sym, subst, Some, None}
+use Rattle.std.proofs.Common.{◌∙◌, ap, sym, subst}
 use Rattle.nbd_session.specs.declared.held.Held.{Held}
 use Rattle.nbd_session.specs.declared.fault.SessionFault.TheVariants.{Wire}
 use Rattle.nbd_session.specs.internal.Holdings.{with_expected}
@@ -12,7 +12,7 @@ conclude-requires c =
     (is_expecting c.args.self.now c.args.side c.in-Ok-Some.expected c.requires (subst (Knows c.args.self.now c.args.side) c.in-Ok-Some.field-0-is c.in-Ok-Some.ensures.known))
 
 pub returns-in-Ok-None-clause-stands : goal.returns-in-Ok-None-clause-stands
-returns-in-Ok-None-clause-stands c = 
+returns-in-Ok-None-clause-stands c =
     subst Stands (sym (c.in-Ok-None.ensures.kept ∙ ap (with_expected c.args.self.now c.args.side) c.in-Ok-None.field-0-is))
     (head_missing c.args.self.now c.args.side c.requires (subst (Knows c.args.self.now c.args.side) c.in-Ok-None.field-0-is c.in-Ok-None.ensures.known))
 

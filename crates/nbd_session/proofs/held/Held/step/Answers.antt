@@ -1,4 +1,4 @@
-use Rattle.std.proofs.Common.{◌≤◌, ◌<◌, ap, arith, length, drop, take}
+use Rattle.std.proofs.Common.{◌≤◌, arith, length, drop, take}
 use Rattle.std.proofs.lemmas.List.{length-take-le}
 use Rattle.nbd_session.specs.internal.Steps.{IsRefused}
 use Rattle.nbd_session.proofs.judge.PieceLemmas.{awaits_some, prefix_added, is_taken, refused_memory, refused_settling, settled_added, total_fits}
