@@ -7,6 +7,7 @@ mod contents;
 mod faults;
 mod infos;
 mod inputs;
+mod large_exports;
 mod large_numbers;
 mod makes;
 mod messages;
