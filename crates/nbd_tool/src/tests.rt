@@ -14,6 +14,7 @@ mod messages;
 mod negotiation;
 mod offers;
 mod orders;
+mod pieces;
 mod refused_negotiation;
 mod shows;
 mod transmission;
