@@ -13,6 +13,7 @@ The program is crates/nbdcheck/out/nbdcheck, or what the environment names as NB
 top builds it. Not part of the gate. With --list the shapes are listed.
 """
 import argparse
+import multiprocessing
 import os
 import random
 import subprocess
@@ -199,7 +200,10 @@ def timed(words, runs):
 
 def measure(shape, count, options, folder):
     base = os.path.join(folder, "session")
-    generate(shape, count, base)
+    # In a process of its own: what a process used before it began another counts as that one's memory.
+    writer = multiprocessing.get_context("fork").Process(target=generate, args=(shape, count, base))
+    writer.start()
+    writer.join()
     start = f"image:{base}.img" if shape.start == "image" else shape.start
     words = [options.program, "check", base + ".cap", base + ".ord", "--start", start]
     took, memory, answer = timed(words, options.runs)
