@@ -4,8 +4,8 @@
     tools/bench_extents.py [-r RUNS] [-n SCALE] [--hexdec PROGRAM] [SHAPE ..]
 
 Each shape is a session of n requests on an export of 1 MiB. It is checked at n, 2n and 4n requests,
-each RUNS times (3), and the best processor time is printed, with the time for each request and the
-ratio to half as many: 2 and a little more where the time grows as n log n. SCALE is n in per cent (100).
+each RUNS times (3), and the best processor time is printed, with the time for each request, the
+memory at its peak and the ratio to half as many: 2 and a little more where the time grows as n log n. SCALE is n in per cent (100).
 PROGRAM, where one is given, is run as `PROGRAM decode CAPTURE`; a program that only reads the
 capture's hex is the yardstick, and `/hex` is the time over its time.
 
@@ -13,12 +13,13 @@ The program is crates/nbdcheck/out/nbdcheck, or what the environment names as NB
 top builds it. Not part of the gate. With --list the shapes are listed.
 """
 import argparse
+import multiprocessing
 import os
 import random
-import resource
 import subprocess
 import sys
 import tempfile
+import typing
 
 TOP = os.path.dirname(os.path.dirname(os.path.abspath(__file__)))
 SIZE = 1 << 20
@@ -32,10 +33,21 @@ def number(value, length):
     return value.to_bytes(length, "big")
 
 
-def negotiation(structured):
+class Shape(typing.NamedTuple):
+    """The count of its smallest session, and its session of so many: a request and its reply messages, one
+    after the other."""
+
+    count: int
+    session: typing.Callable
+    structured: bool = False
+    start: str = "zero"
+    size: int = SIZE
+
+
+def negotiation(size, structured):
     """Lines up to transmission, with structured replies where they are wanted."""
     option, answer = b"IHAVEOPT", bytes.fromhex("0003e889045565a9")
-    info = number(0, 2) + number(SIZE, 8) + number(FLAGS, 2)
+    info = number(0, 2) + number(size, 8) + number(FLAGS, 2)
     yield b"S", b"NBDMAGIC" + option + number(3, 2)
     yield b"C", number(3, 4)
     if structured:
@@ -55,9 +67,17 @@ def reply(cookie, data=b""):
     return number(0x67446698, 4) + number(0, 4) + number(cookie, 8) + data
 
 
-def hole(cookie, offset, length):
-    data = number(offset, 8) + number(length, 4)
-    return number(0x668E33EF, 4) + number(1, 2) + number(2, 2) + number(cookie, 8) + number(12, 4) + data
+def chunk(cookie, kind, data, done):
+    head = number(0x668E33EF, 4) + number(done, 2) + number(kind, 2) + number(cookie, 8)
+    return head + number(len(data), 4) + data
+
+
+def content(cookie, offset, data, done=True):
+    return chunk(cookie, 1, number(offset, 8) + data, done)
+
+
+def hole(cookie, offset, length, done=True):
+    return chunk(cookie, 2, number(offset, 8) + number(length, 4), done)
 
 
 def ascending(i, count, slots):
@@ -83,7 +103,7 @@ def writes(place, data):
     def session(count):
         for i in range(count):
             offset = place(i, count, slots) % slots * len(data)
-            yield request(WRITE, i + 1, offset, len(data), data), reply(i + 1)
+            yield request(WRITE, i + 1, offset, len(data), data), [reply(i + 1)]
 
     return session
 
@@ -91,7 +111,7 @@ def writes(place, data):
 def whole(command):
     def session(count):
         for i in range(count):
-            yield request(command, i + 1, 0, SIZE), reply(i + 1)
+            yield request(command, i + 1, 0, SIZE), [reply(i + 1)]
 
     return session
 
@@ -101,14 +121,14 @@ def alternating(count):
     draw = random.Random(2)
     for i in range(count):
         if i % 2:
-            yield request(WRITE, i + 1, draw.randrange(SIZE), 1, BYTE), reply(i + 1)
+            yield request(WRITE, i + 1, draw.randrange(SIZE), 1, BYTE), [reply(i + 1)]
         else:
-            yield request(TRIM if i % 4 else WRITE_ZEROES, i + 1, 0, SIZE), reply(i + 1)
+            yield request(TRIM if i % 4 else WRITE_ZEROES, i + 1, 0, SIZE), [reply(i + 1)]
 
 
 def holes(count):
     for i in range(count):
-        yield request(READ, i + 1, 0, SIZE), hole(i + 1, 0, SIZE)
+        yield request(READ, i + 1, 0, SIZE), [hole(i + 1, 0, SIZE)]
 
 
 def reads(data, first=None):
@@ -117,9 +137,9 @@ def reads(data, first=None):
     def session(count):
         for i in range(count):
             if first is not None and i == 0:
-                yield request(WRITE, 1, first, 1, BYTE), reply(1)
+                yield request(WRITE, 1, first, 1, BYTE), [reply(1)]
             else:
-                yield request(READ, i + 1, 0, SIZE), reply(i + 1, data)
+                yield request(READ, i + 1, 0, SIZE), [reply(i + 1, data)]
 
     return session
 
@@ -134,70 +154,79 @@ PLACES = {
     "splitting": splitting,
 }
 
-# A shape's name, the requests of its smallest session, whether replies are structured, its start, and its session.
 SHAPES = {
-    **{f"{name}_1": (100000, False, "zero", writes(place, BYTE)) for name, place in PLACES.items()},
-    **{f"{name}_4k": (5000, False, "zero", writes(place, PAGE)) for name, place in PLACES.items()},
-    "alternating": (50000, False, "zero", alternating),
-    "whole_zeroes": (50000, False, "zero", whole(WRITE_ZEROES)),
-    "whole_trim": (50000, False, "zero", whole(TRIM)),
-    "whole_holes": (50000, True, "zero", holes),
-    "read_zeroes": (16, False, "zero", reads(bytes(SIZE))),
-    "read_one_byte": (16, False, "zero", reads(WRITTEN, MIDDLE)),
-    "read_image": (16, False, "image", reads(IMAGE)),
+    **{f"{name}_1": Shape(100000, writes(place, BYTE)) for name, place in PLACES.items()},
+    **{f"{name}_4k": Shape(5000, writes(place, PAGE)) for name, place in PLACES.items()},
+    "alternating": Shape(50000, alternating),
+    "whole_zeroes": Shape(50000, whole(WRITE_ZEROES)),
+    "whole_trim": Shape(50000, whole(TRIM)),
+    "whole_holes": Shape(50000, holes, structured=True),
+    "read_zeroes": Shape(16, reads(bytes(SIZE))),
+    "read_one_byte": Shape(16, reads(WRITTEN, MIDDLE)),
+    "read_image": Shape(16, reads(IMAGE), start="image"),
 }
 
 
 def generate(shape, count, base):
-    _, structured, _, session = SHAPES[shape]
+    asked = 0
     with open(base + ".cap", "wb") as capture:
-        for side, data in negotiation(structured):
+        for side, data in negotiation(shape.size, shape.structured):
             capture.write(side + b" " + data.hex().encode() + b"\n")
-        for asked, answered in session(count):
-            capture.write(b"C " + asked.hex().encode() + b"\nS " + answered.hex().encode() + b"\n")
+        for question, answers in shape.session(count):
+            asked += 1
+            capture.write(b"C " + question.hex().encode() + b"\n")
+            for answer in answers:
+                capture.write(b"S " + answer.hex().encode() + b"\n")
     with open(base + ".ord", "w") as order:
-        order.writelines(f"{k}\n" for k in range(1, count + 1))
+        order.writelines(f"{k}\n" for k in range(1, asked + 1))
     with open(base + ".img", "wb") as image:
         image.write(IMAGE)
 
 
 def timed(words, runs):
-    """The best processor time of some runs, and what the last one wrote."""
-    best = None
+    """The best processor time of some runs, the most memory in MiB, and what the last one wrote."""
+    best, most = None, 0
     for _ in range(runs):
-        before = resource.getrusage(resource.RUSAGE_CHILDREN)
-        done = subprocess.run(words, capture_output=True, check=False)
-        after = resource.getrusage(resource.RUSAGE_CHILDREN)
-        took = after.ru_utime + after.ru_stime - before.ru_utime - before.ru_stime
+        with tempfile.TemporaryFile() as out:
+            process = subprocess.Popen(words, stdout=out, stderr=subprocess.STDOUT)
+            _, _, usage = os.wait4(process.pid, 0)
+            out.seek(0)
+            wrote = out.read().decode(errors="replace")
+        took = usage.ru_utime + usage.ru_stime
         best = took if best is None else min(best, took)
-    return best, (done.stdout + done.stderr).decode(errors="replace").strip().split("\n")[0]
+        most = max(most, usage.ru_maxrss / 1024)
+    return best, most, wrote.strip().split("\n")[0]
 
 
 def measure(shape, count, options, folder):
     base = os.path.join(folder, "session")
-    generate(shape, count, base)
-    start = SHAPES[shape][2]
-    start = f"image:{base}.img" if start == "image" else start
-    took, answer = timed([options.program, "check", base + ".cap", base + ".ord", "--start", start], options.runs)
+    # In a process of its own: what a process used before it began another counts as that one's memory.
+    writer = multiprocessing.get_context("fork").Process(target=generate, args=(shape, count, base))
+    writer.start()
+    writer.join()
+    start = f"image:{base}.img" if shape.start == "image" else shape.start
+    words = [options.program, "check", base + ".cap", base + ".ord", "--start", start]
+    took, memory, answer = timed(words, options.runs)
     hex_took = None
     if options.hexdec:
-        hex_took, _ = timed([options.hexdec, "decode", base + ".cap"], options.runs)
-    return took, hex_took, answer
+        hex_took, _, _ = timed([options.hexdec, "decode", base + ".cap"], options.runs)
+    return took, hex_took, memory, answer
 
 
-def report(shape, options, folder):
+def report(name, shape, options, folder):
     before = None
-    smallest = max(SHAPES[shape][0] * options.scale // 100, 2)
+    smallest = max(shape.count * options.scale // 100, 2)
     for count in (smallest, 2 * smallest, 4 * smallest):
-        took, hex_took, answer = measure(shape, count, options, folder)
+        took, hex_took, memory, answer = measure(shape, count, options, folder)
         ratio = f"{took / before:5.2f}" if before else "    -"
         over = f"{took / hex_took:6.2f} /hex" if hex_took else ""
-        print(f"{shape:14} {count:8} {took:7.3f} s {took / count * 1e6:9.2f} us {ratio} {over}  {answer}", flush=True)
+        each = f"{took / count * 1e6:9.2f} us"
+        print(f"{name:14} {count:8} {took:7.3f} s {each} {ratio} {over} {memory:8.1f} MiB  {answer}", flush=True)
         before = took
 
 
-def main():
-    parser = argparse.ArgumentParser(description=__doc__, formatter_class=argparse.RawDescriptionHelpFormatter)
+def main(shapes, doc):
+    parser = argparse.ArgumentParser(description=doc, formatter_class=argparse.RawDescriptionHelpFormatter)
     parser.add_argument("-r", dest="runs", type=int, default=3)
     parser.add_argument("-n", dest="scale", type=int, default=100, help="n in per cent")
     parser.add_argument("--hexdec")
@@ -205,15 +234,16 @@ def main():
     parser.add_argument("shapes", nargs="*", metavar="SHAPE")
     options = parser.parse_args()
     options.program = os.environ.get("NBD", os.path.join(TOP, "crates/nbdcheck/out/nbdcheck"))
-    unknown = [shape for shape in options.shapes if shape not in SHAPES]
+    unknown = [name for name in options.shapes if name not in shapes]
     if unknown:
         sys.exit(f"no such shape: {' '.join(unknown)}")
     if options.list:
-        print(*SHAPES, sep="\n")
+        print(*shapes, sep="\n")
         return
     with tempfile.TemporaryDirectory() as folder:
-        for shape in options.shapes or SHAPES:
-            report(shape, options, folder)
+        for name in options.shapes or shapes:
+            report(name, shapes[name], options, folder)
 
 
-main()
+if __name__ == "__main__":
+    main(SHAPES, __doc__)

@@ -3,14 +3,14 @@
 mod refusals;
 mod twins;
 
-ghost use Rattle.std.specs.Prelude.{◌≡◌};
+ghost use Rattle.std.specs.Prelude.{◌+◌, ◌^◌, ◌<◌, ◌≤◌};
 
 use crate::pages::Pages;
 use crate::{Contents, Extents, Flat, Start};
 use std::alloc::AllocError;
 use std::test::Fail;
 
-// What the calls answer on contents of eight bytes after three changes.
+// What the calls answer on eight bytes after three changes, with offsets from the first of them on.
 #[derive(Debug, PartialEq, Drop)]
 struct Answers {
     bytes: [Option<u8>; 3],
@@ -26,35 +26,49 @@ const WORKED: Answers = Answers {
     nonzero: Some(2),
 };
 
-fn change_and_ask<C: Contents>(contents: &mut C) -> Result<Answers, AllocError>
-    requires { C.size contents.old ≡ 8 }
+fn change_and_ask<C: Contents>(contents: &mut C, first: u64) -> Result<Answers, AllocError>
+    requires inside { first + 8 ≤ C.size contents.old }
+    requires fits { first + 8 < 2 ^ 64 }
 {
-    contents.put(2, &[1, 2])?;
-    contents.forget(6, 2)?;
-    contents.zero(3, 1)?;
+    contents.put(first + 2, &[1, 2])?;
+    contents.forget(first + 6, 2)?;
+    contents.zero(first + 3, 1)?;
     Ok(Answers {
         bytes: [
-            contents.byte_at(2),
-            contents.byte_at(3),
-            contents.byte_at(6),
+            contents.byte_at(first + 2),
+            contents.byte_at(first + 3),
+            contents.byte_at(first + 6),
         ],
-        same: contents.differs(0, &[0, 0, 1, 0, 0, 0, 9, 9]),
-        other: contents.differs(0, &[0, 0, 1, 1, 0, 0, 9, 9]),
-        nonzero: contents.differs_zero(0, 8),
+        same: counted_from(first, contents.differs(first, &[0, 0, 1, 0, 0, 0, 9, 9])),
+        other: counted_from(first, contents.differs(first, &[0, 0, 1, 1, 0, 0, 9, 9])),
+        nonzero: counted_from(first, contents.differs_zero(first, 8)),
     })
+}
+
+// An offset, counted from this one on.
+fn counted_from(first: u64, offset: Option<u64>) -> Option<u64> {
+    offset?.checked_sub(first)
 }
 
 #[test]
 fn flat_contents_change_and_compare(rt: HostRuntime) -> Result<(), Fail> {
     let mut flat = Flat::new(rt.alloc(), 8, Start::Zeroes)?;
-    assert_eq!(rt; change_and_ask(&mut flat)?, WORKED);
+    assert_eq!(rt; change_and_ask(&mut flat, 0)?, WORKED);
     Ok(())
 }
 
 #[test]
 fn extents_change_and_compare(rt: HostRuntime) -> Result<(), Fail> {
     let mut extents = Extents::new(rt.alloc(), 8, Start::Zeroes)?;
-    assert_eq!(rt; change_and_ask(&mut extents)?, WORKED);
+    assert_eq!(rt; change_and_ask(&mut extents, 0)?, WORKED);
+    Ok(())
+}
+
+#[test]
+fn the_largest_extents_change_and_compare(rt: HostRuntime) -> Result<(), Fail> {
+    let mut extents = Extents::new(rt.alloc(), LARGEST, Start::Zeroes)?;
+    assert_eq!(rt; extents.ranges(), 1);
+    assert_eq!(rt; change_and_ask(&mut extents, 1 << 62)?, WORKED);
     Ok(())
 }
 

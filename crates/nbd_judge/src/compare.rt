@@ -1,6 +1,7 @@
 //! The bytes of a READ against the contents when it is served.
 
-ghost use Rattle.std.specs.Prelude.{◌≡◌, ◌+◌, ◌≤◌, length};
+ghost use Rattle.std.specs.Prelude.{◌≡◌, ◌+◌, ◌≤◌, IfOk, length, map};
+ghost use Rattle.std.specs.List.Sorted.{IsPermutation};
 ghost use Rattle.nbd_export.specs.Ranges.{IsLeast};
 ghost use Rattle.nbd_wire.specs.protocol.ExportBytes.{IsWrongIn, effect, is_success};
 ghost use Rattle.nbd_wire.specs.protocol.Pieces.{piece_offset, piece_size};
@@ -12,20 +13,26 @@ ghost use Rattle.nbd_state.specs.Showing.{outcome_of};
 use crate::least::lesser;
 use nbd_export::Contents;
 use nbd_session::{Asked, Outcome};
+use nbd_state::Span;
 use nbd_wire::{Piece, commands};
+use std::alloc::{AllocError, Global};
 
 /// The least offset of a wrong byte of a request that is served now; None where it has none. The cost is
-/// that of the bytes and holes of its reply.
-pub fn wrong<C: Contents>(one: &Asked, contents: &C) -> Option<u64>
+/// that of the bytes and holes of its reply, and of sorting these. An `Err` says that memory ran out.
+pub fn wrong<C: Contents>(
+    alloc: Global,
+    one: &Asked,
+    contents: &C,
+) -> Result<Option<u64>, AllocError>
     requires { IsServable (C.size contents.now) (report_of_request one.now) }
-    ensures { IsLeast (IsWrongIn (effect (report_of_request one.now)) (C.byte contents.now)) result }
+    ensures { IfOk result (IsLeast (IsWrongIn (effect (report_of_request one.now)) (C.byte contents.now))) }
 {
     if one.command == commands::READ {
         if is_success(one.outcome) {
-            return first_difference(&one.pieces, contents);
+            return first_difference(alloc, &one.pieces, contents);
         }
     }
-    None
+    Ok(None)
 }
 
 /// Whether a request succeeded.
@@ -38,10 +45,36 @@ pub fn is_success(outcome: Outcome) -> bool
     }
 }
 
-// The least offset at which one of the pieces differs from the contents.
-fn first_difference<C: Contents>(pieces: &[Piece], contents: &C) -> Option<u64>
+// The least offset at which one of the pieces differs from the contents. They are compared in the order
+// of their offsets.
+fn first_difference<C: Contents>(
+    alloc: Global,
+    pieces: &[Piece],
+    contents: &C,
+) -> Result<Option<u64>, AllocError>
     requires { AreInside (C.size contents.now) pieces.now }
-    ensures { IsLeast (DiffersInOneOf (C.byte contents.now) pieces.now (length pieces.now)) result }
+    ensures { IfOk result (IsLeast (DiffersInOneOf (C.byte contents.now) pieces.now (length pieces.now))) }
+{
+    if let [piece] = pieces {
+        return Ok(piece_difference(piece, contents));
+    }
+    let sorted = by_offset(alloc, pieces)?;
+    Ok(least_difference(&sorted, contents))
+}
+
+// The pieces in the order of their offsets.
+fn by_offset(alloc: Global, pieces: &[Piece]) -> Result<Vec<&Piece>, AllocError>
+    ensures { IfOk result (λ sorted. IsPermutation pieces.now (map (λ p. p.now) sorted.items)) }
+{
+    let mut sorted: Vec<&Piece> = pieces.iter().collect(alloc)?;
+    sorted.sort_by_key(|piece| Span::of(piece).offset)?;
+    Ok(sorted)
+}
+
+// The least offset at which one of these pieces differs from the contents.
+fn least_difference<C: Contents>(pieces: &[&Piece], contents: &C) -> Option<u64>
+    requires { AreInside (C.size contents.now) (map (λ p. p.now) pieces.now) }
+    ensures { IsLeast (DiffersInOneOf (C.byte contents.now) (map (λ p. p.now) pieces.now) (length pieces.now)) result }
 {
     let mut found = None;
     for piece in pieces {

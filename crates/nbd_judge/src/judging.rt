@@ -36,7 +36,7 @@ pub fn judge<C: Contents>(
         return Ok(Verdict::Order { entry, fault });
     }
     let requests = transcript.count();
-    if let Some((request, offset)) = replay(transcript, order, contents)? {
+    if let Some((request, offset)) = replay(alloc, transcript, order, contents)? {
         return Ok(Verdict::Content { request, offset });
     }
     Ok(Verdict::Yes {

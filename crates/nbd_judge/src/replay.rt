@@ -10,13 +10,14 @@ use crate::change::change;
 use crate::compare::wrong;
 use nbd_export::Contents;
 use nbd_session::Transcript;
-use std::alloc::AllocError;
+use std::alloc::{AllocError, Global};
 
 /// The first request in the order with a wrong byte, and its least wrong offset; None where no request
 /// has one. Each request is compared with what those before it left, by the outcomes that stand at the
 /// end of the session. After the first wrong byte and after a refusal of memory the contents hold the
 /// effect of some entries.
 pub fn replay<C: Contents>(
+    alloc: Global,
     transcript: &Transcript,
     order: &[u64],
     contents: &mut C,
@@ -31,7 +32,8 @@ pub fn replay<C: Contents>(
     for i in 0..order.len() {
         let k = order[i];
         if let Some(one) = transcript.asked(k) {
-            if let Some(offset) = wrong(one, contents) {
+            let found = wrong(alloc, one, contents)?;
+            if let Some(offset) = found {
                 return Ok(Some((k, offset)));
             }
             change(one, contents)?;

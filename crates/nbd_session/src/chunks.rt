@@ -11,13 +11,14 @@ ghost use Rattle.nbd_wire.specs.protocol.States.{Core, with_reply};
 ghost use Rattle.nbd_wire.specs.declared.message.Message.TheVariants.{Chunk};
 ghost use Rattle.nbd_wire.specs.protocol.Payloads.{number_at};
 ghost use Rattle.nbd_wire.specs.declared.fault.WireFault.TheVariants.{BadChunk, BadContent};
-ghost use Rattle.nbd_session.specs.internal.Asking.{done_by, finish_by, span_of};
+ghost use Rattle.nbd_session.specs.internal.Asking.{done_by, finish_by};
 ghost use Rattle.nbd_state.specs.Showing.{IsShown};
+ghost use Rattle.nbd_state.specs.Spans.{span_of};
 ghost use Rattle.nbd_places.specs.internal.Decisions.{fault_if};
 ghost use Rattle.nbd_places.specs.internal.JudgeTransmission.{begins, chunk_to, chunk_fault, fits_read, fits_failure, total};
 
-use crate::spans::{Span, bytes_in, content_span, is_apart_from, is_inside};
-use nbd_state::{Asked, Exchange};
+use crate::spans::{bytes_in, content_span, is_inside};
+use nbd_state::{Asked, Exchange, Span};
 use nbd_wire::flags::has;
 use nbd_wire::{WireFault, chunks, command_flags, commands, content_of, failure_of};
 
@@ -89,7 +90,7 @@ fn fits_read(span: Span, exchange: &Exchange) -> bool
     let asked = &exchange.asked;
     asked.command == commands::READ
         && is_inside(span, asked.offset, asked.length)
-        && is_apart_from(span, &asked.pieces)
+        && exchange.is_apart_from(span)
         && (!is_to_be_whole(asked) || asked.pieces.is_empty())
 }
 

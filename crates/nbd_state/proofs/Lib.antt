@@ -1,4 +1,5 @@
 pub mod CompletionLemmas
+pub mod IndexLemmas
 pub mod KnownLemmas
 pub mod PhaseLemmas
 pub mod PlacedLemmas

@@ -1,2 +1,3 @@
 pub mod Completing
+pub mod Indexes
 pub mod Showing

@@ -1,5 +1,8 @@
 //! A numbered request, and what became of it.
 
+ghost use Rattle.nbd_state.specs.internal.Indexes.{Indexes};
+
+use crate::index::PieceIndex;
 use nbd_wire::{Bytes, Piece};
 
 /// What became of a request.
@@ -39,4 +42,8 @@ pub struct Exchange {
     pub asked: Asked,
     /// A reply message told a failure.
     pub failed: bool,
+    // The pieces by their offsets, from the second one on and until the reply ends.
+    pub(crate) index: PieceIndex,
+    // What lies apart from the pieces that the index holds, where it holds any, lies apart from all.
+    ghost indexed: { Indexes index.sizes asked.pieces.items },
 }

@@ -4,15 +4,19 @@
 //! requests; a `Transcript` is what it states at the end. No byte is read here.
 #![tactic(auto)]
 
+mod apart;
 mod asked;
 mod completing;
+mod index;
 mod options;
 mod proper;
 mod recording;
+mod span;
 mod state;
 mod transcript;
 
 pub use asked::{Asked, Exchange, Outcome};
 pub use proper::ends_by;
+pub use span::Span;
 pub use state::{Chosen, Export, Phase, State};
 pub use transcript::Transcript;

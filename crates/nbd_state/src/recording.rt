@@ -10,15 +10,19 @@ ghost use Rattle.nbd_wire.specs.protocol.Operations.{Operation, Exporting, ends_
 ghost use Rattle.nbd_wire.specs.protocol.Pieces.{chunk_piece};
 ghost use Rattle.nbd_wire.specs.protocol.States.{with_reply};
 ghost use Rattle.nbd_state.specs.declared.asked.Outcome.TheVariants.{Failure, Success};
+ghost use Rattle.std.specs.Option.{option_copied};
+ghost use Rattle.nbd_state.specs.internal.Indexes.{Indexes};
 ghost use Rattle.nbd_state.specs.internal.Showing.{operation_of_head};
 ghost use Rattle.nbd_state.specs.Showing.{IsShown, exporting};
 
 use crate::asked::{Asked, Exchange, Outcome};
+use crate::index::PieceIndex;
 use crate::proper::is_proper;
 use crate::state::Export;
 use nbd_wire::flags::has;
 use nbd_wire::{Bytes, Content, Piece, RequestHead, chunks, content_of};
 use std::alloc::{AllocError, Global};
+use std::mem;
 
 impl Exchange {
     /// A request that has just completed. An `Err` says that memory ran out.
@@ -46,6 +50,7 @@ impl Exchange {
         Ok(Exchange {
             asked,
             failed: false,
+            index: PieceIndex::new(alloc),
         })
     }
 
@@ -69,7 +74,7 @@ impl Exchange {
         ensures kept { IfErr result (λ _. self.new.asked.known_at ≡ self.old.asked.known_at) }
     {
         let piece = simple_piece(alloc, self.asked.offset, payload)?;
-        self.take(piece, known, true, error != 0)
+        self.take(alloc, piece, known, true, error != 0)
     }
 
     /// A whole chunk has answered it, before whose first byte so many requests had completed. After
@@ -93,12 +98,19 @@ impl Exchange {
         ensures kept { IfErr result (λ _. self.new.asked.known_at ≡ self.old.asked.known_at) }
     {
         let piece = content_piece(alloc, kind, payload)?;
-        self.take(piece, known, has(flags, chunks::DONE), is_error_chunk(kind))
+        self.take(
+            alloc,
+            piece,
+            known,
+            has(flags, chunks::DONE),
+            is_error_chunk(kind),
+        )
     }
 
     // A reply message gave this piece, if any; the last one ends the reply.
     fn take(
         &mut self,
+        alloc: Global,
         piece: Option<Piece>,
         known: u64,
         ends: bool,
@@ -114,11 +126,34 @@ impl Exchange {
             IsShown export e self.old → IsShown export e self.new) }
         ensures kept { IfErr result (λ _. self.new.asked.known_at ≡ self.old.asked.known_at) }
     {
+        let index = mem::replace(&mut self.index, PieceIndex::new(alloc));
+        let index = index_after(alloc, index, &self.asked.pieces, piece.as_ref(), ends)?;
         push_if(&mut self.asked.pieces, piece)?;
+        self.index = index;
         self.failed |= fails;
         self.asked.known_at = first(self.asked.known_at, known);
         self.asked.outcome = outcome_after(self.asked.outcome, ends, self.failed);
         Ok(())
+    }
+}
+
+// The index of these pieces and one more, if any; where the reply ends it holds none.
+fn index_after(
+    alloc: Global,
+    index: PieceIndex,
+    pieces: &[Piece],
+    piece: Option<&Piece>,
+    ends: bool,
+) -> Result<PieceIndex, AllocError>
+    requires { Indexes index.sizes pieces.now }
+    ensures { IfOk result (λ after. Indexes after.sizes (pieces.now ++ chunk_piece (option_copied piece.entry))) }
+{
+    if ends {
+        return Ok(PieceIndex::new(alloc));
+    }
+    match piece {
+        Some(piece) => index.with(alloc, pieces, piece),
+        None => Ok(index),
     }
 }
 

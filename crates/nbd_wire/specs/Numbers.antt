@@ -120,4 +120,4 @@ LengthsAreLiteral =
 
 -- the largest export in bytes (this project's choice)
 abbrev pub LimitsAreLiteral : Type 0
-LimitsAreLiteral = limits.EXPORT_SIZE ≡ 1048576
+LimitsAreLiteral = limits.EXPORT_SIZE ≡ 9223372036854775807

@@ -1,5 +1,5 @@
 //! Limits that this project sets.
 
 /// The largest export, in bytes, that a session may enter transmission with. This project's choice:
-/// the first representation of contents keeps one cell for each byte.
-pub const EXPORT_SIZE: u64 = 1_048_576;
+/// so many bytes a signed offset counts, as `off_t` of 64 bits does.
+pub const EXPORT_SIZE: u64 = 9_223_372_036_854_775_807;

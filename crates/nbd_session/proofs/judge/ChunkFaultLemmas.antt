@@ -1,6 +1,5 @@
 -- What a chunk and the end of its reply are refused for, by the sizes of pieces.
 use Rattle.std.proofs.Common.{◌≡◌, ◌⊎◌, ℕ, ◌+◌, ◌≤◌, ◌==◌, if◌then◌else◌, eqb-true, List, [], ◌∷◌, ◌++◌, length, min, refl, sym, ◌∙◌, ap, arith, Bool, true, false, not, ◌&&◌, ◌||◌, nat_le, Option, Some, None, fold, subst, inl, inr, add_assoc, zero-add}
-use Rattle.std.specs.List.{list_all}
 use Rattle.nbd_wire.specs.declared.chunks.TheConstants as chunks
 use Rattle.nbd_wire.specs.declared.message.Message.{Message}
 use Rattle.nbd_wire.specs.declared.message.Message.TheVariants.{Chunk}
@@ -9,14 +8,13 @@ use Rattle.nbd_wire.specs.declared.payloads.Piece.{Piece}
 use Rattle.nbd_wire.specs.protocol.Payloads.{content_of, failure_of, number_at}
 use Rattle.nbd_wire.specs.protocol.Operations.{Operation, Exporting, has_failed, is_error_chunk, is_failing, is_proper, pieces}
 use Rattle.nbd_wire.specs.protocol.Flags.{has}
-use Rattle.nbd_wire.specs.protocol.Pieces.{piece_of, piece_offset, piece_size, chunk_piece}
+use Rattle.nbd_wire.specs.protocol.Pieces.{piece_of, piece_size, chunk_piece}
 use Rattle.nbd_wire.specs.protocol.States.{with_reply}
 use Rattle.nbd_wire.specs.declared.fault.WireFault.{WireFault}
 use Rattle.nbd_wire.specs.declared.fault.WireFault.TheVariants.{BadChunk, BadContent}
-use Rattle.nbd_session.specs.declared.spans.Span.{Span}
-use Rattle.nbd_session.specs.internal.Asking.{done_by, finish_by, span_of}
+use Rattle.nbd_session.specs.internal.Asking.{done_by, finish_by}
 use Rattle.nbd_places.specs.internal.Decisions.{fault_if}
-use Rattle.nbd_places.specs.internal.JudgeTransmission.{chunk_fault, content_fault, done_fault, finish_fault, fits_failure, fits_read, is_apart, is_apart_from, total}
+use Rattle.nbd_places.specs.internal.JudgeTransmission.{chunk_fault, content_fault, done_fault, finish_fault, fits_failure, fits_read, total}
 use Rattle.nbd_state.proofs.ReplyLemmas.{any-snoc, or-false, proper-same}
 use Rattle.nbd_places.proofs.judge.BoolLemmas.{and_true}
 use Rattle.nbd_laws.proofs.requests.LaidLemmas.{pieces-snoc}
@@ -28,15 +26,6 @@ fold-total limit n [] h = omega arith
 fold-total limit n (p ∷ ps) h =
     let rest : fold (λ sum p. min (sum + piece_size p) limit) (min (n + piece_size p) limit) ps ≡ min (min (n + piece_size p) limit + total ps) limit = fold-total limit (min (n + piece_size p) limit) ps (omega arith) in
     omega (arith, rest)
-
--- side by side with each
-pub all-apart : (piece : Piece) (span : Span) (ps : List Piece) → span_of piece ≡ span →
-    list_all (λ p. nat_le (span.offset + span.size) (piece_offset p) || nat_le (piece_offset p + piece_size p) span.offset) ps ≡ is_apart_from piece ps
-all-apart piece span ps e = subst (λ s. list_all (λ p. nat_le (s.offset + s.size) (piece_offset p) || nat_le (piece_offset p + piece_size p) s.offset) ps ≡ is_apart_from piece ps) e (go ps)
-  where
-    go : (ps : List Piece) → list_all (λ p. nat_le (piece_offset piece + piece_size piece) (piece_offset p) || nat_le (piece_offset p + piece_size p) (piece_offset piece)) ps ≡ is_apart_from piece ps
-    go [] = refl
-    go (p ∷ ps) = ap (λ b. is_apart piece p && b) (go ps)
 
 total-append : (ps qs : List Piece) → total (ps ++ qs) ≡ total ps + total qs
 total-append [] qs = sym (zero-add (total qs))

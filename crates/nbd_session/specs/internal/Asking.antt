@@ -1,16 +1,9 @@
 -- The program's values as the definitions have them.
 use Rattle.std.specs.Prelude.{ℕ, Bool, true, false, not, ◌&&◌, Option, None, ◌==◌}
 use Rattle.nbd_wire.specs.declared.commands.TheConstants as commands
-use Rattle.nbd_wire.specs.declared.payloads.Piece.{Piece}
-use Rattle.nbd_wire.specs.protocol.Pieces.{piece_offset, piece_size}
 use Rattle.nbd_wire.specs.declared.fault.WireFault.{WireFault}
 use Rattle.nbd_wire.specs.declared.fault.WireFault.TheVariants.{IncompleteRead, SuccessOfImproper}
-use Rattle.nbd_session.specs.declared.spans.Span.{Span}
 use Rattle.nbd_places.specs.internal.Decisions.{fault_if}
-
--- where a piece lies
-abbrev pub span_of : Piece → Span
-span_of piece = record { offset = piece_offset piece; size = piece_size piece }
 
 -- at the end of a reply to a request of this command and length that gave so many bytes
 abbrev pub finish_by : (command len : ℕ) (proper failed : Bool) (given : ℕ) → Option WireFault

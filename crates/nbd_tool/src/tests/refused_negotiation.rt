@@ -103,8 +103,8 @@ const ANSWERS_TO_GO: &[Case] = &[
         capture: &[
             FLAGS,
             GO,
-            // An info on an export of 1048577 bytes.
-            "S 0003e889045565a900000007000000030000000c00000000000000100001006d\n",
+            // An info on an export of 9223372036854775808 bytes.
+            "S 0003e889045565a900000007000000030000000c00008000000000000000006d\n",
             ACK,
         ],
         order: "",

@@ -1,18 +1,18 @@
-use Rattle.std.proofs.Common.{ℕ, Option, length, sym, subst, refl, arith, ◌≡◌, ◌+◌}
-use Rattle.std.proofs.lemmas.Option.{slice_get_read}
+use Rattle.std.proofs.Common.{map, subst, sym}
+use Rattle.std.proofs.lemmas.List.{length-map}
 use Rattle.nbd_export.specs.Ranges.{IsLeast}
 use Rattle.nbd_judge.specs.internal.Pieces.{DiffersInOneOf}
-use Rattle.nbd_judge.proofs.contents.CompareLemmas.{one_more}
+use Rattle.nbd_judge.proofs.contents.CompareLemmas.{inside_permuted, least_permuted}
 use Rattle.nbd_judge.proofs.compare.first_difference.Goals as goal
 
-pub loop-piece-preserved : goal.loop-piece-preserved
-loop-piece-preserved g c =
-    let byte : ℕ → Option ℕ = g.C.Contents.byte c.args.contents.now in
-    let at = slice_get_read c.args.pieces.now (length c.args.pieces.now) c.loop-piece.piece-index c.piece-item.result refl c.loop-piece-test.true c.piece-item.is in
-    subst (IsLeast (DiffersInOneOf byte c.args.pieces.now (c.loop-piece.piece-index + 1))) (sym c.lesser-found.ensures)
-    (one_more byte c.args.pieces.now c.loop-piece.piece-index c.piece-item.result c.loop-piece.found c.piece_difference.result at c.loop-piece.invariant c.piece_difference.ensures)
+pub least_difference-requires : goal.least_difference-requires
+least_difference-requires g c =
+    rw c.deref.ensures.value (inside_permuted (g.C.Contents.size c.args.contents.now) c.args.pieces.now (map (λ p. p.now) c.in_ok-sorted.sorted.items) c.in_ok-sorted.ensures c.requires)
 
 pub returns : goal.returns
 returns g c =
-    let e : c.loop-piece.piece-index ≡ length c.args.pieces.now = omega arith in
-    subst (λ n. IsLeast (DiffersInOneOf (g.C.Contents.byte c.args.contents.now) c.args.pieces.now n) c.loop-piece.found) e c.loop-piece.invariant
+    let byte = g.C.Contents.byte c.args.contents.now in
+    let sorted = map (λ p. p.now) c.in_ok-sorted.sorted.items in
+    let least = rw c.deref.ensures.value at c.least_difference.ensures in
+    least_permuted byte c.args.pieces.now sorted c.least_difference.result c.in_ok-sorted.ensures
+    (subst (λ n. IsLeast (DiffersInOneOf byte sorted n) c.least_difference.result) (sym (length-map c.in_ok-sorted.sorted.items (λ p. p.now))) least)

@@ -1,4 +1,5 @@
 use Rattle.std.proofs.Common.{ℕ, List, Option, length, sym, subst, ◌∙◌}
+use Rattle.std.proofs.lemmas.Result.{IfOk-weaker}
 use Rattle.nbd_export.specs.Ranges.{IsLeast}
 use Rattle.nbd_wire.specs.declared.payloads.Piece.{Piece}
 use Rattle.nbd_state.specs.Transcripts.{report_of_request}
@@ -10,5 +11,7 @@ pub returns-then-is_success : goal.returns-then-is_success
 returns-then-is_success g c =
     let byte : ℕ → Option ℕ = g.C.Contents.byte c.args.contents.now in
     let well = sym c.is_success.ensures ∙ c.if-is_success.true in
-    wrong_read (g.C.Contents.size c.args.contents.now) (report_of_request c.args.one.now) byte c.if-one-eq-READ.true well c.requires c.first_difference.result
-    (subst (λ (ps : List Piece). IsLeast (DiffersInOneOf byte ps (length ps)) c.first_difference.result) c.deref.ensures.value c.first_difference.ensures)
+    IfOk-weaker c.first_difference.result _ _ (λ found least.
+    wrong_read (g.C.Contents.size c.args.contents.now) (report_of_request c.args.one.now) byte c.if-one-eq-READ.true well c.requires found
+    (subst (λ (ps : List Piece). IsLeast (DiffersInOneOf byte ps (length ps)) found) c.deref.ensures.value least))
+    c.first_difference.ensures

@@ -8,7 +8,7 @@ use Rattle.nbd_judge.specs.internal.Servable.{IsServable}
 use Rattle.nbd_judge.proofs.contents.EffectLemmas.{next, none_through, served}
 use Rattle.nbd_judge.proofs.verdicts.SoundLemmas.{servable}
 use Rattle.nbd_judge.proofs.replay.replay.Goals as goal
-use Rattle.nbd_judge.proofs.replay.replay.Goals.{in-Some+in_default-wrong+in_ok-change, in_default}
+use Rattle.nbd_judge.proofs.replay.replay.Goals.{in-Some+in_ok-found+in_default-found+in_ok-change, in_default}
 
 pub wrong-requires : goal.wrong-requires
 wrong-requires g c =
@@ -20,8 +20,8 @@ change-requires g c =
     subst (λ (n : ℕ). IsServable n (report_of_request c.in-Some.one.now)) (sym (c.loop-i.invariant.size ∙ c.requires.sized))
     (servable c.args.transcript.now c.requires.sound (slice_index c.args.order.now c.loop-i.i) (report_of_request c.in-Some.one.now) (sym c.in-Some.ensures))
 
-pub returns-in-Some-wrong : goal.returns-in-Some-wrong
-returns-in-Some-wrong g c =
+pub returns-in-Some-found : goal.returns-in-Some-found
+returns-in-Some-found g c =
     let size : ℕ = g.C.Contents.size c.args.contents.now in
     let requests : ℕ → Option Effect = effects c.args.transcript.now in
     let initial : ℕ → Option ℕ = g.C.Contents.byte c.args.contents.now in
@@ -30,8 +30,8 @@ returns-in-Some-wrong g c =
     let k : ℕ = slice_index c.args.order.now c.loop-i.i in
     let sound : IsServable size told = subst (λ (n : ℕ). IsServable n told) (sym c.requires.sized) (servable c.args.transcript.now c.requires.sound k told (sym c.in-Some.ensures)) in
     let at : requests k ≡ Some (effect told) = ap effect_if (sym c.in-Some.ensures) in
-    let least = served size requests c.args.order.now initial now c.loop-i.i c.loop-i-test.true c.requires.once c.loop-i.invariant.bytes told at sound (Some c.in-Some-wrong.offset) c.in-Some-wrong.ensures in
-    ((c.loop-i.i, refl, ((c.loop-i-test.true, (c.in-Some-wrong.offset, least.0)), c.loop-i.invariant.none)), least)
+    let least = served size requests c.args.order.now initial now c.loop-i.i c.loop-i-test.true c.requires.once c.loop-i.invariant.bytes told at sound (Some c.in-Some-found.offset) (rw c.in-Some-found.is at c.in_ok-found.ensures) in
+    ((c.loop-i.i, refl, ((c.loop-i-test.true, (c.in-Some-found.offset, least.0)), c.loop-i.invariant.none)), least)
 
 pub loop-i-preserved : goal.loop-i-preserved
 loop-i-preserved g c =
@@ -41,7 +41,7 @@ loop-i-preserved g c =
     let now : ℕ → Option ℕ = g.C.Contents.byte c.loop-i.contents in
     let k : ℕ = slice_index c.args.order.now c.loop-i.i in
     elim c.match-asked.branch [
-      | in-Some+in_default-wrong+in_ok-change w ↦
+      | in-Some+in_ok-found+in_default-found+in_ok-change w ↦
           (let told : Asked = report_of_request w.in-Some.one.now in
           let sound : IsServable size told = subst (λ (n : ℕ). IsServable n told) (sym c.requires.sized) (servable c.args.transcript.now c.requires.sound k told (sym w.in-Some.ensures)) in
           let at : requests k ≡ Some (effect told) = ap effect_if (sym w.in-Some.ensures) in
@@ -49,7 +49,7 @@ loop-i-preserved g c =
           let done : AreSameBelow size after (contents_with_effect (Some (effect told)) now) =
           subst (λ (n : ℕ). AreSameBelow n after (contents_with_effect (Some (effect told)) now)) c.loop-i.invariant.size w.in_ok-change.ensures.done in
           let none : (x : ℕ) → IsWrong requests c.args.order.now initial k x → ⊥ =
-          served size requests c.args.order.now initial now c.loop-i.i c.loop-i-test.true c.requires.once c.loop-i.invariant.bytes told at sound None w.in_default-wrong.ensures in
+          served size requests c.args.order.now initial now c.loop-i.i c.loop-i-test.true c.requires.once c.loop-i.invariant.bytes told at sound None (rw w.in_default-found.is at w.in_ok-found.ensures) in
           record {
             size = ap g.C.Contents.size w.contents-is ∙ w.change.ensures.size ∙ c.loop-i.invariant.size;
             bytes = λ x l. ap (λ s. g.C.Contents.byte s x) w.contents-is

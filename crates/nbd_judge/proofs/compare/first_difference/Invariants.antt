@@ -1,6 +1,0 @@
-use Rattle.nbd_export.specs.Ranges.{IsLeast}
-use Rattle.nbd_judge.specs.internal.Pieces.{DiffersInOneOf}
-use Rattle.nbd_judge.proofs.compare.first_difference.Given as goal
-
-abbrev pub invariant-loop-piece : goal.invariant-loop-piece
-invariant-loop-piece g l = IsLeast (DiffersInOneOf (g.C.Contents.byte l.contents) l.pieces l.piece-index) l.found

@@ -1,0 +1,112 @@
+//! An index of the pieces of a reply by their offsets.
+
+ghost use Rattle.std.specs.Prelude.{◌≡◌, ◌↔◌, ◌+◌, ◌++◌, ◌∷◌, ◌<◌, ◌≤◌, ℕ, [], None, Some, false, IfOk, IsTrue, MatchBool};
+ghost use Rattle.std.specs.BTreeMap.{btree_map_len};
+ghost use Rattle.nbd_state.specs.internal.Indexes.{HasMore, Indexes, IsFree, Meets, size_from};
+
+use crate::proper::ends_by;
+use crate::span::Span;
+use nbd_wire::Piece;
+use std::alloc::{AllocError, Global};
+use std::collections::BTreeMap;
+
+/// The sizes of pieces by their offsets: pieces that share no offset, and none of them empty. It takes no
+/// memory as long as it holds none.
+#[derive(Drop)]
+pub struct PieceIndex {
+    sizes: BTreeMap<u64, u64>,
+    // No piece is empty.
+    ghost filled: { (k n : ℕ) → size_from sizes k ≡ Some n → 0 < n },
+    // A piece ends where a later one begins, or before.
+    ghost apart: { (k n j m : ℕ) → size_from sizes k ≡ Some n → size_from sizes j ≡ Some m → k < j → k + n ≤ j },
+}
+
+impl PieceIndex {
+    /// Without a piece.
+    pub fn new(alloc: Global) -> PieceIndex
+        ensures empty { (k : ℕ) → size_from result.sizes k ≡ None }
+        ensures len { btree_map_len result.sizes ≡ 0 }
+    {
+        PieceIndex {
+            sizes: BTreeMap::new(alloc),
+        }
+    }
+
+    /// Whether it holds no piece.
+    pub fn is_empty(&self) -> bool
+        ensures { IsTrue result ↔ (btree_map_len self.now.sizes ≡ 0) }
+    {
+        self.sizes.is_empty()
+    }
+
+    /// Whether the span lies before or after each of the pieces. The cost is the logarithm of their number.
+    pub fn is_apart(&self, span: Span) -> bool
+        ensures { MatchBool result (IsFree (size_from self.now.sizes) span.offset span.size) (Meets (size_from self.now.sizes) span.offset span.size) }
+    {
+        self.end_before(span.offset) && self.begin_after(span)
+    }
+
+    // The pieces that begin before an offset end there or before.
+    fn end_before(&self, offset: u64) -> bool
+        ensures { MatchBool result
+            ((k n : ℕ) → size_from self.now.sizes k ≡ Some n → k < offset → k + n ≤ offset)
+            ((k : ℕ) × (n : ℕ) × (size_from self.now.sizes k ≡ Some n) × (k < offset) × (offset < k + n)) }
+    {
+        match self.sizes.range(..offset).next_back() {
+            Some((first, size)) => ends_by(*first, *size, offset),
+            None => true,
+        }
+    }
+
+    // The pieces that do not begin before the span begin where it ends or after.
+    fn begin_after(&self, span: Span) -> bool
+        ensures { MatchBool result
+            ((k n : ℕ) → size_from self.now.sizes k ≡ Some n → span.offset ≤ k → span.offset + span.size ≤ k)
+            ((k : ℕ) × (n : ℕ) × (size_from self.now.sizes k ≡ Some n) × (span.offset ≤ k) × (k < span.offset + span.size)) }
+    {
+        match self.sizes.range(span.offset..).next() {
+            Some((first, _)) => ends_by(span.offset, span.size, *first),
+            None => true,
+        }
+    }
+
+    // Takes a piece in, unless it is empty or does not lie apart from those that are there.
+    fn insert(&mut self, span: Span) -> Result<bool, AllocError>
+        ensures taken { IfOk result (λ taken. IsTrue taken →
+            HasMore (size_from self.old.sizes) (size_from self.new.sizes) span.offset span.size) }
+        ensures left { IfOk result (λ taken. taken ≡ false → self.new.sizes ≡ self.old.sizes) }
+    {
+        if span.size == 0 || !self.is_apart(span) {
+            return Ok(false);
+        }
+        self.sizes.insert(span.offset, span.size)?;
+        Ok(true)
+    }
+
+    /// The index of these pieces and one more, where this is the index of the pieces. It holds pieces from
+    /// the second one on; it holds none again where one is empty or shares an offset with another.
+    pub fn with(
+        self,
+        alloc: Global,
+        pieces: &[Piece],
+        piece: &Piece,
+    ) -> Result<PieceIndex, AllocError>
+        requires { Indexes self.sizes pieces.now }
+        ensures { IfOk result (λ index. Indexes index.sizes (pieces.now ++ piece.now ∷ [])) }
+    {
+        let mut index = self;
+        if index.is_empty() {
+            let [first] = pieces else {
+                return Ok(index);
+            };
+            if !index.insert(Span::of(first))? {
+                return Ok(index);
+            }
+        }
+        if index.insert(Span::of(piece))? {
+            Ok(index)
+        } else {
+            Ok(PieceIndex::new(alloc))
+        }
+    }
+}
