@@ -5,6 +5,7 @@ mod cases;
 mod chunks;
 mod contents;
 mod faults;
+mod final_writers;
 mod infos;
 mod inputs;
 mod large_numbers;
