@@ -3,7 +3,7 @@
 
 The sessions are those of examples/ and of the tests. Mistakes are made in the text (digits, sides, line ends, cuts) and in
 the messages, by way of `show` and `make` (messages dropped, doubled, swapped, fields changed). Of every run is asked: an
-exit status that the command has, and output of its form; the same answer as it stands, as pieces of one byte and as longest
+exit status that the command has, and output of its form; the same answer as it stands, as records of one byte and as longest
 runs; that what `show` accepts is, made and shown again, the same; an end within ten seconds; and no more memory than 16 MiB
 and ten times the input. An input that breaks one of these is kept in the folder of failures.
 
@@ -17,7 +17,7 @@ import time
 from pathlib import Path
 
 from built import PROGRAM, TOP, Room, build
-from messages import longest_runs, one_by_one, pieces_of, text
+from messages import longest_runs, one_by_one, records_of, text
 from test_cuts import SESSIONS, examples
 
 TESTS = TOP / "crates/nbd_tool/src/tests"
@@ -66,7 +66,7 @@ def sessions_of_tests():
 
 def seeds():
     """Captures with their orders and starts."""
-    found = [(text(one.pieces), one.order, one.start) for one in (*SESSIONS, *examples())]
+    found = [(text(one.records), one.order, one.start) for one in (*SESSIONS, *examples())]
     return found + [(capture, order, "zero") for capture, order in sessions_of_tests()]
 
 
@@ -199,9 +199,9 @@ class Fuzz:
             if found.err != shown.err:
                 raise Wrong(f"check and show: {found.err!r} {shown.err!r}")
             return
-        pieces = pieces_of(capture)
+        records = records_of(capture)
         for way in (one_by_one, longest_runs):
-            other = text(way(pieces))
+            other = text(way(records))
             if self.check(other, order, start) != found or self.show(other) != shown:
                 raise Wrong(f"{way.__name__}: another answer")
         self.ask_of_lines(shown)

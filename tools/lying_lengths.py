@@ -44,12 +44,12 @@ def inputs():
     many = f"no at byte {22 + 16 * MANY}: Unfinished"
     yield "an option, no data", flags + [lying], b"", "no at byte 38: Unfinished"
     yield "a million such options", flags + [lying] * MANY, b"", many
-    yield "a million such options, one piece", flags + [(lying[0], lying[1] * MANY)], b"", many
+    yield "a million such options, one record", flags + [(lying[0], lying[1] * MANY)], b"", many
     yield "an answer, no data", flags + [option(3), answer_head(3, 2)], b"", "no at byte 58: Unfinished"
     yield "a write, no data", begun() + [request(WRITE, 1, 0, LENGTH)], b"", "no at byte 124: Unfinished"
-    reply, piece = [read(1, 0, LENGTH), simple(1)], [read(1, 0, 8), head(chunk(1, OFFSET_DATA))]
+    reply, sent = [read(1, 0, LENGTH), simple(1)], [read(1, 0, 8), head(chunk(1, OFFSET_DATA))]
     yield "a reply to a read, no data", begun() + reply, b"1\n", "no at byte 140: Unfinished"
-    yield "a chunk, no data", begun(True) + piece, b"1\n", "no at byte 180: Unfinished"
+    yield "a chunk, no data", begun(True) + sent, b"1\n", "no at byte 180: Unfinished"
     small = begun() + [write(1, 0, b"\xab\xcd"), simple(1), read(2, 0, 4), simple(2, b"\xab\xcd\0\0")]
     yield "an order of 10^7 digits", small, b"1\n2\n" * 5_000_000, "no order entry 3: Twice"
     numbers = b"".join(b"%d\n" % (number + 1) for number in range(10_000_000))
@@ -59,8 +59,8 @@ def inputs():
 def run(tally):
     print(f"{'input':36}{'text':>12}{'bytes':>12}{'order':>12}{'peak KiB':>10}{'most KiB':>10}")
     with Room() as room:
-        for name, pieces, order, line in inputs():
-            capture, size = text(pieces), sum(len(data) for _, data in pieces)
+        for name, records, order, line in inputs():
+            capture, size = text(records), sum(len(data) for _, data in records)
             paths = room.put("capture", capture), room.put("order", order)
             words = [sys.executable, "-I", "-S", "-c", MEASURE, PROGRAM, "check", *paths, "--start", "zero"]
             found = subprocess.run(words, capture_output=True, text=True, check=True)

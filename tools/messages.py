@@ -1,6 +1,6 @@
 """Messages of the protocol as bytes, and captures of them.
 
-A capture is a list of pieces (side, bytes). The numbers are those of the NBD project's doc/proto.md.
+A capture is a list of records (side, bytes). The numbers are those of the NBD project's doc/proto.md.
 """
 
 import struct
@@ -79,31 +79,26 @@ def cut(message, count):
     return (side, data[:count]), (side, data[count:])
 
 
-def text(pieces):
-    """A capture text with a line for each piece."""
-    return "".join(f"{side} {data.hex()}\n" for side, data in pieces).encode()
+def text(records):
+    """A capture text with a line for each record."""
+    return "".join(f"{side} {data.hex()}\n" for side, data in records).encode()
 
 
-def pieces_of(capture):
-    """The pieces of a well-formed capture text."""
+def records_of(capture):
+    """The records of a well-formed capture text."""
     lines = (line for line in capture.decode("latin-1").split("\n") if line and line[0] != "#")
     return [(line[0], bytes.fromhex(line[2:])) for line in lines]
 
 
-def pairs_of(pieces):
-    """Each byte with its side."""
-    return [(side, byte) for side, data in pieces for byte in data]
+def one_by_one(records):
+    """The same bytes as records of one byte."""
+    return [(side, data[at : at + 1]) for side, data in records for at in range(len(data))]
 
 
-def one_by_one(pieces):
-    """The same bytes as pieces of one byte."""
-    return [(side, data[at : at + 1]) for side, data in pieces for at in range(len(data))]
-
-
-def longest_runs(pieces):
-    """The same bytes as the longest pieces of one side."""
+def longest_runs(records):
+    """The same bytes as the longest records of one side."""
     runs = []
-    for side, data in pieces:
+    for side, data in records:
         if not data:
             continue
         if runs and runs[-1][0] == side:
@@ -113,10 +108,10 @@ def longest_runs(pieces):
     return [(side, b"".join(parts)) for side, parts in runs]
 
 
-def front(pieces, count):
-    """The pieces up to so many bytes."""
+def front(records, count):
+    """The records up to so many bytes."""
     taken = []
-    for side, data in pieces:
+    for side, data in records:
         if count <= 0:
             break
         taken.append((side, data[:count]))
@@ -124,10 +119,10 @@ def front(pieces, count):
     return taken
 
 
-def damaged(pieces, at):
-    """The pieces with the byte at this place, from 0, inverted."""
-    changed = list(pieces)
-    for number, (side, data) in enumerate(pieces):
+def damaged(records, at):
+    """The records with the byte at this place, from 0, inverted."""
+    changed = list(records)
+    for number, (side, data) in enumerate(records):
         if at < len(data):
             other = data[:at] + bytes([data[at] ^ 0xFF]) + data[at + 1 :]
             changed[number] = (side, other)

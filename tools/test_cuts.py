@@ -1,7 +1,7 @@
 """Sessions cut off behind each byte, with each byte inverted, and with large numbers.
 
-Each is run as it stands, as pieces of one byte and as longest one-sided runs; the answers are the same. In long sessions the
-bytes in the middle of a piece, which are those of a payload, are tried at every SPARSEth place, unless all are asked for.
+Each is run as it stands, as records of one byte and as longest one-sided runs; the answers are the same. In long sessions the
+bytes in the middle of a record, which are those of a payload, are tried at every SPARSEth place, unless all are asked for.
 """
 
 import multiprocessing
@@ -10,37 +10,37 @@ from dataclasses import dataclass, field
 from built import TOP, Room, Tally
 from messages import (
     ERROR, TRIM, WRITE, begun, chunk, client_flags, content, cut, damaged, done, front,
-    greeting, hole, longest_runs, one_by_one, option, pieces_of, read, request, simple, text, write,
+    greeting, hole, longest_runs, one_by_one, option, records_of, read, request, simple, text, write,
 )
 
 MOST, LENGTH = 2**64 - 1, 2**32 - 1
 # How many places one process tries at a time.
 STEP = 64
-# A session of more bytes is long; of its pieces this many bytes at both ends are tried, and every so many in the middle.
+# A session of more bytes is long; of its records this many bytes at both ends are tried, and every so many in the middle.
 LONG, ENDS, SPARSE = 4096, 40, 32
 
 
 @dataclass
 class Session:
     name: str
-    pieces: list
+    records: list
     order: bytes = b"1\n2\n"
     start: str = "zero"
-    # The pieces, by number, that do not end their message.
+    # The records, by number, that do not end their message.
     begin: set = field(default_factory=set)
     # Whether its messages are known here, so that it is told where a cut leaves one open.
     known: bool = True
     accepted: bool = True
 
     def size(self):
-        return sum(len(data) for _, data in self.pieces)
+        return sum(len(data) for _, data in self.records)
 
     def places(self, each):
         """The places that are tried."""
         size, ends, at = self.size(), set(), 0
         if each or size <= LONG:
             return list(range(size))
-        for _, data in self.pieces:
+        for _, data in self.records:
             ends.update(range(at, min(at + ENDS, at + len(data))))
             at += len(data)
             ends.update(range(max(at - ENDS, at - len(data)), at))
@@ -49,7 +49,7 @@ class Session:
     def is_open(self, count):
         """Whether a message is open behind so many bytes."""
         begun_by = set()
-        for number, (side, data) in enumerate(self.pieces):
+        for number, (side, data) in enumerate(self.records):
             if count < len(data):
                 return count > 0 or bool(begun_by)
             count -= len(data)
@@ -115,7 +115,7 @@ DAMAGED = {
     190: "no content request 2 offset 3",
 }
 
-# Numbers at the ends of their fields: a name, the pieces, the line with the order 1 (or none).
+# Numbers at the ends of their fields: a name, the records, the line with the order 1 (or none).
 LARGE = [
     ("an option of which no data came", [greeting(), client_flags(), option(3, length=LENGTH)], b"",
      "no at byte 38: Unfinished"),
@@ -142,7 +142,7 @@ def examples():
         start = capture.with_suffix(".start").read_text().strip()
         yield Session(
             capture.stem,
-            pieces_of(capture.read_bytes()),
+            records_of(capture.read_bytes()),
             order=capture.with_suffix(".ord").read_bytes(),
             start=start.replace("image:", f"image:{folder}/"),
             known=False,
@@ -150,14 +150,14 @@ def examples():
         )
 
 
-def digits(pieces):
-    """The capture of the pieces as pieces of one byte: five letters a byte."""
-    return text(one_by_one(pieces))
+def digits(records):
+    """The capture of the records as records of one byte: five letters a byte."""
+    return text(one_by_one(records))
 
 
-def answers(room, session, pieces, bytewise):
-    """What is answered of the pieces in three ways, as a set."""
-    ways = (text(pieces), bytewise, text(longest_runs(pieces)))
+def answers(room, session, records, bytewise):
+    """What is answered of the records in three ways, as a set."""
+    ways = (text(records), bytewise, text(longest_runs(records)))
     return {room.check(way, session.order, session.start) for way in ways}
 
 
@@ -174,7 +174,7 @@ def is_told(found):
 
 def cut_off(tally, room, session, count, bytewise):
     name = f"{session.name}, {count} bytes"
-    found = answers(room, session, front(session.pieces, count), bytewise[: 5 * count])
+    found = answers(room, session, front(session.records, count), bytewise[: 5 * count])
     tally.holds(name, len(found) == 1 and all(map(is_told, found)), found)
     line, unfinished = line_of(found.pop()), f"no at byte {count}: Unfinished"
     if session.known:
@@ -190,7 +190,7 @@ def invert(tally, room, session, at, bytewise):
     first, last = 5 * at + 2, 5 * at + 4
     other = b"%02x" % (int(bytewise[first:last], 16) ^ 0xFF)
     whole = bytewise[:first] + other + bytewise[last:]
-    found = answers(room, session, damaged(session.pieces, at), whole)
+    found = answers(room, session, damaged(session.records, at), whole)
     tally.holds(name, len(found) == 1 and all(map(is_told, found)), found)
     if session.name == WRITE_READ.name and at + 1 in DAMAGED:
         tally.want(name, line_of(found.pop()), DAMAGED[at + 1])
@@ -199,7 +199,7 @@ def invert(tally, room, session, at, bytewise):
 def some(work):
     """A part of the work: a session and some of its places."""
     session, places = work
-    tally, bytewise = Tally(), digits(session.pieces)
+    tally, bytewise = Tally(), digits(session.records)
     with Room() as room:
         for place in places:
             cut_off(tally, room, session, place, bytewise)
@@ -222,8 +222,8 @@ def run(tally, each=False):
         for passed, failed in pool.imap_unordered(some, parts(sessions, each)):
             tally.add(passed, failed)
     with Room() as room:
-        for name, pieces, order, line in LARGE:
-            found = answers(room, Session(name, pieces, order), pieces, digits(pieces))
+        for name, records, order, line in LARGE:
+            found = answers(room, Session(name, records, order), records, digits(records))
             tally.want(name, {line_of(one) for one in found}, {line})
             tally.holds(name, all(map(is_told, found)), found)
 

@@ -57,7 +57,7 @@ def runs(room):
     """Runs of each command: a name, its words, its answer, and how much of its output are whole lines of messages."""
     chunks, again = SESSIONS[2], SESSIONS[4]
     order = (TOP / "examples/nbdkit-memory-libnbd-sr.ord").read_bytes()
-    captures = (("chunks", text(chunks.pieces), chunks.order), ("a cookie used again", text(again.pieces), again.order),
+    captures = (("chunks", text(chunks.records), chunks.order), ("a cookie used again", text(again.records), again.order),
                 ("a recorded session", sample(), order))
     for name, capture, numbers in captures:
         paths = [room.put(f"{name}.cap", capture), room.put(f"{name}.ord", numbers)]

@@ -25,20 +25,20 @@ def fault(what):
 def long_messages(tally, room):
     """A WRITE of 2 MiB that its export does not hold, and an option with as many bytes of data."""
     data = bytes(range(256)) * (2 * MIB // 256)
-    pieces = begun() + [request(WRITE, 1, 0, len(data), data), simple(1, error=22)]
-    tally.want("a write of 2 MiB", room.check(text(pieces), b"1\n"), yes(1, 1, 1))
-    tally.want("its bytes one by one", room.check(text(one_by_one(pieces)), b"1\n"), yes(1, 1, 1))
-    shown = room.show(text(pieces))
+    records = begun() + [request(WRITE, 1, 0, len(data), data), simple(1, error=22)]
+    tally.want("a write of 2 MiB", room.check(text(records), b"1\n"), yes(1, 1, 1))
+    tally.want("its bytes one by one", room.check(text(one_by_one(records)), b"1\n"), yes(1, 1, 1))
+    shown = room.show(text(records))
     line = f"C request flags=0 command=1 cookie=1 offset=0 length={len(data)} payload={data.hex()}\n".encode()
     tally.want("show of a write of 2 MiB", (shown.status, line in shown.out), (0, True))
     made = room.make(shown.out)
-    tally.want("make of a write of 2 MiB", made.out == text(pieces), True)
-    pieces = [greeting(), client_flags(), option(3, data), answer(3, 2**31 + 3, data)]
-    tally.want("an option of 2 MiB", room.check(text(pieces), b""), yes(0, 0, 0))
+    tally.want("make of a write of 2 MiB", made.out == text(records), True)
+    records = [greeting(), client_flags(), option(3, data), answer(3, 2**31 + 3, data)]
+    tally.want("an option of 2 MiB", room.check(text(records), b""), yes(0, 0, 0))
     # The last byte of the message is missing.
-    count = sum(len(data) for _, data in pieces) - 1
-    side, last = pieces[-1]
-    found = room.check(text([*pieces[:-1], (side, last[:-1])]), b"")
+    count = sum(len(data) for _, data in records) - 1
+    side, last = records[-1]
+    found = room.check(text([*records[:-1], (side, last[:-1])]), b"")
     tally.want("an answer of 2 MiB, cut", found, no(f"no at byte {count}: Unfinished"))
 
 
@@ -46,23 +46,23 @@ def many_chunks(tally, room):
     """70,000 chunks of one byte, as the replies to 70 READs and to one."""
     data = bytes(byte % 251 for byte in range(70_000))
     for size in (1000, 70_000):
-        pieces = begun(structured=True, size=MIB)
-        pieces += [write(1, 0, data), done(1)]
+        records = begun(structured=True, size=MIB)
+        records += [write(1, 0, data), done(1)]
         reads = range(len(data) // size)
         for number in reads:
             first, cookie = number * size, number + 2
-            pieces.append(read(cookie, first, size))
-            pieces += [content(cookie, at, data[at : at + 1]) for at in range(first, first + size)]
-            pieces.append(done(cookie))
+            records.append(read(cookie, first, size))
+            records += [content(cookie, at, data[at : at + 1]) for at in range(first, first + size)]
+            records.append(done(cookie))
         count = len(reads) + 1
         order = b"".join(b"%d\n" % (number + 1) for number in range(count))
         name = f"70,000 chunks, {count - 1} reads"
-        tally.want(name, room.check(text(pieces), order), yes(count, count, 0))
-        wrong = [*pieces[:-2], content(count, 69_999, b"\xff"), done(count)]
+        tally.want(name, room.check(text(records), order), yes(count, count, 0))
+        wrong = [*records[:-2], content(count, 69_999, b"\xff"), done(count)]
         found = room.check(text(wrong), order)
         tally.want(f"{name}, the last byte wrong", found, no(f"no content request {count} offset 69999"))
-    pieces = begun() + [("C", b""), ("S", b"")] * 35_000 + [read(1, 0, 4), simple(1, bytes(4))]
-    tally.want("70,000 records without bytes", room.check(text(pieces), b"1\n"), yes(1, 1, 0))
+    records = begun() + [("C", b""), ("S", b"")] * 35_000 + [read(1, 0, 4), simple(1, bytes(4))]
+    tally.want("70,000 records without bytes", room.check(text(records), b"1\n"), yes(1, 1, 0))
 
 
 def exports(tally, room):

@@ -9,6 +9,7 @@ mod final_writer;
 mod input;
 pub mod laws;
 mod make;
+pub mod opening;
 mod show;
 mod start;
 #[cfg(test)]
@@ -21,5 +22,6 @@ pub use fault::RunFault;
 pub use final_writer::FinalWriter;
 pub use input::READ_LIMIT;
 pub use make::run_make;
+pub use opening::{Inputs, Opener, open_inputs};
 pub use show::run_show;
 pub use start::StartFrom;

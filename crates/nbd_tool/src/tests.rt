@@ -13,6 +13,7 @@ mod makes;
 mod messages;
 mod negotiation;
 mod offers;
+mod openings;
 mod orders;
 mod refused_negotiation;
 mod shows;

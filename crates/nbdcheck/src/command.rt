@@ -6,8 +6,8 @@ ghost use Rattle.nbd_tool.specs.CommandLine.{exit_status};
 use clap::error::ErrorKind;
 use clap::{Arg, ArgMatches, Command, Error};
 use nbd_tool::{
-    FinalWriter, RunFault, StartFrom, StartWord, exit_status, run_check, run_make, run_show,
-    start_of,
+    FinalWriter, Opener, RunFault, StartWord, exit_status, open_inputs, run_check, run_make,
+    run_show, start_of,
 };
 use std::alloc::{AllocError, Global};
 use std::fmt::Display;
@@ -189,6 +189,20 @@ fn report(rt: &HostRuntime, answer: Result<bool, RunFault>) -> u8
     }
 }
 
+/// The files of the system.
+#[derive(Drop)]
+struct Files<'a> {
+    rt: &'a HostRuntime,
+}
+
+impl Opener for Files<'_> {
+    type Input = File;
+
+    fn open(&mut self, path: &str) -> io::Result<File> {
+        File::open(self.rt, path)
+    }
+}
+
 /// Opens the files in the order capture, order, image, and then checks.
 fn check_files(
     rt: &HostRuntime,
@@ -197,11 +211,15 @@ fn check_files(
     start: StartWord<'_>,
 ) -> Result<bool, RunFault> {
     let alloc = rt.alloc();
-    let capture = File::open(rt, capture).map_err(|_| RunFault::CaptureRead)?;
-    let order = File::open(rt, order).map_err(|_| RunFault::OrderRead)?;
-    let start = open_start(rt, start)?;
-    let capture = BufReader::new(alloc, capture).map_err(|_| RunFault::Memory)?;
-    run_check(alloc, capture, order, start, &mut io::writer(rt))
+    let inputs = open_inputs(&mut Files { rt }, capture, order, start)?;
+    let capture = BufReader::new(alloc, inputs.capture).map_err(|_| RunFault::Memory)?;
+    run_check(
+        alloc,
+        capture,
+        inputs.order,
+        inputs.start,
+        &mut io::writer(rt),
+    )
 }
 
 fn show_file(rt: &HostRuntime, capture: &str) -> Result<bool, RunFault> {
@@ -223,17 +241,6 @@ fn make_file(rt: &HostRuntime, script: &str) -> Result<(), RunFault> {
     let mut out = BufWriter::new(alloc, out).map_err(|_| RunFault::Memory)?;
     run_make(alloc, script, &mut out)?;
     out.flush().map_err(|_| RunFault::Write)
-}
-
-fn open_start(rt: &HostRuntime, start: StartWord<'_>) -> Result<StartFrom<File>, RunFault> {
-    match start {
-        StartWord::Unknown => Ok(StartFrom::Unknown),
-        StartWord::Zero => Ok(StartFrom::Zeroes),
-        StartWord::Image(path) => {
-            let image = File::open(rt, path).map_err(|_| RunFault::ImageRead)?;
-            Ok(StartFrom::Image(image))
-        }
-    }
 }
 
 /// Prints what clap has to say: help and the version on standard output, a mistake in the words on
