@@ -12,7 +12,6 @@ from pathlib import Path
 TOP = Path(__file__).resolve().parent.parent
 # NBDCHECK names another program that is to be run, as one that was kept aside.
 PROGRAM = os.environ.get("NBDCHECK", str(TOP / "crates/nbdcheck/out/nbdcheck"))
-SECONDS = 10
 
 # A run's exit status (below 0: the signal that ended it), standard output and standard error.
 Ended = namedtuple("Ended", "status out err")
@@ -25,12 +24,21 @@ def build():
     subprocess.run([str(TOP / "nbdcheck"), "--version"], check=True, stdout=subprocess.DEVNULL)
 
 
+def in_memory():
+    """A folder for files in memory, where there is one with much room."""
+    folder = "/dev/shm"
+    if not os.access(folder, os.W_OK):
+        return None
+    room = os.statvfs(folder)
+    return folder if room.f_bavail * room.f_frsize > 2**30 else None
+
+
 class Room:
     """A folder of files, in memory where that can be, and runs of the program in it."""
 
-    def __init__(self):
-        shared = "/dev/shm" if os.access("/dev/shm", os.W_OK) else None
-        self.folder = tempfile.mkdtemp(prefix="nbdcheck-", dir=shared)
+    def __init__(self, seconds=60):
+        self.seconds = seconds
+        self.folder = tempfile.mkdtemp(prefix="nbdcheck-", dir=in_memory())
         self.out, self.err = self.path("stdout"), self.path("stderr")
         self.pid = 0
 
@@ -53,7 +61,7 @@ class Room:
         os.kill(self.pid, signal.SIGKILL)
 
     def run(self, *words, env=None, stdout=None, program=PROGRAM):
-        """Runs the program to its end, for at most SECONDS."""
+        """Runs the program to its end, or kills it when its time is over."""
         out = stdout or self.out
         flags = os.O_WRONLY | os.O_CREAT | os.O_TRUNC
         actions = [
@@ -64,7 +72,7 @@ class Room:
         signal.signal(signal.SIGALRM, self._stop)
         words = [program, *map(str, words)]
         self.pid = os.posix_spawn(program, words, env or {}, file_actions=actions)
-        signal.setitimer(signal.ITIMER_REAL, SECONDS)
+        signal.setitimer(signal.ITIMER_REAL, self.seconds)
         _, status = os.waitpid(self.pid, 0)
         signal.setitimer(signal.ITIMER_REAL, 0)
         wrote = b"" if stdout else Path(self.out).read_bytes()

@@ -240,7 +240,7 @@ def main():
     # Long sessions are taken more seldom.
     weights = [1 / (200 + len(capture)) for capture, _, _ in known]
     end, sessions, failed = time.monotonic() + asked.seconds, 0, 0
-    with Room() as room:
+    with Room(seconds=10) as room:
         fuzz = Fuzz(room, chance)
         while time.monotonic() < end:
             capture, order, start = chance.choices(known, weights)[0]

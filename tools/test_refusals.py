@@ -6,6 +6,7 @@ reader of captures, an order, the contents of an export) stands in tests of thei
 
 import itertools
 import subprocess
+import tempfile
 from pathlib import Path
 
 from built import TOP, Ended, Room, Tally
@@ -26,10 +27,16 @@ class Refusing(Room):
     """Runs of the program in which one thing is refused."""
 
     def __enter__(self):
-        self.library = self.path("refuse.so")
+        # Files in memory may not be loaded into a program everywhere.
+        self.made = tempfile.TemporaryDirectory(prefix="nbdcheck-")
+        self.library = f"{self.made.name}/refuse.so"
         source = str(TOP / "tools/refuse.c")
         subprocess.run(["cc", "-O2", "-shared", "-fPIC", "-o", self.library, source], check=True)
         return self
+
+    def __exit__(self, *fault):
+        self.made.cleanup()
+        super().__exit__(*fault)
 
     def refused(self, words, what, **how):
         """The answer of a run in which this is refused, and whether anything was."""
