@@ -13,6 +13,7 @@ pub struct FinalWriter<W> {
 }
 
 impl<W> FinalWriter<W> {
+    /// One over this writer, of which no write has failed.
     pub fn new(writer: W) -> FinalWriter<W> {
         FinalWriter {
             writer,
