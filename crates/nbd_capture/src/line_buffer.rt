@@ -1,6 +1,6 @@
 //! A line of a capture as it is read, in memory that is used again for the next line.
 
-ghost use Rattle.std.specs.Prelude.{◌≡◌, ◌++◌, ◌∷◌, ◌↔◌, ◌⊎◌, [], ℕ, List, IfOk, IfErr, IsTrue, OnOk, Ok, Err};
+ghost use Rattle.std.specs.Prelude.{◌≡◌, ◌++◌, ◌∷◌, ◌↔◌, ◌⊎◌, ◌+◌, ◌/◌, ◌<◌, [], ℕ, List, IfOk, IfErr, IsTrue, OnErr, OnOk, Ok, Err, length, vec_capacity, vec_len};
 ghost use Rattle.hex.specs.Hex.{decode_of};
 ghost use Rattle.hex.specs.declared.error.FromHexError.TheVariants.{OutOfMemory};
 ghost use Rattle.nbd_capture.specs.Capture.{IsCaptureLine, hash};
@@ -47,6 +47,7 @@ impl LineBuffer {
     pub(crate) fn add(&mut self, part: &[u8]) -> Result<(), AllocError>
         ensures ok { OnOk result ((bytes : List ℕ) → IsKept self.old bytes →
             IsKept self.new (bytes ++ part.now)) }
+        ensures full { OnErr result (vec_capacity self.old.bytes < vec_len self.old.bytes + length part.now) }
     {
         if self.bytes.is_empty() && begins_comment(part) {
             self.is_comment = true;
@@ -99,6 +100,7 @@ fn begins_comment(bytes: &[u8]) -> bool
 fn decode_into(digits: &[u8], bytes: &mut Vec<u8>) -> Result<(), FromHexError>
     ensures ok { OnOk result (decode_of digits.now ≡ Ok bytes.new.items) }
     ensures err { IfErr result (λ e. (e ≡ OutOfMemory) ⊎ (decode_of digits.now ≡ Err e)) }
+    ensures full { IfErr result (λ e. (vec_capacity bytes.old < length digits.now / 2) ⊎ (decode_of digits.now ≡ Err e)) }
 {
     if bytes.resize(digits.len() / 2, 0).is_err() {
         return Err(FromHexError::OutOfMemory);

@@ -4,6 +4,7 @@ mod examples;
 mod parse;
 mod readers;
 mod reading;
+mod refusals;
 mod whole;
 mod writers;
 

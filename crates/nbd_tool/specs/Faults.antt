@@ -1,7 +1,8 @@
 -- The faults of a run.
-use Rattle.std.specs.Prelude.{ℕ}
+use Rattle.std.specs.Prelude.{ℕ, List, ◌++◌, codes}
+use Rattle.std.specs.Fmt.{decimal}
 use Rattle.nbd_tool.specs.declared.fault.RunFault.{RunFault}
-use Rattle.nbd_tool.specs.declared.fault.RunFault.TheVariants.{CaptureLine, CaptureRead, OrderLine, ScriptLine, Write, Memory}
+use Rattle.nbd_tool.specs.declared.fault.RunFault.TheVariants.{CaptureLine, CaptureRead, OrderLine, OrderRead, ImageRead, ScriptLine, ScriptRead, Write, Memory}
 use Rattle.nbd_capture.specs.declared.capture.CaptureFault.{CaptureFault}
 use Rattle.nbd_capture.specs.declared.capture.CaptureFault.TheVariants as capture_faults
 use Rattle.nbd_capture.specs.declared.order.OrderTextFault.{OrderTextFault}
@@ -15,6 +16,18 @@ use Rattle.nbd_lines.specs.declared.output.OutputFault.TheVariants as output_fau
 abbrev pub status : RunFault → ℕ
 status Memory = 4
 status _ = 3
+
+-- what is printed of a fault; numbers are decimal without leading zeros
+abbrev pub words : RunFault → List ℕ
+words (CaptureLine n) = codes "fault capture line " ++ decimal n
+words CaptureRead = codes "fault capture read"
+words (OrderLine n) = codes "fault order line " ++ decimal n
+words OrderRead = codes "fault order read"
+words ImageRead = codes "fault image read"
+words (ScriptLine n) = codes "fault script line " ++ decimal n
+words ScriptRead = codes "fault script read"
+words Write = codes "fault write"
+words Memory = codes "fault memory"
 
 -- a fault of the capture's text as a fault of the run
 abbrev pub of_capture : CaptureFault → RunFault

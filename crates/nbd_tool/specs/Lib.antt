@@ -1,4 +1,6 @@
+pub mod CommandLine
 pub mod Faults
+pub mod Opening
 pub mod Runs
 pub mod Scripts
 pub mod Shown

@@ -5,6 +5,7 @@ ghost use Rattle.nbd_tool.specs.Faults.{of_capture, of_make, of_order, of_output
 use nbd_capture::{CaptureFault, OrderTextFault, WriteFault};
 use nbd_lines::{MakeFault, OutputFault};
 use std::alloc::AllocError;
+use std::fmt;
 use thiserror::Error;
 
 /// Why a run gave no answer. The text goes to standard error. Nothing was written, but for `Write` and
@@ -13,33 +14,24 @@ use thiserror::Error;
 pub enum RunFault {
     /// The capture's line with this number, counted from 1, is malformed, or no line feed
     /// ends it.
-    #[error("fault capture line {0}")]
     CaptureLine(u64),
     /// The capture could not be opened or read, or has more bytes than `READ_LIMIT`.
-    #[error("fault capture read")]
     CaptureRead,
     /// The order's line with this number, counted from 1, is no number, or no line feed ends it.
-    #[error("fault order line {0}")]
     OrderLine(u64),
     /// The order could not be opened or read, or has more bytes than `READ_LIMIT`.
-    #[error("fault order read")]
     OrderRead,
     /// The image could not be opened or read, or has more bytes than `READ_LIMIT`.
-    #[error("fault image read")]
     ImageRead,
     /// The script's line with this number, counted from 1, is malformed, or no line feed ends it, or its
     /// message has no encoding.
-    #[error("fault script line {0}")]
     ScriptLine(u64),
     /// The script could not be opened or read, or has more bytes than `READ_LIMIT`.
-    #[error("fault script read")]
     ScriptRead,
     /// The output could not be written whole. A prefix of it stands written.
-    #[error("fault write")]
     Write,
     /// A growth of memory was refused. Of `run_check` nothing stands written, of `run_show` and `run_make`
     /// a prefix of the message lines or chunk lines, possibly nothing.
-    #[error("fault memory")]
     Memory,
 }
 
@@ -51,6 +43,27 @@ impl RunFault {
         match self {
             RunFault::Memory => 4,
             _ => 3,
+        }
+    }
+}
+
+impl fmt::Display for RunFault {
+    ghost use Rattle.std.specs.Prelude.{Some};
+    ghost use Rattle.nbd_tool.specs.Faults.{words};
+
+    ghost output = { λ fault. Some (words fault) };
+
+    fn fmt<W: fmt::Write>(&self, f: &mut fmt::Formatter<W>) -> fmt::Result {
+        match self {
+            RunFault::CaptureLine(number) => write!(f, "fault capture line {number}"),
+            RunFault::CaptureRead => write!(f, "fault capture read"),
+            RunFault::OrderLine(number) => write!(f, "fault order line {number}"),
+            RunFault::OrderRead => write!(f, "fault order read"),
+            RunFault::ImageRead => write!(f, "fault image read"),
+            RunFault::ScriptLine(number) => write!(f, "fault script line {number}"),
+            RunFault::ScriptRead => write!(f, "fault script read"),
+            RunFault::Write => write!(f, "fault write"),
+            RunFault::Memory => write!(f, "fault memory"),
         }
     }
 }

@@ -3,10 +3,13 @@
 
 mod capture;
 mod check;
+pub mod command_line;
 pub mod fault;
+mod final_writer;
 mod input;
 pub mod laws;
 mod make;
+pub mod opening;
 mod show;
 mod start;
 #[cfg(test)]
@@ -14,8 +17,11 @@ mod tests;
 mod verdict;
 
 pub use check::run_check;
+pub use command_line::{StartWord, exit_status, start_of};
 pub use fault::RunFault;
+pub use final_writer::FinalWriter;
 pub use input::READ_LIMIT;
 pub use make::run_make;
+pub use opening::{Inputs, Opener, open_inputs};
 pub use show::run_show;
 pub use start::StartFrom;

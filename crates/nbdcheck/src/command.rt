@@ -1,18 +1,22 @@
 //! The command line.
 
+ghost use Rattle.std.specs.Prelude.{◌≡◌};
+ghost use Rattle.nbd_tool.specs.CommandLine.{exit_status};
+
 use clap::error::ErrorKind;
 use clap::{Arg, ArgMatches, Command, Error};
-use nbd_tool::{RunFault, StartFrom, run_check, run_make, run_show};
+use nbd_tool::{
+    FinalWriter, Opener, RunFault, StartWord, exit_status, open_inputs, run_check, run_make,
+    run_show, start_of,
+};
 use std::alloc::{AllocError, Global};
 use std::fmt::Display;
 use std::fs::File;
 use std::io::{BufReader, BufWriter, Write};
 use std::{env, io};
 
-/// The exit status of a yes, and of a capture that was made.
-const YES: u8 = 0;
-/// The exit status of a no.
-const NO: u8 = 1;
+/// The exit status of help and of the version.
+const TOLD: u8 = 0;
 /// The exit status of a command line that is malformed.
 const USAGE: u8 = 2;
 /// The exit status of out of memory.
@@ -175,28 +179,27 @@ fn make(rt: &HostRuntime, words: &ArgMatches<'_>) -> u8 {
 }
 
 /// The exit status of an answer. A fault is printed.
-fn report(rt: &HostRuntime, answer: Result<bool, RunFault>) -> u8 {
+fn report(rt: &HostRuntime, answer: Result<bool, RunFault>) -> u8
+    ensures { result ≡ exit_status answer }
+{
+    let status = exit_status(&answer);
     match answer {
-        Ok(true) => YES,
-        Ok(false) => NO,
-        Err(fault) => complain(rt, &fault, fault.status()),
+        Ok(_) => status,
+        Err(fault) => complain(rt, &fault, status),
     }
 }
 
-/// A start as the words name it.
-#[derive(Clone, Copy)]
-enum StartWord<'a> {
-    Unknown,
-    Zero,
-    /// The path of an image.
-    Image(&'a str),
+/// The files of the system.
+#[derive(Drop)]
+struct Files<'a> {
+    rt: &'a HostRuntime,
 }
 
-fn start_of(text: &str) -> Option<StartWord<'_>> {
-    match text {
-        "unknown" => Some(StartWord::Unknown),
-        "zero" => Some(StartWord::Zero),
-        _ => text.strip_prefix("image:").map(StartWord::Image),
+impl Opener for Files<'_> {
+    type Input = File;
+
+    fn open(&mut self, path: &str) -> io::Result<File> {
+        File::open(self.rt, path)
     }
 }
 
@@ -208,18 +211,23 @@ fn check_files(
     start: StartWord<'_>,
 ) -> Result<bool, RunFault> {
     let alloc = rt.alloc();
-    let capture = File::open(rt, capture).map_err(|_| RunFault::CaptureRead)?;
-    let order = File::open(rt, order).map_err(|_| RunFault::OrderRead)?;
-    let start = open_start(rt, start)?;
-    let capture = BufReader::new(alloc, capture).map_err(|_| RunFault::Memory)?;
-    run_check(alloc, capture, order, start, &mut io::writer(rt))
+    let inputs = open_inputs(&mut Files { rt }, capture, order, start)?;
+    let capture = BufReader::new(alloc, inputs.capture).map_err(|_| RunFault::Memory)?;
+    run_check(
+        alloc,
+        capture,
+        inputs.order,
+        inputs.start,
+        &mut io::writer(rt),
+    )
 }
 
 fn show_file(rt: &HostRuntime, capture: &str) -> Result<bool, RunFault> {
     let alloc = rt.alloc();
     let capture = File::open(rt, capture).map_err(|_| RunFault::CaptureRead)?;
     let capture = BufReader::new(alloc, capture).map_err(|_| RunFault::Memory)?;
-    let mut out = BufWriter::new(alloc, io::writer(rt)).map_err(|_| RunFault::Memory)?;
+    let out = FinalWriter::new(io::writer(rt));
+    let mut out = BufWriter::new(alloc, out).map_err(|_| RunFault::Memory)?;
     let is_accepted = run_show(alloc, capture, &mut out)?;
     out.flush().map_err(|_| RunFault::Write)?;
     Ok(is_accepted)
@@ -229,20 +237,10 @@ fn make_file(rt: &HostRuntime, script: &str) -> Result<(), RunFault> {
     let alloc = rt.alloc();
     let script = File::open(rt, script).map_err(|_| RunFault::ScriptRead)?;
     let script = BufReader::new(alloc, script).map_err(|_| RunFault::Memory)?;
-    let mut out = BufWriter::new(alloc, io::writer(rt)).map_err(|_| RunFault::Memory)?;
+    let out = FinalWriter::new(io::writer(rt));
+    let mut out = BufWriter::new(alloc, out).map_err(|_| RunFault::Memory)?;
     run_make(alloc, script, &mut out)?;
     out.flush().map_err(|_| RunFault::Write)
-}
-
-fn open_start(rt: &HostRuntime, start: StartWord<'_>) -> Result<StartFrom<File>, RunFault> {
-    match start {
-        StartWord::Unknown => Ok(StartFrom::Unknown),
-        StartWord::Zero => Ok(StartFrom::Zeroes),
-        StartWord::Image(path) => {
-            let image = File::open(rt, path).map_err(|_| RunFault::ImageRead)?;
-            Ok(StartFrom::Image(image))
-        }
-    }
 }
 
 /// Prints what clap has to say: help and the version on standard output, a mistake in the words on
@@ -251,15 +249,17 @@ fn print_message(rt: &HostRuntime, error: Error) -> u8 {
     if error.kind() == ErrorKind::OutOfMemory {
         return complain(rt, RunFault::Memory, MEMORY);
     }
-    let status = if error.use_stderr() { USAGE } else { YES };
+    let status = if error.use_stderr() { USAGE } else { TOLD };
     match error.print(rt) {
         Ok(()) => status,
         Err(_) => complain(rt, RunFault::Write, RunFault::Write.status()),
     }
 }
 
-/// Prints a fault on standard error.
-fn complain<D: Display + Drop>(rt: &HostRuntime, text: D, status: u8) -> u8 {
+/// Prints a fault on standard error, and answers the status.
+fn complain<D: Display + Drop>(rt: &HostRuntime, text: D, status: u8) -> u8
+    ensures { result ≡ status }
+{
     let _ = rt.eprintln(text);
     status
 }

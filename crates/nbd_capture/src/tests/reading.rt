@@ -204,22 +204,3 @@ fn takes_no_memory_for_lines_without_a_chunk(rt: HostRuntime) -> Result<(), Fail
     }
     Ok(())
 }
-
-// Where it does, that is the answer, and stays it.
-#[test]
-fn answers_out_of_memory_for_good(rt: HostRuntime) -> Result<(), Fail> {
-    let text = b"C 0A\nS 0001\nC 02\n";
-    let mut capture = CaptureReader::new(rt.alloc(), cut(text, 3, After::Ends), NO_LIMIT);
-    for _ in 0..3 {
-        match capture.next_chunk() {
-            Ok(chunk) => assert!(rt; chunk.is_some()),
-            Err(fault) => {
-                assert_eq!(rt; fault, CaptureFault::Memory);
-                assert!(rt; matches!(capture.next_chunk(), Err(CaptureFault::Memory)));
-                return Ok(());
-            }
-        }
-    }
-    assert!(rt; matches!(capture.next_chunk(), Ok(None)));
-    Ok(())
-}

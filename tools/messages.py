@@ -1,0 +1,131 @@
+"""Messages of the protocol as bytes, and captures of them.
+
+A capture is a list of records (side, bytes). The numbers are those of the NBD project's doc/proto.md.
+"""
+
+import struct
+
+CLIENT, SERVER = "C", "S"
+
+READ, WRITE, DISC, FLUSH, TRIM, CACHE, WRITE_ZEROES = range(7)
+NONE, OFFSET_DATA, OFFSET_HOLE, ERROR, ERROR_OFFSET = 0, 1, 2, 0x8001, 0x8002
+DONE = 1
+
+
+def greeting(flags=3):
+    return (SERVER, b"NBDMAGICIHAVEOPT" + struct.pack(">H", flags))
+
+
+def client_flags(flags=3):
+    return (CLIENT, struct.pack(">I", flags))
+
+
+def option(number, data=b"", length=None):
+    length = len(data) if length is None else length
+    return (CLIENT, b"IHAVEOPT" + struct.pack(">II", number, length) + data)
+
+
+def answer(number, kind, data=b""):
+    return (SERVER, struct.pack(">QIII", 0x0003E889045565A9, number, kind, len(data)) + data)
+
+
+def export_info(size=8, flags=0x6D):
+    return struct.pack(">HQH", 0, size, flags)
+
+
+def request(command, cookie, offset, length, data=b"", flags=0):
+    head = struct.pack(">IHHQQI", 0x25609513, flags, command, cookie, offset, length)
+    return (CLIENT, head + data)
+
+
+def write(cookie, offset, data):
+    return request(WRITE, cookie, offset, len(data), data)
+
+
+def read(cookie, offset, length):
+    return request(READ, cookie, offset, length)
+
+
+def simple(cookie, data=b"", error=0):
+    return (SERVER, struct.pack(">IIQ", 0x67446698, error, cookie) + data)
+
+
+def chunk(cookie, kind, data=b"", flags=0):
+    return (SERVER, struct.pack(">IHHQI", 0x668E33EF, flags, kind, cookie, len(data)) + data)
+
+
+def content(cookie, offset, data):
+    return chunk(cookie, OFFSET_DATA, struct.pack(">Q", offset) + data)
+
+
+def hole(cookie, offset, size):
+    return chunk(cookie, OFFSET_HOLE, struct.pack(">QI", offset, size))
+
+
+def done(cookie):
+    return chunk(cookie, NONE, flags=DONE)
+
+
+def begun(structured=False, size=8):
+    """A negotiation with GO: 96 bytes, or 132 with structured replies."""
+    asked = [option(8), answer(8, 1)] if structured else []
+    go = [option(7, bytes(6)), answer(7, 3, export_info(size)), answer(7, 1)]
+    return [greeting(), client_flags(), *asked, *go]
+
+
+def cut(message, count):
+    """The first bytes of a message, and the others."""
+    side, data = message
+    return (side, data[:count]), (side, data[count:])
+
+
+def text(records):
+    """A capture text with a line for each record."""
+    return "".join(f"{side} {data.hex()}\n" for side, data in records).encode()
+
+
+def records_of(capture):
+    """The records of a well-formed capture text."""
+    lines = (line for line in capture.decode("latin-1").split("\n") if line and line[0] != "#")
+    return [(line[0], bytes.fromhex(line[2:])) for line in lines]
+
+
+def one_by_one(records):
+    """The same bytes as records of one byte."""
+    return [(side, data[at : at + 1]) for side, data in records for at in range(len(data))]
+
+
+def longest_runs(records):
+    """The same bytes as the longest records of one side."""
+    runs = []
+    for side, data in records:
+        if not data:
+            continue
+        if runs and runs[-1][0] == side:
+            runs[-1][1].append(data)
+        else:
+            runs.append((side, [data]))
+    return [(side, b"".join(parts)) for side, parts in runs]
+
+
+def front(records, count):
+    """The records up to so many bytes."""
+    taken = []
+    for side, data in records:
+        if count <= 0:
+            break
+        taken.append((side, data[:count]))
+        count -= len(data)
+    return taken
+
+
+def damaged(records, at):
+    """The records with the byte at this place, from 0, inverted."""
+    changed = list(records)
+    for number, (side, data) in enumerate(records):
+        if at < len(data):
+            other = data[:at] + bytes([data[at] ^ 0xFF]) + data[at + 1 :]
+            changed[number] = (side, other)
+            return changed
+        at -= len(data)
+    raise IndexError(at)

@@ -1,0 +1,161 @@
+"""The commands of the built program: their lines, faults and exit statuses, and which file is opened when."""
+
+from built import PROGRAM, TOP, Ended, Room, Tally
+from messages import begun, read, simple, text, write
+
+CAPTURE = text(begun() + [read(1, 0, 4), simple(1, bytes(4))])
+YES = b"yes requests 1 answered 1 improper 0\n"
+# A READ of a byte that nobody wrote.
+FOUND = text(begun() + [read(1, 0, 1), simple(1, b"\x07")])
+# A line of 32 MiB, and the same message in a script.
+LONG = text(begun() + [write(1, 0, bytes(1 << 24))])
+LONG_SCRIPT = b"C option id=3 payload=" + b"00" * (1 << 24) + b"\n"
+SCRIPT = b"S greeting flags=3\nC client-flags flags=3\n"
+MADE = b"S 4e42444d4147494349484156454f50540003\nC 00000003\n"
+
+
+def fault(what, status=3):
+    return Ended(status, b"", f"fault {what}\n".encode())
+
+
+def examples(tally, room):
+    """The sessions of examples/, and what `show` says of them, made and shown again."""
+    folder = TOP / "examples"
+    for capture in sorted(folder.glob("*.cap")):
+        order, start = capture.with_suffix(".ord"), capture.with_suffix(".start").read_text().strip()
+        start = start.replace("image:", f"image:{folder}/")
+        line = capture.with_suffix(".out").read_bytes()
+        status = 0 if line.startswith(b"yes") else 1
+        found = room.run("check", capture, order, "--start", start)
+        tally.want(capture.name, found, Ended(status, line, b""))
+        shown = room.run("show", capture)
+        is_wire = line.startswith(b"no at byte")
+        last = line if is_wire else b"ok\n"
+        tally.want(f"show {capture.name}", (shown.status, shown.err), (int(is_wire), b""))
+        tally.holds(f"show {capture.name}", shown.out.endswith(b"\n" + last), shown.out[-80:])
+        lines = shown.out.removesuffix(last)
+        made = room.make(lines)
+        tally.want(f"make {capture.name}", (made.status, made.err), (0, b""))
+        again = room.show(made.out)
+        tally.want(f"show of make {capture.name}", again.out.startswith(lines), True)
+
+
+def words(tally, room):
+    """Help, the version, and words that have no form."""
+    for asked in (["--help"], ["--version"], *([name, "--help"] for name in ("check", "show", "make"))):
+        found = room.run(*asked)
+        tally.want(f"{asked}", (found.status, found.err), (0, b""))
+        tally.holds(f"{asked}", b"nbdcheck" in found.out, found.out)
+    for asked in ([], ["judge"], ["check"], ["check", "c"], ["show"], ["make"], ["show", "c", "d"],
+                  ["make", "c", "d"], ["check", "c", "o", "--begin", "zero"], ["check", "c", "o", "--start"]):
+        found = room.run(*asked)
+        tally.want(f"{asked}", (found.status, found.out), (2, b""))
+        tally.holds(f"{asked} says why", found.err.endswith(b"\n"), found.err)
+
+
+def starts(tally, room):
+    """The three forms of a start, the default, and words that are none of them."""
+    capture, order = room.put("capture", FOUND), room.put("order", b"1\n")
+    image = "image:" + room.put("image", b"\x07" + bytes(7))
+    wrong = Ended(1, b"no content request 1 offset 0\n", b"")
+    for start, wanted in ((None, Ended(0, YES, b"")), ("unknown", Ended(0, YES, b"")), ("zero", wrong),
+                          (image, Ended(0, YES, b"")), (f"image:{room.put('short', b'123456789')}",
+                          Ended(1, b"no image 9 size 8\n", b""))):
+        asked = [] if start is None else ["--start", start]
+        tally.want(f"--start {start}", room.run("check", capture, order, *asked), wanted)
+    for start in ("", "zeros", "Zero", "unknown ", "image", "images:x", "IMAGE:x"):
+        # No file has these names: none is opened before the start is judged.
+        found = room.run("check", room.path("none"), room.path("none"), "--start", start)
+        tally.want(f"--start '{start}'", found, fault("start", 2))
+    tally.want("no path", room.run("check", capture, order, "--start", "image:"), fault("image read"))
+
+
+def lines(tally, room):
+    """A line of each verdict, and of each text fault."""
+    late = text(begun() + [read(1, 0, 1), simple(1, b"\0"), read(2, 0, 1), simple(2, b"\0")])
+    for name, capture, order, wanted in (
+        ("yes", CAPTURE, b"1\n", Ended(0, YES, b"")),
+        ("nothing", b"", b"", Ended(0, b"yes requests 0 answered 0 improper 0\n", b"")),
+        ("wire", b"C 00\n", b"", Ended(1, b"no at byte 1: OutOfTurn\n", b"")),
+        ("order", late, b"2\n1\n", Ended(1, b"no order entry 1: Late\n", b"")),
+        ("content", FOUND, b"1\n", Ended(1, b"no content request 1 offset 0\n", b"")),
+        ("a half byte", b"C 0\n", b"", fault("capture line 1")),
+        ("no line end", b"S 00\nC 00", b"", fault("capture line 2")),
+        ("a leading zero", CAPTURE, b"01\n", fault("order line 1")),
+        ("an empty line", CAPTURE, b"1\n\n", fault("order line 2")),
+        ("2^64", CAPTURE, b"18446744073709551616\n", fault("order line 1")),
+        ("both", b"C 0\n", b"x\n", fault("capture line 1")),
+        ("a bad line behind a refused byte", b"C 00\nX\n", b"", fault("capture line 2")),
+        ("a bad order after a refused byte", b"C 00\n", b"x\n", fault("order line 1")),
+    ):
+        tally.want(name, room.check(capture, order), wanted)
+    tally.want("show", room.show(MADE), Ended(0, SCRIPT + b"ok\n", b""))
+    refused = SCRIPT + b"no at byte 23: Unfinished\n"
+    tally.want("show of a refused one", room.show(MADE + b"C 49\n"), Ended(1, refused, b""))
+    tally.want("show of a bad line", room.show(MADE + b"C 4\n"), fault("capture line 3"))
+    tally.want("make", room.make(b"# remark\n\n" + SCRIPT + b"ok\n"), Ended(0, MADE, b""))
+    short = b"C request flags=0 command=0 cookie=2 offset=0 length=4 payload=00\n"
+    tally.want("make of a bad line", room.make(SCRIPT + short), fault("script line 3"))
+    tally.want("make of a no", room.make(b"no at byte 1: OutOfTurn\n"), fault("script line 1"))
+
+
+def files(tally, room):
+    """Files that cannot be opened, folders, and which comes first."""
+    good, order, bad = room.put("good", CAPTURE), room.put("order", b"1\n"), room.put("bad", b"C 0\n")
+    none, folder, image = room.path("none"), room.folder, "image:" + room.path("none")
+    of_folder = f"image:{folder}"
+    for capture, numbers, start, what in (
+        (none, none, image, "capture read"),
+        (none, order, "zero", "capture read"),
+        (folder, order, "zero", "capture read"),
+        (good, none, image, "order read"),
+        (good, folder, "zero", "order read"),
+        (good, order, image, "image read"),
+        (good, order, of_folder, "image read"),
+        # All are opened before any is read.
+        (bad, none, "zero", "order read"),
+        (bad, order, image, "image read"),
+        (folder, none, "zero", "order read"),
+        (good, folder, image, "image read"),
+        # The capture is read first, then the order, then the image.
+        (bad, folder, of_folder, "capture line 1"),
+        (folder, folder, of_folder, "capture read"),
+        (good, folder, of_folder, "order read"),
+        (good, bad, of_folder, "order line 1"),
+    ):
+        found = room.run("check", capture, numbers, "--start", start)
+        tally.want(f"check {capture} {numbers} {start}", found, fault(what))
+    for path in (none, folder):
+        tally.want(f"show {path}", room.run("show", path), fault("capture read"))
+        tally.want(f"make {path}", room.run("make", path), fault("script read"))
+
+
+def outputs(tally, room):
+    """An output that takes nothing."""
+    full, tried = fault("write"), (("check", room.check(CAPTURE, b"1\n", stdout="/dev/full")),
+                                   ("show", room.show(CAPTURE, stdout="/dev/full")),
+                                   ("make", room.make(SCRIPT, stdout="/dev/full")),
+                                   ("help", room.run("check", "--help", stdout="/dev/full")))
+    for name, found in tried:
+        tally.want(f"{name} to a full device", found, full)
+
+
+def memory(tally, room):
+    """Too little memory for an input of 32 MiB."""
+    capture, order, script = room.put("capture", LONG), room.put("order", b""), room.put("script", LONG_SCRIPT)
+    for asked in (["check", capture, order], ["show", capture], ["make", script]):
+        limited = ["-c", 'ulimit -v 24576; exec "$@"', "sh", PROGRAM, *asked]
+        found = room.run(*limited, program="/bin/sh")
+        tally.want(f"{asked[0]} in 24 MiB", found, fault("memory", 4))
+
+
+def run(tally):
+    with Room() as room:
+        for part in (examples, words, starts, lines, files, outputs, memory):
+            part(tally, room)
+
+
+if __name__ == "__main__":
+    told = Tally()
+    run(told)
+    print(f"{told.passed} passed, {told.failed} failed")

@@ -1,0 +1,33 @@
+#!/usr/bin/env python3
+"""Runs the built program: its commands, sessions cut off and damaged, all that can fail, and inputs at size.
+
+The last line is `N passed, M failed`. With names as words, runs these parts alone: commands, cuts, refusals, sizes.
+"""
+
+import sys
+import time
+
+import test_commands
+import test_cuts
+import test_refusals
+import test_sizes
+from built import Tally, build
+
+PARTS = {"commands": test_commands, "cuts": test_cuts, "refusals": test_refusals, "sizes": test_sizes}
+
+
+def main():
+    build()
+    whole = Tally()
+    for name in sys.argv[1:] or PARTS:
+        begun, part = time.monotonic(), Tally()
+        PARTS[name].run(part)
+        whole.add(part.passed, part.failed)
+        seconds = time.monotonic() - begun
+        print(f"{name}: {part.passed} passed, {part.failed} failed, {seconds:.0f} s", flush=True)
+    print(f"{whole.passed} passed, {whole.failed} failed")
+    return whole.failed != 0
+
+
+if __name__ == "__main__":
+    sys.exit(main())

@@ -1,0 +1,177 @@
+"""Each growth of memory refused in turn, and each read and each write failing once, in the built program.
+
+refuse.c is loaded into the program and refuses or fails one thing. What is asked of the calls of the library (a session, a
+reader of captures, an order, the contents of an export) stands in tests of their own crates, which are run in the same way.
+"""
+
+import itertools
+import subprocess
+import tempfile
+from pathlib import Path
+
+from built import TOP, Ended, Room, Tally
+from messages import begun, text
+from test_cuts import SESSIONS
+
+# The most refusals that are tried of one run: a run that meets no refusal comes before.
+MOST = 100_000
+# The library's tests of refused memory, by crate.
+LIBRARY = {
+    "nbd_capture": ("tests::refusals::refused_memory", "tests::answers_want_of_memory_as_such"),
+    "nbd_session": ("tests::memory::refused_memory",),
+    "nbd_export": ("tests::refusals::refused_memory",),
+}
+
+
+class Refusing(Room):
+    """Runs of the program in which one thing is refused."""
+
+    def __enter__(self):
+        # Files in memory may not be loaded into a program everywhere.
+        self.made = tempfile.TemporaryDirectory(prefix="nbdcheck-")
+        self.library = f"{self.made.name}/refuse.so"
+        source = str(TOP / "tools/refuse.c")
+        subprocess.run(["cc", "-O2", "-shared", "-fPIC", "-o", self.library, source], check=True)
+        return self
+
+    def __exit__(self, *fault):
+        self.made.cleanup()
+        super().__exit__(*fault)
+
+    def refused(self, words, what, **how):
+        """The answer of a run in which this is refused, and whether anything was."""
+        mark = Path(self.path("mark"))
+        mark.unlink(missing_ok=True)
+        env = {"LD_PRELOAD": self.library, "REFUSE": what, "REFUSE_MARK": str(mark)}
+        found = self.run(*words, env=env, **how)
+        return found, mark.exists()
+
+    def each(self, words, what, **how):
+        """The answers where the first, second, .. is refused, and at last that of a run without a refusal."""
+        for number in range(1, MOST):
+            found, is_refused = self.refused(words, f"{what} {number}", **how)
+            yield number, found, is_refused
+            if not is_refused:
+                return
+
+
+def sample():
+    """A recorded session with structured replies."""
+    return (TOP / "examples/nbdkit-memory-libnbd-sr.cap").read_bytes()
+
+
+def runs(room):
+    """Runs of each command: a name, its words, its answer, and how much of its output are whole lines of messages."""
+    chunks, again = SESSIONS[2], SESSIONS[4]
+    order = (TOP / "examples/nbdkit-memory-libnbd-sr.ord").read_bytes()
+    captures = (("chunks", text(chunks.records), chunks.order), ("a cookie used again", text(again.records), again.order),
+                ("a recorded session", sample(), order))
+    for name, capture, numbers in captures:
+        paths = [room.put(f"{name}.cap", capture), room.put(f"{name}.ord", numbers)]
+        words = ["check", *paths, "--start", "zero"]
+        yield f"check {name}", words, room.run(*words), 0
+    image = room.put("zeroes", bytes(8))
+    words = ["check", room.path("chunks.cap"), room.path("chunks.ord"), "--start", f"image:{image}"]
+    yield "check over an image", words, room.run(*words), 0
+    for name, capture in (("a negotiation", text(begun())), ("a recorded session", sample())):
+        words = ["show", room.put(f"{name}.cap", capture)]
+        shown = room.run(*words)
+        yield f"show {name}", words, shown, len(shown.out.removesuffix(b"ok\n"))
+    scripts = (("two messages", b"S greeting flags=3\nC client-flags flags=3\n"), ("a recorded session", shown.out))
+    for name, script in scripts:
+        words = ["make", room.put(f"{name}.script", script)]
+        made = room.run(*words)
+        yield f"make {name}", words, made, len(made.out)
+
+
+def is_prefix(found, whole):
+    return whole.startswith(found)
+
+
+def growths(tally, room, name, words, whole, most):
+    hinted = 0
+    for number, found, is_refused in room.each(words, "alloc"):
+        told = f"{name}, growth {number}"
+        if not is_refused:
+            tally.want(told, found, whole)
+            tally.holds(f"{name} grows", number > 1, number)
+        elif found == whole:
+            hinted += 1
+        else:
+            tally.want(told, (found.status, found.err), (4, b"fault memory\n"))
+            tally.holds(told, is_prefix(found.out, whole.out[:most]), found.out[-80:])
+    # The standard library makes room for the words of the command line by a hint, and where that is refused without it. No
+    # other refusal is without a consequence.
+    tally.want(f"{name}, growths that are tried again", hinted, 1)
+
+
+def reads(tally, room, name, words, whole):
+    faults = {"check": ("capture", "order", "image"), "show": ("capture",), "make": ("script",)}[words[0]]
+    wanted = [f"fault {what} read\n".encode() for what in faults]
+    if "zero" in words:
+        wanted.remove(b"fault image read\n")
+    for what in ("read", "read-again"):
+        told = []
+        for number, found, is_refused in room.each(words, what):
+            if is_refused:
+                tally.want(f"{name}, {what} {number}", (found.status, found.out), (3, b""))
+                told.append(found.err)
+            else:
+                tally.want(f"{name}, {what} {number}", found, whole)
+        # The inputs are read one after the other.
+        tally.want(f"{name}, {what}", [fault for fault, _ in itertools.groupby(told)], wanted)
+    found, _ = room.refused(words, "bytes 1")
+    tally.want(f"{name}, a byte at a time", found, whole)
+
+
+def writes(tally, room, name, words, whole):
+    for what in ("write", "write-again", "write-none"):
+        for number, found, is_refused in room.each(words, what):
+            if is_refused:
+                tally.want(f"{name}, {what} {number}", (found.status, found.err), (3, b"fault write\n"))
+                tally.holds(f"{name}, {what} {number}", is_prefix(found.out, whole.out), found.out[-80:])
+                tally.holds(f"{name}, {what} {number}, not all", found.out != whole.out, len(found.out))
+            else:
+                tally.want(f"{name}, {what} {number}", found, whole)
+    size = len(whole.out)
+    # A long output is cut off at some of its bytes.
+    rooms = range(size) if size < 1024 else range(0, size, size // 256)
+    for count in rooms:
+        found, _ = room.refused(words, f"room {count}")
+        tally.want(f"{name}, room for {count}", found, Ended(3, whole.out[:count], b"fault write\n"))
+    found, is_refused = room.refused(words, f"room {size}")
+    tally.want(f"{name}, room for all", (found, is_refused), (whole, False))
+
+
+def library(tally, room):
+    """The library's tests, with each growth refused in turn."""
+    for crate, tests in LIBRARY.items():
+        program = str(TOP / f"crates/{crate}/out/{crate}_tests")
+        if not Path(program).exists():
+            tally.holds(f"{program} was built: `rt ci` at the top does, or `rt test` in its crate", False)
+            continue
+        for name in tests:
+            refused = 0
+            for number, found, is_refused in room.each([name], "alloc", program=program):
+                told = f"{crate} {name}, growth {number}"
+                tally.holds(told, found.status == 0 and b"test result: ok" in found.out, found)
+                refused += is_refused
+            tally.holds(f"{crate} {name} grows", refused > 0, refused)
+
+
+def run(tally):
+    with Refusing() as room:
+        for name, words, whole, most in runs(room):
+            tally.want(name, (whole.status, whole.err), (0, b""))
+            growths(tally, room, name, words, whole, most)
+            reads(tally, room, name, words, whole)
+            writes(tally, room, name, words, whole)
+        for words in (["--help"], ["check", "--help"], ["check"], ["check", "capture", "order", "--start", "none"]):
+            growths(tally, room, " ".join(words), words, room.run(*words), 0)
+        library(tally, room)
+
+
+if __name__ == "__main__":
+    told = Tally()
+    run(told)
+    print(f"{told.passed} passed, {told.failed} failed")

@@ -1,0 +1,121 @@
+"""Long messages and lines, many records and chunks, and exports of no byte and of as many as there may be."""
+
+from built import Ended, Room, Tally
+from messages import (
+    WRITE, answer, begun, client_flags, content, done, greeting, one_by_one, option, read, request, simple, text, write,
+)
+
+# The largest export (docs/PROFILE.md).
+LIMIT = 1_048_576
+MIB = 2**20
+
+
+def yes(requests, answered, improper):
+    return Ended(0, f"yes requests {requests} answered {answered} improper {improper}\n".encode(), b"")
+
+
+def no(line):
+    return Ended(1, line.encode() + b"\n", b"")
+
+
+def fault(what):
+    return Ended(3, b"", f"fault {what}\n".encode())
+
+
+def long_messages(tally, room):
+    """A WRITE of 2 MiB that its export does not hold, and an option with as many bytes of data."""
+    data = bytes(range(256)) * (2 * MIB // 256)
+    records = begun() + [request(WRITE, 1, 0, len(data), data), simple(1, error=22)]
+    tally.want("a write of 2 MiB", room.check(text(records), b"1\n"), yes(1, 1, 1))
+    tally.want("its bytes one by one", room.check(text(one_by_one(records)), b"1\n"), yes(1, 1, 1))
+    shown = room.show(text(records))
+    line = f"C request flags=0 command=1 cookie=1 offset=0 length={len(data)} payload={data.hex()}\n".encode()
+    tally.want("show of a write of 2 MiB", (shown.status, line in shown.out), (0, True))
+    made = room.make(shown.out)
+    tally.want("make of a write of 2 MiB", made.out == text(records), True)
+    records = [greeting(), client_flags(), option(3, data), answer(3, 2**31 + 3, data)]
+    tally.want("an option of 2 MiB", room.check(text(records), b""), yes(0, 0, 0))
+    # The last byte of the message is missing.
+    count = sum(len(data) for _, data in records) - 1
+    side, last = records[-1]
+    found = room.check(text([*records[:-1], (side, last[:-1])]), b"")
+    tally.want("an answer of 2 MiB, cut", found, no(f"no at byte {count}: Unfinished"))
+
+
+def many_chunks(tally, room):
+    """70,000 chunks of one byte, as the replies to 70 READs and to one."""
+    data = bytes(byte % 251 for byte in range(70_000))
+    for size in (1000, 70_000):
+        records = begun(structured=True, size=MIB)
+        records += [write(1, 0, data), done(1)]
+        reads = range(len(data) // size)
+        for number in reads:
+            first, cookie = number * size, number + 2
+            records.append(read(cookie, first, size))
+            records += [content(cookie, at, data[at : at + 1]) for at in range(first, first + size)]
+            records.append(done(cookie))
+        count = len(reads) + 1
+        order = b"".join(b"%d\n" % (number + 1) for number in range(count))
+        name = f"70,000 chunks, {count - 1} reads"
+        tally.want(name, room.check(text(records), order), yes(count, count, 0))
+        wrong = [*records[:-2], content(count, 69_999, b"\xff"), done(count)]
+        found = room.check(text(wrong), order)
+        tally.want(f"{name}, the last byte wrong", found, no(f"no content request {count} offset 69999"))
+    records = begun() + [("C", b""), ("S", b"")] * 35_000 + [read(1, 0, 4), simple(1, bytes(4))]
+    tally.want("70,000 records without bytes", room.check(text(records), b"1\n"), yes(1, 1, 0))
+
+
+def exports(tally, room):
+    """Exports of no byte, of one MiB, and of as many bytes as there may be."""
+    empty = begun(size=0)
+    found = room.check(text(empty + [read(1, 0, 0), simple(1)]), b"1\n")
+    tally.want("a read of nothing", found, yes(1, 1, 0))
+    found = room.check(text(empty + [read(1, 0, 1), simple(1, error=22)]), b"1\n")
+    tally.want("a read of an export without bytes", found, yes(1, 1, 1))
+    none, one = room.put("none", b""), room.put("one", b"\0")
+    tally.want("an image without bytes", room.check(text(empty), b"", f"image:{none}"), yes(0, 0, 0))
+    found = room.check(text(empty), b"", f"image:{one}")
+    tally.want("an image of one byte", found, no("no image 1 size 0"))
+    last, data = LIMIT - 1, b"\xab"
+    largest = begun(size=LIMIT) + [write(1, last, data), simple(1), read(2, last, 1)]
+    tally.want("the last byte", room.check(text([*largest, simple(2, data)]), b"1\n2\n"), yes(2, 2, 0))
+    found = room.check(text([*largest, simple(2, b"\xac")]), b"1\n2\n")
+    tally.want("another last byte", found, no(f"no content request 2 offset {last}"))
+    found = room.check(text(begun(size=LIMIT + 1)), b"")
+    tally.want("a byte too many", found, no("no at byte 96: ExportTooLarge"))
+    image = bytes(range(256)) * (MIB // 256)
+    start = f"image:{room.put('image', image)}"
+    whole = text(begun(size=MIB) + [read(1, 0, MIB), simple(1, image)])
+    tally.want("a read of 1 MiB", room.check(whole, b"1\n", start), yes(1, 1, 0))
+    found = room.check(whole, b"1\n", "zero")
+    tally.want("a read of 1 MiB of zeroes", found, no("no content request 1 offset 1"))
+
+
+def long_lines(tally, room):
+    """Bad lines of a MiB, and remarks that are as long."""
+    good = text(begun())
+    for name, line in (("an odd digit", b"C " + b"0" * (MIB + 1)), ("no side", b"X" * MIB),
+                       ("no digit at the end", b"S " + b"0" * (MIB - 1) + b"x"), ("a space", b" " * MIB)):
+        found = room.check(good + line + b"\n", b"")
+        tally.want(f"capture, {name}", found, fault("capture line 6"))
+        tally.want(f"show, {name}", room.show(good + line + b"\n"), fault("capture line 6"))
+    found = room.check(good + b"C " + b"0" * MIB, b"")
+    tally.want("capture, no line end", found, fault("capture line 6"))
+    found = room.check(good + b"#" * MIB + b"\n", b"")
+    tally.want("a remark of 1 MiB", found, yes(0, 0, 0))
+    tally.want("an order line of 1 MiB", room.check(good, b"1" * MIB + b"\n"), fault("order line 1"))
+    for name, line in (("digits", b"C option id=3 payload=" + b"0" * (MIB + 1)),
+                       ("a number", b"C option id=" + b"1" * MIB + b" payload="), ("words", b"ok " * MIB)):
+        tally.want(f"script, {name}", room.make(b"ok\n" + line + b"\n"), fault("script line 2"))
+
+
+def run(tally):
+    with Room() as room:
+        for part in (long_messages, many_chunks, exports, long_lines):
+            part(tally, room)
+
+
+if __name__ == "__main__":
+    told = Tally()
+    run(told)
+    print(f"{told.passed} passed, {told.failed} failed")
