@@ -6,7 +6,7 @@ from messages import (
 )
 
 # The largest export (docs/PROFILE.md).
-LIMIT = 1_048_576
+LIMIT = 2**63 - 1
 MIB = 2**20
 
 
