@@ -23,6 +23,10 @@ LIBRARY = {
 }
 
 
+# Runs in which the pieces of a READ are sorted.
+SORTED = ("check chunks", "check over an image")
+
+
 class Refusing(Room):
     """Runs of the program in which one thing is refused."""
 
@@ -100,9 +104,9 @@ def growths(tally, room, name, words, whole, most):
         else:
             tally.want(told, (found.status, found.err), (4, b"fault memory\n"))
             tally.holds(told, is_prefix(found.out, whole.out[:most]), found.out[-80:])
-    # The standard library makes room for the words of the command line by a hint, and where that is refused without it. No
-    # other refusal is without a consequence.
-    tally.want(f"{name}, growths that are tried again", hinted, 1)
+    # The standard library makes room for the words of the command line by a hint, and where that is refused without it; so does
+    # its sort, where a READ has several pieces. No other refusal is without a consequence.
+    tally.want(f"{name}, growths that are tried again", hinted, 2 if name in SORTED else 1)
 
 
 def reads(tally, room, name, words, whole):
