@@ -1,8 +1,7 @@
 -- What a state shows once a message has completed.
-use Rattle.std.proofs.Common.{◌≡◌, ℕ, zero, suc, ◌≤◌, ◌⊎◌, ◌==◌, ◌&&◌, List, [], ◌∷◌, ◌++◌, length, refl, sym, ◌∙◌, ap, subst, Option, Some, None, Bool, true, false, if◌then◌else◌, arith, slice_get, slice_set, Result, Ok, Err, IfOk, OnOk, MutBor, inl, inr, not, is_some}
-use Rattle.std.proofs.lemmas.Option.{slice_get_read, slice_get_past}
+use Rattle.std.proofs.Common.{◌≡◌, ℕ, zero, suc, ◌<◌, ◌≤◌, ◌⊎◌, ◌==◌, ◌&&◌, List, [], ◌∷◌, ◌++◌, length, refl, sym, ◌∙◌, ap, subst, Option, Some, None, Bool, true, false, if◌then◌else◌, arith, slice_get, slice_index_or, slice_set, Result, Ok, Err, IfOk, OnOk, inl, inr, not, is_some}
+use Rattle.std.proofs.lemmas.Option.{slice_get_read}
 use Rattle.std.specs.BTreeMap.{get}
-use Rattle.std.specs.List.{IsItemAtMut}
 use Rattle.std.specs.Ordering.{nat_cmp}
 use Rattle.nbd_wire.specs.declared.message.Message.{Message}
 use Rattle.nbd_wire.specs.protocol.Reports.{export_in}
@@ -117,21 +116,12 @@ replied_shows old mid new core export cookie place m x y r s p c g i step kept l
           ∙ ap place_of (sym (target_replied q cookie (suc place) m core.entries (distinct_reached r) a.found));
     }
 
--- no outstanding request has a place that no exchange has
-pub not_placed : (old : State) (core : Core) (export : Exporting) (cookie place : ℕ) → Shows old core → core.phase ≡ Transmission export → get nat_cmp old.outstanding cookie ≡ Some place → length old.exchanges.items ≤ place → ⊥
-not_placed old core export cookie place s p g l =
-    let a = place_shows_operation old core export cookie place s p g in
-    let w : Some a.x ≡ None = sym a.stands ∙ slice_get_past old.exchanges.items place l in cc
+-- the exchange at a place below the length stands in the list
+pub indexed : (old mid : State) (place : ℕ) (x : Exchange) → mid ≡ record old { outstanding = mid.outstanding } → place < length mid.exchanges.items → x ≡ slice_index_or mid.exchanges.items place x →
+    slice_get old.exchanges.items place ≡ Some x
+indexed old mid place x kept within is = subst (λ (z : State). slice_get z.exchanges.items place ≡ Some x) kept (slice_get_read mid.exchanges.items (length mid.exchanges.items) place x refl within is)
 
--- what `get_mut` lends stands in the list
-pub lent_at : (xs : List Exchange) (i : ℕ) (r : MutBor Exchange) → IsItemAtMut xs i (Some r) → slice_get xs i ≡ Some r.now
-lent_at xs i r h = slice_get_read xs (length xs) i r.now refl h.3.0 h.1
-
--- what follows where two and three facts hold of an Ok
-pub on_two : {A E : Type 0} {P Q : A → Type 0} {C : Type 0} (r : Result A E) → ((x : A) → P x → Q x → C) → IfOk r P → IfOk r Q → OnOk r C
-on_two (Ok x) f p q = f x p q
-on_two (Err y) f p q = tt
-
+-- what follows from what holds of an Ok
 pub on_one : {A E : Type 0} {P : A → Type 0} {C : Type 0} (r : Result A E) → ((x : A) → P x → C) → IfOk r P → OnOk r C
 on_one (Ok x) f p = f x p
 on_one (Err y) f p = tt

@@ -1,18 +1,24 @@
 -- What a state shows once a message of the negotiation has completed.
-use Rattle.std.proofs.Common.{◌≡◌, ℕ, ◌||◌, ◌==◌, List, refl, sym, ◌∙◌, ap, subst, Option, Some, None, Bool}
+use Rattle.std.proofs.Common.{◌≡◌, ℕ, ◌-◌, ◌||◌, ◌==◌, List, refl, sym, ◌∙◌, ap, subst, Option, Some, None, Bool}
+use Rattle.std.proofs.lemmas.Option.{slice_get_within}
+use Rattle.std.specs.BTreeMap.{get}
+use Rattle.std.specs.Ordering.{nat_cmp}
 use Rattle.nbd_wire.specs.declared.commands.TheConstants as commands
 use Rattle.nbd_wire.specs.declared.message.Message.{Message}
 use Rattle.nbd_wire.specs.declared.message.Message.TheVariants.{Greeting, ClientFlags, Choice, Answer, Exported, Request, Simple, Chunk}
 use Rattle.nbd_wire.specs.protocol.Options.{reply_phase, choice_phase, is_proper_option, next_phase}
 use Rattle.nbd_wire.specs.protocol.Reports.{export_in}
 use Rattle.nbd_wire.specs.protocol.Operations.{Exporting}
-use Rattle.nbd_wire.specs.protocol.Rules.{MayAsk, MayComplete, complete, grants_structured}
+use Rattle.nbd_wire.specs.protocol.Rules.{AnswersOne, MayAsk, MayComplete, complete, grants_structured}
 use Rattle.nbd_wire.specs.protocol.States.{Core, Phase, Greet, Flags, Choosing, Naming, Aborting, Answering, Ended, Transmission}
 use Rattle.nbd_state.specs.declared.state.Chosen.{Chosen}
 use Rattle.nbd_state.specs.declared.state.Phase as states
 use Rattle.nbd_state.specs.declared.state.Phase.TheVariants as shown
 use Rattle.nbd_state.specs.declared.state.State.{State}
-use Rattle.nbd_state.specs.Shows.{Shows, export_shown_if, phase_shown}
+use Rattle.nbd_state.specs.Completions.{MayTake}
+use Rattle.nbd_state.specs.internal.Completing.{IsOutstanding, IsTransmitting}
+use Rattle.nbd_state.specs.Shows.{Shows, export_shown, export_shown_if, phase_shown, place_of}
+use Rattle.nbd_state.proofs.PlacedLemmas.{place_shows_operation}
 use Rattle.nbd_state.proofs.CompletionLemmas.{negotiation_is_shown}
 
 -- after an answer
@@ -123,7 +129,8 @@ asked_in core (Answering asked given info) flags command cookie offset len paylo
 asked_in core Ended flags command cookie offset len payload ok = absurd ok
 asked_in core (Transmission export) flags command cookie offset len payload ok = (export, refl, ok)
 
-pub simple_in : (core : Core) (p : Phase) (error cookie : ℕ) (payload : List ℕ) → MayComplete core p (Simple error cookie payload) → (export : Exporting) × (p ≡ Transmission export)
+pub simple_in : (core : Core) (p : Phase) (error cookie : ℕ) (payload : List ℕ) → MayComplete core p (Simple error cookie payload) →
+    (export : Exporting) × (p ≡ Transmission export) × AnswersOne core export cookie (Simple error cookie payload)
 unfolding MayComplete
 simple_in core Greet error cookie payload ok = absurd ok
 simple_in core Flags error cookie payload ok = absurd ok
@@ -132,9 +139,10 @@ simple_in core Naming error cookie payload ok = absurd ok
 simple_in core Aborting error cookie payload ok = absurd ok
 simple_in core (Answering asked given info) error cookie payload ok = absurd ok
 simple_in core Ended error cookie payload ok = absurd ok
-simple_in core (Transmission export) error cookie payload ok = (export, refl)
+simple_in core (Transmission export) error cookie payload ok = (export, refl, ok)
 
-pub chunk_in : (core : Core) (p : Phase) (flags kind cookie : ℕ) (payload : List ℕ) → MayComplete core p (Chunk flags kind cookie payload) → (export : Exporting) × (p ≡ Transmission export)
+pub chunk_in : (core : Core) (p : Phase) (flags kind cookie : ℕ) (payload : List ℕ) → MayComplete core p (Chunk flags kind cookie payload) →
+    (export : Exporting) × (p ≡ Transmission export) × AnswersOne core export cookie (Chunk flags kind cookie payload)
 unfolding MayComplete
 chunk_in core Greet flags kind cookie payload ok = absurd ok
 chunk_in core Flags flags kind cookie payload ok = absurd ok
@@ -143,7 +151,7 @@ chunk_in core Naming flags kind cookie payload ok = absurd ok
 chunk_in core Aborting flags kind cookie payload ok = absurd ok
 chunk_in core (Answering asked given info) flags kind cookie payload ok = absurd ok
 chunk_in core Ended flags kind cookie payload ok = absurd ok
-chunk_in core (Transmission export) flags kind cookie payload ok = (export, refl)
+chunk_in core (Transmission export) flags kind cookie payload ok = (export, refl, ok)
 
 module _ (old new : State) (core : Core) (s : Shows old core) where
   pub shows_greeted : (flags : ℕ) → MayComplete core core.phase (Greeting flags) → new ≡ record old { phase = shown.Flags; offered = flags } → Shows new (complete core (Greeting flags))
@@ -190,33 +198,25 @@ module _ (old new : State) (core : Core) (s : Shows old core) where
 pub shows_same : {new : State} (core : Core) (m n : Message) → m ≡ n → Shows new (complete core n) → Shows new (complete core m)
 shows_same {new} core m n e s = subst (λ x. Shows new (complete core x)) (sym e) s
 
--- a message of no other kind completes in transmission
-pub transmits : (core : Core) (p : Phase) (m : Message) → MayComplete core p m → ((flags : ℕ) → m ≡ Greeting flags → ⊥) → ((flags : ℕ) → m ≡ ClientFlags flags → ⊥) → ((id : ℕ) (payload : List ℕ) → m ≡ Choice id payload → ⊥) →
-    ((option kind : ℕ) (payload : List ℕ) → m ≡ Answer option kind payload → ⊥) → ((size flags : ℕ) (padded : Bool) → m ≡ Exported size flags padded → ⊥) → (export : Exporting) × (p ≡ Transmission export)
-transmits core p (Greeting flags) ok g f c a e = absurd (g flags refl)
-transmits core p (ClientFlags flags) ok g f c a e = absurd (f flags refl)
-transmits core p (Choice id payload) ok g f c a e = absurd (c id payload refl)
-transmits core p (Answer option kind payload) ok g f c a e = absurd (a option kind payload refl)
-transmits core p (Exported size flags padded) ok g f c a e = absurd (e size flags padded refl)
-transmits core p (Request flags command cookie offset len payload) ok g f c a e = (let r = asked_in core p flags command cookie offset len payload ok in (r.0, r.1))
-transmits core p (Simple error cookie payload) ok g f c a e = simple_in core p error cookie payload ok
-transmits core p (Chunk flags kind cookie payload) ok g f c a e = chunk_in core p flags kind cookie payload ok
+-- the state of a request that may complete is in transmission
+pub transmits : (state : State) (flags command cookie offset len : ℕ) (payload : List ℕ) → MayTake state (Request flags command cookie offset len payload) → IsTransmitting state.phase
+transmits state flags command cookie offset len payload t =
+    let a = asked_in t.core t.core.phase flags command cookie offset len payload t.completes in
+    (export_shown a.0, t.shows.phase_is ∙ ap phase_shown a.1)
 
--- in transmission none of another kind does
-pub no_other : (core : Core) (p : Phase) (export : Exporting) (m : Message) → p ≡ Transmission export → MayComplete core p m → ((flags command cookie offset len : ℕ) (payload : List ℕ) → m ≡ Request flags command cookie offset len payload → ⊥) →
-    ((error cookie : ℕ) (payload : List ℕ) → m ≡ Simple error cookie payload → ⊥) → ((flags kind cookie : ℕ) (payload : List ℕ) → m ≡ Chunk flags kind cookie payload → ⊥) → ⊥
-no_other core p export m e ok r s c = go m ok r s c
-  where
-    none : export_in p ≡ None → ⊥
-    none h = let w : Some export ≡ None = sym (ap export_in e) ∙ h in cc
+-- the request that a reply answers is outstanding
+answered : (state : State) (core : Core) (export : Exporting) (cookie : ℕ) (m : Message) → Shows state core → core.phase ≡ Transmission export → AnswersOne core export cookie m → IsOutstanding state cookie
+answered state core export cookie m s p a =
+    let g : get nat_cmp state.outstanding cookie ≡ Some (a.0 - 1) = s.places cookie ∙ ap place_of a.2 in
+    let placed = place_shows_operation state core export cookie (a.0 - 1) s p g in
+    (a.0 - 1, g, slice_get_within state.exchanges.items (a.0 - 1) placed.x placed.stands)
 
-    go : (m : Message) → MayComplete core p m → ((flags command cookie offset len : ℕ) (payload : List ℕ) → m ≡ Request flags command cookie offset len payload → ⊥) →
-        ((error cookie : ℕ) (payload : List ℕ) → m ≡ Simple error cookie payload → ⊥) → ((flags kind cookie : ℕ) (payload : List ℕ) → m ≡ Chunk flags kind cookie payload → ⊥) → ⊥
-    go (Greeting flags) ok r s c = none (greets core p flags ok).0
-    go (ClientFlags flags) ok r s c = none (flags_in core p flags ok).0
-    go (Choice id payload) ok r s c = none (chooses core p id payload ok).0
-    go (Answer option kind payload) ok r s c = none (answers core p option kind payload ok)
-    go (Exported size flags padded) ok r s c = none (exports core p size flags padded ok).0
-    go (Request flags command cookie offset len payload) ok r s c = r flags command cookie offset len payload refl
-    go (Simple error cookie payload) ok r s c = s error cookie payload refl
-    go (Chunk flags kind cookie payload) ok r s c = c flags kind cookie payload refl
+pub answered_simple : (state : State) (error cookie : ℕ) (payload : List ℕ) → MayTake state (Simple error cookie payload) → IsOutstanding state cookie
+answered_simple state error cookie payload t =
+    let a = simple_in t.core t.core.phase error cookie payload t.completes in
+    answered state t.core a.0 cookie (Simple error cookie payload) t.shows a.1 a.2
+
+pub answered_chunk : (state : State) (flags kind cookie : ℕ) (payload : List ℕ) → MayTake state (Chunk flags kind cookie payload) → IsOutstanding state cookie
+answered_chunk state flags kind cookie payload t =
+    let a = chunk_in t.core t.core.phase flags kind cookie payload t.completes in
+    answered state t.core a.0 cookie (Chunk flags kind cookie payload) t.shows a.1 a.2

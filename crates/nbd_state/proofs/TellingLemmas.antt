@@ -1,6 +1,5 @@
 -- What the exchanges know once a message has completed, against the log.
 use Rattle.std.proofs.Common.{◌≡◌, ℕ, zero, suc, ◌+◌, ◌-◌, ◌<◌, ◌≤◌, ◌⊎◌, inl, inr, List, [], ◌∷◌, ◌++◌, length, refl, sym, ◌∙◌, ap, subst, Option, Some, None, arith, slice_get, slice_set}
-use Rattle.std.proofs.lemmas.Option.{slice_get_within}
 use Rattle.std.specs.BTreeMap.{get}
 use Rattle.std.specs.Ordering.{nat_cmp}
 use Rattle.nbd_wire.specs.declared.message.Message.{Message}
@@ -17,12 +16,6 @@ use Rattle.nbd_state.proofs.PlacedLemmas.{shown_length, no_entry}
 use Rattle.nbd_laws.proofs.service.LatestLemmas.{same_number}
 use Rattle.nbd_state.proofs.KnownLemmas.{known_by-within, known_by-snoc, known_here-other, known_here-same, known_or, or_is, or_none}
 use Rattle.nbd_laws.proofs.requests.OutstandingLemmas.{find}
-
--- the exchanges are as they were, and none has the place that was told
-pub tells_none : (told : Option ℕ) (n : ℕ) (old new : List Exchange) → ((place : ℕ) → told ≡ Some place → length old ≤ place) → new ≡ old → TellsOne told n old new
-tells_none told n old new beyond same place x q =
-    let at : slice_get old place ≡ Some x = subst (λ xs. slice_get xs place ≡ Some x) same q in
-    (x, at, (λ t. absurd (let l : length old ≤ place = beyond place t in let w : place < length old = slice_get_within old place x at in omega (arith, l, w))), λ ne. refl)
 
 -- an element of a list with another at one place
 set_at : (xs : List Exchange) (i p : ℕ) (x y : Exchange) → slice_get (slice_set xs i y) p ≡ Some x → ((p ≡ i) × (x ≡ y)) ⊎ ((p ≡ i → ⊥) × (slice_get xs p ≡ Some x))

@@ -1,6 +1,6 @@
 //! What a completed message leads to.
 
-ghost use Rattle.std.specs.Prelude.{◌≡◌, ◌==◌, ◌&&◌, ◌++◌, ◌∷◌, ℕ, List, [], Option, Some, None, false, if◌then◌else◌, length, OnOk};
+ghost use Rattle.std.specs.Prelude.{◌≡◌, ◌<◌, ◌==◌, ◌&&◌, ◌++◌, ◌∷◌, ℕ, List, [], Option, Some, None, false, if◌then◌else◌, length, OnOk};
 ghost use Rattle.std.specs.BTreeMap.{get};
 ghost use Rattle.std.specs.Ordering.{nat_cmp};
 ghost use Rattle.nbd_wire.specs.declared.commands.TheConstants as commands;
@@ -13,8 +13,8 @@ ghost use Rattle.nbd_wire.specs.protocol.Sendable.{IsSendable};
 ghost use Rattle.nbd_wire.specs.protocol.States as definitions;
 ghost use Rattle.nbd_wire.specs.protocol.States.{Core, start, target};
 ghost use Rattle.nbd_state.specs.internal.Showing.{operation_of_head};
-ghost use Rattle.nbd_state.specs.internal.Completing.{AddsUnanswered, TellsOne};
-ghost use Rattle.nbd_state.specs.Completions.{core_from};
+ghost use Rattle.nbd_state.specs.internal.Completing.{AddsUnanswered, IsOutstanding, IsTransmitting, TellsOne};
+ghost use Rattle.nbd_state.specs.Completions.{MayTake, core_from};
 ghost use Rattle.nbd_state.specs.Logs.{LogEntry, messages_of};
 ghost use Rattle.nbd_laws.specs.Reached.{IsReached};
 ghost use Rattle.nbd_state.specs.Shows.{AreKnown, Shows, export_shown_if, phase_shown};
@@ -31,14 +31,15 @@ impl State {
     /// Takes a message that has completed (proto.md, "Newstyle negotiation", "Transmission"). Before the
     /// first byte of a server's message `known` numbered requests had completed.
     ///
-    /// Where the message may complete, the state shows what it leads to. After an `Err`, that memory ran
-    /// out, nothing is known of the state.
+    /// The condition is that the message may complete where the state stands; the state then shows what it
+    /// leads to. After an `Err`, that memory ran out, nothing is known of the state.
     pub fn complete(
         &mut self,
         alloc: Global,
         message: &Message,
         known: u64,
     ) -> Result<(), AllocError>
+        requires { MayTake self.old message.now }
         ensures shown { OnOk result ((core : Core) → IsReached core → Shows self.old core →
             IsSendable message.now → MayComplete core core.phase message.now →
             Shows self.new (complete core message.now)) }
@@ -75,27 +76,6 @@ impl State {
                 self.phase = phase_after_export(*size, *flags);
                 Ok(())
             }
-            _ => self.complete_transmission(alloc, message, known),
-        }
-    }
-
-    // A message of transmission has completed.
-    fn complete_transmission(
-        &mut self,
-        alloc: Global,
-        message: &Message,
-        known: u64,
-    ) -> Result<(), AllocError>
-        ensures shown { OnOk result ((core : Core) (export : Exporting) → IsReached core →
-            Shows self.old core → core.phase ≡ definitions.Transmission export →
-            MayComplete core core.phase message.now → Shows self.new (complete core message.now)) }
-        ensures known { OnOk result ((core : Core) (export : Exporting) (log : List LogEntry) →
-            Shows self.old core → core.phase ≡ definitions.Transmission export →
-            MayComplete core core.phase message.now → core ≡ core_from start.core (messages_of log) →
-            AreKnown log self.old.exchanges.items →
-            AreKnown (log ++ record { message = message.now; known = known } ∷ []) self.new.exchanges.items) }
-    {
-        match message {
             Message::Request {
                 flags,
                 command,
@@ -124,7 +104,6 @@ impl State {
                 cookie,
                 payload,
             } => self.chunk(alloc, *flags, *kind, *cookie, payload.as_slice(), known),
-            _ => Ok(()),
         }
     }
 
@@ -135,6 +114,7 @@ impl State {
         head: &RequestHead,
         payload: &[u8],
     ) -> Result<(), AllocError>
+        requires { IsTransmitting self.old.phase }
         ensures shown { OnOk result ((core : Core) (export : Exporting) → Shows self.old core →
             core.phase ≡ definitions.Transmission export → ((head.now.command == commands.DISC) ≡ false →
             target head.now.cookie core.entries ≡ None) →
@@ -150,7 +130,7 @@ impl State {
             Phase::Transmission(export) => {
                 self.add(head.cookie, Exchange::new(alloc, export, head, payload)?)
             }
-            _ => Ok(()),
+            _ => unreachable!(),
         }
     }
 
@@ -181,19 +161,15 @@ impl State {
         payload: &[u8],
         known: u64,
     ) -> Result<(), AllocError>
+        requires { IsOutstanding self.old cookie }
         ensures shown { OnOk result ((core : Core) (export : Exporting) → IsReached core →
             Shows self.old core → core.phase ≡ definitions.Transmission export →
             Shows self.new (core_with_reply core (Simple error cookie payload.now))) }
         ensures tells { OnOk result (TellsOne (get nat_cmp self.old.outstanding cookie) known
             self.old.exchanges.items self.new.exchanges.items) }
     {
-        let Some(place) = self.answered_place(cookie, true) else {
-            return Ok(());
-        };
-        match self.exchanges.get_mut(place) {
-            Some(exchange) => exchange.take_simple(alloc, error, payload, known),
-            None => Ok(()),
-        }
+        let place = self.answered_place(cookie, true);
+        self.exchanges[place].take_simple(alloc, error, payload, known)
     }
 
     // A chunk has completed.
@@ -206,33 +182,36 @@ impl State {
         payload: &[u8],
         known: u64,
     ) -> Result<(), AllocError>
+        requires { IsOutstanding self.old cookie }
         ensures shown { OnOk result ((core : Core) (export : Exporting) → IsReached core →
             Shows self.old core → core.phase ≡ definitions.Transmission export →
             Shows self.new (core_with_reply core (Chunk flags kind cookie payload.now))) }
         ensures tells { OnOk result (TellsOne (get nat_cmp self.old.outstanding cookie) known
             self.old.exchanges.items self.new.exchanges.items) }
     {
-        let Some(place) = self.answered_place(cookie, has(flags, chunks::DONE)) else {
-            return Ok(());
-        };
-        match self.exchanges.get_mut(place) {
-            Some(exchange) => exchange.take_chunk(alloc, flags, kind, payload, known),
-            None => Ok(()),
-        }
+        let place = self.answered_place(cookie, has(flags, chunks::DONE));
+        self.exchanges[place].take_chunk(alloc, flags, kind, payload, known)
     }
 
-    // The place of the request with this cookie, which is no longer outstanding where the reply ends.
-    fn answered_place(&mut self, cookie: u64, ends: bool) -> Option<usize>
-        ensures place { result ≡ get nat_cmp self.old.outstanding cookie }
+    // The place of the outstanding request with this cookie, which is no longer outstanding where the reply
+    // ends.
+    fn answered_place(&mut self, cookie: u64, ends: bool) -> usize
+        requires { IsOutstanding self.old cookie }
+        ensures place { get nat_cmp self.old.outstanding cookie ≡ Some result }
+        ensures within { result < length self.new.exchanges.items }
         ensures left { (q : ℕ) →
             get nat_cmp self.new.outstanding q ≡ (if ends && (cookie == q) then None else get nat_cmp
             self.old.outstanding q) }
         ensures kept { self.new ≡ record self.old { outstanding = self.new.outstanding } }
     {
-        if ends {
+        let place = if ends {
             self.outstanding.remove(&cookie)
         } else {
             self.outstanding.get(&cookie).copied()
+        };
+        match place {
+            Some(place) => place,
+            None => unreachable!(),
         }
     }
 }

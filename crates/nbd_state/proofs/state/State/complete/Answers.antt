@@ -1,11 +1,13 @@
-use Rattle.std.proofs.Common.{◌∙◌, ap, refl, subst}
-use Rattle.nbd_wire.specs.declared.message.Message.TheVariants.{Answer}
+use Rattle.std.proofs.Common.{◌∙◌, ◌==◌, [], ap, refl, subst}
+use Rattle.nbd_wire.specs.declared.commands.TheConstants as commands
+use Rattle.nbd_wire.specs.declared.message.Message.TheVariants.{Answer, Chunk, Request, Simple}
 use Rattle.nbd_wire.specs.protocol.Options.{choice_phase, next_phase}
-use Rattle.nbd_wire.specs.protocol.Rules.{MayComplete, cookie_of}
-use Rattle.nbd_state.specs.Shows.{phase_shown}
+use Rattle.nbd_wire.specs.protocol.Rules.{MayAsk, MayComplete, complete, cookie_of, core_with_reply, core_with_request}
+use Rattle.nbd_state.specs.Completions.{MayTake}
+use Rattle.nbd_state.specs.Shows.{Shows, phase_shown}
 use Rattle.nbd_state.proofs.CompletionLemmas.{on}
-use Rattle.nbd_state.proofs.PhaseLemmas.{shows_answered, shows_chosen, shows_exported, shows_flags, shows_greeted, shows_same, transmits}
-use Rattle.nbd_state.proofs.TellingLemmas.{known_kept}
+use Rattle.nbd_state.proofs.PhaseLemmas.{answered_chunk, answered_simple, asked_in, chunk_in, shows_answered, shows_chosen, shows_exported, shows_flags, shows_greeted, shows_same, simple_in, transmits}
+use Rattle.nbd_state.proofs.TellingLemmas.{known_added, known_kept, known_told}
 use Rattle.nbd_state.proofs.state.State.complete.Goals as goal
 
 pub returns-in-Greeting-clause-shown : goal.returns-in-Greeting-clause-shown
@@ -57,14 +59,53 @@ pub returns-in-Exported-clause-known : goal.returns-in-Exported-clause-known
 returns-in-Exported-clause-known c = λ core log r s ok e h.
     known_kept core log c.args.message.now c.args.known e c.args.self.now.exchanges.items (ap cookie_of c.in-Exported.is) h
 
-pub returns-in_default-clause-shown : goal.returns-in_default-clause-shown
-returns-in_default-clause-shown c = on c.complete_transmission.result (λ f core r s sn ok.
-    let a = transmits core core.phase c.args.message.now ok c.in_default.not-Greeting c.in_default.not-ClientFlags c.in_default.not-Choice c.in_default.not-Answer c.in_default.not-Exported in
-    f core a.0 r s a.1 ok)
-    c.complete_transmission.ensures.shown
+pub request-requires : goal.request-requires
+request-requires c = transmits c.args.self.now c.in-Request.flags c.in-Request.command c.in-Request.cookie c.in-Request.offset c.in-Request.length c.in-Request.payload (subst (MayTake c.args.self.now) c.in-Request.is c.requires)
 
-pub returns-in_default-clause-known : goal.returns-in_default-clause-known
-returns-in_default-clause-known c = on c.complete_transmission.result (λ f core log r s ok e h.
-    let a = transmits core core.phase c.args.message.now ok c.in_default.not-Greeting c.in_default.not-ClientFlags c.in_default.not-Choice c.in_default.not-Answer c.in_default.not-Exported in
-    f core a.0 log s a.1 ok e h)
-    c.complete_transmission.ensures.known
+pub simple-requires : goal.simple-requires
+simple-requires c = answered_simple c.args.self.now c.in-Simple.error c.in-Simple.cookie c.in-Simple.payload (subst (MayTake c.args.self.now) c.in-Simple.is c.requires)
+
+pub chunk-requires : goal.chunk-requires
+chunk-requires c = answered_chunk c.args.self.now c.in-Chunk.flags c.in-Chunk.kind c.in-Chunk.cookie c.in-Chunk.payload (subst (MayTake c.args.self.now) c.in-Chunk.is c.requires)
+
+pub returns-in-Request-clause-shown : goal.returns-in-Request-clause-shown
+unfolding complete
+returns-in-Request-clause-shown c = on c.request.result (λ f core r s sn ok.
+    let may : MayComplete core core.phase (Request c.in-Request.flags c.in-Request.command c.in-Request.cookie c.in-Request.offset c.in-Request.length c.in-Request.payload) = subst (λ m. MayComplete core core.phase m) c.in-Request.is ok in
+    let a = asked_in core core.phase c.in-Request.flags c.in-Request.command c.in-Request.cookie c.in-Request.offset c.in-Request.length c.in-Request.payload may in
+    shows_same core c.args.message.now (Request c.in-Request.flags c.in-Request.command c.in-Request.cookie c.in-Request.offset c.in-Request.length c.in-Request.payload) c.in-Request.is
+    (subst (λ p. Shows c.request.new.self (core_with_request (c.in-Request.command == commands.DISC) core
+    (record { flags = c.in-Request.flags; command = c.in-Request.command; cookie = c.in-Request.cookie; offset = c.in-Request.offset; length = c.in-Request.length; payload = p; replies = [] })))
+    c.as_slice-in-Request.ensures (f core a.0 s a.1 (λ d. subst (λ b. MayAsk b core c.in-Request.cookie c.in-Request.offset c.in-Request.length) d a.2))))
+    c.request.ensures.shown
+
+pub returns-in-Request-clause-known : goal.returns-in-Request-clause-known
+returns-in-Request-clause-known c = on c.request.result (λ f core log r s ok e h.
+    known_added core log c.args.message.now c.args.known e c.args.self.now c.request.new.self.exchanges.items s (ap cookie_of c.in-Request.is) f h)
+    c.request.ensures.adds
+
+pub returns-in-Simple-clause-shown : goal.returns-in-Simple-clause-shown
+unfolding complete
+returns-in-Simple-clause-shown c = on c.simple.result (λ f core r s sn ok.
+    let a = simple_in core core.phase c.in-Simple.error c.in-Simple.cookie c.in-Simple.payload (subst (λ m. MayComplete core core.phase m) c.in-Simple.is ok) in
+    shows_same core c.args.message.now (Simple c.in-Simple.error c.in-Simple.cookie c.in-Simple.payload) c.in-Simple.is
+    (subst (λ p. Shows c.simple.new.self (core_with_reply core (Simple c.in-Simple.error c.in-Simple.cookie p))) c.as_slice-in-Simple.ensures (f core a.0 r s a.1)))
+    c.simple.ensures.shown
+
+pub returns-in-Simple-clause-known : goal.returns-in-Simple-clause-known
+returns-in-Simple-clause-known c = on c.simple.result (λ f core log r s ok e h.
+    known_told core log c.args.message.now c.args.known e c.args.self.now c.in-Simple.cookie c.simple.new.self.exchanges.items s (ap cookie_of c.in-Simple.is) f h)
+    c.simple.ensures.tells
+
+pub returns-in-Chunk-clause-shown : goal.returns-in-Chunk-clause-shown
+unfolding complete
+returns-in-Chunk-clause-shown c = on c.chunk.result (λ f core r s sn ok.
+    let a = chunk_in core core.phase c.in-Chunk.flags c.in-Chunk.kind c.in-Chunk.cookie c.in-Chunk.payload (subst (λ m. MayComplete core core.phase m) c.in-Chunk.is ok) in
+    shows_same core c.args.message.now (Chunk c.in-Chunk.flags c.in-Chunk.kind c.in-Chunk.cookie c.in-Chunk.payload) c.in-Chunk.is
+    (subst (λ p. Shows c.chunk.new.self (core_with_reply core (Chunk c.in-Chunk.flags c.in-Chunk.kind c.in-Chunk.cookie p))) c.as_slice-in-Chunk.ensures (f core a.0 r s a.1)))
+    c.chunk.ensures.shown
+
+pub returns-in-Chunk-clause-known : goal.returns-in-Chunk-clause-known
+returns-in-Chunk-clause-known c = on c.chunk.result (λ f core log r s ok e h.
+    known_told core log c.args.message.now c.args.known e c.args.self.now c.in-Chunk.cookie c.chunk.new.self.exchanges.items s (ap cookie_of c.in-Chunk.is) f h)
+    c.chunk.ensures.tells

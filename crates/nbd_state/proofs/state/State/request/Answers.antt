@@ -7,8 +7,8 @@ use Rattle.nbd_state.specs.Shows.{Shows}
 use Rattle.nbd_state.proofs.CompletionLemmas.{added_unanswered, exporting_is, on_all, requested_shows}
 use Rattle.nbd_state.proofs.state.State.request.Goals as goal
 
-pub returns-in_ok-new-in-Transmission-clause-shown : goal.returns-in_ok-new-in-Transmission-clause-shown
-returns-in_ok-new-in-Transmission-clause-shown c = on_all c.add.result (λ items places kept core export s p free.
+pub returns-clause-shown : goal.returns-clause-shown
+returns-clause-shown c = on_all c.add.result (λ items places kept core export s p free.
     let not_disc : (c.args.head.now.command == commands.DISC) ≡ false = ne_eqb c.args.head.now.command commands.DISC c.if-head-eq-DISC.false in
     let same : exporting c.in-Transmission.export ≡ export = exporting_is c.args.self.now core export c.in-Transmission.export s p c.in-Transmission.is in
     let e = operation_of_head c.args.head.now c.args.payload.now [] in
@@ -17,7 +17,7 @@ returns-in_ok-new-in-Transmission-clause-shown c = on_all c.add.result (λ items
     (subst (λ x. IsShown x e c.in_ok-new-in-Transmission.field-0) same c.in_ok-new-in-Transmission.ensures) items places kept))
     c.add.ensures.items c.add.ensures.places c.add.ensures.kept
 
-pub returns-in_ok-new-in-Transmission-clause-adds : goal.returns-in_ok-new-in-Transmission-clause-adds
-returns-in_ok-new-in-Transmission-clause-adds c = on_all c.add.result (λ items places kept.
+pub returns-clause-adds : goal.returns-clause-adds
+returns-clause-adds c = on_all c.add.result (λ items places kept.
     added_unanswered (exporting c.in-Transmission.export) (operation_of_head c.args.head.now c.args.payload.now []) c.in_ok-new-in-Transmission.field-0 c.args.self.now.exchanges.items c.add.new.self.exchanges.items refl c.in_ok-new-in-Transmission.ensures items)
     c.add.ensures.items c.add.ensures.places c.add.ensures.kept
