@@ -13,7 +13,8 @@ use Rattle.nbd_session.specs.declared.held.Held.{Held}
 use Rattle.nbd_state.specs.declared.asked.Exchange.{Exchange}
 use Rattle.nbd_places.specs.internal.Concrete.{concrete}
 use Rattle.nbd_places.specs.internal.Judge.{decision}
-use Rattle.nbd_state.specs.Completions.{core_from}
+use Rattle.nbd_state.specs.declared.state.State.{State}
+use Rattle.nbd_state.specs.Completions.{MayTake, core_from}
 use Rattle.nbd_session.specs.Incoming.{bytes_come, nothing_come}
 use Rattle.nbd_session.specs.internal.Holdings.{holding_of, incoming_of}
 use Rattle.nbd_session.specs.internal.Known.{IsKnown, decided}
@@ -102,6 +103,10 @@ module _ (held : Held) (s : Side) (t : IsTaken held s) (m : Message) (whole : Is
     };
     taken_is = same;
   }
+
+  -- it is taken where the session stands
+  pub may_take : (state : State) → state ≡ held.state → MayTake state m
+  may_take state same = record { core = t.machine.core; reached = reached; shows = subst (λ state. Shows state t.machine.core) (sym same) t.shows; completes = is_taken.at.completes }
 
   -- memory ran out after it was accepted
   pub accepted_shut : (new : Held) → holding_of new ≡ with_message (holding_of held) s m → new.taken ≡ held.taken → IsShut new Memory

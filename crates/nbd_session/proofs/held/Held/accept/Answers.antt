@@ -13,7 +13,7 @@ use Rattle.nbd_session.specs.internal.Standing.{held_pairs}
 use Rattle.nbd_session.specs.internal.Steps.{Stands}
 use Rattle.nbd_session.proofs.steps.ConcludeLemmas.{on_err, on_ok_both, whole_read}
 use Rattle.nbd_session.proofs.steps.EmptiedLemmas.{emptied_here, kept_other, mid_counted, mid_messages, mid_state, mid_stretches, mid_taken, new_holding, same_room, sides_same}
-use Rattle.nbd_session.proofs.steps.AcceptLemmas.{accepted_shut, accepted_stands, same_but_message}
+use Rattle.nbd_session.proofs.steps.AcceptLemmas.{accepted_shut, accepted_stands, may_take, same_but_message}
 use Rattle.nbd_session.proofs.steps.SettleLemmas.{IsRead, shut_memory}
 use Rattle.nbd_session.proofs.held.Held.accept.Goals as goal
 
@@ -21,6 +21,21 @@ pub returns-in_err-reserve-clause-shut : goal.returns-in_err-reserve-clause-shut
 returns-in_err-reserve-clause-shut c =
     let held = c.args.self.now in
     on_err c.from_residual.result _ (shut_memory held c.args.side c.requires.expecting.taken (record held { messages = c.reserve.new.self }) (same_room held (record held { messages = c.reserve.new.self }) c.reserve.ensures.items refl refl refl refl) refl)
+
+pub complete-completed-requires : goal.complete-completed-requires
+complete-completed-requires c =
+    let held = c.args.self.now in
+    let s = c.args.side in
+    let roomy : Held = record held { messages = c.reserve.new.self } in
+    let mid = c.take_payload.new.self in
+    let m = c.message-message.result in
+    let sides : (u : Side) → incoming_of roomy u ≡ incoming_of held u = sides_same roomy held refl refl in
+    let is = c.take_payload.ensures.empty in
+    let t = c.requires.expecting.taken in
+    let payload = c.take_payload.ensures.payload ∙ ap (λ (v : IncomingView). v.payload) (sides s) in
+    let is_m : m ≡ message_of c.args.expected (incoming_of held s).payload = c.message-message.ensures ∙ ap (message_of c.args.expected) payload in
+    let whole : IsRead held s t (Whole m) = subst (λ n. IsRead held s t (Whole n)) (sym is_m) (whole_read held s c.args.expected c.requires) in
+    may_take held s t m whole mid.state (mid_state held roomy mid mid s is sides refl refl)
 
 pub returns-clause-stands : goal.returns-clause-stands
 returns-clause-stands c =
