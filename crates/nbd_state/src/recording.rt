@@ -157,12 +157,15 @@ fn index_after(
     }
 }
 
-// The piece, if any, after the others.
+// The piece, if any, after the others. Most READs have one, so the first takes room for itself alone.
 fn push_if(pieces: &mut Vec<Piece>, piece: Option<Piece>) -> Result<(), AllocError>
     ensures pushed { IfOk result (λ _. pieces.new.items ≡ pieces.old.items ++ chunk_piece piece) }
     ensures unchanged { IfErr result (λ _. pieces.new.items ≡ pieces.old.items) }
 {
     if let Some(piece) = piece {
+        if pieces.is_empty() {
+            pieces.reserve_exact(1)?;
+        }
         pieces.push(piece)?;
     }
     Ok(())
