@@ -75,19 +75,6 @@ pub record Begins (old new : Reading) (kept : LineBuffer) : Type 0 where
   pub bytes : List ℕ
   pub takes : Takes old new bytes
   pub unbroken : IsUnbroken bytes
-  pub is_kept : IsKept kept bytes
-
-pub begins_more : (a b c : Reading) (before after : LineBuffer) (part : List ℕ) → Begins a b before → Takes b c part → IsUnbroken part → Adds before after part → Begins a c after
-begins_more a b c before after part past takes u adds = record {
-  bytes = past.bytes ++ part;
-  takes = takes-append a b c past.bytes part past.takes takes;
-  unbroken = unbroken-append past.bytes part past.unbroken u;
-  is_kept = adds past.bytes past.is_kept;
-}
-
-pub line_ends : (a b c : Reading) (bytes part : List ℕ) → Takes a b bytes → Takes b c (part ++ line_feed ∷ []) → Takes a c ((bytes ++ part) ++ line_feed ∷ [])
-line_ends a b c bytes part past takes = rw append_assoc (takes-append a b c bytes (part ++ line_feed ∷ []) past takes)
-
 -- a line that could not be read whole, after lines that give no chunk
 pub no_line : (a b c : Reading) (kept : LineBuffer) (fault : CaptureFault) → Reads a b [] → IsLine b c kept (Err fault) → IsReaderFault a c fault
 no_line a b c kept (Line n) past h = absurd h
@@ -106,15 +93,6 @@ bad_line a b c kept fault past h bad = refuses_chunk a b c h.0 fault past h.1 h.
 pub unended_line : (a b c : Reading) (kept : LineBuffer) (empty : Bool) → Reads a b [] → IsLine b c kept (Ok Text) → ((line : List ℕ) → IsKept kept line → (IsTrue empty → line ≡ []) × (line ≡ [] → IsTrue empty))
     → empty ≡ false → Refuses a c (c.lines + 1)
 unended_line a b c kept empty past h tests none = refuses_end a b c h.0 past h.1 h.2 (λ nothing. true≢false (sym ((tests h.0 h.3).1 nothing) ∙ none)) h.4
-
-pub no_more_lines : (a b c : Reading) (kept : LineBuffer) (empty : Bool) → Reads a b [] → IsLine b c kept (Ok Text) → ((line : List ℕ) → IsKept kept line → (IsTrue empty → line ≡ []) × (line ≡ [] → IsTrue empty))
-    → empty ≡ true → ReadsToEnd a c []
-no_more_lines a b c kept empty past h tests all =
-    let nothing : h.0 ≡ [] = (tests h.0 h.3).0 all in
-    record {
-      reads = reads-append a b c [] [] past (reads_none b c (subst (Takes b c) nothing h.1));
-      nothing_left = still_known a.rest b.rest _ past.bytes past.takes.consumed h.4;
-    }
 
 pub countable_end : (b c : Reading) (kept : LineBuffer) (empty : Bool) → IsLine b c kept (Ok Text) → ((line : List ℕ) → IsKept kept line → (IsTrue empty → line ≡ []) × (line ≡ [] → IsTrue empty))
     → empty ≡ false → c.lines + 1 ≤ b.lines + b.room

@@ -1,21 +1,20 @@
 //! Chunks of structured replies (proto.md, "Structured reply chunk message", "Structured reply flags",
 //! "Structured reply types").
 
-ghost use Rattle.std.specs.Prelude.{◌≡◌, ◌≤◌, ◌+◌, ◌==◌, ◌&&◌, ◌||◌, ℕ, IsTrue, Option, length, not};
+ghost use Rattle.std.specs.Prelude.{◌≡◌, ◌+◌, ◌==◌, ◌&&◌, ◌||◌, ℕ, Option, length, not};
 ghost use Rattle.nbd_wire.specs.declared.chunks.TheConstants as chunks;
 ghost use Rattle.nbd_wire.specs.declared.payloads.Piece.{Piece};
 ghost use Rattle.nbd_wire.specs.declared.command_flags.TheConstants as command_flags;
 ghost use Rattle.nbd_wire.specs.protocol.Flags as flags;
 ghost use Rattle.nbd_wire.specs.protocol.Operations.{Operation, Exporting, has_failed, is_proper, pieces};
-ghost use Rattle.nbd_wire.specs.protocol.States.{Core, with_reply};
+ghost use Rattle.nbd_wire.specs.protocol.States.{with_reply};
 ghost use Rattle.nbd_wire.specs.declared.message.Message.TheVariants.{Chunk};
-ghost use Rattle.nbd_wire.specs.protocol.Payloads.{number_at};
 ghost use Rattle.nbd_wire.specs.declared.fault.WireFault.TheVariants.{BadChunk, BadContent};
 ghost use Rattle.nbd_session.specs.internal.Asking.{done_by, finish_by};
 ghost use Rattle.nbd_state.specs.Showing.{IsShown};
 ghost use Rattle.nbd_state.specs.Spans.{span_of};
 ghost use Rattle.nbd_places.specs.internal.Decisions.{fault_if};
-ghost use Rattle.nbd_places.specs.internal.JudgeTransmission.{begins, chunk_to, chunk_fault, fits_read, fits_failure, total};
+ghost use Rattle.nbd_places.specs.internal.JudgeTransmission.{chunk_fault, fits_read, fits_failure, total};
 
 use crate::spans::{bytes_in, content_span, is_inside};
 use nbd_state::{Asked, Exchange, Span};

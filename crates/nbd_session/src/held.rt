@@ -178,7 +178,7 @@ impl Held {
         }
     }
 
-    // What a side's head says, once it is whole.
+    // What a side's head says, once its last byte has come.
     fn expect(&mut self, side: Side) -> Result<Option<Expected>, WireFault>
         requires { IsTaken self.old side }
         ensures known { IfOk result (λ expected. Knows self.old side expected) }
@@ -186,21 +186,9 @@ impl Held {
         ensures refused { IfErr result (λ fault. IsHeadRefused self.old side fault) }
         ensures same { IfErr result (λ fault. self.new ≡ self.old) }
     {
-        match self.incoming(side).expected() {
-            Some(expected) => Ok(Some(expected)),
-            None => self.decide(side),
+        if let Some(expected) = self.incoming(side).expected() {
+            return Ok(Some(expected));
         }
-    }
-
-    // What a side's head says, if its last byte has come.
-    fn decide(&mut self, side: Side) -> Result<Option<Expected>, WireFault>
-        requires taken { IsTaken self.old side }
-        requires none { (incoming_of self.old side).expected ≡ None }
-        ensures known { IfOk result (λ expected. Knows self.old side expected) }
-        ensures kept { IfOk result (λ expected. self.new ≡ with_expected self.old side expected) }
-        ensures refused { IfErr result (λ fault. IsHeadRefused self.old side fault) }
-        ensures same { IfErr result (λ fault. self.new ≡ self.old) }
-    {
         let head = self.incoming(side).head();
         if head.len() < head_length(&self.state, side, head)? {
             return Ok(None);

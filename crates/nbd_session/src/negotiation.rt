@@ -1,7 +1,7 @@
 //! The messages before the options (proto.md, "Newstyle negotiation", "Handshake flags", "Client flags"), and the answer to
 //! EXPORT_NAME ("NBD_OPT_EXPORT_NAME"), each by its head.
 
-ghost use Rattle.std.specs.Prelude.{◌≡◌, ◌++◌, ◌||◌, ◌&&◌, not, ℕ, List, IfErr, IfOk, Some, length};
+ghost use Rattle.std.specs.Prelude.{◌≡◌, ◌++◌, ◌||◌, ◌&&◌, ℕ, List, IfErr, IfOk, Some, length};
 ghost use Rattle.nbd_wire.specs.declared.handshake.TheConstants as handshake;
 ghost use Rattle.nbd_wire.specs.protocol.Flags as flags;
 ghost use Rattle.nbd_wire.specs.protocol.States.{Core};

@@ -78,35 +78,6 @@ sound_in_turn now s bytes m a t e =
     let f : IsFit now now.phase s bytes m = negotiation_sound now.phase now s bytes m a t e in
     record { encodes = f.encodes; sided = f.sided; sendable = f.sendable; starts = starts_by_turn now.phase now s m t; completes = f.completes }
 
-client_starts : (export : Exporting) (core : Core) (bytes : List ℕ) → core.disconnected ≡ false → MayStartIn (Transmission export) core Client (request_of bytes)
-unfolding MayStartIn
-client_starts export core bytes g = (refl, g)
-
-server_starts : (export : Exporting) (core : Core) (m : Message) → IsTrue (is_some (request_of_reply core m)) → MayStartIn (Transmission export) core Server m
-unfolding MayStartIn
-server_starts export core m h = h
-
-sound_in_transmission : (old now : Core) (s : Side) (bytes : List ℕ) (m : Message) (export : Exporting) → Later s old now → IsReached now → AreBytes bytes → old.phase ≡ Transmission export → now.phase ≡ Transmission export →
-    judge_in (Transmission export) old now s bytes ≡ Whole m → IsSoundAt old now s bytes m
-sound_in_transmission old now Client bytes m export l r a t0 t1 e =
-    let q : IsAsked now export bytes m = request_sound now export now.disconnected bytes m refl a e in
-    record {
-      encodes = q.fit.encodes;
-      sided = q.fit.sided;
-      sendable = q.fit.sendable;
-      starts = subst (λ p. MayStartIn p old Client m) (sym t0) (subst (MayStartIn (Transmission export) old Client) q.is (client_starts export old bytes (sym (Later-disconnected l) ∙ q.open_still)));
-      completes = subst (λ p. MayComplete now p m) (sym t1) q.fit.completes;
-    }
-sound_in_transmission old now Server bytes m export l r a t0 t1 e =
-    let q : IsReplying old now export bytes m = reply_sound old now export bytes m l t0 (tidy r) a e in
-    record {
-      encodes = q.fit.encodes;
-      sided = q.fit.sided;
-      sendable = q.fit.sendable;
-      starts = subst (λ p. MayStartIn p old Server m) (sym t0) (server_starts export old m q.starts);
-      completes = subst (λ p. MayComplete now p m) (sym t1) q.fit.completes;
-    }
-
 pub sound : IsSound concrete
 sound old now s bytes m k e = elim (turn_of_reading (Whole m) k e (λ q. (cc))) [
   | inl t ↦ (let same : old ≡ now = Later-turn (kept_later k) t in
@@ -114,8 +85,3 @@ sound old now s bytes m k e = elim (turn_of_reading (Whole m) k e (λ q. (cc))) 
   | inr (export, t0) ↦ (let t1 : now.phase ≡ Transmission export = Later-transmission (kept_later k) export t0 in
       sound_in_transmission old now s bytes m export (kept_later k) (kept_reached k) (kept_bytes k) t0 t1 (subst (λ p. judge_in p old now s bytes ≡ Whole m) t1 e))
 ]
-
--- what is read to its end is a run, with exactly these pairs and messages
-pub read_is_run : (ps : List Pair) (end : Machine) → ArePairs ps → reads concrete fresh ps ≡ Ok end → ((s : Side) → (get end.rests s).bytes ≡ []) →
-    (items : List Item) × IsRun items × (pairs items ≡ ps) × (completed_messages items ≡ end.messages)
-read_is_run ps end lt e none = run_law concrete sound ps end lt e none

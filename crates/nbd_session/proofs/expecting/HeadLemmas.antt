@@ -26,7 +26,3 @@ some_read false value a e = absurd (let q : Some a ≡ None = e in cc)
 pub none_read : {A : Type 0} (b : Bool) (value : A) → None ≡ some_if b value → b ≡ false
 none_read true value e = absurd (let q : None ≡ Some value = e in cc)
 none_read false value e = refl
-
-pub not_is : (b c : Bool) → not b ≡ c → b ≡ not c
-not_is true c e = ap not e
-not_is false c e = ap not e

@@ -52,18 +52,7 @@ by_kind true true by e = refl
 by_kind true false by e = absurd (let q : Some WrongOption ≡ None = e in cc)
 by_kind false o by e = absurd (let q : Some BadMagic ≡ None = e in cc)
 
-by_head : (m o : Bool) (by : Option WireFault) (f : WireFault) → fault_if (not m) BadMagic (fault_if (not o) WrongOption None) ≡ Some f → fault_if (not m) BadMagic (fault_if (not o) WrongOption by) ≡ Some f
-by_head true true by f e = absurd (let q : None ≡ Some f = e in cc)
-by_head true false by f e = e
-by_head false o by f e = e
-
 module _ (asked : ℕ) (head : List ℕ) where
-  pub right_answer : (by : Option WireFault) → answer_fault asked (number_at 0 8 head) (number_at 8 4 head) None ≡ None → answer_fault asked (number_at 0 8 head) (number_at 8 4 head) by ≡ by
-  right_answer by e = by_kind (number_at 0 8 head == ANSWER_MAGIC) (number_at 8 4 head == asked) by e
-
-  pub wrong_answer : (by : Option WireFault) (f : WireFault) → answer_fault asked (number_at 0 8 head) (number_at 8 4 head) None ≡ Some f → answer_fault asked (number_at 0 8 head) (number_at 8 4 head) by ≡ Some f
-  wrong_answer by f e = by_head (number_at 0 8 head == ANSWER_MAGIC) (number_at 8 4 head == asked) by f e
-
 -- the fields of a head, with more bytes after it
 pub fields_same : (head payload : List ℕ) → length head ≡ 20 → answer_fields_of (head ++ payload) ≡ answer_fields_of head
 fields_same head payload len =

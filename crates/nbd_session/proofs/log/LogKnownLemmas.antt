@@ -18,26 +18,6 @@ use Rattle.nbd_session.proofs.log.FoldLemmas.{core_is}
 use Rattle.nbd_state.proofs.KnownLemmas.{known_by-within, known_here-other, known_here-same, known_or, or_is, or_none}
 use Rattle.nbd_session.proofs.log.LogStepLemmas.{known-next, logged-piece, logged_messages}
 
--- of a request that has not completed nothing is known
-pub known_fresh : (judge : Judge) (ps : List Pair) (machine : Machine) (k : ℕ) → reads judge fresh ps ≡ Ok machine → length machine.core.entries < k → known_by start.core k (log_of_pairs judge fresh ps) ≡ None
-known_fresh judge ps machine k e l = go (known_by start.core k (log_of_pairs judge fresh ps)) refl
-  where
-    core_same : core_from start.core (messages_of (log_of_pairs judge fresh ps)) ≡ machine.core
-    core_same = ap (core_from start.core) (logged_messages judge ps fresh machine e) ∙ sym (core_is judge ps machine e)
-
-    go : (o : Option ℕ) → known_by start.core k (log_of_pairs judge fresh ps) ≡ o → known_by start.core k (log_of_pairs judge fresh ps) ≡ None
-    go None is = is
-    go (Some n) is =
-        let w : (0 < k) × (k ≤ length (core_from start.core (messages_of (log_of_pairs judge fresh ps))).entries) = known_by-within start.core k n (log_of_pairs judge fresh ps) is in
-        let at : k ≤ length machine.core.entries = subst (λ (c : Core). k ≤ length c.entries) core_same w.1 in
-        absurd (omega (arith, l, at))
-
--- one more message that answers request k: what was known of it stays, or its count is known
-pub known-answered : (judge : Judge) (ps : List Pair) (machine : Machine) (k : ℕ) (l : LogEntry) → reads judge fresh ps ≡ Ok machine → request_of_reply machine.core l.message ≡ Some k →
-    known_by start.core k (log_of_pairs judge fresh ps ++ l ∷ []) ≡ (if is_some (known_by start.core k (log_of_pairs judge fresh ps)) then known_by start.core k (log_of_pairs judge fresh ps) else Some l.known)
-known-answered judge ps machine k l e a =
-    known-next judge ps machine k l e ∙ ap (known_or (known_by start.core k (log_of_pairs judge fresh ps))) (known_here-same (request_of_reply machine.core l.message) l.known k a) ∙ or_is (known_by start.core k (log_of_pairs judge fresh ps)) l.known
-
 -- one that does not changes nothing of it
 pub known-unanswered : (judge : Judge) (ps : List Pair) (machine : Machine) (k : ℕ) (l : LogEntry) → reads judge fresh ps ≡ Ok machine → (request_of_reply machine.core l.message ≡ Some k → ⊥) →
     known_by start.core k (log_of_pairs judge fresh ps ++ l ∷ []) ≡ known_by start.core k (log_of_pairs judge fresh ps)

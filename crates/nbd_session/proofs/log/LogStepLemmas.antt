@@ -50,10 +50,6 @@ logged_messages judge (p ∷ ps) machine end e = go (judge rest.since machine.co
         sym (append_assoc machine.messages (m ∷ []) (messages_of (log_of_pairs judge next ps))) ∙ ih next e
     go (Bad fault) ih e = absurd (cc)
 
-logged-nothing : (log : List LogEntry) (r : Result Machine WireFault) → log ++ log_of_rest r (λ next. []) ≡ log
-logged-nothing log (Ok next) = append-nil log
-logged-nothing log (Err fault) = append-nil log
-
 -- bytes of one side, up to the next length at which something is decided
 logged_once : (judge : Judge) (s : Side) (n : ℕ) (more : List ℕ) (machine : Machine) (rest : Rest) → get machine.rests s ≡ rest → IsFilled more → length (rest.bytes ++ more) ≤ n → GoesOn judge (old_of machine.core rest) machine.core s rest.bytes n →
     log_of_pairs judge machine (side_pairs s more) ≡ log_with (extended machine.core rest more) (judge (old_of machine.core rest) machine.core s (rest.bytes ++ more))
@@ -80,11 +76,6 @@ logged_once judge s n (b ∷ c ∷ more) machine rest e f l g =
     ∙ ap (λ o. log_with (record { bytes = next.bytes ++ c ∷ more; since = o }) (judge o machine.core s (next.bytes ++ c ∷ more))) kept
     ∙ ap (λ bs. log_with (record { bytes = bs; since = old }) (judge old machine.core s bs)) (assoc (c ∷ more))
 
-pub logged_at_once : (judge : Judge) (machine : Machine) (s : Side) (n : ℕ) (more : List ℕ) → IsFilled more → length ((get machine.rests s).bytes ++ more) ≤ n →
-    GoesOn judge (old_of machine.core (get machine.rests s)) machine.core s (get machine.rests s).bytes n →
-    log_of_pairs judge machine (side_pairs s more) ≡ log_with (extended machine.core (get machine.rests s) more) (judge (old_of machine.core (get machine.rests s)) machine.core s ((get machine.rests s).bytes ++ more))
-logged_at_once judge machine s n more f l g = logged_once judge s n more machine (get machine.rests s) refl f l g
-
 filled_right : (xs ys : List ℕ) → IsFilled ys → IsFilled (xs ++ ys)
 filled_right [] ys f = f
 filled_right (x ∷ xs) ys f = tt
@@ -95,14 +86,6 @@ pub logged_up_to : (machine : Machine) (s : Side) (more : List ℕ) → AreHeld 
     log_of_pairs concrete machine (side_pairs s more) ≡ log_with (extended machine.core (get machine.rests s) more) (concrete (old_of machine.core (get machine.rests s)) machine.core s ((get machine.rests s).bytes ++ more))
 logged_up_to machine s more held f l =
     logged_at_once concrete machine s (awaited_length (old_of machine.core (get machine.rests s)) machine.core s (get machine.rests s).bytes) more f l (held_short (held s)).goes
-
--- below it nothing is
-pub logged_below : (machine : Machine) (s : Side) (more : List ℕ) → AreHeld concrete machine → IsFilled more →
-    length ((get machine.rests s).bytes ++ more) < awaited_length (old_of machine.core (get machine.rests s)) machine.core s (get machine.rests s).bytes →
-    log_of_pairs concrete machine (side_pairs s more) ≡ []
-logged_below machine s more held f l =
-    logged_up_to machine s more held f (omega (arith, l))
-    ∙ ap (log_with (extended machine.core (get machine.rests s) more)) ((held_short (held s)).goes more (filled_right (get machine.rests s).bytes more f) l)
 
 -- the log of the pairs so far and of one more piece
 pub logged-piece : (ps : List Pair) (machine : Machine) (s : Side) (more : List ℕ) → reads concrete fresh ps ≡ Ok machine → AreHeld concrete machine → IsFilled more →
@@ -117,11 +100,6 @@ known-next judge ps machine k l e =
     known_by-snoc start.core k (log_of_pairs judge fresh ps) l
     ∙ ap (λ (c : Core). known_or (known_by start.core k (log_of_pairs judge fresh ps)) (known_here (request_of_reply c l.message) l.known k None))
     (ap (core_from start.core) (logged_messages judge ps fresh machine e) ∙ sym (core_is judge ps machine e))
-
--- with the project's own judge
-pub read_known : (ps : List Pair) (end : Machine) → ArePairs ps → reads concrete fresh ps ≡ Ok end → ((s : Side) → (get end.rests s).bytes ≡ []) →
-    (items : List Item) → IsRun items → pairs items ≡ ps → (k : ℕ) → known_count items k ≡ known_by start.core k (log_of_pairs concrete fresh ps)
-read_known = run_known concrete sound
 
 pub read_report : (ps : List Pair) (end : Machine) → ArePairs ps → reads concrete fresh ps ≡ Ok end → ((s : Side) → (get end.rests s).bytes ≡ []) →
     (items : List Item) → IsRun items → pairs items ≡ ps → report items ≡ report_by end.core (log_of_pairs concrete fresh ps)

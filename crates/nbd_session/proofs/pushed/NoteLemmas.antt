@@ -42,12 +42,6 @@ module _ (items : List program.Stretch) (i : ℕ) (last : program.Stretch) (s : 
       ∙ sym (noted-set (stretches_of items) i (stretch_of last) s n stretches_long (ap (λ x. same_side s x.from) as_stretch ∙ t)
       ∙ ap (λ x. slice_set (stretches_of items) i (longer x n)) as_stretch)
 
-  -- or another one is pushed
-  pub noted_pushed : same_side s last.from ≡ false → stretches_of (items ++ record { from = s; length = n } ∷ []) ≡ stretches_with (stretches_of items) s n
-  noted_pushed f =
-      map-append stretch_of items (record { from = s; length = n } ∷ [])
-      ∙ sym (noted-push (stretches_of items) i (stretch_of last) s n stretches_long (ap (λ x. same_side s x.from) as_stretch ∙ f))
-
 -- the last one is of the other side, or there is none
 pub noted_after : (items : List program.Stretch) (s : Side) (n : ℕ) → is_of s (slice_get items (length items - 1)) ≡ false → stretches_of (items ++ record { from = s; length = n } ∷ []) ≡ stretches_with (stretches_of items) s n
 noted_after [] s n f = refl
@@ -64,8 +58,3 @@ is_last_of items last s i long there t =
     ap (λ x. same_side s x.from) there
     ∙ sym (ap (is_of s) (slice_get-get_or items i last (omega (arith, long))))
     ∙ ap (λ j. is_of s (slice_get items j)) at ∙ t
-
--- the first one
-pub noted_first : (items : List program.Stretch) (s : Side) (n : ℕ) → length items ≡ 0 → stretches_of (items ++ record { from = s; length = n } ∷ []) ≡ stretches_with (stretches_of items) s n
-noted_first items s n e =
-    map-append stretch_of items (record { from = s; length = n } ∷ []) ∙ sym (noted-push_first (stretches_of items) s n (length-map items stretch_of ∙ e))

@@ -7,18 +7,6 @@ use Rattle.nbd_session.specs.Pushed.{Stretch}
 use Rattle.nbd_wire.specs.protocol.Sides.{same_side}
 use Rattle.nbd_session.specs.internal.Standing.{stretches_with}
 
-pub same_side-true : (s t : Side) → s ≡ t → same_side s t ≡ true
-same_side-true Client Client e = refl
-same_side-true Client Server e = absurd (cc)
-same_side-true Server Client e = absurd (cc)
-same_side-true Server Server e = refl
-
-pub same_side-false : (s t : Side) → (s ≡ t → ⊥) → same_side s t ≡ false
-same_side-false Client Client ne = absurd (ne refl)
-same_side-false Client Server ne = refl
-same_side-false Server Client ne = refl
-same_side-false Server Server ne = absurd (ne refl)
-
 -- a stretch with so many more bytes, and a stretch of its own for so many bytes
 abbrev pub longer : Stretch → ℕ → Stretch
 longer stretch n = record { from = stretch.from; length = stretch.length + n }
@@ -89,9 +77,3 @@ found (x ∷ y ∷ xs) zero last l e = absurd (omega (arith, l))
 found (x ∷ xs) (suc i) last l e =
     let ih : EndsWith xs i last = found xs i last (omega (arith, l)) e in
     record { before = x ∷ ih.before; is = ap (λ m. x ∷ m) ih.is; length_is = ap suc ih.length_is }
-
-pub noted-set_found : (stretches : List Stretch) (i : ℕ) (last : Stretch) (s : Side) (n : ℕ) → length stretches ≡ i + 1 → slice_get stretches i ≡ Some last → same_side s last.from ≡ true → stretches_with stretches s n ≡ slice_set stretches i (longer last n)
-noted-set_found stretches i last s n l e t = noted-set_by stretches i last s n (found stretches i last l e) t
-
-pub noted-push_found : (stretches : List Stretch) (i : ℕ) (last : Stretch) (s : Side) (n : ℕ) → length stretches ≡ i + 1 → slice_get stretches i ≡ Some last → same_side s last.from ≡ false → stretches_with stretches s n ≡ stretches ++ stretch_of s n ∷ []
-noted-push_found stretches i last s n l e t = noted-push_by stretches i last s n (found stretches i last l e) t

@@ -19,11 +19,6 @@ pub head_with : (e : Option Expected) (head longer more payload : List ℕ) → 
 head_with None head longer more payload n is = λ i. record { head = is i; expected = None; payload = payload }
 head_with (Some x) head longer more payload n is = absurd (cc)
 
--- no byte has come
-pub none_come : (n : ℕ) (bytes : List ℕ) → n ≡ length bytes → (n == 0) ≡ is_nothing bytes
-none_come n [] e = ap (λ k. k == 0) e
-none_come n (b ∷ bytes) e = ne_eqb n 0 (λ z. omega (arith, e, z))
-
 pub nothing_in : (bytes : List ℕ) → is_nothing bytes ≡ true → bytes ≡ []
 nothing_in [] e = refl
 nothing_in (b ∷ bytes) e = absurd (cc)
