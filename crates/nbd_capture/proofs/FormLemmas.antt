@@ -28,6 +28,10 @@ forms line said (chunk side digits bytes d) = inr (record { side = side; digits 
 forms line said blank = inl (inl refl, refl)
 forms line said (comment anything) = inl (inr (anything, refl), refl)
 
+no_letter : (side : Side) → hash ≡ letter side → ⊥
+no_letter Client e = omega arith
+no_letter Server e = omega arith
+
 -- a silent line begins with no side's letter
 pub silent_sends : (line : List ℕ) (side : Side) (digits : List ℕ) → IsSilent line → line ≡ letter side ∷ space ∷ digits → ⊥
 silent_sends line side digits (inl none) e = cc

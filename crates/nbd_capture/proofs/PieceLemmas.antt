@@ -1,5 +1,5 @@
 -- What one look at a reader's bytes gives of a line.
-use Rattle.std.proofs.Common.{◌≡◌, ℕ, Bool, true, true≢false, Ok, Err, refl, IsTrue, ◌+◌, ◌-◌, ◌<◌, ◌≤◌, List, [], ◌∷◌, ◌++◌, length, take, sym, ap, subst, ◌∙◌, arith, ◌==◌, false, take-take, length-take-le, append_assoc, Some, None, IfSome}
+use Rattle.std.proofs.Common.{◌≡◌, ℕ, Bool, true≢false, Ok, Err, refl, IsTrue, ◌+◌, ◌-◌, ◌<◌, ◌≤◌, List, [], ◌∷◌, ◌++◌, length, take, sym, ap, subst, ◌∙◌, arith, ◌==◌, false, take-take, length-take-le, Some, None, IfSome}
 use Rattle.std.specs.Prelude.{OnSome, Option}
 use Rattle.std.specs.Io.{StartsWith}
 use Rattle.std.specs.Io.KnownBytes.{Consumes, IsAtEnd, Keeps}
@@ -12,12 +12,12 @@ use Rattle.nbd_capture.specs.declared.capture.CaptureFault.{CaptureFault}
 use Rattle.nbd_capture.specs.declared.capture.CaptureFault.TheVariants.{Line, Memory, Read}
 use Rattle.nbd_capture.specs.declared.source.Ending.TheVariants.{LineFeed, Text}
 use Rattle.nbd_capture.specs.Capture.{Chunk, IsCaptureLine}
-use Rattle.nbd_capture.specs.Reading.{IsReaderFault, Reading, Reads, ReadsToEnd, Refuses, Takes}
+use Rattle.nbd_capture.specs.Reading.{IsReaderFault, Reading, Reads, Refuses, Takes}
 use Rattle.nbd_capture.specs.internal.Steps.{IsChunkFault}
 use Rattle.nbd_capture.specs.declared.line_buffer.LineBuffer.{LineBuffer}
 use Rattle.nbd_capture.specs.internal.Kept.{IsKept}
-use Rattle.nbd_capture.specs.internal.Pieces.{Adds, IsLine}
-use Rattle.nbd_capture.proofs.ReadingStepLemmas.{none_ended, one_ended, reads-append, reads_line, reads_none, refuses_chunk, refuses_end, still_known, stops, takes-append, unbroken-append}
+use Rattle.nbd_capture.specs.internal.Pieces.{IsLine}
+use Rattle.nbd_capture.proofs.ReadingStepLemmas.{none_ended, one_ended, reads-append, reads_line, refuses_chunk, refuses_end, stops, takes-append}
 
 pub at_end : (a b : Option (List ℕ)) (shown : List ℕ) → length shown ≡ 0 → IfSome a (λ xs. length shown ≡ 0 → xs ≡ []) → Keeps a b → OnSome a (IsAtEnd b)
 at_end None b shown none end kept = tt
@@ -75,6 +75,8 @@ pub record Begins (old new : Reading) (kept : LineBuffer) : Type 0 where
   pub bytes : List ℕ
   pub takes : Takes old new bytes
   pub unbroken : IsUnbroken bytes
+  pub is_kept : IsKept kept bytes
+
 -- a line that could not be read whole, after lines that give no chunk
 pub no_line : (a b c : Reading) (kept : LineBuffer) (fault : CaptureFault) → Reads a b [] → IsLine b c kept (Err fault) → IsReaderFault a c fault
 no_line a b c kept (Line n) past h = absurd h

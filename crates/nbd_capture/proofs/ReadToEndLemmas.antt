@@ -20,6 +20,14 @@ reads_to_end a b c xs ys past last = record {
   nothing_left = still_known a.rest b.rest _ past.bytes past.takes.consumed last.nothing_left;
 }
 
+all_taken : (old new : Option (List ℕ)) (bytes : List ℕ) (chunks : List Chunk) → Consumes old new bytes → OnSome old (IsAtEnd new) → IsCaptureText bytes chunks
+    → (room : ℕ) → length bytes ≤ room → IfSome old (λ text. IsCaptureText text chunks × (length text ≤ room))
+all_taken None new bytes chunks taken over read room fits = tt
+all_taken (Some text) None bytes chunks taken over read room fits = absurd taken
+all_taken (Some text) (Some rest) bytes chunks taken over read room fits =
+    let whole : bytes ≡ text = sym (append-nil bytes) ∙ ap (λ l. bytes ++ l) (sym over) ∙ sym taken in
+    subst (λ t. IsCaptureText t chunks × (length t ≤ room)) whole (read, fits)
+
 -- chunks that were read to the end are the text's, and it had room
 pub whole_text : (old new : Reading) (chunks : List Chunk) → ReadsToEnd old new chunks → IfSome old.rest (λ text. IsCaptureText text chunks × (length text ≤ old.room))
 whole_text old new chunks read =

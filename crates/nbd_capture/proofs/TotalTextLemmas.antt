@@ -40,6 +40,10 @@ module _ {V : Type 0} (Form : List ℕ → List V → Type 0) where
   told_unended [] u = inl ([], empty)
   told_unended (b ∷ bs) u = inr (1, unended b bs u)
 
+  told_next : (bytes rest : List ℕ) (said : List V) → IsUnbroken bytes → Form bytes said → Told rest → Told (bytes ++ line_feed ∷ rest)
+  told_next bytes rest said u f (inl read) = inl (said ++ read.0, line bytes said rest read.0 u f read.1)
+  told_next bytes rest said u f (inr bad) = inr (suc bad.0, later bytes said rest bad.0 u f bad.1)
+
   told_within : ((bytes : List ℕ) → Decided Form bytes) → (n : ℕ) (text : List ℕ) → length text ≤ n → Told text
   told_within decide zero text short = told_unended text (none_short text short)
   told_within decide (suc n) text short =

@@ -1,6 +1,7 @@
 //! What the messages of transmission do to a request under way.
 
-ghost use Rattle.std.specs.Prelude.{◌≡◌, ◌++◌, ℕ, false, IfErr, IfOk, [], if◌then◌else◌, is_some};
+ghost use Rattle.std.specs.Prelude.{◌≡◌, ◌≤◌, ◌++◌, ℕ, false, IfErr, IfOk, OnErr, [], if◌then◌else◌, is_some};
+ghost use Rattle.std.specs.Vec.{vec_capacity, vec_len};
 ghost use Rattle.nbd_wire.specs.declared.message.Message.{Message};
 ghost use Rattle.nbd_wire.specs.declared.message.Message.TheVariants.{Chunk, Simple};
 ghost use Rattle.nbd_wire.specs.codec.Contents.{piece_of};
@@ -161,6 +162,7 @@ fn index_after(
 fn push_if(pieces: &mut Vec<Piece>, piece: Option<Piece>) -> Result<(), AllocError>
     ensures pushed { IfOk result (λ _. pieces.new.items ≡ pieces.old.items ++ chunk_piece piece) }
     ensures unchanged { IfErr result (λ _. pieces.new.items ≡ pieces.old.items) }
+    ensures full { OnErr result (vec_capacity pieces.old ≤ vec_len pieces.old) }
 {
     if let Some(piece) = piece {
         if pieces.is_empty() {

@@ -69,6 +69,23 @@ module _ (s : Side) (now : Core) (F : Core → List ℕ → Decision) (st : IsSt
   short_first b (inl low) = let n : awaited_length_by (Some (F now (b ∷ []))) (b ∷ []) ≡ (F now (b ∷ [])).head_length = awaited_head (F now (b ∷ [])) (b ∷ []) low in omega (arith, n, low)
   short_first b (inr (long, clean, ne)) = let two : 2 ≤ (F now (b ∷ [])).head_length = st.two (b ∷ []) in absurd (omega (arith, two, long))
 
+  short_next : (bytes : List ℕ) → GoesBy (F now bytes) bytes → length bytes < awaited_length_by (Some (F now bytes)) bytes → (next : Core) → Later s now next → (b : ℕ) → GoesBy (F next (bytes ++ b ∷ [])) (bytes ++ b ∷ []) →
+      length (bytes ++ b ∷ []) < awaited_length_by (Some (F next (bytes ++ b ∷ []))) (bytes ++ b ∷ [])
+  short_next bytes g short next l b (inl low) =
+      let n : awaited_length_by (Some (F next (bytes ++ b ∷ []))) (bytes ++ b ∷ []) ≡ (F next (bytes ++ b ∷ [])).head_length = awaited_head (F next (bytes ++ b ∷ [])) (bytes ++ b ∷ []) low in
+      omega (arith, n, low)
+  short_next bytes (inl before) short next l b (inr (long, clean, ne)) =
+      let n : awaited_length_by (Some (F next (bytes ++ b ∷ []))) (bytes ++ b ∷ []) ≡ (F next (bytes ++ b ∷ [])).head_length + (F next (bytes ++ b ∷ [])).payload_length = awaited_all (F next (bytes ++ b ∷ [])) (bytes ++ b ∷ []) long in
+      let grows : (F now bytes).head_length ≤ (F next (bytes ++ b ∷ [])).head_length = st.grows next l bytes (b ∷ []) in
+      omega (arith, n, before, grows, ne, long, length-append bytes (b ∷ []))
+  short_next bytes (inr (before, was_clean, was_ne)) short next l b (inr (long, clean, ne)) =
+      let n : awaited_length_by (Some (F next (bytes ++ b ∷ []))) (bytes ++ b ∷ []) ≡ (F next (bytes ++ b ∷ [])).head_length + (F next (bytes ++ b ∷ [])).payload_length = awaited_all (F next (bytes ++ b ∷ [])) (bytes ++ b ∷ []) long in
+      let n' : awaited_length_by (Some (F now bytes)) bytes ≡ (F now bytes).head_length + (F now bytes).payload_length = awaited_all (F now bytes) bytes before in
+      let same : IsSameHead (F now bytes) (F next (bytes ++ b ∷ [])) = st.beyond next l bytes (b ∷ []) before was_clean in
+      let h : (F next (bytes ++ b ∷ [])).head_length ≡ (F now bytes).head_length = same.head_length_is in
+      let p : (F next (bytes ++ b ∷ [])).payload_length ≡ (F now bytes).payload_length = same.payload_length_is in
+      omega (arith, n, n', h, p, ne, short, length-append bytes (b ∷ []))
+
   -- the awaited length is that of now
   awaited_stays : (bytes : List ℕ) → GoesBy (F now bytes) bytes → (next : Core) → Later s now next → awaited_length_by (Some (F next bytes)) bytes ≡ awaited_length_by (Some (F now bytes)) bytes
   awaited_stays bytes (inl low) next l =

@@ -41,6 +41,9 @@ all-counted f a (suc n) e x l u = go (f a) refl (λ h l. all-counted f (suc a) n
         let rest : counted f (suc a) n ≡ n = omega arith in
         at_or_behind (x == a) refl (ih rest)
       where
+        at_or_behind : (c : Bool) → (x == a) ≡ c → (suc a ≤ x → f x ≡ true) → f x ≡ true
+        at_or_behind true same ih = ap f (eqb-true x a same) ∙ is
+        at_or_behind false same ih = let ne : x ≢ a = eqb-false x a same in ih (omega arith)
     go false is ih =
         let none : one_if (f a) ≡ 0 = ap one_if is in
         let most : counted f (suc a) n ≤ n = counted-le f (suc a) n in

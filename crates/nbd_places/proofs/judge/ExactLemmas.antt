@@ -60,6 +60,10 @@ abbrev Began : Phase → Core → Core → Message → Type 0
 Began (Transmission export) old now m = (side m ≡ Server → IsAppended old now × IsTrue (is_some (request_of_reply old m))) × (side m ≡ Client → now.disconnected ≡ false)
 Began phase old now m = Unit {0}
 
+request_taken : (core : Core) (b : Bool) (bytes : List ℕ) (m : Message) → b ≡ false → Accepts (request core bytes) m → IsTaken (request_unless b core bytes) core m
+request_taken core true bytes m e a = absurd (cc)
+request_taken core false bytes m e a = taken (request core bytes) core m a
+
 taken_in : (phase : Phase) (old now : Core) (m : Message) → IsSendable m → Began phase old now m → MayComplete now phase m → IsTaken (decision phase old now (side m) (enc m)) now m
 unfolding MayComplete IsSendable
 taken_in Greet old now (Greeting flags) sn b ok = taken (greeting (enc (Greeting flags))) now _ (greeting_accepts flags sn ok)

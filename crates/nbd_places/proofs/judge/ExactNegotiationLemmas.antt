@@ -297,6 +297,10 @@ success_clean option proper info kind payload g =
 payload_clean : (option : ℕ) (proper : Bool) (info : Option Exporting) (kind : ℕ) (payload : List ℕ) → IsGood option proper info kind payload → payload_fault proper kind payload ≡ None
 payload_clean option proper info kind payload g = no_fault_if (is_bad_payload kind payload) BadReplyPayload _ g.has_form (no_fault_if (not proper) SuccessOfImproper None (not_so _ g.is_proper) refl)
 
+unless_clean : (b : Bool) (fault : Option WireFault) → (b ≡ false → fault ≡ None) → unless_error b fault ≡ None
+unless_clean true fault h = refl
+unless_clean false fault h = h refl
+
 pub answer_accepts : (option : ℕ) (given : List ℕ) (info : Option Exporting) (kind : ℕ) (payload : List ℕ) → option < 2 ^ 32 → kind < 2 ^ 32 → length payload < 2 ^ 32 → MayAnswer option given info kind payload →
     Accepts (answer option (is_proper_option option given) info (enc (Answer option kind payload))) (Answer option kind payload)
 answer_accepts option given info kind payload h k l ok =

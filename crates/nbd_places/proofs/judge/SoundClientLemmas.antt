@@ -46,6 +46,8 @@ may_ask false now cookie offset len e f = no_some (target cookie now.entries) f
 pub record IsAsked (now : Core) (export : Exporting) (bytes : List ℕ) (m : Message) : Type 0 where
   pub fit : IsFit now (Transmission export) Client bytes m
   pub is : request_of bytes ≡ m
+  pub open_still : now.disconnected ≡ false
+
 pub request_sound : (now : Core) (export : Exporting) (d : Bool) (bytes : List ℕ) (m : Message) → now.disconnected ≡ d → AreBytes bytes → reading_by_decision (request_unless d now bytes) bytes ≡ Whole m → IsAsked now export bytes m
 unfolding MayComplete
 request_sound now export true bytes m is_d a e = absurd (cc)

@@ -1,24 +1,21 @@
 -- The judge is sound: a message that it calls whole is one that the rules allow.
-use Rattle.std.proofs.Common.{◌≡◌, ℕ, ◌⊎◌, List, [], ◌∷◌, refl, sym, ◌∙◌, ap, subst, inl, inr, Some, Ok, false, is_some, IsTrue}
+use Rattle.std.proofs.Common.{◌≡◌, ℕ, ◌⊎◌, List, [], ◌∷◌, refl, sym, ◌∙◌, ap, subst, inl, inr, Some, false, is_some, IsTrue}
 use Rattle.nbd_wire.specs.declared.message.Side.{Side}
 use Rattle.nbd_wire.specs.declared.message.Side.TheVariants.{Client, Server}
 use Rattle.nbd_wire.specs.declared.message.Message.{Message}
 use Rattle.nbd_wire.specs.protocol.Encoding.{AreBytes}
-use Rattle.nbd_wire.specs.protocol.Marks.{Item, pairs, completed_messages}
-use Rattle.nbd_wire.specs.protocol.Captures.{Pair, ArePairs}
 use Rattle.nbd_wire.specs.protocol.Options.{turn}
 use Rattle.nbd_wire.proofs.NumberLemmas.{AreBytes-snoc}
 use Rattle.nbd_wire.specs.protocol.Operations.{Exporting}
-use Rattle.nbd_wire.specs.protocol.Rules.{IsRun, MayStartIn, MayComplete, request_of_reply}
+use Rattle.nbd_wire.specs.protocol.Rules.{MayStartIn, MayComplete, request_of_reply}
 use Rattle.nbd_wire.specs.protocol.States.{Phase, Greet, Flags, Choosing, Naming, Aborting, Answering, Transmission, Core}
 use Rattle.nbd_wire.specs.declared.fault.WireFault.TheVariants.{OutOfTurn}
 use Rattle.nbd_places.specs.internal.JudgeTransmission.{request_of}
 use Rattle.nbd_places.specs.internal.Concrete.{judge_in, concrete}
 use Rattle.nbd_laws.proofs.machine.MachineLemmas.{Kept, begun, kept, Later, at_once, Later-trans, IsSoundAt, IsSound}
-use Rattle.nbd_laws.specs.internal.Machine.{Reading, More, Whole, Bad, Judge, Machine, get, reads, fresh}
+use Rattle.nbd_laws.specs.internal.Machine.{Reading, More, Whole, Bad, Judge}
 use Rattle.nbd_laws.specs.Reached.{IsReached}
 use Rattle.nbd_places.proofs.judge.PhaseLemmas.{IsTransmitting, Later-disconnected, Later-transmission, Later-turn}
-use Rattle.nbd_laws.proofs.runs.RunLemmas.{run_law}
 use Rattle.nbd_places.proofs.judge.SoundClientLemmas.{IsAsked, request_sound}
 use Rattle.nbd_places.proofs.judge.SoundNegotiationLemmas.{IsFit, negotiation_sound}
 use Rattle.nbd_places.proofs.judge.SoundServerLemmas.{IsReplying, reply_sound}
@@ -77,6 +74,35 @@ sound_in_turn : (now : Core) (s : Side) (bytes : List ℕ) (m : Message) → Are
 sound_in_turn now s bytes m a t e =
     let f : IsFit now now.phase s bytes m = negotiation_sound now.phase now s bytes m a t e in
     record { encodes = f.encodes; sided = f.sided; sendable = f.sendable; starts = starts_by_turn now.phase now s m t; completes = f.completes }
+
+client_starts : (export : Exporting) (core : Core) (bytes : List ℕ) → core.disconnected ≡ false → MayStartIn (Transmission export) core Client (request_of bytes)
+unfolding MayStartIn
+client_starts export core bytes g = (refl, g)
+
+server_starts : (export : Exporting) (core : Core) (m : Message) → IsTrue (is_some (request_of_reply core m)) → MayStartIn (Transmission export) core Server m
+unfolding MayStartIn
+server_starts export core m h = h
+
+sound_in_transmission : (old now : Core) (s : Side) (bytes : List ℕ) (m : Message) (export : Exporting) → Later s old now → IsReached now → AreBytes bytes → old.phase ≡ Transmission export → now.phase ≡ Transmission export →
+    judge_in (Transmission export) old now s bytes ≡ Whole m → IsSoundAt old now s bytes m
+sound_in_transmission old now Client bytes m export l r a t0 t1 e =
+    let q : IsAsked now export bytes m = request_sound now export now.disconnected bytes m refl a e in
+    record {
+      encodes = q.fit.encodes;
+      sided = q.fit.sided;
+      sendable = q.fit.sendable;
+      starts = subst (λ p. MayStartIn p old Client m) (sym t0) (subst (MayStartIn (Transmission export) old Client) q.is (client_starts export old bytes (sym (Later-disconnected l) ∙ q.open_still)));
+      completes = subst (λ p. MayComplete now p m) (sym t1) q.fit.completes;
+    }
+sound_in_transmission old now Server bytes m export l r a t0 t1 e =
+    let q : IsReplying old now export bytes m = reply_sound old now export bytes m l t0 (tidy r) a e in
+    record {
+      encodes = q.fit.encodes;
+      sided = q.fit.sided;
+      sendable = q.fit.sendable;
+      starts = subst (λ p. MayStartIn p old Server m) (sym t0) (server_starts export old m q.starts);
+      completes = subst (λ p. MayComplete now p m) (sym t1) q.fit.completes;
+    }
 
 pub sound : IsSound concrete
 sound old now s bytes m k e = elim (turn_of_reading (Whole m) k e (λ q. (cc))) [

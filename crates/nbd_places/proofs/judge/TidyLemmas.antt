@@ -120,6 +120,10 @@ tidy_reply structured export e (Simple error cookie bytes) t h = one_more e _ t 
 tidy_reply structured export e (Chunk flags kind cookie bytes) t h = tidy_chunk export e flags kind cookie bytes t h.1
 tidy_reply structured export e m t h = absurd h
 
+tidy_replied : (core : Core) (m : Message) (k : ℕ) (e : Operation) (o : Option ℕ) → o ≡ Some k → AreTidy core.entries → operation k core.entries ≡ Some e → IsTidy (with_reply e m) → AreTidy (reply_to o core m).entries
+tidy_replied core m k e (Some j) q t is r = let same : k ≡ j = cc in subst (λ j. AreTidy (with_reply_at j m core.entries)) same (tidy_answered k m core.entries e t is r)
+tidy_replied core m k e None q t is r = absurd (cc)
+
 tidy_requested : (b : Bool) (core : Core) (e : Operation) → AreTidy core.entries → IsTidy e → AreTidy (core_with_request b core e).entries
 tidy_requested true core e t h = t
 tidy_requested false core e t h = tidy_snoc core.entries e t h

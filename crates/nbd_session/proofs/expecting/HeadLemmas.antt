@@ -1,5 +1,5 @@
 -- A head that is whole, and the same with more bytes after it.
-use Rattle.std.proofs.Common.{◌≡◌, ℕ, ◌+◌, ◌≤◌, List, ◌++◌, length, drop, refl, ap, subst, Some, None, Bool, true, false, not, arith}
+use Rattle.std.proofs.Common.{◌≡◌, ℕ, ◌+◌, ◌≤◌, List, ◌++◌, length, drop, refl, subst, Some, None, Bool, true, false, arith}
 use Rattle.std.proofs.Math.Seq.{drop-append_seam}
 use Rattle.nbd_wire.specs.protocol.Encoding.{AreBytes}
 use Rattle.nbd_wire.specs.protocol.Payloads.{number_at}

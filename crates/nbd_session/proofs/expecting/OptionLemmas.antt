@@ -53,6 +53,9 @@ by_kind true false by e = absurd (let q : Some WrongOption ≡ None = e in cc)
 by_kind false o by e = absurd (let q : Some BadMagic ≡ None = e in cc)
 
 module _ (asked : ℕ) (head : List ℕ) where
+  pub right_answer : (by : Option WireFault) → answer_fault asked (number_at 0 8 head) (number_at 8 4 head) None ≡ None → answer_fault asked (number_at 0 8 head) (number_at 8 4 head) by ≡ by
+  right_answer by e = by_kind (number_at 0 8 head == ANSWER_MAGIC) (number_at 8 4 head == asked) by e
+
 -- the fields of a head, with more bytes after it
 pub fields_same : (head payload : List ℕ) → length head ≡ 20 → answer_fields_of (head ++ payload) ≡ answer_fields_of head
 fields_same head payload len =

@@ -31,6 +31,10 @@ total-append : (ps qs : List Piece) → total (ps ++ qs) ≡ total ps + total qs
 total-append [] qs = sym (zero-add (total qs))
 total-append (p ∷ ps) qs = ap (λ n. piece_size p + n) (total-append ps qs) ∙ sym (add_assoc (piece_size p) (total ps) (total qs))
 
+finish-by : (export : Exporting) (e : Operation) (failed : Bool) (ps : List Piece) → finish_fault export e failed ps ≡ finish_by e.command e.length (is_proper export e) failed (total ps)
+finish-by export e true ps = refl
+finish-by export e false ps = refl
+
 total-more : (e : Operation) (flags kind cookie : ℕ) (payload : List ℕ) (o : Option Piece) → content_of kind payload ≡ o → total (pieces (with_reply e (Chunk flags kind cookie payload))) ≡ total (pieces e) + total (chunk_piece o)
 unfolding piece_of
 total-more e flags kind cookie payload o q =

@@ -35,6 +35,14 @@ reply_answers : (export : Exporting) (core : Core) (m : Message) → MayStartIn 
 unfolding MayStartIn
 reply_answers export core m h = h
 
+target_stays : (c : Option ℕ) (es more : List Operation) → IsTrue (is_some (target_of c es)) → target_of c es ≡ target_of c (es ++ more)
+target_stays None es more h = absurd (cc)
+target_stays (Some cookie) es more h = go (target cookie es) refl h
+  where
+    go : (o : Option ℕ) → target cookie es ≡ o → IsTrue (is_some o) → target cookie es ≡ target cookie (es ++ more)
+    go None e h = absurd (cc)
+    go (Some k) e h = e ∙ sym (target-append cookie es more k e)
+
 -- while the server is in a message, that message answers the same request
 pub answers_same : {old now : Core} (m : Message) → Later Server old now → IsBegun old Server m → request_of_reply old m ≡ request_of_reply now m
 answers_same {old} {now} m l b = elim (starts_in old.phase old Server m b.starts) [

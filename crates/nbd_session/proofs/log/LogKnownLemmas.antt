@@ -1,22 +1,20 @@
 -- What a log knows is of requests that have completed.
-use Rattle.std.proofs.Common.{◌≡◌, ℕ, ◌<◌, ◌≤◌, List, [], ◌∷◌, ◌++◌, length, refl, sym, ◌∙◌, ap, subst, Ok, Option, Some, None, is_some, if◌then◌else◌, arith, append-nil}
+use Rattle.std.proofs.Common.{◌≡◌, ℕ, ◌≤◌, List, [], ◌∷◌, ◌++◌, length, ◌∙◌, ap, Ok, Some, append-nil}
 use Rattle.nbd_wire.specs.declared.message.Message.{Message}
 use Rattle.nbd_wire.specs.declared.message.Side.{Side}
 use Rattle.nbd_wire.specs.protocol.Captures.{Pair, side_pairs}
 use Rattle.nbd_wire.specs.protocol.Rules.{request_of_reply}
-use Rattle.nbd_wire.specs.protocol.States.{Core, start}
+use Rattle.nbd_wire.specs.protocol.States.{start}
 use Rattle.nbd_places.specs.internal.Concrete.{concrete}
-use Rattle.nbd_state.specs.Completions.{core_from}
 use Rattle.nbd_places.specs.internal.Judge.{awaited_length}
-use Rattle.nbd_state.specs.Logs.{LogEntry, known_by, messages_of}
+use Rattle.nbd_state.specs.Logs.{LogEntry, known_by}
 use Rattle.nbd_session.specs.internal.Logging.{log_with, log_of_pairs}
 use Rattle.nbd_laws.proofs.machine.MachineLemmas.{AreHeld}
 use Rattle.nbd_laws.specs.internal.Machine.{IsFilled, Judge, Machine, More, Whole, fresh, get, old_of, reads}
 use Rattle.nbd_places.proofs.judge.BlockLemmas.{extended}
 use Rattle.nbd_session.proofs.log.CountLemmas.{count_of}
-use Rattle.nbd_session.proofs.log.FoldLemmas.{core_is}
-use Rattle.nbd_state.proofs.KnownLemmas.{known_by-within, known_here-other, known_here-same, known_or, or_is, or_none}
-use Rattle.nbd_session.proofs.log.LogStepLemmas.{known-next, logged-piece, logged_messages}
+use Rattle.nbd_state.proofs.KnownLemmas.{known_here-other, known_or, or_none}
+use Rattle.nbd_session.proofs.log.LogStepLemmas.{known-next, logged-piece}
 
 -- one that does not changes nothing of it
 pub known-unanswered : (judge : Judge) (ps : List Pair) (machine : Machine) (k : ℕ) (l : LogEntry) → reads judge fresh ps ≡ Ok machine → (request_of_reply machine.core l.message ≡ Some k → ⊥) →

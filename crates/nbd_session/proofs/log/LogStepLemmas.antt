@@ -3,7 +3,7 @@ use Rattle.std.proofs.Common.{◌≡◌, ℕ, ◌<◌, ◌≤◌, List, [], ◌�
 use Rattle.nbd_wire.specs.declared.message.Side.{Side}
 use Rattle.nbd_wire.specs.protocol.Marks.{Item, pairs}
 use Rattle.nbd_wire.specs.protocol.Captures.{Pair, ArePairs, side_pairs}
-use Rattle.nbd_wire.specs.protocol.Reports.{known_count, report}
+use Rattle.nbd_wire.specs.protocol.Reports.{report}
 use Rattle.nbd_wire.specs.protocol.Rules.{IsRun, request_of_reply, complete}
 use Rattle.nbd_wire.specs.protocol.States.{Core, start}
 use Rattle.nbd_wire.specs.declared.fault.WireFault.{WireFault}
@@ -19,7 +19,7 @@ use Rattle.nbd_laws.specs.internal.Machine.{Bad, IsFilled, Judge, Machine, More,
 use Rattle.nbd_places.proofs.judge.AwaitedLemmas.{held_short}
 use Rattle.nbd_places.proofs.judge.BlockLemmas.{GoesOn, extended}
 use Rattle.nbd_session.proofs.log.FoldLemmas.{core_is}
-use Rattle.nbd_session.proofs.log.LogLemmas.{run_known, run_report}
+use Rattle.nbd_session.proofs.log.LogLemmas.{run_report}
 use Rattle.nbd_places.proofs.judge.SoundLemmas.{sound}
 
 -- more pairs after these
@@ -50,6 +50,10 @@ logged_messages judge (p ∷ ps) machine end e = go (judge rest.since machine.co
         sym (append_assoc machine.messages (m ∷ []) (messages_of (log_of_pairs judge next ps))) ∙ ih next e
     go (Bad fault) ih e = absurd (cc)
 
+logged-nothing : (log : List LogEntry) (r : Result Machine WireFault) → log ++ log_of_rest r (λ next. []) ≡ log
+logged-nothing log (Ok next) = append-nil log
+logged-nothing log (Err fault) = append-nil log
+
 -- bytes of one side, up to the next length at which something is decided
 logged_once : (judge : Judge) (s : Side) (n : ℕ) (more : List ℕ) (machine : Machine) (rest : Rest) → get machine.rests s ≡ rest → IsFilled more → length (rest.bytes ++ more) ≤ n → GoesOn judge (old_of machine.core rest) machine.core s rest.bytes n →
     log_of_pairs judge machine (side_pairs s more) ≡ log_with (extended machine.core rest more) (judge (old_of machine.core rest) machine.core s (rest.bytes ++ more))
@@ -75,6 +79,11 @@ logged_once judge s n (b ∷ c ∷ more) machine rest e f l g =
     ∙ logged_once judge s n (c ∷ more) (with_byte machine s b) next place tt rest_is (subst (λ o. GoesOn judge o machine.core s next.bytes n) (sym kept) goes)
     ∙ ap (λ o. log_with (record { bytes = next.bytes ++ c ∷ more; since = o }) (judge o machine.core s (next.bytes ++ c ∷ more))) kept
     ∙ ap (λ bs. log_with (record { bytes = bs; since = old }) (judge old machine.core s bs)) (assoc (c ∷ more))
+
+pub logged_at_once : (judge : Judge) (machine : Machine) (s : Side) (n : ℕ) (more : List ℕ) → IsFilled more → length ((get machine.rests s).bytes ++ more) ≤ n →
+    GoesOn judge (old_of machine.core (get machine.rests s)) machine.core s (get machine.rests s).bytes n →
+    log_of_pairs judge machine (side_pairs s more) ≡ log_with (extended machine.core (get machine.rests s) more) (judge (old_of machine.core (get machine.rests s)) machine.core s ((get machine.rests s).bytes ++ more))
+logged_at_once judge machine s n more f l g = logged_once judge s n more machine (get machine.rests s) refl f l g
 
 filled_right : (xs ys : List ℕ) → IsFilled ys → IsFilled (xs ++ ys)
 filled_right [] ys f = f

@@ -36,6 +36,12 @@ prefix n bytes b h =
       at = λ p w fits. sym (number_at-append p w (take n bytes) (drop n bytes) (omega (arith, l))) ∙ ap (number_at p w) (take-append-drop n bytes);
     }
 
+-- the answer, by whether the bytes begin with the right number
+pub read_if : {A : Type 0} (Form : A → Type 0) (answer : Option A) (b : Bool) (value : A) → Reads answer Form → (b ≡ true → Form value) → ((other : A) → Form other → b ≡ true) → answer ≡ some_if b value
+read_if Form answer true value reads found only = (reads value).1 (found refl)
+read_if Form None false value reads found only = refl
+read_if Form (Some other) false value reads found only = absurd (false≢true (only other ((reads other).0 refl)))
+
 pub leading_greeting-is : (answer : Option ℕ) (head bytes : List ℕ) → IsFront 18 head bytes → Reads answer (λ flags. IsGreetingHead flags head) → answer ≡ greeting_flags_of bytes
 leading_greeting-is answer head bytes f reads =
     let first : Bool = number_at 0 8 bytes == GREETING_MAGIC in

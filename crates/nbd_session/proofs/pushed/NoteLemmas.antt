@@ -10,7 +10,7 @@ use Rattle.nbd_session.specs.declared.stretches.Stretch as program
 use Rattle.nbd_session.specs.internal.Holdings.{is_of}
 use Rattle.nbd_session.specs.Views.{stretch_of, stretches_of}
 use Rattle.nbd_session.specs.internal.Standing.{stretches_with, stretch_total}
-use Rattle.nbd_session.proofs.pushed.StretchLemmas.{EndsWith, ends_with, longer, noted-set, noted-push, noted-push_first}
+use Rattle.nbd_session.proofs.pushed.StretchLemmas.{EndsWith, ends_with, longer, noted-set, noted-push}
 
 get_or_there : (items : List program.Stretch) (i : ℕ) (d : program.Stretch) → i < length items → get_or items i d ≡ get_or items i (get_or items i d)
 get_or_there [] i d l = absurd (omega (arith, l))
@@ -41,6 +41,12 @@ module _ (items : List program.Stretch) (i : ℕ) (last : program.Stretch) (s : 
       map-set stretch_of items i (record { from = last.from; length = last.length + n })
       ∙ sym (noted-set (stretches_of items) i (stretch_of last) s n stretches_long (ap (λ x. same_side s x.from) as_stretch ∙ t)
       ∙ ap (λ x. slice_set (stretches_of items) i (longer x n)) as_stretch)
+
+  -- or another one is pushed
+  pub noted_pushed : same_side s last.from ≡ false → stretches_of (items ++ record { from = s; length = n } ∷ []) ≡ stretches_with (stretches_of items) s n
+  noted_pushed f =
+      map-append stretch_of items (record { from = s; length = n } ∷ [])
+      ∙ sym (noted-push (stretches_of items) i (stretch_of last) s n stretches_long (ap (λ x. same_side s x.from) as_stretch ∙ f))
 
 -- the last one is of the other side, or there is none
 pub noted_after : (items : List program.Stretch) (s : Side) (n : ℕ) → is_of s (slice_get items (length items - 1)) ≡ false → stretches_of (items ++ record { from = s; length = n } ∷ []) ≡ stretches_with (stretches_of items) s n

@@ -23,6 +23,26 @@ pub sent-append : (s : Side) (xs ys : List ℕ) → side_pairs s (xs ++ ys) ≡ 
 sent-append s [] ys = refl
 sent-append s (x ∷ xs) ys = ap (λ ps. record { from = s; byte = x } ∷ ps) (sent-append s xs ys)
 
+-- the first stretch takes what it took
+taken_alike : (s t : Side) (n : ℕ) (more client server : List ℕ) → n ≤ length (of_two t client server) →
+    take n (of_two t (with_more s Client more client) (with_more s Server more server)) ≡ take n (of_two t client server)
+taken_alike Client Client n more client server l = take-append-le n client more l
+taken_alike Client Server n more client server l = refl
+taken_alike Server Client n more client server l = refl
+taken_alike Server Server n more client server l = take-append-le n server more l
+
+-- and leaves what it left, with more after it
+left_alike : (s u t : Side) (n : ℕ) (more bytes : List ℕ) → (u ≡ t → n ≤ length bytes) →
+    bytes_after_stretch u (record { from = t; length = n }) (with_more s u more bytes) ≡ with_more s u more (bytes_after_stretch u (record { from = t; length = n }) bytes)
+left_alike Client Client Client n more bytes l = drop-append-le n bytes more (l refl)
+left_alike Client Client Server n more bytes l = refl
+left_alike Client Server Client n more bytes l = refl
+left_alike Client Server Server n more bytes l = refl
+left_alike Server Client Client n more bytes l = refl
+left_alike Server Client Server n more bytes l = refl
+left_alike Server Server Client n more bytes l = refl
+left_alike Server Server Server n more bytes l = drop-append-le n bytes more (l refl)
+
 -- after the first stretch the others are of what is left
 pub left_stretches : (t : Side) (n : ℕ) (stretches : List Stretch) (client server : List ℕ) → AreStretchesOf (record { from = t; length = n } ∷ stretches) client server →
     AreStretchesOf stretches (bytes_after_stretch Client (record { from = t; length = n }) client) (bytes_after_stretch Server (record { from = t; length = n }) server)
@@ -62,6 +82,18 @@ mixed_last Server n more client server h =
 module _ (s t : Side) (n : ℕ) (more client server : List ℕ) (stretches next : List Stretch) (h : AreStretchesOf (record { from = t; length = n } ∷ stretches) client server) where
   abbrev here : Stretch
   here = record { from = t; length = n }
+
+  mixed_behind : mixture next (with_more s Client more (bytes_after_stretch Client here client)) (with_more s Server more (bytes_after_stretch Server here server))
+      ≡ mixture stretches (bytes_after_stretch Client here client) (bytes_after_stretch Server here server) ++ side_pairs s more →
+      mixture (here ∷ next) (with_more s Client more client) (with_more s Server more server) ≡ mixture (here ∷ stretches) client server ++ side_pairs s more
+  mixed_behind ih =
+      let first = side_pairs t (take n (of_two t client server)) in
+      ap (λ l. side_pairs t l ++ mixture next (bytes_after_stretch Client here (with_more s Client more client)) (bytes_after_stretch Server here (with_more s Server more server)))
+      (taken_alike s t n more client server (first_fits t t n stretches client server h refl))
+      ∙ ap (λ l. first ++ mixture next l (bytes_after_stretch Server here (with_more s Server more server))) (left_alike s Client t n more client (first_fits t Client n stretches client server h))
+      ∙ ap (λ l. first ++ mixture next (with_more s Client more (bytes_after_stretch Client here client)) l) (left_alike s Server t n more server (first_fits t Server n stretches client server h))
+      ∙ ap (λ l. first ++ l) ih
+      ∙ sym (append_assoc first (mixture stretches (bytes_after_stretch Client here client) (bytes_after_stretch Server here server)) (side_pairs s more))
 
 -- after a stretch of the other side
 mixed_other : (s t : Side) (n : ℕ) (more client server : List ℕ) → AreStretchesOf (record { from = t; length = n } ∷ []) client server →

@@ -2,7 +2,6 @@
 use Rattle.std.proofs.Common.{◌≡◌, ℕ, zero, suc, ◌+◌, List, [], ◌∷◌, ◌++◌, length, refl, sym, ◌∙◌, ap, Some, Bool, true, false, if◌then◌else◌, arith, slice_get, slice_set, get_or}
 use Rattle.std.proofs.Math.Seq.{set-append_seam}
 use Rattle.nbd_wire.specs.declared.message.Side.{Side}
-use Rattle.nbd_wire.specs.declared.message.Side.TheVariants.{Client, Server}
 use Rattle.nbd_session.specs.Pushed.{Stretch}
 use Rattle.nbd_wire.specs.protocol.Sides.{same_side}
 use Rattle.nbd_session.specs.internal.Standing.{stretches_with}

@@ -1,6 +1,5 @@
 -- The bytes that have come of a side, with more.
-use Rattle.std.proofs.Common.{◌≡◌, ◌==◌, ℕ, List, [], ◌∷◌, ◌++◌, length, refl, ap, subst, Option, Some, None, true, false, is_some, arith}
-use Rattle.std.proofs.lemmas.Bool.{ne_eqb}
+use Rattle.std.proofs.Common.{◌≡◌, ℕ, List, [], ◌∷◌, ◌++◌, refl, subst, Option, Some, None, true, false, is_some}
 use Rattle.nbd_wire.specs.protocol.States.{Core}
 use Rattle.nbd_places.specs.internal.Decisions.{Decision}
 use Rattle.nbd_laws.specs.internal.Machine.{IsFilled}

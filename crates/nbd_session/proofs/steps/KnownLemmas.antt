@@ -89,6 +89,21 @@ placed_stays core next a (expectations.Answer head proper) l = tt
 placed_stays core next a (expectations.Exported size flags padded) l = tt
 placed_stays core next a (expectations.Request head) l = tt
 
+-- a request looks at what is outstanding at its last byte alone
+request_stays : (core next : Core) (bytes payload : List ℕ) (h : ℕ) (x : Expected) → request core bytes ≡ expected_decision core x h payload → request next bytes ≡ expected_decision next x h payload
+request_stays core next bytes payload h (expectations.Request r) e =
+    let m : request_of bytes ≡ messages.Request r.flags r.command r.cookie r.offset r.length payload = ap (λ (d : Decision). d.message) e in
+    let c : number_at 6 2 bytes ≡ r.command = cc in
+    let k : number_at 8 8 bytes ≡ r.cookie = cc in
+    λ i. record { head_length = (e i).head_length; head_fault = (e i).head_fault; payload_length = (e i).payload_length; last_fault = cookie_fault (c i) (target (k i) next.entries); message = (e i).message }
+request_stays core next bytes payload h (expectations.Greeting flags) e = absurd (let m : request_of bytes ≡ messages.Greeting flags = ap (λ (d : Decision). d.message) e in cc)
+request_stays core next bytes payload h (expectations.ClientFlags flags) e = absurd (let m : request_of bytes ≡ messages.ClientFlags flags = ap (λ (d : Decision). d.message) e in cc)
+request_stays core next bytes payload h (expectations.Choice head) e = absurd (let m : request_of bytes ≡ messages.Choice head.id payload = ap (λ (d : Decision). d.message) e in cc)
+request_stays core next bytes payload h (expectations.Answer head proper) e = absurd (let m : request_of bytes ≡ messages.Answer head.option head.kind payload = ap (λ (d : Decision). d.message) e in cc)
+request_stays core next bytes payload h (expectations.Exported size flags padded) e = absurd (let m : request_of bytes ≡ messages.Exported size flags padded = ap (λ (d : Decision). d.message) e in cc)
+request_stays core next bytes payload h (expectations.Simple head place len) e = absurd (let m : request_of bytes ≡ messages.Simple head.error head.cookie payload = ap (λ (d : Decision). d.message) e in cc)
+request_stays core next bytes payload h (expectations.Chunk head place) e = absurd (let m : request_of bytes ≡ messages.Chunk head.flags head.kind head.cookie payload = ap (λ (d : Decision). d.message) e in cc)
+
 module _ (export : Exporting) (old core next : Core) (bytes : List ℕ) (a : IsAppended core next) where
   abbrev cookie : ℕ
   cookie = number_at 8 8 bytes
@@ -162,6 +177,19 @@ module _ (old core next : Core) (export : Exporting) (before : core.phase ≡ Tr
           ap (λ p. decision p old next Server b) after
           ∙ ap Some (reply_stays export old core next b a (bytes_are_begun b) (ap (λ (d : Decision). d.head_fault) e) ∙ e
           ∙ (λ i. record { head_length = length head; head_fault = None; payload_length = payload_length_of x; last_fault = last i; message = message_of x payload }))
+
+  expected_request : next.disconnected ≡ core.disconnected → IsPlaced next x → IsExpected (decision core.phase old core Client) core head x → IsExpected (decision next.phase old next Client) next head x
+  expected_request disconnected placed known = record { filled = known.filled; placed = placed; is = is }
+    where
+      by : (b : Bool) (payload : List ℕ) → request_unless b core (head ++ payload) ≡ Some (expected_decision core x (length head) payload) → request_unless b next (head ++ payload) ≡ Some (expected_decision next x (length head) payload)
+      by true payload e = absurd (cc)
+      by false payload e = ap Some (request_stays core next (head ++ payload) payload (length head) x (same_Some _ _ e))
+
+      is : (payload : List ℕ) → decision next.phase old next Client (head ++ payload) ≡ Some (expected_decision next x (length head) payload)
+      is payload =
+          ap (λ p. decision p old next Client (head ++ payload)) after
+          ∙ ap (λ b. request_unless b next (head ++ payload)) disconnected
+          ∙ by core.disconnected payload (sym (ap (λ p. decision p old core Client (head ++ payload)) before) ∙ known.is payload)
 
 -- a request answers no request
 placed_request : (core next : Core) (bytes payload : List ℕ) (h : ℕ) (x : Expected) → request core bytes ≡ expected_decision core x h payload → IsPlaced next x

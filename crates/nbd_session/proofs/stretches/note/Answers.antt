@@ -5,7 +5,6 @@ use Rattle.nbd_session.specs.Views.{stretches_of}
 use Rattle.nbd_session.proofs.pushed.NoteLemmas.{is_last_of, last_within, noted_after, noted_grown}
 use Rattle.nbd_session.proofs.stretches.note.Goals as goal
 
--- src/held.rt:106:9
 pub returns-then-not-is_last : goal.returns-then-not-is_last
 returns-then-not-is_last c = record {
   noted =
@@ -13,9 +12,9 @@ returns-then-not-is_last c = record {
       ∙ noted_after c.args.stretches.now.items c.args.side c.args.count
       (ap (λ l. is_of c.args.side (slice_get l (length l - 1))) (sym c.deref.ensures.value) ∙ sym c.is_last.ensures ∙ c.if-not-is_last.true);
   unchanged = tt;
+  full = tt;
 }
 
--- src/held.rt:109:9
 pub overflow_add-last : goal.overflow_add-last
 overflow_add-last c =
     let some : 0 < vec_len c.args.stretches.now = c.in-Some.ensures.variant.0 refl in
@@ -25,7 +24,6 @@ overflow_add-last c =
     let within = last_within c.args.stretches.now.items (vec_len c.args.stretches.now - 1) c.in-Some.last.now c.args.side c.args.count long c.in-Some.ensures.value same in
     omega (arith, within, c.requires)
 
--- src/held.rt:97:1
 pub returns-in-Some : goal.returns-in-Some
 returns-in-Some c =
     let some : 0 < vec_len c.args.stretches.now = c.in-Some.ensures.variant.0 refl in
@@ -35,4 +33,5 @@ returns-in-Some c =
     record {
       noted = noted_grown c.args.stretches.now.items (vec_len c.args.stretches.now - 1) c.in-Some.last.now c.args.side c.args.count long c.in-Some.ensures.value same;
       unchanged = tt;
+      full = tt;
     }
