@@ -6,17 +6,20 @@ ghost use Rattle.nbd_wire.specs.protocol.States.{Core};
 ghost use Rattle.nbd_places.specs.internal.Judge.{decision_by_count};
 ghost use Rattle.nbd_laws.specs.internal.Machine.{Bad};
 ghost use Rattle.nbd_places.specs.internal.Concrete.{reading_by_decision};
-ghost use Rattle.nbd_session.specs.internal.Expecting.{HasHeadLength, IsExpectedOf, IsPlaced, IsRefusedHead, IsWholeHead};
+ghost use Rattle.nbd_session.specs.internal.Expecting.{HasHeadLength, HasReplyLength, IsExpectedOf, IsNoReply, IsPlaced, IsRefusedHead, IsWholeHead};
 ghost use Rattle.nbd_state.specs.Shows.{Shows};
 
 use crate::expected::Expected;
-use crate::heads::reply_head_length;
 use crate::negotiation::{client_flags, exported, greeting};
 use crate::options::{abort_answer, answer, choice};
 use crate::replies::reply;
 use crate::requests::request;
+use byteorder::{BigEndian, ByteOrder};
 use nbd_state::{Phase, State};
-use nbd_wire::{Side, WireFault, head_lengths};
+use nbd_wire::{Side, WireFault, head_lengths, magics};
+
+/// The length of the number that a reply begins with, in bytes.
+const MAGIC_LENGTH: usize = 4;
 
 /// The next length at which something is decided of the bytes of a head, of which these have come. A side
 /// that may not send is `OutOfTurn`.
@@ -61,6 +64,22 @@ fn server_head_length(state: &State, head: &[u8]) -> Result<usize, WireFault>
         Phase::Answering(_) => Ok(head_lengths::ANSWER),
         Phase::Transmission(_) => reply_head_length(head),
         _ => Err(WireFault::OutOfTurn),
+    }
+}
+
+// The length of a reply's head, or of the number that it begins with while that has not come.
+fn reply_head_length(head: &[u8]) -> Result<usize, WireFault>
+    ensures known { IfOk result (HasReplyLength head.now) }
+    ensures fits { IfOk result (λ n. n ≤ 28) }
+    ensures refused { IfErr result (IsNoReply head.now) }
+{
+    if head.len() < MAGIC_LENGTH {
+        return Ok(MAGIC_LENGTH);
+    }
+    match BigEndian::read_u32(head) {
+        magics::SIMPLE_MAGIC => Ok(head_lengths::SIMPLE),
+        magics::CHUNK_MAGIC => Ok(head_lengths::CHUNK),
+        _ => Err(WireFault::BadMagic),
     }
 }
 

@@ -168,13 +168,11 @@ impl Held {
         ensures same { IsSame self.old self.new }
         ensures shut { IfErr result (λ fault. IsShut self.new fault) }
     {
+        let at = self.taken;
         match self.expect(side) {
             Ok(Some(expected)) => self.conclude(alloc, side, expected),
             Ok(None) => Ok(()),
-            Err(fault) => Err(SessionFault::Wire {
-                at: self.taken,
-                fault,
-            }),
+            Err(fault) => Err(SessionFault::Wire { at, fault }),
         }
     }
 
@@ -225,10 +223,8 @@ impl Held {
             return Ok(());
         }
         if let Some(fault) = last_fault(&self.state, &expected, payload) {
-            return Err(SessionFault::Wire {
-                at: self.taken,
-                fault,
-            });
+            let at = self.taken;
+            return Err(SessionFault::Wire { at, fault });
         }
         Ok(self.accept(alloc, side, expected)?)
     }

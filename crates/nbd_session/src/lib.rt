@@ -6,7 +6,6 @@ mod deciding;
 mod ending;
 mod expected;
 pub mod fault;
-mod heads;
 mod held;
 mod incoming;
 pub mod laws;

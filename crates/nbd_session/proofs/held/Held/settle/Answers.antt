@@ -18,4 +18,4 @@ returns-in-Ok-None-clause-stands c =
 
 pub returns-in-Err-clause-shut : goal.returns-in-Err-clause-shut
 returns-in-Err-clause-shut c =
-    subst (λ (h : Held). IsShut h (Wire h.taken c.in-Err.fault)) (sym c.in-Err.ensures.same) (head_shut c.args.self.now c.args.side c.requires c.in-Err.fault c.in-Err.ensures.refused)
+    subst (λ (h : Held). IsShut h (Wire c.args.self.now.taken c.in-Err.fault)) (sym c.in-Err.ensures.same) (head_shut c.args.self.now c.args.side c.requires c.in-Err.fault c.in-Err.ensures.refused)
