@@ -1,7 +1,7 @@
 //! What a side's bytes begin, as their head says.
 
 ghost use Rattle.std.specs.Prelude.{◌≡◌};
-ghost use Rattle.nbd_session.specs.internal.Expecting.{message_of, payload_length_of};
+ghost use Rattle.nbd_session.specs.internal.Expecting.{message_of, payload_length_of, place_answered};
 
 use nbd_wire::{
     AnswerHead, Bytes, ChoiceHead, ChunkHead, Message, RequestHead, SimpleHead, commands,
@@ -56,6 +56,16 @@ impl Expected {
             Expected::Request(_) => 0,
             Expected::Simple { length, .. } => *length as usize,
             Expected::Chunk { head, .. } => head.length as usize,
+        }
+    }
+
+    /// Of a reply the place of the request that it answers, and 0 of any other message.
+    pub(crate) fn place(&self) -> usize
+        ensures { result ≡ place_answered self.now }
+    {
+        match self {
+            Expected::Simple { place, .. } | Expected::Chunk { place, .. } => *place,
+            _ => 0,
         }
     }
 

@@ -238,8 +238,9 @@ impl Held {
         ensures shut { OnErr result (IsShut self.new Memory) }
     {
         self.messages.reserve(1)?;
+        let place = expected.place();
         let message = expected.message(self.take_payload(alloc, side));
-        let completed = self.state.complete(alloc, &message, self.counted);
+        let completed = self.state.complete(alloc, &message, place, self.counted);
         self.messages.push(message)?;
         completed
     }

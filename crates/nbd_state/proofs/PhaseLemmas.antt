@@ -1,5 +1,5 @@
 -- What a state shows once a message of the negotiation has completed.
-use Rattle.std.proofs.Common.{◌≡◌, ℕ, ◌-◌, ◌||◌, ◌==◌, List, refl, sym, ◌∙◌, ap, subst, Option, Some, None, Bool}
+use Rattle.std.proofs.Common.{◌≡◌, ℕ, ◌<◌, ◌||◌, ◌==◌, List, length, refl, sym, ◌∙◌, ap, subst, Option, Some, None, Bool}
 use Rattle.std.proofs.lemmas.Option.{slice_get_within}
 use Rattle.std.specs.BTreeMap.{get}
 use Rattle.std.specs.Ordering.{nat_cmp}
@@ -16,8 +16,8 @@ use Rattle.nbd_state.specs.declared.state.Phase as states
 use Rattle.nbd_state.specs.declared.state.Phase.TheVariants as shown
 use Rattle.nbd_state.specs.declared.state.State.{State}
 use Rattle.nbd_state.specs.Completions.{MayTake}
-use Rattle.nbd_state.specs.internal.Completing.{IsOutstanding, IsTransmitting}
-use Rattle.nbd_state.specs.Shows.{Shows, export_shown, export_shown_if, phase_shown, place_of}
+use Rattle.nbd_state.specs.internal.Completing.{IsTransmitting}
+use Rattle.nbd_state.specs.Shows.{Shows, export_shown, export_shown_if, phase_shown}
 use Rattle.nbd_state.proofs.PlacedLemmas.{place_shows_operation}
 use Rattle.nbd_state.proofs.CompletionLemmas.{negotiation_is_shown}
 
@@ -204,19 +204,18 @@ transmits state flags command cookie offset len payload t =
     let a = asked_in t.core t.core.phase flags command cookie offset len payload t.completes in
     (export_shown a.0, t.shows.phase_is ∙ ap phase_shown a.1)
 
--- the request that a reply answers is outstanding
-answered : (state : State) (core : Core) (export : Exporting) (cookie : ℕ) (m : Message) → Shows state core → core.phase ≡ Transmission export → AnswersOne core export cookie m → IsOutstanding state cookie
-answered state core export cookie m s p a =
-    let g : get nat_cmp state.outstanding cookie ≡ Some (a.0 - 1) = s.places cookie ∙ ap place_of a.2 in
-    let placed = place_shows_operation state core export cookie (a.0 - 1) s p g in
-    (a.0 - 1, g, slice_get_within state.exchanges.items (a.0 - 1) placed.x placed.stands)
+-- the request that a reply answers has its exchange
+answered : (state : State) (core : Core) (export : Exporting) (cookie place : ℕ) → Shows state core → core.phase ≡ Transmission export → get nat_cmp state.outstanding cookie ≡ Some place → place < length state.exchanges.items
+answered state core export cookie place s p g =
+    let placed = place_shows_operation state core export cookie place s p g in
+    slice_get_within state.exchanges.items place placed.x placed.stands
 
-pub answered_simple : (state : State) (error cookie : ℕ) (payload : List ℕ) → MayTake state (Simple error cookie payload) → IsOutstanding state cookie
-answered_simple state error cookie payload t =
+pub answered_simple : (state : State) (error cookie : ℕ) (payload : List ℕ) (place : ℕ) → MayTake state (Simple error cookie payload) → get nat_cmp state.outstanding cookie ≡ Some place → place < length state.exchanges.items
+answered_simple state error cookie payload place t g =
     let a = simple_in t.core t.core.phase error cookie payload t.completes in
-    answered state t.core a.0 cookie (Simple error cookie payload) t.shows a.1 a.2
+    answered state t.core a.0 cookie place t.shows a.1 g
 
-pub answered_chunk : (state : State) (flags kind cookie : ℕ) (payload : List ℕ) → MayTake state (Chunk flags kind cookie payload) → IsOutstanding state cookie
-answered_chunk state flags kind cookie payload t =
+pub answered_chunk : (state : State) (flags kind cookie : ℕ) (payload : List ℕ) (place : ℕ) → MayTake state (Chunk flags kind cookie payload) → get nat_cmp state.outstanding cookie ≡ Some place → place < length state.exchanges.items
+answered_chunk state flags kind cookie payload place t g =
     let a = chunk_in t.core t.core.phase flags kind cookie payload t.completes in
-    answered state t.core a.0 cookie (Chunk flags kind cookie payload) t.shows a.1 a.2
+    answered state t.core a.0 cookie place t.shows a.1 g

@@ -1,7 +1,9 @@
--- What messages lead to, one after the other, and which one may come next.
-use Rattle.std.specs.Prelude.{List, [], ◌∷◌}
+-- What messages lead to, one after the other, which one may come next, and which request a reply answers.
+use Rattle.std.specs.Prelude.{◌≡◌, ℕ, List, [], ◌∷◌, Some}
+use Rattle.std.specs.BTreeMap.{get}
+use Rattle.std.specs.Ordering.{nat_cmp}
 use Rattle.nbd_wire.specs.declared.message.Message.{Message}
-use Rattle.nbd_wire.specs.protocol.Rules.{MayComplete, complete}
+use Rattle.nbd_wire.specs.protocol.Rules.{MayComplete, complete, cookie_of}
 use Rattle.nbd_wire.specs.protocol.States.{Core}
 use Rattle.nbd_laws.specs.Reached.{IsReached}
 use Rattle.nbd_state.specs.declared.state.State.{State}
@@ -18,3 +20,7 @@ pub record MayTake (state : State) (message : Message) : Type 0 where
   pub reached : IsReached core
   pub shows : Shows state core
   pub completes : MayComplete core core.phase message
+
+-- where the message is a reply, the request that it answers has its exchange at this place
+abbrev pub Answers : State → Message → ℕ → Type 0
+Answers state message place = (cookie : ℕ) → cookie_of message ≡ Some cookie → get nat_cmp state.outstanding cookie ≡ Some place

@@ -13,8 +13,8 @@ ghost use Rattle.nbd_wire.specs.protocol.Sendable.{IsSendable};
 ghost use Rattle.nbd_wire.specs.protocol.States as definitions;
 ghost use Rattle.nbd_wire.specs.protocol.States.{Core, start, target};
 ghost use Rattle.nbd_state.specs.internal.Showing.{operation_of_head};
-ghost use Rattle.nbd_state.specs.internal.Completing.{AddsUnanswered, IsOutstanding, IsTransmitting, TellsOne};
-ghost use Rattle.nbd_state.specs.Completions.{MayTake, core_from};
+ghost use Rattle.nbd_state.specs.internal.Completing.{AddsUnanswered, IsTransmitting, TellsOne};
+ghost use Rattle.nbd_state.specs.Completions.{Answers, MayTake, core_from};
 ghost use Rattle.nbd_state.specs.Logs.{LogEntry, messages_of};
 ghost use Rattle.nbd_laws.specs.Reached.{IsReached};
 ghost use Rattle.nbd_state.specs.Shows.{AreKnown, Shows, export_shown_if, phase_shown};
@@ -28,8 +28,9 @@ use nbd_wire::{Message, RequestHead, answers, chunks, commands, options};
 use std::alloc::{AllocError, Global};
 
 impl State {
-    /// Takes a message that has completed (proto.md, "Newstyle negotiation", "Transmission"). Before the
-    /// first byte of a server's message `known` numbered requests had completed.
+    /// Takes a message that has completed (proto.md, "Newstyle negotiation", "Transmission"). A reply
+    /// answers the request at `place`, and before its first byte `known` numbered requests had completed;
+    /// of other messages the two do not matter.
     ///
     /// The condition is that the message may complete where the state stands; the state then shows what it
     /// leads to. After an `Err`, that memory ran out, nothing is known of the state.
@@ -37,9 +38,11 @@ impl State {
         &mut self,
         alloc: Global,
         message: &Message,
+        place: usize,
         known: u64,
     ) -> Result<(), AllocError>
-        requires { MayTake self.old message.now }
+        requires may { MayTake self.old message.now }
+        requires place { Answers self.old message.now place }
         ensures shown { OnOk result ((core : Core) → IsReached core → Shows self.old core →
             IsSendable message.now → MayComplete core core.phase message.now →
             Shows self.new (complete core message.now)) }
@@ -97,13 +100,13 @@ impl State {
                 error,
                 cookie,
                 payload,
-            } => self.simple(alloc, *error, *cookie, payload.as_slice(), known),
+            } => self.simple(alloc, *error, *cookie, place, payload.as_slice(), known),
             Message::Chunk {
                 flags,
                 kind,
                 cookie,
                 payload,
-            } => self.chunk(alloc, *flags, *kind, *cookie, payload.as_slice(), known),
+            } => self.chunk(alloc, *flags, *kind, *cookie, place, payload.as_slice(), known),
         }
     }
 
@@ -158,17 +161,19 @@ impl State {
         alloc: Global,
         error: u32,
         cookie: u64,
+        place: usize,
         payload: &[u8],
         known: u64,
     ) -> Result<(), AllocError>
-        requires { IsOutstanding self.old cookie }
+        requires place { get nat_cmp self.old.outstanding cookie ≡ Some place }
+        requires within { place < length self.old.exchanges.items }
         ensures shown { OnOk result ((core : Core) (export : Exporting) → IsReached core →
             Shows self.old core → core.phase ≡ definitions.Transmission export →
             Shows self.new (core_with_reply core (Simple error cookie payload.now))) }
         ensures tells { OnOk result (TellsOne (get nat_cmp self.old.outstanding cookie) known
             self.old.exchanges.items self.new.exchanges.items) }
     {
-        let place = self.answered_place(cookie, true);
+        self.end_if(true, cookie);
         self.exchanges[place].take_simple(alloc, error, payload, known)
     }
 
@@ -179,39 +184,31 @@ impl State {
         flags: u16,
         kind: u16,
         cookie: u64,
+        place: usize,
         payload: &[u8],
         known: u64,
     ) -> Result<(), AllocError>
-        requires { IsOutstanding self.old cookie }
+        requires place { get nat_cmp self.old.outstanding cookie ≡ Some place }
+        requires within { place < length self.old.exchanges.items }
         ensures shown { OnOk result ((core : Core) (export : Exporting) → IsReached core →
             Shows self.old core → core.phase ≡ definitions.Transmission export →
             Shows self.new (core_with_reply core (Chunk flags kind cookie payload.now))) }
         ensures tells { OnOk result (TellsOne (get nat_cmp self.old.outstanding cookie) known
             self.old.exchanges.items self.new.exchanges.items) }
     {
-        let place = self.answered_place(cookie, has(flags, chunks::DONE));
+        self.end_if(has(flags, chunks::DONE), cookie);
         self.exchanges[place].take_chunk(alloc, flags, kind, payload, known)
     }
 
-    // The place of the outstanding request with this cookie, which is no longer outstanding where the reply
-    // ends.
-    fn answered_place(&mut self, cookie: u64, ends: bool) -> usize
-        requires { IsOutstanding self.old cookie }
-        ensures place { get nat_cmp self.old.outstanding cookie ≡ Some result }
-        ensures within { result < length self.new.exchanges.items }
+    // The request with this cookie is no longer outstanding where its reply ends.
+    fn end_if(&mut self, ends: bool, cookie: u64)
         ensures left { (q : ℕ) →
             get nat_cmp self.new.outstanding q ≡ (if ends && (cookie == q) then None else get nat_cmp
             self.old.outstanding q) }
         ensures kept { self.new ≡ record self.old { outstanding = self.new.outstanding } }
     {
-        let place = if ends {
-            self.outstanding.remove(&cookie)
-        } else {
-            self.outstanding.get(&cookie).copied()
-        };
-        match place {
-            Some(place) => place,
-            None => unreachable!(),
+        if ends {
+            self.outstanding.remove(&cookie);
         }
     }
 }

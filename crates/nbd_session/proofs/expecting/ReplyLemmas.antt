@@ -1,5 +1,5 @@
 -- A reply whose head has come.
-use Rattle.std.proofs.Common.{◌≡◌, ℕ, zero, suc, ◌+◌, ◌<◌, [], ◌∷◌, add-one, ◌==◌, ◌&&◌, ◌||◌, ◌++◌, not, List, length, drop, arith, nat_le, inl, inr, Result, Ok, Err, IfOk, IfErr, refl, sym, ◌∙◌, ap, subst, Option, Some, None, Bool, true, false, is_some, if◌then◌else◌, slice_get}
+use Rattle.std.proofs.Common.{◌≡◌, ℕ, zero, suc, ◌<◌, [], ◌∷◌, ◌==◌, ◌&&◌, ◌||◌, ◌++◌, not, List, length, drop, arith, nat_le, inl, inr, Result, Ok, Err, IfOk, IfErr, refl, sym, ◌∙◌, ap, subst, Option, Some, None, Bool, true, false, is_some, if◌then◌else◌, slice_get}
 use Rattle.nbd_wire.specs.declared.commands.TheConstants as commands
 use Rattle.nbd_wire.specs.declared.fault.WireFault.{WireFault}
 use Rattle.nbd_wire.specs.declared.fault.WireFault.TheVariants.{SimpleForbidden, ChunkForbidden}
@@ -9,7 +9,8 @@ use Rattle.nbd_wire.specs.protocol.Payloads.{number_at}
 use Rattle.nbd_wire.specs.declared.heads.transmission.ChunkHead.{ChunkHead}
 use Rattle.nbd_wire.specs.declared.heads.transmission.SimpleHead.{SimpleHead}
 use Rattle.nbd_wire.specs.protocol.Operations.{Exporting, Operation}
-use Rattle.nbd_wire.specs.protocol.States.{Core, Transmission, operation}
+use Rattle.nbd_wire.specs.protocol.States.{Core, Transmission, operation, target}
+use Rattle.nbd_laws.proofs.requests.OutstandingLemmas.{find}
 use Rattle.nbd_places.specs.internal.Decisions.{Decision, fault_if, is_none_yet}
 use Rattle.nbd_places.specs.internal.JudgeTransmission.{begins, chunk_head_fault, chunk_last_fault, chunk_to, operation_counted, reply_by, reply_with, simple_fault, simple_last_fault, simple_payload_length, simple_to}
 use Rattle.nbd_places.proofs.judge.SteadyLemmas.{begun_true, no_chunk}
@@ -31,8 +32,9 @@ operation_within [] k e h = absurd (cc)
 operation_within (x ∷ es) zero e h = omega arith
 operation_within (x ∷ es) (suc k) e h = let l : k < length es = operation_within es k e h in omega (arith, l)
 
-placed_at : (core : Core) (place : ℕ) (e : Operation) → operation (place + 1) core.entries ≡ Some e → place < length core.entries
-placed_at core place e h = operation_within core.entries place e (ap (λ n. operation n core.entries) (sym (add-one place)) ∙ h)
+-- and so is that of an outstanding one
+pub placed_within : (es : List Operation) (cookie place : ℕ) → target cookie es ≡ Some (suc place) → place < length es
+placed_within es cookie place t = let f = find cookie es (suc place) t in operation_within es place f.found f.numbered
 
 -- whether a simple reply is forbidden, by the exchange
 abbrev pub forbidden : (structured : Bool) → Exchange → Bool
@@ -52,7 +54,7 @@ module _ (export : Exporting) (core : Core) (counted place : ℕ) (exchanges : L
         length_is = is ∙ (λ i. if (shown.command i == commands.READ) && (h.error == 0) then shown.length i else 0) ∙ sym (ap (λ to. simple_payload_length to h.error) found.2);
         last_is = λ payload. ap (λ to. simple_last_fault export to h.error) (found.3 ∙ sym found.2);
         message_is = λ payload. refl;
-        placed = placed_at core place e found.3;
+        placed = found.6;
       }
 
 module _ (export : Exporting) (core : Core) (counted place : ℕ) (exchanges : List Exchange) where
@@ -62,7 +64,7 @@ module _ (export : Exporting) (core : Core) (counted place : ℕ) (exchanges : L
     length_is = refl;
     last_is = λ payload. ap (λ to. chunk_fault_to export to h.flags h.kind h.cookie payload) (found.3 ∙ sym found.2);
     message_is = λ payload. refl;
-    placed = placed_at core place found.0 found.3;
+    placed = found.6;
   }
 
 module _ (export : Exporting) (core : Core) (counted : ℕ) (head : List ℕ) (h : SimpleHead) (begun : begins SIMPLE_MAGIC head ≡ true) (len : length head ≡ 16) (is : h ≡ record { error = number_at 4 4 head; cookie = number_at 8 8 head }) where

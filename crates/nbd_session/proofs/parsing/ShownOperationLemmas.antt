@@ -23,7 +23,7 @@ module _ (state : State) (core : Core) (export : Exporting) (cookie counted plac
       let low : suc place ≤ counted = omega arith in
       let named : operation_counted counted core cookie ≡ Some a.e =
       ap (λ t. operation_if (within counted t) core.entries) a.found ∙ ap (λ b. operation_if (if b then Some (suc place) else None) core.entries) (le-leb (suc place) counted low) ∙ a.numbered in
-      (a.e, a.x, named, ap (λ n. operation n core.entries) (add-one place) ∙ a.numbered, a.stands, a.shown)
+      (a.e, a.x, named, ap (λ n. operation n core.entries) (add-one place) ∙ a.numbered, a.stands, a.shown, a.found)
 
   pub none_beyond : counted ≤ place → IsPlaceOf export core counted cookie state.exchanges.items None
   none_beyond l =

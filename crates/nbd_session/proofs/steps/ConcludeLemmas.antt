@@ -1,12 +1,15 @@
 -- What is decided of a side's bytes once they were taken.
-use Rattle.std.proofs.Common.{◌≡◌, ℕ, ◌<◌, ◌≤◌, List, [], ◌∷◌, ◌++◌, length, refl, sym, ◌∙◌, ap, subst, Option, Some, None, Result, Ok, Err, IfErr, IsErrAnd, OnOk, OnErr, append-nil, arith}
+use Rattle.std.proofs.Common.{◌≡◌, ℕ, suc, ◌-◌, ◌<◌, ◌≤◌, List, [], ◌∷◌, ◌++◌, length, refl, sym, ◌∙◌, ap, subst, Option, Some, None, Result, Ok, Err, IfErr, IsErrAnd, OnOk, OnErr, append-nil, arith}
 use Rattle.std.proofs.lemmas.Option.{same_Some}
+use Rattle.std.specs.BTreeMap.{get}
+use Rattle.std.specs.Ordering.{nat_cmp}
 use Rattle.nbd_wire.specs.declared.fault.WireFault.{WireFault}
 use Rattle.nbd_wire.specs.declared.message.Side.{Side}
 use Rattle.nbd_wire.specs.declared.message.Side.TheVariants.{Client, Server}
-use Rattle.nbd_wire.specs.protocol.States.{Core}
+use Rattle.nbd_wire.specs.protocol.States.{Core, target}
 use Rattle.nbd_state.proofs.PlacedLemmas.{shown_length}
-use Rattle.nbd_state.specs.Shows.{AreKnown, Shows}
+use Rattle.nbd_state.specs.Completions.{Answers}
+use Rattle.nbd_state.specs.Shows.{AreKnown, Shows, place_of}
 use Rattle.nbd_state.specs.declared.state.State.{State}
 use Rattle.nbd_places.specs.internal.Concrete.{concrete, reading_by_decision}
 use Rattle.nbd_places.specs.internal.Decisions.{Decision}
@@ -17,12 +20,13 @@ use Rattle.nbd_session.specs.declared.expected.Expected.TheVariants as expectati
 use Rattle.nbd_session.specs.declared.fault.SessionFault.TheVariants.{Wire}
 use Rattle.nbd_session.specs.declared.held.Held.{Held}
 use Rattle.nbd_session.specs.Incoming.{IncomingView, bytes_come}
-use Rattle.nbd_session.specs.internal.Expecting.{HasHeadLength, IsExpectedOf, IsPlaced, IsRefusedHead, IsWholeHead, StandsIn, last_fault_by, message_of, payload_length_of}
+use Rattle.nbd_session.specs.internal.Expecting.{HasHeadLength, IsExpectedOf, IsPlaced, IsRefusedHead, IsWholeHead, StandsIn, last_fault_by, message_of, payload_length_of, place_answered}
 use Rattle.nbd_session.specs.internal.Holdings.{incoming_of, with_expected}
 use Rattle.nbd_session.specs.internal.Known.{IsCome, IsExpected, IsKnown, decided, is_come_by}
 use Rattle.nbd_session.specs.internal.Logging.{log_of_pairs}
 use Rattle.nbd_session.specs.internal.Standing.{Holding, count_at_server, held_pairs, rest_of, with_bytes}
 use Rattle.nbd_session.specs.internal.Steps.{IsExpecting, IsHeadRefused, IsShut, IsTaken, IsWhole, Knows, Stands, knows_by}
+use Rattle.nbd_session.proofs.expecting.ReplyLemmas.{placed_within}
 use Rattle.nbd_session.proofs.expecting.KnownLemmas.{expected_bad, expected_more, expected_whole, refused_head, short_more}
 use Rattle.nbd_session.proofs.steps.HoldingLemmas.{holding_expected, incoming_here, incoming_other, rest_is}
 use Rattle.nbd_session.proofs.steps.SettleLemmas.{IsRead, settled_more, shut_wire}
@@ -30,14 +34,30 @@ use Rattle.nbd_session.proofs.steps.StepLemmas.{decided_held}
 
 -- the request that a reply answers has its exchange
 pub stands_in : (state : State) (core : Core) → Shows state core → (x : Expected) → IsPlaced core x → StandsIn state.exchanges.items x
-stands_in state core s (expectations.Simple head place len) l = omega (arith, l, shown_length _ core.entries state.exchanges.items s.are_shown)
-stands_in state core s (expectations.Chunk head place) l = omega (arith, l, shown_length _ core.entries state.exchanges.items s.are_shown)
+stands_in state core s (expectations.Simple head place len) t = let l = placed_within core.entries head.cookie place t in omega (arith, l, shown_length _ core.entries state.exchanges.items s.are_shown)
+stands_in state core s (expectations.Chunk head place) t = let l = placed_within core.entries head.cookie place t in omega (arith, l, shown_length _ core.entries state.exchanges.items s.are_shown)
 stands_in state core s (expectations.Greeting flags) l = tt
 stands_in state core s (expectations.ClientFlags flags) l = tt
 stands_in state core s (expectations.Choice head) l = tt
 stands_in state core s (expectations.Answer head proper) l = tt
 stands_in state core s (expectations.Exported size flags padded) l = tt
 stands_in state core s (expectations.Request head) l = tt
+
+-- the place that a reply's head has decided is the one that the state has
+placed_in : (state : State) (core : Core) → Shows state core → (own cookie place : ℕ) → target own core.entries ≡ Some (suc place) → Some own ≡ Some cookie → get nat_cmp state.outstanding cookie ≡ Some place
+placed_in state core s own cookie place t c =
+    let same : own ≡ cookie = same_Some _ _ c in
+    s.places cookie ∙ ap (λ k. place_of (target k core.entries)) (sym same) ∙ ap place_of t ∙ ap Some (let e : suc place - 1 ≡ place = omega arith in e)
+
+pub answers_at : (state : State) (core : Core) → Shows state core → (x : Expected) (payload : List ℕ) → IsPlaced core x → Answers state (message_of x payload) (place_answered x)
+answers_at state core s (expectations.Simple head place len) payload t cookie c = placed_in state core s head.cookie cookie place t c
+answers_at state core s (expectations.Chunk head place) payload t cookie c = placed_in state core s head.cookie cookie place t c
+answers_at state core s (expectations.Greeting flags) payload t cookie c = absurd (cc)
+answers_at state core s (expectations.ClientFlags flags) payload t cookie c = absurd (cc)
+answers_at state core s (expectations.Choice head) payload t cookie c = absurd (cc)
+answers_at state core s (expectations.Answer head proper) payload t cookie c = absurd (cc)
+answers_at state core s (expectations.Exported size flags padded) payload t cookie c = absurd (cc)
+answers_at state core s (expectations.Request head) payload t cookie c = absurd (cc)
 
 module _ (held : Held) (s : Side) (x : Expected) (e : IsExpecting held s x) (payload : List ℕ) (is : payload ≡ (incoming_of held s).payload) where
   -- bytes are missing

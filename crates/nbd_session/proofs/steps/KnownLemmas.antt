@@ -15,7 +15,7 @@ use Rattle.nbd_places.specs.internal.Decisions.{Decision, awaited_length_by}
 use Rattle.nbd_places.specs.internal.Judge.{awaited_length, decision, request_unless}
 use Rattle.nbd_places.specs.internal.JudgeTransmission.{begins, chunk_head_fault, chunk_last_fault, chunk_of, cookie_fault, operation_if, operation_of, reply, reply_by, request, request_of, simple_fault, simple_last_fault, simple_of, simple_payload_length}
 use Rattle.nbd_places.proofs.judge.AwaitedLemmas.{decision_of}
-use Rattle.nbd_places.proofs.judge.PhaseLemmas.{IsAppended, Later-appended, Later-disconnected, Later-transmission, Later-turn}
+use Rattle.nbd_places.proofs.judge.PhaseLemmas.{IsAppended, Later-appended, Later-disconnected, Later-transmission, Later-turn, target-append}
 use Rattle.nbd_places.proofs.judge.SoundLemmas.{kept_later, turn_of_reading}
 use Rattle.nbd_places.proofs.judge.SteadyLemmas.{IsBegun, IsDeciding, as_chunk, as_neither, as_simple, bytes_are_begun, deciding, entry-append, is_chunk_reply, is_no_reply, is_simple_reply}
 use Rattle.nbd_laws.proofs.machine.MachineLemmas.{Held, Later, Later-trans, at_once, none_held, old-empty, old-filled, some_held}
@@ -27,6 +27,7 @@ use Rattle.nbd_session.specs.internal.Expecting.{IsPlaced, chunk_fault_to, expec
 use Rattle.nbd_session.specs.Incoming.{IncomingView, bytes_come, incoming_with, incoming_with_by, nothing_come}
 use Rattle.nbd_session.specs.internal.Known.{IsCome, IsExpected, IsKnown, IsShort, is_known_by}
 use Rattle.nbd_session.proofs.expecting.KnownLemmas.{expected_awaited}
+use Rattle.nbd_session.proofs.expecting.ReplyLemmas.{placed_within}
 
 -- where something is decided of a rest, it goes on as it began
 pub deciding_rest : {core : Core} {s : Side} {rest : Rest} → Held concrete core s rest → (bytes : List ℕ) (d : Decision) → decision core.phase (old_of core rest) core s bytes ≡ Some d →
@@ -80,8 +81,8 @@ operation_stays core next a place l =
     within (e ∷ es) (suc k) l = within es k (omega (arith, l))
 
 placed_stays : (core next : Core) → IsAppended core next → (x : Expected) → IsPlaced core x → IsPlaced next x
-placed_stays core next a (expectations.Simple head place len) l = omega (arith, l, ap length a.entries_are, length-append core.entries a.more)
-placed_stays core next a (expectations.Chunk head place) l = omega (arith, l, ap length a.entries_are, length-append core.entries a.more)
+placed_stays core next a (expectations.Simple head place len) t = ap (target head.cookie) a.entries_are ∙ target-append head.cookie core.entries a.more (suc place) t
+placed_stays core next a (expectations.Chunk head place) t = ap (target head.cookie) a.entries_are ∙ target-append head.cookie core.entries a.more (suc place) t
 placed_stays core next a (expectations.Greeting flags) l = tt
 placed_stays core next a (expectations.ClientFlags flags) l = tt
 placed_stays core next a (expectations.Choice head) l = tt
@@ -151,8 +152,8 @@ no_request false false export core o bytes flags command cookie offset len paylo
 last_stays : (core next : Core) (export : Exporting) → IsAppended core next → (x : Expected) (payload : List ℕ) → IsPlaced core x →
     ((head : RequestHead) → x ≡ expectations.Request head → ⊥) →
     last_fault_by (Transmission export) core x payload ≡ last_fault_by (Transmission export) next x payload
-last_stays core next export a (expectations.Simple head place len) payload l other = ap (λ o. simple_last_fault export o head.error) (sym (operation_stays core next a place l))
-last_stays core next export a (expectations.Chunk head place) payload l other = ap (λ o. chunk_fault_to export o head.flags head.kind head.cookie payload) (sym (operation_stays core next a place l))
+last_stays core next export a (expectations.Simple head place len) payload l other = ap (λ o. simple_last_fault export o head.error) (sym (operation_stays core next a place (placed_within core.entries head.cookie place l)))
+last_stays core next export a (expectations.Chunk head place) payload l other = ap (λ o. chunk_fault_to export o head.flags head.kind head.cookie payload) (sym (operation_stays core next a place (placed_within core.entries head.cookie place l)))
 last_stays core next export a (expectations.Request head) payload l other = absurd (other head refl)
 last_stays core next export a (expectations.Greeting flags) payload l other = refl
 last_stays core next export a (expectations.ClientFlags flags) payload l other = refl

@@ -1,6 +1,6 @@
 -- What is expected of a message whose head has come: which message it is with the bytes after its head, how many those are, and what
 -- its last byte shows to be wrong.
-use Rattle.std.specs.Prelude.{◌≡◌, ◌⊎◌, ◌<◌, ◌≤◌, ◌+◌, ◌==◌, ◌++◌, ℕ, List, Bool, true, false, Option, Some, None, length, if◌then◌else◌, slice_get}
+use Rattle.std.specs.Prelude.{◌≡◌, ◌⊎◌, ◌<◌, ◌≤◌, ◌+◌, ◌==◌, ◌++◌, ℕ, suc, List, Bool, true, false, Option, Some, None, length, if◌then◌else◌, slice_get}
 use Rattle.nbd_wire.specs.declared.chunks.TheConstants as chunks
 use Rattle.nbd_wire.specs.declared.fault.WireFault.{WireFault}
 use Rattle.nbd_wire.specs.declared.fault.WireFault.TheVariants.{BadMagic}
@@ -72,10 +72,10 @@ last_fault_by (Transmission export) core (Chunk head place) payload =
     chunk_fault_to export (operation (place + 1) core.entries) head.flags head.kind head.cookie payload
 last_fault_by phase core expected payload = None
 
--- the request that a reply answers has completed
+-- the request that a reply answers has this place
 abbrev pub IsPlaced : Core → Expected → Type 0
-IsPlaced core (Simple head place len) = place < length core.entries
-IsPlaced core (Chunk head place) = place < length core.entries
+IsPlaced core (Simple head place len) = target head.cookie core.entries ≡ Some (suc place)
+IsPlaced core (Chunk head place) = target head.cookie core.entries ≡ Some (suc place)
 IsPlaced core expected = Unit {0}
 
 -- the request that a reply answers has its exchange
@@ -83,6 +83,12 @@ abbrev pub StandsIn : List Exchange → Expected → Type 0
 StandsIn exchanges (Simple head place len) = place < length exchanges
 StandsIn exchanges (Chunk head place) = place < length exchanges
 StandsIn exchanges expected = Unit {0}
+
+-- the place of the request that a reply answers
+abbrev pub place_answered : Expected → ℕ
+place_answered (Simple head place len) = place
+place_answered (Chunk head place) = place
+place_answered expected = 0
 
 -- what is decided of its head and the bytes after it
 abbrev pub expected_decision : Core → Expected → (head_length : ℕ) → List ℕ → Decision
@@ -104,6 +110,7 @@ abbrev pub IsPlaceOf : Exporting → Core → (counted cookie : ℕ) → List Ex
 IsPlaceOf export core counted cookie exchanges None = operation_counted counted core cookie ≡ None
 IsPlaceOf export core counted cookie exchanges (Some place) = (e : Operation) × (x : Exchange) × (operation_counted counted core cookie ≡ Some e)
     × (operation (place + 1) core.entries ≡ Some e) × (slice_get exchanges place ≡ Some x) × IsShown export e x
+    × (target cookie core.entries ≡ Some (suc place))
 
 -- what is decided of a simple reply with these fields, to the request that it names
 pub record IsSimpleOf (export : Exporting) (core : Core) (to : Option Operation) (error cookie : ℕ) (expected : Expected) : Type 0 where

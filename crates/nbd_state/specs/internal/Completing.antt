@@ -1,20 +1,13 @@
 -- What a completed message does to the exchanges.
-use Rattle.std.specs.Prelude.{◌≡◌, ◌<◌, ◌≤◌, ◌⊎◌, ℕ, List, Option, Some, None, is_some, if◌then◌else◌, length, slice_get}
-use Rattle.std.specs.BTreeMap.{get}
-use Rattle.std.specs.Ordering.{nat_cmp}
+use Rattle.std.specs.Prelude.{◌≡◌, ◌≤◌, ◌⊎◌, ℕ, List, Option, Some, None, is_some, if◌then◌else◌, length, slice_get}
 use Rattle.nbd_state.specs.declared.asked.Exchange.{Exchange}
 use Rattle.nbd_state.specs.declared.state.Export.{Export}
 use Rattle.nbd_state.specs.declared.state.Phase.{Phase}
 use Rattle.nbd_state.specs.declared.state.Phase.TheVariants.{Transmission}
-use Rattle.nbd_state.specs.declared.state.State.{State}
 
 -- in transmission
 abbrev pub IsTransmitting : Phase → Type 0
 IsTransmitting phase = (export : Export) × (phase ≡ Transmission export)
-
--- an exchange is outstanding with this cookie
-abbrev pub IsOutstanding : State → ℕ → Type 0
-IsOutstanding state cookie = (place : ℕ) × (get nat_cmp state.outstanding cookie ≡ Some place) × (place < length state.exchanges.items)
 
 -- each exchange was there, or stands after those and has no reply
 abbrev pub AddsUnanswered : List Exchange → List Exchange → Type 0

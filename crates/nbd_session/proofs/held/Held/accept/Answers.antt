@@ -1,5 +1,6 @@
 use Rattle.std.proofs.Common.{◌≡◌, ◌∙◌, ◌++◌, ◌∷◌, [], ap, sym, refl, subst}
 use Rattle.nbd_wire.specs.declared.message.Side.{Side}
+use Rattle.nbd_state.specs.Completions.{Answers}
 use Rattle.nbd_state.specs.Shows.{AreKnown, Shows}
 use Rattle.nbd_state.specs.declared.state.State.{State}
 use Rattle.nbd_places.specs.internal.Concrete.{concrete}
@@ -11,7 +12,7 @@ use Rattle.nbd_session.specs.internal.Holdings.{incoming_of}
 use Rattle.nbd_session.specs.internal.Logging.{log_of_pairs}
 use Rattle.nbd_session.specs.internal.Standing.{held_pairs}
 use Rattle.nbd_session.specs.internal.Steps.{Stands}
-use Rattle.nbd_session.proofs.steps.ConcludeLemmas.{on_err, on_ok_both, whole_read}
+use Rattle.nbd_session.proofs.steps.ConcludeLemmas.{answers_at, on_err, on_ok_both, whole_read}
 use Rattle.nbd_session.proofs.steps.EmptiedLemmas.{emptied_here, kept_other, mid_counted, mid_messages, mid_state, mid_stretches, mid_taken, new_holding, same_room, sides_same}
 use Rattle.nbd_session.proofs.steps.AcceptLemmas.{accepted_shut, accepted_stands, may_take, same_but_message}
 use Rattle.nbd_session.proofs.steps.SettleLemmas.{IsRead, shut_memory}
@@ -35,7 +36,14 @@ complete-completed-requires c =
     let payload = c.take_payload.ensures.payload ∙ ap (λ (v : IncomingView). v.payload) (sides s) in
     let is_m : m ≡ message_of c.args.expected (incoming_of held s).payload = c.message-message.ensures ∙ ap (message_of c.args.expected) payload in
     let whole : IsRead held s t (Whole m) = subst (λ n. IsRead held s t (Whole n)) (sym is_m) (whole_read held s c.args.expected c.requires) in
-    may_take held s t m whole mid.state (mid_state held roomy mid mid s is sides refl refl)
+    let state = mid_state held roomy mid mid s is sides refl refl in
+    record {
+      may = may_take held s t m whole mid.state state;
+      place = subst (λ (z : State). Answers z m c.place-place.result) (sym state)
+          (subst (λ n. Answers held.state n c.place-place.result) (sym is_m)
+          (subst (Answers held.state (message_of c.args.expected (incoming_of held s).payload)) (sym c.place-place.ensures)
+          (answers_at held.state t.machine.core t.shows c.args.expected (incoming_of held s).payload c.requires.expecting.is.placed)));
+    }
 
 pub returns-clause-stands : goal.returns-clause-stands
 returns-clause-stands c =

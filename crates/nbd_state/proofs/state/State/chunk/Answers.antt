@@ -1,4 +1,4 @@
-use Rattle.std.proofs.Common.{◌∙◌, ◌&&◌, ◌==◌, if◌then◌else◌, ap, refl, None, slice_set}
+use Rattle.std.proofs.Common.{◌<◌, ◌∙◌, ◌&&◌, ◌==◌, if◌then◌else◌, ap, length, refl, sym, subst, None, slice_set}
 use Rattle.std.specs.BTreeMap.{get}
 use Rattle.std.specs.Ordering.{nat_cmp}
 use Rattle.nbd_wire.specs.declared.message.Message.TheVariants.{Chunk}
@@ -12,27 +12,27 @@ pub returns-clause-shown : goal.returns-clause-shown
 unfolding ends_reply
 returns-clause-shown c = on_one c.take_chunk.result (λ _ shown core export r s p.
     let state = c.args.self.now in
-    let mid = c.answered_place-place.new.self in
-    let place = c.answered_place-place.result in
+    let mid = c.end_if.new.self in
+    let place = c.args.place in
     let x = c.index_mut.result.now in
     replied_shows state mid _ core export c.args.cookie place (Chunk c.args.flags c.args.kind c.args.cookie c.args.payload.now) x c.take_chunk.new.self r s p refl
-    c.answered_place-place.ensures.place
-    (indexed state mid place x c.answered_place-place.ensures.kept c.answered_place-place.ensures.within c.index_mut.ensures.value)
+    c.requires.place
+    (indexed state mid place x c.end_if.ensures.kept (subst (λ (z : State). place < length z.exchanges.items) (sym c.end_if.ensures.kept) c.requires.within) c.index_mut.ensures.value)
     (λ e x u. shown export e c.args.cookie x u)
-    c.answered_place-place.ensures.kept
-    (λ q. c.answered_place-place.ensures.left q ∙ ap (λ b. if b && (c.args.cookie == q) then None else get nat_cmp c.args.self.now.outstanding q) c.has.ensures) refl
-    (ap (λ (z : State). slice_set z.exchanges.items place c.take_chunk.new.self) c.answered_place-place.ensures.kept))
+    c.end_if.ensures.kept
+    (λ q. c.end_if.ensures.left q ∙ ap (λ b. if b && (c.args.cookie == q) then None else get nat_cmp c.args.self.now.outstanding q) c.has.ensures) refl
+    (ap (λ (z : State). slice_set z.exchanges.items place c.take_chunk.new.self) c.end_if.ensures.kept))
     c.take_chunk.ensures.shown
 
 pub returns-clause-tells : goal.returns-clause-tells
 returns-clause-tells c = on_one c.take_chunk.result (λ _ first.
     let state = c.args.self.now in
-    let mid = c.answered_place-place.new.self in
-    let place = c.answered_place-place.result in
+    let mid = c.end_if.new.self in
+    let place = c.args.place in
     let x = c.index_mut.result.now in
     tells_at (get nat_cmp state.outstanding c.args.cookie) c.args.known place state.exchanges.items (slice_set mid.exchanges.items place c.take_chunk.new.self) x c.take_chunk.new.self
-    c.answered_place-place.ensures.place
-    (indexed state mid place x c.answered_place-place.ensures.kept c.answered_place-place.ensures.within c.index_mut.ensures.value)
+    c.requires.place
+    (indexed state mid place x c.end_if.ensures.kept (subst (λ (z : State). place < length z.exchanges.items) (sym c.end_if.ensures.kept) c.requires.within) c.index_mut.ensures.value)
     first
-    (ap (λ (z : State). slice_set z.exchanges.items place c.take_chunk.new.self) c.answered_place-place.ensures.kept))
+    (ap (λ (z : State). slice_set z.exchanges.items place c.take_chunk.new.self) c.end_if.ensures.kept))
     c.take_chunk.ensures.first

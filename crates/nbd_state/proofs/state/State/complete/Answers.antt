@@ -60,13 +60,17 @@ returns-in-Exported-clause-known c = λ core log r s ok e h.
     known_kept core log c.args.message.now c.args.known e c.args.self.now.exchanges.items (ap cookie_of c.in-Exported.is) h
 
 pub request-requires : goal.request-requires
-request-requires c = transmits c.args.self.now c.in-Request.flags c.in-Request.command c.in-Request.cookie c.in-Request.offset c.in-Request.length c.in-Request.payload (subst (MayTake c.args.self.now) c.in-Request.is c.requires)
+request-requires c = transmits c.args.self.now c.in-Request.flags c.in-Request.command c.in-Request.cookie c.in-Request.offset c.in-Request.length c.in-Request.payload (subst (MayTake c.args.self.now) c.in-Request.is c.requires.may)
 
 pub simple-requires : goal.simple-requires
-simple-requires c = answered_simple c.args.self.now c.in-Simple.error c.in-Simple.cookie c.in-Simple.payload (subst (MayTake c.args.self.now) c.in-Simple.is c.requires)
+simple-requires c =
+    let place = c.requires.place c.in-Simple.cookie (ap cookie_of c.in-Simple.is) in
+    record { place = place; within = answered_simple c.args.self.now c.in-Simple.error c.in-Simple.cookie c.in-Simple.payload c.args.place (subst (MayTake c.args.self.now) c.in-Simple.is c.requires.may) place }
 
 pub chunk-requires : goal.chunk-requires
-chunk-requires c = answered_chunk c.args.self.now c.in-Chunk.flags c.in-Chunk.kind c.in-Chunk.cookie c.in-Chunk.payload (subst (MayTake c.args.self.now) c.in-Chunk.is c.requires)
+chunk-requires c =
+    let place = c.requires.place c.in-Chunk.cookie (ap cookie_of c.in-Chunk.is) in
+    record { place = place; within = answered_chunk c.args.self.now c.in-Chunk.flags c.in-Chunk.kind c.in-Chunk.cookie c.in-Chunk.payload c.args.place (subst (MayTake c.args.self.now) c.in-Chunk.is c.requires.may) place }
 
 pub returns-in-Request-clause-shown : goal.returns-in-Request-clause-shown
 unfolding complete
