@@ -1,19 +1,28 @@
 #!/usr/bin/env python3
-"""Runs the built program: its commands, sessions cut off and damaged, all that can fail, and inputs at size.
+"""Runs the built program: its commands, sessions cut off and damaged, all that can fail, and inputs at size; and the
+conversions of recordings.
 
-The last line is `N passed, M failed`. With names as words, runs these parts alone: commands, cuts, refusals, sizes.
+The last line is `N passed, M failed`. With names as words, runs these parts alone: commands, conversions, cuts, refusals,
+sizes.
 """
 
 import sys
 import time
 
 import test_commands
+import test_conversions
 import test_cuts
 import test_refusals
 import test_sizes
 from built import Tally, build
 
-PARTS = {"commands": test_commands, "cuts": test_cuts, "refusals": test_refusals, "sizes": test_sizes}
+PARTS = {
+    "commands": test_commands,
+    "conversions": test_conversions,
+    "cuts": test_cuts,
+    "refusals": test_refusals,
+    "sizes": test_sizes,
+}
 
 
 def main():
