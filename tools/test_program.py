@@ -1,9 +1,9 @@
 #!/usr/bin/env python3
-"""Runs the built program: its commands, sessions cut off and damaged, all that can fail, and inputs at size; and the
-conversions of recordings.
+"""Runs the built program: its commands, sessions cut off and damaged, all that can fail, and inputs at size; the
+conversions of recordings, and the installation.
 
-The last line is `N passed, M failed`. With names as words, runs these parts alone: commands, conversions, cuts, refusals,
-sizes.
+The last line is `N passed, M failed`. With names as words, runs these parts alone: commands, conversions, cuts, install,
+refusals, sizes.
 """
 
 import sys
@@ -12,6 +12,7 @@ import time
 import test_commands
 import test_conversions
 import test_cuts
+import test_install
 import test_refusals
 import test_sizes
 from built import Tally, build
@@ -20,6 +21,7 @@ PARTS = {
     "commands": test_commands,
     "conversions": test_conversions,
     "cuts": test_cuts,
+    "install": test_install,
     "refusals": test_refusals,
     "sizes": test_sizes,
 }
