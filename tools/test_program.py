@@ -1,19 +1,32 @@
 #!/usr/bin/env python3
-"""Runs the built program: its commands, sessions cut off and damaged, all that can fail, and inputs at size.
+"""Runs the built program: its commands, sessions cut off and damaged, all that can fail, and inputs at size; and the
+scripts round it: the build, the installation, the conversions of recordings.
 
-The last line is `N passed, M failed`. With names as words, runs these parts alone: commands, cuts, refusals, sizes.
+The last line is `N passed, M failed`. With names as words, runs these parts alone: build, commands, conversions, cuts,
+install, refusals, sizes.
 """
 
 import sys
 import time
 
+import test_build
 import test_commands
+import test_conversions
 import test_cuts
+import test_install
 import test_refusals
 import test_sizes
 from built import Tally, build
 
-PARTS = {"commands": test_commands, "cuts": test_cuts, "refusals": test_refusals, "sizes": test_sizes}
+PARTS = {
+    "build": test_build,
+    "commands": test_commands,
+    "conversions": test_conversions,
+    "cuts": test_cuts,
+    "install": test_install,
+    "refusals": test_refusals,
+    "sizes": test_sizes,
+}
 
 
 def main():

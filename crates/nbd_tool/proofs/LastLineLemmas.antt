@@ -19,7 +19,7 @@ use Rattle.nbd_lines.specs.declared.output.OutputFault.{OutputFault}
 use Rattle.nbd_lines.specs.declared.output.OutputFault.TheVariants as output
 use Rattle.nbd_tool.specs.Faults.{of_output}
 use Rattle.nbd_tool.specs.Runs.{IsCapture, flat_of}
-use Rattle.nbd_tool.specs.internal.Ends.{IsOver, IsOverText, IsWireAt, LeavesLast, is_accepted, last_line}
+use Rattle.nbd_tool.specs.Ends.{IsOver, IsOverText, IsWireAt, LeavesLast, is_accepted, last_line}
 use Rattle.nbd_tool.specs.Shown.{IsOutput, IsShowCause, Leads, LeavesShown, WritesAll, WritesSome, WritesMessages}
 use Rattle.nbd_tool.specs.Shown.IsOutput.{accepted, refused}
 use Rattle.nbd_tool.proofs.OverLemmas.{took_all}

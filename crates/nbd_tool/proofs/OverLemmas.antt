@@ -24,7 +24,7 @@ use Rattle.nbd_judge.specs.internal.Captures.{HasReport}
 use Rattle.nbd_judge.proofs.verdicts.ChunkLemmas.{checked, told_of}
 use Rattle.nbd_tool.specs.Faults.{of_capture}
 use Rattle.nbd_tool.specs.Runs.{IsCaptureCause, flat_of}
-use Rattle.nbd_tool.specs.internal.Ends.{IsOver, IsWireAt}
+use Rattle.nbd_tool.specs.Ends.{IsOver, IsWireAt}
 
 -- one more chunk
 flat-snoc : (chunks : List Chunk) (c : Chunk) → flat_of (chunks ++ c ∷ []) ≡ flat_of chunks ++ side_pairs c.side c.bytes

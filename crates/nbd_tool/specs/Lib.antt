@@ -1,4 +1,5 @@
 pub mod CommandLine
+pub mod Ends
 pub mod Faults
 pub mod Opening
 pub mod Runs
@@ -7,4 +8,3 @@ pub mod Shown
 pub mod Starts
 pub mod Uniqueness
 pub mod Verdicts
-pub mod internal

@@ -29,6 +29,13 @@ IsCaptureCause capture CaptureRead = Unit {0}
 IsCaptureCause capture Memory = Unit {0}
 IsCaptureCause capture _ = ⊥
 
+-- what a fault that came of reading the order says of its known bytes
+abbrev pub IsOrderCause : Option (List ℕ) → RunFault → Type 0
+IsOrderCause order (OrderLine n) = IfSome order (λ text. IsFirstBadOrderLine text n)
+IsOrderCause order OrderRead = Unit {0}
+IsOrderCause order Memory = Unit {0}
+IsOrderCause order _ = ⊥
+
 -- the chunks' bytes with their senders
 abbrev pub flat_of : List Chunk → List Pair
 flat_of chunks = flat (map (λ (c : Chunk). (c.side, c.bytes)) chunks)

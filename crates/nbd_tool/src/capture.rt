@@ -3,7 +3,7 @@
 ghost use Rattle.std.specs.Prelude.{IfErr, IfOk, OnOk};
 ghost use Rattle.nbd_tool.specs.Runs.{IsCaptureCause};
 ghost use Rattle.nbd_tool.specs.Starts.{IsWithinLimit};
-ghost use Rattle.nbd_tool.specs.internal.Ends.{IsOverText};
+ghost use Rattle.nbd_tool.specs.Ends.{IsOverText};
 
 use crate::fault::RunFault;
 use crate::input::READ_LIMIT;
@@ -17,7 +17,7 @@ use std::io::BufRead;
 ///
 /// The text is read to its end, also after a refused byte, so that a fault of the text or of its reader
 /// comes before any verdict; out of memory is answered at once.
-pub(crate) fn session_over<C: BufRead + Drop>(
+pub fn session_over<C: BufRead + Drop>(
     alloc: Global,
     capture: C,
 ) -> Result<Session, RunFault>

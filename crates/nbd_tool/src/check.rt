@@ -1,8 +1,7 @@
 //! The command `check`, over any readers and writer.
 ghost use Rattle.std.specs.Prelude.{◌≡◌, OnOk, IfErr, IfOk, IfSome};
 ghost use Rattle.nbd_capture.specs.Order.{IsOrderText};
-ghost use Rattle.nbd_tool.specs.Runs.{IsCapture, IsOrder, IsCause, LeavesWritten, SaysYes, Tells};
-ghost use Rattle.nbd_tool.specs.internal.Runs.{IsOrderCause};
+ghost use Rattle.nbd_tool.specs.Runs.{IsCapture, IsOrder, IsCause, IsOrderCause, LeavesWritten, SaysYes, Tells};
 ghost use Rattle.nbd_tool.specs.Starts.{IsStartWithinLimit, IsWithinLimit, initial_from};
 
 use crate::capture::session_over;
@@ -49,8 +48,8 @@ pub fn run_check<C: BufRead + Drop, O: Read + Drop, I: Read + Drop, W: Write>(
     Ok(is_yes(&verdict))
 }
 
-/// The numbers of an order text.
-fn read_order<O: Read>(alloc: Global, order: &mut O) -> Result<Vec<u64>, RunFault>
+/// Reads an order text whole, and answers its numbers.
+pub fn read_order<O: Read>(alloc: Global, order: &mut O) -> Result<Vec<u64>, RunFault>
     ensures text { IfOk result (λ numbers. IfSome (O.remaining order.old)
         (λ text. IsOrderText text numbers.items)) }
     ensures limited { OnOk result (IsWithinLimit (O.remaining order.old)) }

@@ -1,8 +1,8 @@
 //! What the commands `check`, `show` and `make` do, over any readers and writer.
 #![tactic(auto)]
 
-mod capture;
-mod check;
+pub mod capture;
+pub mod check;
 pub mod command_line;
 pub mod fault;
 mod final_writer;
@@ -10,18 +10,20 @@ mod input;
 pub mod laws;
 mod make;
 pub mod opening;
-mod show;
-mod start;
+pub mod show;
+pub mod start;
 #[cfg(test)]
 mod tests;
-mod verdict;
+pub mod verdict;
 
-pub use check::run_check;
+pub use capture::session_over;
+pub use check::{read_order, run_check};
 pub use command_line::{StartWord, exit_status, start_of};
 pub use fault::RunFault;
 pub use final_writer::FinalWriter;
 pub use input::READ_LIMIT;
 pub use make::run_make;
 pub use opening::{Inputs, Opener, open_inputs};
-pub use show::run_show;
-pub use start::StartFrom;
+pub use show::{run_show, write_end};
+pub use start::{StartFrom, read_start};
+pub use verdict::{Line, is_yes};

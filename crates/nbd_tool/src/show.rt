@@ -4,7 +4,7 @@ ghost use Rattle.std.specs.Io.KnownBytes.{Appends};
 ghost use Rattle.nbd_session.specs.declared.fault.SessionFault.TheVariants.{Wire};
 ghost use Rattle.nbd_session.specs.Sessions.{fault_of};
 ghost use Rattle.nbd_tool.specs.Runs.{IsCapture};
-ghost use Rattle.nbd_tool.specs.internal.Ends.{LeavesLast, is_accepted, last_line};
+ghost use Rattle.nbd_tool.specs.Ends.{LeavesLast, is_accepted, last_line};
 ghost use Rattle.nbd_tool.specs.Starts.{IsWithinLimit};
 ghost use Rattle.nbd_tool.specs.Shown.{IsShowCause, LeavesShown, WritesAll};
 
@@ -45,7 +45,7 @@ pub fn run_show<C: BufRead + Drop, W: Write>(
 /// accepted.
 ///
 /// After `Write` a prefix of the line stands written, after `Memory` nothing of it.
-fn write_end<W: Write>(
+pub fn write_end<W: Write>(
     alloc: Global,
     finished: Result<Transcript, SessionFault>,
     out: &mut W,

@@ -23,7 +23,7 @@ pub enum StartFrom<I> {
 }
 
 /// Reads an image whole, if there is one.
-pub(crate) fn read_start<I: Read + Drop>(
+pub fn read_start<I: Read + Drop>(
     alloc: Global,
     start: StartFrom<I>,
 ) -> Result<Start, RunFault>

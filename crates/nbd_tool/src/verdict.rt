@@ -7,7 +7,7 @@ use nbd_session::WireFault;
 use std::fmt;
 
 /// Whether a verdict is yes.
-pub(crate) fn is_yes(verdict: &Verdict) -> bool
+pub fn is_yes(verdict: &Verdict) -> bool
     ensures { IsTrue result ↔ IsYes verdict.now }
 {
     matches!(verdict, Verdict::Yes { .. })
@@ -15,7 +15,7 @@ pub(crate) fn is_yes(verdict: &Verdict) -> bool
 
 /// A verdict as its line has it, without the line feed.
 #[derive(Clone, Copy, Drop)]
-pub(crate) struct Line {
+pub struct Line {
     pub verdict: Verdict,
 }
 

@@ -5,7 +5,7 @@ use Rattle.nbd_capture.specs.Reading.{Reads, at_start}
 use Rattle.nbd_capture.specs.declared.reader.State.TheVariants.{Open}
 use Rattle.nbd_tool.specs.declared.input.TheConstants.{READ_LIMIT}
 use Rattle.nbd_tool.specs.Runs.{flat_of}
-use Rattle.nbd_tool.specs.internal.Ends.{IsOver}
+use Rattle.nbd_tool.specs.Ends.{IsOver}
 use Rattle.nbd_tool.proofs.capture.session_over.Given as goal
 
 abbrev pub invariant-loop-bytes : goal.invariant-loop-bytes

@@ -1,0 +1,29 @@
+# Completions of nbdcheck for bash.
+
+_nbdcheck() {
+    # The commands, each with its options; every other word is the name of a file.
+    local -A options=(
+        [check]="--start --help"
+        [show]="--help"
+        [make]="--help"
+        [help]=""
+    )
+    local starts="unknown zero image:"
+    local word=${COMP_WORDS[COMP_CWORD]} before=${COMP_WORDS[COMP_CWORD - 1]} name=${COMP_WORDS[1]:-}
+
+    if [ "$COMP_CWORD" = 1 ]; then
+        mapfile -t COMPREPLY < <(compgen -W "${!options[*]} --help --version" -- "$word")
+    elif [ "$name" = help ]; then
+        mapfile -t COMPREPLY < <(compgen -W "${!options[*]}" -- "$word")
+    elif [ "$before" = --start ]; then
+        mapfile -t COMPREPLY < <(compgen -W "$starts" -- "$word")
+        [[ ${COMPREPLY[0]:-} = image: ]] && compopt -o nospace 2>/dev/null
+    elif [[ $word = -* ]]; then
+        mapfile -t COMPREPLY < <(compgen -W "${options[$name]:-}" -- "$word")
+    else
+        # A colon ends a word: the path behind `image:` is a word of its own.
+        mapfile -t COMPREPLY < <(compgen -f -- "${word#:}")
+    fi
+}
+
+complete -o filenames -F _nbdcheck nbdcheck
