@@ -106,7 +106,15 @@ impl State {
                 kind,
                 cookie,
                 payload,
-            } => self.chunk(alloc, *flags, *kind, *cookie, place, payload.as_slice(), known),
+            } => self.chunk(
+                alloc,
+                *flags,
+                *kind,
+                *cookie,
+                place,
+                payload.as_slice(),
+                known,
+            ),
         }
     }
 

@@ -17,10 +17,7 @@ use std::io::BufRead;
 ///
 /// The text is read to its end, also after a refused byte, so that a fault of the text or of its reader
 /// comes before any verdict; out of memory is answered at once.
-pub fn session_over<C: BufRead + Drop>(
-    alloc: Global,
-    capture: C,
-) -> Result<Session, RunFault>
+pub fn session_over<C: BufRead + Drop>(alloc: Global, capture: C) -> Result<Session, RunFault>
     ensures over { IfOk result (IsOverText (C.remaining capture)) }
     ensures limited { OnOk result (IsWithinLimit (C.remaining capture)) }
     ensures cause { IfErr result (IsCaptureCause (C.remaining capture)) }

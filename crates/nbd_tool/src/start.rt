@@ -23,10 +23,7 @@ pub enum StartFrom<I> {
 }
 
 /// Reads an image whole, if there is one.
-pub fn read_start<I: Read + Drop>(
-    alloc: Global,
-    start: StartFrom<I>,
-) -> Result<Start, RunFault>
+pub fn read_start<I: Read + Drop>(alloc: Global, start: StartFrom<I>) -> Result<Start, RunFault>
     ensures read { IfOk result (λ read. IfSome (initial_from I.remaining start)
         (λ initial. initial_of read ≡ initial)) }
     ensures limited { OnOk result (IsStartWithinLimit I.remaining start) }
