@@ -100,7 +100,8 @@ fn begins_comment(bytes: &[u8]) -> bool
 fn decode_into(digits: &[u8], bytes: &mut Vec<u8>) -> Result<(), FromHexError>
     ensures ok { OnOk result (decode_of digits.now ≡ Ok bytes.new.items) }
     ensures err { IfErr result (λ e. (e ≡ OutOfMemory) ⊎ (decode_of digits.now ≡ Err e)) }
-    ensures full { IfErr result (λ e. (vec_capacity bytes.old < length digits.now / 2) ⊎ (decode_of digits.now ≡ Err e)) }
+    ensures full { IfErr result (λ e. (vec_capacity bytes.old < length digits.now / 2)
+        ⊎ (decode_of digits.now ≡ Err e)) }
 {
     if bytes.resize(digits.len() / 2, 0).is_err() {
         return Err(FromHexError::OutOfMemory);

@@ -47,7 +47,8 @@ impl Held {
         ensures none { result.state.exchanges.items ≡ [] }
         ensures client { result.client ≡ nothing_come }
         ensures server { result.server ≡ nothing_come }
-        ensures empty { (result.messages.items ≡ []) × (result.stretches.items ≡ []) × (result.counted ≡ 0) × (result.taken ≡ 0) }
+        ensures empty { (result.messages.items ≡ []) × (result.stretches.items ≡ []) × (result.counted ≡ 0)
+            × (result.taken ≡ 0) }
     {
         Held {
             state: State::new(alloc),

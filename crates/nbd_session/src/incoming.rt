@@ -136,8 +136,8 @@ fn append(
 ) -> Result<(), AllocError>
     requires { stretch_total side (stretches_of stretches.old.items) + length piece.now < 2 ^ 64 }
     ensures bytes { OnOk result (bytes.new.items ≡ bytes.old.items ++ piece.now) }
-    ensures stretches { OnOk result (stretches_of stretches.new.items ≡ stretches_with (stretches_of stretches.old.items) side
-        (length piece.now)) }
+    ensures stretches { OnOk result (stretches_of stretches.new.items ≡ stretches_with
+        (stretches_of stretches.old.items) side (length piece.now)) }
     ensures unchanged { OnErr result ((bytes.new.items ≡ bytes.old.items)
         × (stretches_of stretches.new.items ≡ stretches_of stretches.old.items)) }
     ensures full { OnErr result ((vec_capacity bytes.old < vec_len bytes.old + length piece.now)

@@ -41,7 +41,8 @@ impl PieceIndex {
 
     /// Whether the span lies before or after each of the pieces. The cost is the logarithm of their number.
     pub fn is_apart(&self, span: Span) -> bool
-        ensures { MatchBool result (IsFree (size_from self.now.sizes) span.offset span.size) (Meets (size_from self.now.sizes) span.offset span.size) }
+        ensures { MatchBool result (IsFree (size_from self.now.sizes) span.offset span.size)
+            (Meets (size_from self.now.sizes) span.offset span.size) }
     {
         self.end_before(span.offset) && self.begin_after(span)
     }
@@ -62,7 +63,8 @@ impl PieceIndex {
     fn begin_after(&self, span: Span) -> bool
         ensures { MatchBool result
             ((k n : ℕ) → size_from self.now.sizes k ≡ Some n → span.offset ≤ k → span.offset + span.size ≤ k)
-            ((k : ℕ) × (n : ℕ) × (size_from self.now.sizes k ≡ Some n) × (span.offset ≤ k) × (k < span.offset + span.size)) }
+            ((k : ℕ) × (n : ℕ) × (size_from self.now.sizes k ≡ Some n) × (span.offset ≤ k)
+            × (k < span.offset + span.size)) }
     {
         match self.sizes.range(span.offset..).next() {
             Some((first, _)) => ends_by(span.offset, span.size, *first),
