@@ -28,7 +28,7 @@ FAULTS = ("BadMagic|NotFixedNewstyle|BadClientFlags|OutOfTurn|WrongOption|BadRep
           "MissingExportInfo|BadExport|ExportTooLarge|CookieInUse|UnknownCookie|SimpleForbidden|ChunkForbidden|BadChunk|"
           "BadContent|IncompleteRead|SuccessOfImproper|BadDisconnect|Unfinished")
 WIRE = rf"no at byte \d+: ({FAULTS})"
-NO = rf"({WIRE}|no image \d+ size \d+|no order entry \d+: (NoSuchRequest|Twice|Late|Missing)|no content request \d+ offset \d+)"
+NO = rf"({WIRE}|no image \d+ size \d+|no order entry \d+: (NoSuchRequest|Twice|Late|Missing|BadPart|NotCovered)|no content request \d+ offset \d+)"
 MESSAGE = (r"([CS] (greeting|client-flags|option|answer|export|request|simple|chunk)"
            r"( (flags|id|payload|option|kind|size|padded|command|cookie|offset|length|error)=[0-9a-f]*)+\n)")
 FORMS = {

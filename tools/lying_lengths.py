@@ -4,8 +4,8 @@ million entries on a small capture.
 
 Prints, of each, the bytes that came (the capture's text, its bytes, the order's text), the peak memory of `check` and what it
 answered. The peak is to stay within 16 MiB and four times the bytes that came, of the session's bytes and of the order's text; an
-order of single digits takes five times, since a number has 8 bytes in memory where its line has two. Memory below some 10 MiB is
-not seen: the Python that starts the program takes it.
+order of single digits takes 17 times, since an entry has 32 bytes in memory where its line has two, and one of seven digits six
+times. Memory below some 10 MiB is not seen: the Python that starts the program takes it.
 """
 
 import subprocess
@@ -65,7 +65,7 @@ def run(tally):
             words = [sys.executable, "-I", "-S", "-c", MEASURE, PROGRAM, "check", *paths, "--start", "zero"]
             found = subprocess.run(words, capture_output=True, text=True, check=True)
             status, peak = map(int, found.stderr.split()[-2:])
-            times = 5 if "digits" in name else 4
+            times = 17 if "digits" in name else 6 if "numbers" in name else 4
             most = (16 * MIB + times * (size + len(order))) // 1024
             print(f"{name:36}{len(capture):12}{size:12}{len(order):12}{peak:10}{most:10}  {found.stdout.strip()}")
             tally.want(name, (status, found.stdout), (1, line + "\n"))

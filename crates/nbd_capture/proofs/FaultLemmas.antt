@@ -1,6 +1,7 @@
 -- The faults of one line, as faults of the whole text.
 use Rattle.std.proofs.Common.{◌≡◌, ℕ, ◌+◌, List, ◌∷◌, ◌++◌, sym, subst, refl, Result, Ok, Err, IfErr}
 use Rattle.std.specs.Prelude.{IsErr, MatchResult}
+use Rattle.nbd_wire.specs.declared.entry.Entry.{Entry}
 use Rattle.nbd_capture.specs.declared.capture.CaptureFault.{CaptureFault}
 use Rattle.nbd_capture.specs.declared.capture.CaptureFault.TheVariants.{Line, Memory, Read}
 use Rattle.nbd_capture.specs.declared.order.OrderTextFault.{OrderTextFault}
@@ -29,8 +30,8 @@ only_memory_of_capture text (Err (Line n)) P failed h chunks read = absurd (no_r
 only_memory_of_capture text (Err Read) P failed h chunks read = absurd h
 only_memory_of_capture text (Err Memory) P failed h chunks read = refl
 
-pub only_memory_of_order : {T : Type 0} (text : List ℕ) (r : Result T OrderTextFault) (P : List ℕ → T → Type 0) → IsErr r → IfErr r (IsOrderTextFault text)
-    → (numbers : List ℕ) → IsOrderText text numbers → MatchResult r (P numbers) (λ e. e ≡ order_faults.Memory)
-only_memory_of_order text (Ok v) P failed h numbers read = cc failed
-only_memory_of_order text (Err (order_faults.Line n)) P failed h numbers read = absurd (no_reading IsOrderLine text n numbers h read)
-only_memory_of_order text (Err order_faults.Memory) P failed h numbers read = refl
+pub only_memory_of_order : {T : Type 0} (text : List ℕ) (r : Result T OrderTextFault) (P : List Entry → T → Type 0) → IsErr r → IfErr r (IsOrderTextFault text)
+    → (entries : List Entry) → IsOrderText text entries → MatchResult r (P entries) (λ e. e ≡ order_faults.Memory)
+only_memory_of_order text (Ok v) P failed h entries read = cc failed
+only_memory_of_order text (Err (order_faults.Line n)) P failed h entries read = absurd (no_reading IsOrderLine text n entries h read)
+only_memory_of_order text (Err order_faults.Memory) P failed h entries read = refl

@@ -3,6 +3,7 @@ pub mod FaultLemmas
 pub mod FormLemmas
 pub mod KeptLemmas
 pub mod NumeralLemmas
+pub mod OrderLineLemmas
 pub mod PieceLemmas
 pub mod ProgressLemmas
 pub mod ReadToEndLemmas

@@ -1,5 +1,5 @@
--- Order lines, next to what `std` says of `parse`.
-use Rattle.std.proofs.Common.{◌≡◌, ◌≢◌, ℕ, ◌^◌, ◌<◌, List, [], ◌∷◌, length, get_or, Some, Result, Ok, Err, inl, inr, refl, sym, ap, ◌∙◌, subst, arith, MatchOption}
+-- The numbers of order lines, next to what `std` says of `parse`.
+use Rattle.std.proofs.Common.{◌≡◌, ◌≢◌, ℕ, ◌^◌, ◌<◌, List, length, get_or, Some, Result, Ok, Err, inl, inr, ap, ◌∙◌, arith, MatchOption}
 use Rattle.std.specs.Prelude.{MatchResult, false, is_ok}
 use Rattle.std.specs.Borrow.{Bor}
 use Rattle.std.specs.Result.{OkIff, result_ok}
@@ -9,48 +9,33 @@ use Rattle.std.proofs.lemmas.Bool.{cases_lt}
 use Rattle.std.proofs.lemmas.List.{get_or_past}
 use Rattle.std.proofs.lemmas.Str.{IsUtf8-from_ascii}
 use Rattle.std.proofs.lemmas.Str.Parse.{digit_at, without_leading_plus_none}
-use Rattle.nbd_capture.specs.Order.{BeginsPlainly, IsOrderLine}
-use Rattle.nbd_capture.specs.Order.IsOrderLine.{number}
+use Rattle.nbd_capture.specs.Order.{BeginsPlainly, IsNumber}
 
--- an order line, taken apart
-pub record Counts (line said : List ℕ) : Type 0 where
-  pub numeral : IsNumeral 10 line
-  pub plain : BeginsPlainly line
-  pub fits : digits_value 10 line < 2 ^ 64
-  pub all : said ≡ digits_value 10 line ∷ []
-
-pub counts : (line said : List ℕ) → IsOrderLine line said → Counts line said
-counts line said (number digits n p f) = record { numeral = n; plain = p; fits = f; all = refl }
-
--- an order line stands for one number
-pub one_number : (line a b : List ℕ) → IsOrderLine line a → IsOrderLine line b → a ≡ b
-one_number line a b fa fb = (counts line a fa).all ∙ sym (counts line b fb).all
-
-ascii : (line : List ℕ) → IsNumeral 10 line → IsAscii line
-ascii line n i =
-    elim (cases_lt i (length line)) [
-      | inl inside ↦ let d = digit_at line i n.1 inside in omega (arith, d)
-      | inr past ↦ let e = get_or_past line i 0 past in omega (arith, e)
+ascii : (digits : List ℕ) → IsNumeral 10 digits → IsAscii digits
+ascii digits n i =
+    elim (cases_lt i (length digits)) [
+      | inl inside ↦ let d = digit_at digits i n.1 inside in omega (arith, d)
+      | inr past ↦ let e = get_or_past digits i 0 past in omega (arith, e)
     ]
 
--- what is no text is no order line
-pub no_text : (line : List ℕ) → (IsUtf8 line → ⊥) → (said : List ℕ) → IsOrderLine line said → ⊥
-no_text line none said f = none (IsUtf8-from_ascii line (ascii line (counts line said f).numeral))
+-- what is no text is no number
+pub no_text : (digits : List ℕ) → (IsUtf8 digits → ⊥) → (n : ℕ) → IsNumber digits n → ⊥
+no_text digits none n f = none (IsUtf8-from_ascii digits (ascii digits f.0))
 
--- what `parse` answers for a line that begins with a digit
-parsed_plain : {E : Type 0} (line : List ℕ) (r : Result ℕ E) → BeginsPlainly line
-    → OkIff r (IsNumeral 10 line × (digits_value 10 line < 2 ^ 64)) (digits_value 10 line)
-    → MatchOption (result_ok r) ((said : List ℕ) → IsOrderLine line said → ⊥) (λ n. IsOrderLine line (n ∷ []))
-parsed_plain line (Ok n) plain h = subst (λ m. IsOrderLine line (m ∷ [])) (sym h.1) (number line h.0.0 plain h.0.1)
-parsed_plain line (Err e) plain h = λ said f. let parts = counts line said f in h (parts.numeral, parts.fits)
+-- what `parse` answers for bytes that begin with a digit
+parsed_plain : {E : Type 0} (digits : List ℕ) (r : Result ℕ E) → BeginsPlainly digits
+    → OkIff r (IsNumeral 10 digits × (digits_value 10 digits < 2 ^ 64)) (digits_value 10 digits)
+    → MatchOption (result_ok r) ((n : ℕ) → IsNumber digits n → ⊥) (IsNumber digits)
+parsed_plain digits (Ok n) plain h = (h.0.0, plain, h.0.1, h.1)
+parsed_plain digits (Err e) plain h = λ n f. h (f.0, f.2)
 
-pub parsed : {E : Type 0} (line : List ℕ) (r : Result ℕ E) → BeginsPlainly line → ParsesUnsigned 64 10 line r
-    → MatchOption (result_ok r) ((said : List ℕ) → IsOrderLine line said → ⊥) (λ n. IsOrderLine line (n ∷ []))
-parsed line r plain h =
+pub parsed : {E : Type 0} (digits : List ℕ) (r : Result ℕ E) → BeginsPlainly digits → ParsesUnsigned 64 10 digits r
+    → MatchOption (result_ok r) ((n : ℕ) → IsNumber digits n → ⊥) (IsNumber digits)
+parsed digits r plain h =
     let digit = plain.0 in
-    let no_plus : get_or line 0 0 ≢ 43 = omega (arith, digit) in
-    let same = without_leading_plus_none line no_plus in
-    parsed_plain line r plain (rw same at h)
+    let no_plus : get_or digits 0 0 ≢ 43 = omega (arith, digit) in
+    let same = without_leading_plus_none digits no_plus in
+    parsed_plain digits r plain (rw same at h)
 
 -- what `from_utf8` says of the line, by its answer
 pub not_utf8 : {E : Type 0} (Q : E → Type 0) (line : List ℕ) (r : Result (Bor (List ℕ)) E) → false ≡ is_ok r

@@ -1,5 +1,5 @@
 -- Each line has a form of its grammar, or none.
-use Rattle.std.proofs.Common.{◌≡◌, ◌≢◌, ℕ, ◌^◌, ◌<◌, ◌≤◌, List, [], ◌∷◌, length, slice_index, ◌⊎◌, inl, inr, refl, sym, subst, arith, Result, Ok, Err}
+use Rattle.std.proofs.Common.{◌≡◌, ◌≢◌, ℕ, ◌^◌, ◌<◌, ◌≤◌, List, [], ◌∷◌, length, slice_index, ◌⊎◌, inl, inr, refl, sym, subst, arith, Result, Ok, Err, Some}
 use Rattle.std.specs.Char.{digit_value}
 use Rattle.std.specs.Str.Parse.{AllDigits, IsNumeral, digits_value}
 use Rattle.std.proofs.lemmas.Bool.{cases_eq, cases_lt}
@@ -9,11 +9,13 @@ use Rattle.nbd_wire.specs.declared.message.Side.TheVariants.{Client, Server}
 use Rattle.nbd_capture.proofs.TotalTextLemmas.{Decided}
 use Rattle.nbd_capture.specs.Capture.{Chunk, IsCaptureLine, hash, letter, space}
 use Rattle.nbd_capture.specs.Capture.IsCaptureLine.{chunk, blank, comment}
-use Rattle.nbd_capture.specs.Order.{BeginsPlainly, IsOrderLine}
-use Rattle.nbd_capture.specs.Order.IsOrderLine.{number}
+use Rattle.nbd_wire.specs.declared.entry.Part.{Part}
+use Rattle.nbd_wire.specs.protocol.Entries.{whole}
+use Rattle.nbd_capture.specs.Order.{BeginsPlainly, IsNumber, IsOrderLine, IsPart}
+use Rattle.nbd_capture.specs.Order.IsOrderLine.{at_once, of_part}
 use Rattle.nbd_capture.proofs.DigitLemmas.{spelled}
 use Rattle.nbd_capture.proofs.FormLemmas.{forms, undecodable}
-use Rattle.nbd_capture.proofs.NumeralLemmas.{counts}
+use Rattle.nbd_capture.proofs.OrderLineLemmas.{no_number, no_numbers, no_part, no_parted, split}
 
 abbrev Either : Type 0 → Type 0
 Either P = P ⊎ (P → ⊥)
@@ -114,12 +116,39 @@ at_most m n =
       | inr le ↦ inl le
     ]
 
-pub decide_order : (bytes : List ℕ) → Decided IsOrderLine bytes
-decide_order bytes =
-    let numeral : Either (IsNumeral 10 bytes) = both (less 0 (length bytes)) (all_digits bytes) in
-    let first = slice_index bytes 0 in
-    let plain : Either (BeginsPlainly bytes) = both (both (at_most 48 first) (at_most first 57)) (single first (length bytes)) in
-    elim (both (both numeral plain) (less (digits_value 10 bytes) (2 ^ 64))) [
-      | inl all ↦ inl (digits_value 10 bytes ∷ [], number bytes all.0.0 all.0.1 all.1)
-      | inr none ↦ inr (λ said f. let parts = counts bytes said f in none ((parts.numeral, parts.plain), parts.fits))
+decide_number : (digits : List ℕ) → ((n : ℕ) × IsNumber digits n) ⊎ ((n : ℕ) → IsNumber digits n → ⊥)
+decide_number digits =
+    let numeral : Either (IsNumeral 10 digits) = both (less 0 (length digits)) (all_digits digits) in
+    let first = slice_index digits 0 in
+    let plain : Either (BeginsPlainly digits) = both (both (at_most 48 first) (at_most first 57)) (single first (length digits)) in
+    elim (both (both numeral plain) (less (digits_value 10 digits) (2 ^ 64))) [
+      | inl all ↦ inl (digits_value 10 digits, (all.0.0, all.0.1, all.1, refl))
+      | inr none ↦ inr (λ n f. none ((f.0, f.1), f.2))
     ]
+
+decide_part : (text : List ℕ) → ((p : Part) × IsPart text p) ⊎ ((p : Part) → IsPart text p → ⊥)
+decide_part text = elim (split text) [
+  | inl word ↦ inr (no_part text word)
+  | inr s ↦ elim (decide_number s.0) [
+    | inl m ↦ elim (decide_number s.1) [
+      | inl n ↦ inl (record { offset = m.0; length = n.0 }, (s.0, s.1, s.3, m.1, n.1))
+      | inr none ↦ inr (no_numbers text s.0 s.1 s.2 s.3 (λ i j a b. none j b))
+    ]
+    | inr none ↦ inr (no_numbers text s.0 s.1 s.2 s.3 (λ i j a b. none i a))
+  ]
+]
+
+pub decide_order : (bytes : List ℕ) → Decided IsOrderLine bytes
+decide_order bytes = elim (split bytes) [
+  | inl word ↦ elim (decide_number bytes) [
+    | inl n ↦ inl (whole n.0 ∷ [], at_once bytes n.0 n.1)
+    | inr none ↦ inr (no_number bytes word none)
+  ]
+  | inr s ↦ elim (decide_number s.0) [
+    | inl n ↦ elim (decide_part s.1) [
+      | inl p ↦ inl (record { request = n.0; part = Some p.0 } ∷ [], subst (λ l. IsOrderLine l (record { request = n.0; part = Some p.0 } ∷ [])) (sym s.3) (of_part s.0 s.1 n.0 p.0 n.1 p.1))
+      | inr none ↦ inr (no_parted bytes s.0 s.1 s.2 s.3 (λ k p a b. none p b))
+    ]
+    | inr none ↦ inr (no_parted bytes s.0 s.1 s.2 s.3 (λ k p a b. none k a))
+  ]
+]

@@ -1,10 +1,10 @@
 -- What is written in the forms of the two grammars is read again.
-use Rattle.std.proofs.Common.{◌≡◌, ℕ, suc, ◌+◌, ◌/◌, ◌%◌, ◌^◌, ◌<◌, ◌≤◌, List, [], ◌∷◌, ◌++◌, length, slice_index, sym, ap, ◌∙◌, subst, arith, append_assoc}
+use Rattle.std.proofs.Common.{◌≡◌, ℕ, suc, ◌+◌, ◌/◌, ◌%◌, ◌^◌, ◌<◌, ◌≤◌, List, [], ◌∷◌, ◌++◌, length, slice_index, refl, sym, ap, ◌∙◌, subst, arith, append_assoc, append-nil, Option, Some, None}
 use Rattle.std.specs.Prelude.{flat_map}
 use Rattle.std.specs.List.{AllByRecursion}
 use Rattle.std.specs.Char.{IsAsciiDigit}
 use Rattle.std.specs.Fmt.{decimal}
-use Rattle.std.specs.Str.Parse.{AllDigits, digits_value}
+use Rattle.std.specs.Str.Parse.{AllDigits}
 use Rattle.std.proofs.lemmas.Fmt.{decimal_by_steps, decimal_digit, decimal_is_IsNumeral}
 use Rattle.std.proofs.lemmas.List.{get_or_append_left, length-append}
 use Rattle.std.proofs.lemmas.Str.Parse.{digit_from_value}
@@ -16,8 +16,10 @@ use Rattle.nbd_capture.specs.Lines.{line_feed, IsUnbroken}
 use Rattle.nbd_capture.specs.Lines.IsText.{empty, line}
 use Rattle.nbd_capture.specs.Capture.{Chunk, IsCaptureText, chunk_line, letter, space}
 use Rattle.nbd_capture.specs.Capture.IsCaptureLine.{chunk}
-use Rattle.nbd_capture.specs.Order.{BeginsPlainly, IsOrderText}
-use Rattle.nbd_capture.specs.Order.IsOrderLine.{number}
+use Rattle.nbd_wire.specs.declared.entry.Entry.{Entry}
+use Rattle.nbd_wire.specs.declared.entry.Part.{Part}
+use Rattle.nbd_capture.specs.Order.{BeginsPlainly, EntryFits, IsNumber, IsOrderLine, IsOrderText, PartFits, entry_text, part_text}
+use Rattle.nbd_capture.specs.Order.IsOrderLine.{at_once, of_part}
 use Rattle.nbd_capture.proofs.DigitLemmas.{lower_below, spelled}
 
 -- no digit is a line feed
@@ -66,11 +68,34 @@ unbroken_numeral : (ds : List ℕ) → AllDigits 10 ds → IsUnbroken ds
 unbroken_numeral [] all = tt
 unbroken_numeral (d ∷ ds) all = let digit = digit_from_value d all.0 in (omega (arith, digit), unbroken_numeral ds all.1)
 
-pub printed_numbers : (numbers : List ℕ) → AllByRecursion (λ n. n < 2 ^ 64) numbers → IsOrderText (flat_map (λ n. decimal n ++ line_feed ∷ []) numbers) numbers
-printed_numbers [] fits = empty
-printed_numbers (n ∷ ns) fits =
-    let numeral = decimal_is_IsNumeral n fits.0 in
-    let form = number (decimal n) numeral.0 (begins n fits.0) (rw numeral.1 fits.0) in
-    let all = line (decimal n) (digits_value 10 (decimal n) ∷ []) _ ns (unbroken_numeral (decimal n) numeral.0.1) form (printed_numbers ns fits.1) in
-    let joined = append_assoc (decimal n) (line_feed ∷ []) (flat_map (λ (m : ℕ). decimal m ++ line_feed ∷ []) ns) in
-    subst (λ t. IsOrderText t (n ∷ ns)) (sym joined) (subst (λ m. IsOrderText (decimal n ++ line_feed ∷ flat_map (λ (m' : ℕ). decimal m' ++ line_feed ∷ []) ns) (m ∷ ns)) numeral.1 all)
+-- a printed number is read as the number
+printed_number : (n : ℕ) → n < 2 ^ 64 → IsNumber (decimal n) n
+printed_number n fits =
+    let numeral = decimal_is_IsNumeral n fits in
+    (numeral.0, begins n fits, rw numeral.1 fits, sym numeral.1)
+
+-- one byte more, no line feed
+unbroken_append : (xs ys : List ℕ) → IsUnbroken xs → IsUnbroken ys → IsUnbroken (xs ++ ys)
+unbroken_append [] ys u v = v
+unbroken_append (x ∷ xs) ys u v = (u.0, unbroken_append xs ys u.1 v)
+
+unbroken_number : (n : ℕ) → n < 2 ^ 64 → IsUnbroken (decimal n)
+unbroken_number n fits = unbroken_numeral (decimal n) (printed_number n fits).0.1
+
+unbroken_part : (p : Option Part) → PartFits p → IsUnbroken (part_text p)
+unbroken_part None fits = tt
+unbroken_part (Some p) fits = (omega arith, unbroken_append (decimal p.offset) (space ∷ decimal p.length) (unbroken_number p.offset fits.0) (omega arith, unbroken_number p.length fits.1))
+
+printed_line : (k : ℕ) (p : Option Part) → k < 2 ^ 64 → PartFits p → IsOrderLine (decimal k ++ part_text p) (record { request = k; part = p } ∷ [])
+printed_line k None l fits = subst (λ t. IsOrderLine t (record { request = k; part = None } ∷ [])) (sym (append-nil (decimal k))) (at_once (decimal k) k (printed_number k l))
+printed_line k (Some p) l fits =
+    of_part (decimal k) (decimal p.offset ++ space ∷ decimal p.length) k p (printed_number k l)
+    (decimal p.offset, decimal p.length, refl, printed_number p.offset fits.0, printed_number p.length fits.1)
+
+pub printed_entries : (entries : List Entry) → AllByRecursion EntryFits entries → IsOrderText (flat_map (λ e. entry_text e ++ line_feed ∷ []) entries) entries
+printed_entries [] fits = empty
+printed_entries (e ∷ es) fits =
+    let all = line (entry_text e) (e ∷ []) _ es (unbroken_append (decimal e.request) (part_text e.part) (unbroken_number e.request fits.0.0) (unbroken_part e.part fits.0.1))
+        (printed_line e.request e.part fits.0.0 fits.0.1) (printed_entries es fits.1) in
+    let joined = append_assoc (entry_text e) (line_feed ∷ []) (flat_map (λ (d : Entry). entry_text d ++ line_feed ∷ []) es) in
+    subst (λ t. IsOrderText t (e ∷ es)) (sym joined) all

@@ -1,13 +1,13 @@
 //! What holds of the grammars of both texts, as contracts of functions that do nothing.
 
-ghost use Rattle.std.specs.Prelude.{IfSome, length, ◌≤◌, ◌≡◌, ◌⊎◌, ◌∷◌, ◌++◌, [], ◌<◌, ◌^◌, ℕ, List, flat_map};
+ghost use Rattle.std.specs.Prelude.{IfSome, length, ◌≤◌, ◌≡◌, ◌⊎◌, ◌∷◌, ◌++◌, [], ℕ, List, flat_map};
 ghost use Rattle.std.specs.List.{AllByRecursion};
-ghost use Rattle.std.specs.Fmt.{decimal};
 ghost use Rattle.hex.specs.Hex.{IsBytes};
+ghost use Rattle.nbd_wire.specs.declared.entry.Entry.{Entry};
 ghost use Rattle.nbd_capture.specs.Lines.{line_feed};
 ghost use Rattle.nbd_capture.specs.Capture.{Chunk, chunk_line, IsCaptureText, IsFirstBadCaptureLine};
 ghost use Rattle.nbd_capture.specs.Reading.{Reading, Reads, ReadsToEnd, Refuses};
-ghost use Rattle.nbd_capture.specs.Order.{IsOrderText, IsFirstBadOrderLine};
+ghost use Rattle.nbd_capture.specs.Order.{EntryFits, IsOrderText, IsFirstBadOrderLine, entry_text};
 
 /// A text has one reading as a capture at most.
 pub fn one_capture_reading()
@@ -51,12 +51,13 @@ pub fn refused_line_is_the_first_bad_one()
 
 /// A text has one reading as an order at most.
 pub fn one_order_reading()
-    ensures { (text a b : List ℕ) → IsOrderText text a → IsOrderText text b → a ≡ b }
+    ensures { (text : List ℕ) (a b : List Entry) → IsOrderText text a → IsOrderText text b → a ≡ b }
 {}
 
 /// A text with a bad order line has no reading as an order.
 pub fn no_order_with_a_bad_line()
-    ensures { (text : List ℕ) (n : ℕ) (numbers : List ℕ) → IsFirstBadOrderLine text n → IsOrderText text numbers → ⊥ }
+    ensures { (text : List ℕ) (n : ℕ) (entries : List Entry) → IsFirstBadOrderLine text n →
+        IsOrderText text entries → ⊥ }
 {}
 
 /// A text has one first bad order line at most.
@@ -70,10 +71,10 @@ pub fn written_chunks_are_read()
         → IsCaptureText (flat_map (λ c. chunk_line c.side c.bytes) chunks) chunks }
 {}
 
-/// Numbers as `{}` prints them, one a line, are read as these numbers.
-pub fn printed_numbers_are_read()
-    ensures { (numbers : List ℕ) → AllByRecursion (λ n. n < 2 ^ 64) numbers
-        → IsOrderText (flat_map (λ n. decimal n ++ line_feed ∷ []) numbers) numbers }
+/// Entries as `{}` prints their numbers, one entry a line and one space between two numbers, are read as these entries.
+pub fn printed_entries_are_read()
+    ensures { (entries : List Entry) → AllByRecursion EntryFits entries
+        → IsOrderText (flat_map (λ e. entry_text e ++ line_feed ∷ []) entries) entries }
 {}
 
 /// Each text has a reading as a capture, or a first bad capture line.
@@ -84,6 +85,6 @@ pub fn capture_or_bad_line()
 
 /// Each text has a reading as an order, or a first bad order line.
 pub fn order_or_bad_line()
-    ensures { (text : List ℕ) → ((numbers : List ℕ) × IsOrderText text numbers)
+    ensures { (text : List ℕ) → ((entries : List Entry) × IsOrderText text entries)
         ⊎ ((n : ℕ) × IsFirstBadOrderLine text n) }
 {}

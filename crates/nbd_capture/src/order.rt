@@ -1,16 +1,22 @@
-//! Order texts: one number on each line.
+//! Order texts: an entry on each line.
 
-ghost use Rattle.std.specs.Prelude.{◌≡◌, ◌↔◌, ◌∷◌, [], ℕ, List, IfOk, IfErr, IsTrue, MatchOption, MatchResult};
-ghost use Rattle.nbd_capture.specs.Order.{BeginsPlainly, IsOrderLine, IsOrderText};
+ghost use Rattle.std.specs.Prelude.{◌≡◌, ◌↔◌, ◌∷◌, ◌++◌, [], ℕ, List, IfOk, IfErr, IsTrue, MatchOption, MatchResult};
+ghost use Rattle.nbd_wire.specs.declared.entry.Entry.{Entry};
+ghost use Rattle.nbd_wire.specs.declared.entry.Part.{Part};
+ghost use Rattle.nbd_capture.specs.Capture.{space};
+ghost use Rattle.nbd_capture.specs.Order.{BeginsPlainly, IsNumber, IsOrderLine, IsOrderText, IsPart};
+ghost use Rattle.nbd_capture.specs.internal.Words.{IsWord};
 ghost use Rattle.nbd_capture.specs.Faults.{IsOrderTextFault};
 ghost use Rattle.nbd_capture.specs.declared.order.OrderTextFault.TheVariants.{Memory};
 
 use crate::lines::first_line;
+use memchr::memchr;
+use nbd_wire::{Entry, Part};
 use std::alloc::{AllocFailed, Global};
 use std::str;
 use thiserror::Error;
 
-/// Why an order text gave no numbers. Nothing is kept of a text after a fault.
+/// Why an order text gave no entries. Nothing is kept of a text after a fault.
 #[derive(Clone, Copy, Debug, PartialEq, Eq, Drop, Error)]
 pub enum OrderTextFault {
     /// The line with this number, from 1, is the first bad one: it is malformed, or no LF follows it.
@@ -29,48 +35,91 @@ impl<T: Drop> From<AllocFailed<T>> for OrderTextFault {
     }
 }
 
-/// The numbers of an order text, in order, from 0 to 2^64 - 1.
+/// The entries of an order text, in order.
 ///
-/// Each line is one number in decimal digits, ended by LF: no sign, no other byte, and no leading `0`
-/// of other digits. A text without bytes has no numbers. This format is this project's choice. Memory
-/// may run out before a bad line is reached.
-pub fn parse_order(alloc: Global, text: &[u8]) -> Result<Vec<u64>, OrderTextFault>
-    ensures numbers { IfOk result (λ numbers. IsOrderText text.now numbers.items) }
+/// Each line is a request's number, or a request's number and the offset and the length of a part of it, with one space
+/// between two numbers; LF ends the line. A number, from 0 to 2^64 - 1, is in decimal digits: no sign, no other byte,
+/// and no leading `0` of other digits. A text without bytes has no entries. This format is this project's choice.
+/// Memory may run out before a bad line is reached.
+pub fn parse_order(alloc: Global, text: &[u8]) -> Result<Vec<Entry>, OrderTextFault>
+    ensures entries { IfOk result (λ entries. IsOrderText text.now entries.items) }
     ensures fault { IfErr result (IsOrderTextFault text.now) }
-    // What reads as numbers gives these numbers, unless memory runs out.
-    ensures only { (numbers : List ℕ) → IsOrderText text.now numbers
-        → MatchResult result (λ found. found.items ≡ numbers) (λ e. e ≡ Memory) }
+    // What reads as entries gives these entries, unless memory runs out.
+    ensures only { (entries : List Entry) → IsOrderText text.now entries
+        → MatchResult result (λ found. found.items ≡ entries) (λ e. e ≡ Memory) }
 {
-    let mut numbers = Vec::new(alloc);
+    let mut entries = Vec::new(alloc);
     let mut rest = text;
     let mut line_number = 0;
     while !rest.is_empty() {
         line_number += 1;
         let (line, after) = first_line(rest).ok_or(OrderTextFault::Line(line_number))?;
-        numbers.push(number_on(line).ok_or(OrderTextFault::Line(line_number))?)?;
+        entries.push(entry_on(line).ok_or(OrderTextFault::Line(line_number))?)?;
         rest = after;
     }
-    Ok(numbers)
+    Ok(entries)
 }
 
-// The number that a line stands for.
-fn number_on(line: &[u8]) -> Option<u64>
+// The entry that a line stands for.
+fn entry_on(line: &[u8]) -> Option<Entry>
     ensures { MatchOption result
-        ((said : List ℕ) → IsOrderLine line.now said → ⊥)
-        (λ n. IsOrderLine line.now (n ∷ [])) }
+        ((said : List Entry) → IsOrderLine line.now said → ⊥)
+        (λ e. IsOrderLine line.now (e ∷ [])) }
 {
-    if !is_plain(line) {
+    match split_word(line) {
+        None => {
+            let request = number_on(line)?;
+            Some(Entry {
+                request,
+                part: None,
+            })
+        }
+        Some((digits, text)) => {
+            let request = number_on(digits)?;
+            let part = part_on(text)?;
+            Some(Entry {
+                request,
+                part: Some(part),
+            })
+        }
+    }
+}
+
+// The part that an offset and a length state.
+fn part_on(text: &[u8]) -> Option<Part>
+    ensures { MatchOption result ((p : Part) → IsPart text.now p → ⊥) (IsPart text.now) }
+{
+    let (first, second) = split_word(text)?;
+    let offset = number_on(first)?;
+    let length = number_on(second)?;
+    Some(Part { offset, length })
+}
+
+// The bytes before the first space, and those after it. `None` where there is no space.
+fn split_word(line: &[u8]) -> Option<(&[u8], &[u8])>
+    ensures { MatchOption result (IsWord line.now)
+        (λ parts. IsWord parts.0.now × (line.now ≡ parts.0.now ++ space ∷ parts.1.now)) }
+{
+    let end = memchr(b' ', line)?;
+    Some((&line[..end], &line[end + 1..]))
+}
+
+// The number that these digits stand for.
+fn number_on(digits: &[u8]) -> Option<u64>
+    ensures { MatchOption result ((n : ℕ) → IsNumber digits.now n → ⊥) (IsNumber digits.now) }
+{
+    if !is_plain(digits) {
         return None;
     }
-    let digits = str::from_utf8(line).ok()?;
-    digits.parse().ok()
+    let text = str::from_utf8(digits).ok()?;
+    text.parse().ok()
 }
 
-// Whether a line begins with a digit, and with `0` only where that is all of it.
-fn is_plain(line: &[u8]) -> bool
-    ensures { IsTrue result ↔ BeginsPlainly line.now }
+// Whether these bytes begin with a digit, and with `0` only where that is all of them.
+fn is_plain(digits: &[u8]) -> bool
+    ensures { IsTrue result ↔ BeginsPlainly digits.now }
 {
-    match line {
+    match digits {
         [] => false,
         [first] => first.is_ascii_digit(),
         [first, ..] => first.is_ascii_digit() && *first != b'0',

@@ -9,6 +9,7 @@ mod whole;
 mod writers;
 
 use crate::{CaptureFault, OrderTextFault, parse_order};
+use nbd_wire::{Entry, Part};
 use nbd_wire::Side;
 use parse::parse_capture;
 use std::test::Fail;
@@ -45,10 +46,33 @@ fn names_the_first_bad_capture_line(rt: HostRuntime) {
     }
 }
 
+/// An entry that serves a request at once.
+const fn at_once(request: u64) -> Entry {
+    Entry {
+        request,
+        part: None,
+    }
+}
+
+/// An entry that serves a part of a request.
+const fn in_part(request: u64, part: Part) -> Entry {
+    Entry {
+        request,
+        part: Some(part),
+    }
+}
+
 #[test]
 fn reads_order_lines(rt: HostRuntime) -> Result<(), Fail> {
-    let numbers = parse_order(rt.alloc(), b"0\n18446744073709551615\n2\n")?;
-    assert_eq!(rt; numbers.as_slice(), [0, u64::MAX, 2].as_slice());
+    let entries = parse_order(rt.alloc(), b"0\n18446744073709551615\n2 0 8\n")?;
+    let part = Part {
+        offset: 0,
+        length: 8,
+    };
+    assert_eq!(rt;
+        entries.as_slice(),
+        [at_once(0), at_once(u64::MAX), in_part(2, part)].as_slice()
+    );
     assert!(rt; parse_order(rt.alloc(), b"")?.is_empty());
     Ok(())
 }
@@ -62,6 +86,12 @@ fn names_the_first_bad_order_line(rt: HostRuntime) {
         ("no line feed", b"1\n2", 2),
         ("a sign", b"+1\n", 1),
         ("a space", b"1 \n", 1),
+        ("a number too few", b"1 0\n", 1),
+        ("a space for a number", b"1 0 \n", 1),
+        ("two spaces", b"1  0 1\n", 1),
+        ("a number too many", b"1 0 1 1\n", 1),
+        ("a zero in front of a part's offset", b"1 00 1\n", 1),
+        ("a part of 2^64 bytes", b"1 0 18446744073709551616\n", 1),
         ("a carriage return", b"1\r\n", 1),
         ("no digit", b"1\nx\n", 2),
         ("no text", b"\xff\n", 1),
@@ -79,7 +109,7 @@ fn answers_want_of_memory_as_such(rt: HostRuntime) {
         Err(fault) => assert_eq!(rt; fault, CaptureFault::Memory),
     }
     match parse_order(rt.alloc(), b"1\n2\n") {
-        Ok(numbers) => assert_eq!(rt; numbers.as_slice(), [1, 2].as_slice()),
+        Ok(entries) => assert_eq!(rt; entries.as_slice(), [at_once(1), at_once(2)].as_slice()),
         Err(fault) => assert_eq!(rt; fault, OrderTextFault::Memory),
     }
 }

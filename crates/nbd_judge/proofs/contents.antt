@@ -2,3 +2,5 @@ pub mod CompareLemmas
 pub mod EffectLemmas
 pub mod ForwardLemmas
 pub mod StartLemmas
+pub mod RangeLemmas
+pub mod PartLemmas

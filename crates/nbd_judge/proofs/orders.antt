@@ -1,3 +1,4 @@
+pub mod FirstLemmas
 pub mod LateLemmas
-pub mod MarkLemmas
-pub mod NameLemmas
+pub mod ServiceLemmas
+pub mod TableLemmas

@@ -2,6 +2,7 @@
 use Rattle.std.specs.Prelude.{ℕ, List, ◌≡◌, ◌↔◌, map}
 use Rattle.std.specs.declared.alloc.Global.{Global}
 use Rattle.std.specs.declared.vec.Vec.{Vec}
+use Rattle.nbd_wire.specs.declared.entry.Entry.{Entry}
 use Rattle.nbd_wire.specs.declared.message.Message.{Message}
 use Rattle.nbd_wire.specs.declared.message.Side.{Side}
 use Rattle.nbd_wire.specs.protocol.Explains.{IsExplained, Start}
@@ -31,7 +32,7 @@ IsFaultOf capture (session.Wire at fault) = (messages : List Message) × IsWireF
 IsFaultOf capture session.Memory = Unit {0}
 
 -- some run has these bytes, and the verdict is that on the report of each such run
-pub record HasVerdict (capture : List Pair) (order : List ℕ) (initial : Start) (v : Verdict) : Type 0 where
+pub record HasVerdict (capture : List Pair) (order : List Entry) (initial : Start) (v : Verdict) : Type 0 where
   pub items : List Item
   pub is_run : IsRun items
   pub has_pairs : pairs items ≡ capture
@@ -39,7 +40,7 @@ pub record HasVerdict (capture : List Pair) (order : List ℕ) (initial : Start)
   pub answers : Answers capture order initial v
 
 -- the verdict on a capture: that on its run, or where no run has its bytes its wire fault
-abbrev pub IsChecked : List Pair → List ℕ → Start → Verdict → Type 0
+abbrev pub IsChecked : List Pair → List Entry → Start → Verdict → Type 0
 IsChecked capture order initial (Wire at fault) = IsFaultOf capture (session.Wire at fault)
 IsChecked capture order initial (Yes of_requests of_answered of_improper) = HasVerdict capture order initial (Yes of_requests of_answered of_improper)
 IsChecked capture order initial (Image image size) = HasVerdict capture order initial (Image image size)
@@ -52,5 +53,5 @@ SaysYes (Yes of_requests of_answered of_improper) = Unit {0}
 SaysYes _ = ⊥
 
 -- the verdict is a yes exactly where the order explains the capture
-abbrev pub AnswersExactly : List Pair → List ℕ → Start → Verdict → Type 0
+abbrev pub AnswersExactly : List Pair → List Entry → Start → Verdict → Type 0
 AnswersExactly capture order initial v = SaysYes v ↔ IsExplained capture order initial

@@ -1,18 +1,20 @@
--- Contents taken forward, from one request to the next.
-use Rattle.std.specs.Prelude.{ℕ, List, [], ◌∷◌, ◌≡◌, Option, Some, None, if◌then◌else◌}
-use Rattle.nbd_wire.specs.protocol.ExportBytes.{Effect, entries_before, byte_before, effect_byte, touches}
+-- Contents taken forward, from one entry to the next.
+use Rattle.std.specs.Prelude.{ℕ, List, [], ◌∷◌, ◌≡◌, Option, Some, None, if◌then◌else◌, take}
+use Rattle.nbd_wire.specs.declared.entry.Entry.{Entry}
+use Rattle.nbd_wire.specs.declared.entry.Part.{Part}
+use Rattle.nbd_wire.specs.protocol.ExportBytes.{Effect, byte_before, effect_byte, touches}
 
--- the contents after a request, if there is one
-abbrev pub contents_with_effect : Option Effect → (ℕ → Option ℕ) → ℕ → Option ℕ
-contents_with_effect (Some e) old x = if touches e x then effect_byte e x else old x
-contents_with_effect None old x = old x
+-- the contents after an entry with this part serves a request, if there is one
+abbrev pub contents_with_effect : Option Part → Option Effect → (ℕ → Option ℕ) → ℕ → Option ℕ
+contents_with_effect p (Some e) old x = if touches p e x then effect_byte e x else old x
+contents_with_effect p None old x = old x
 
--- the contents after these requests, taken one after the other
-abbrev pub contents_after : (ℕ → Option Effect) → List ℕ → (ℕ → Option ℕ) → ℕ → Option ℕ
+-- the contents after these entries, taken one after the other
+abbrev pub contents_after : (ℕ → Option Effect) → List Entry → (ℕ → Option ℕ) → ℕ → Option ℕ
 contents_after requests [] old = old
-contents_after requests (k ∷ order) old = contents_after requests order (contents_with_effect (requests k) old)
+contents_after requests (entry ∷ order) old = contents_after requests order (contents_with_effect entry.part (requests entry.request) old)
 
--- taken forward, the contents after the requests before k are the bytes looked up backwards from k
+-- taken forward, the contents after the entries before entry i are the bytes looked up backwards from it
 abbrev pub Folding : Type 0
-Folding = (requests : ℕ → Option Effect) (order : List ℕ) (initial : ℕ → Option ℕ) (k x : ℕ) →
-    contents_after requests (entries_before k order) initial x ≡ byte_before requests order initial k x
+Folding = (requests : ℕ → Option Effect) (order : List Entry) (initial : ℕ → Option ℕ) (i x : ℕ) →
+    contents_after requests (take i order) initial x ≡ byte_before requests order initial i x

@@ -1,13 +1,16 @@
 -- The fault that an order of service is answered with (this project's choice).
 use Rattle.std.specs.Prelude.{ℕ, List, length}
-use Rattle.nbd_wire.specs.protocol.Orders.{FirstLate, FirstNoSuchRequest, FirstTwice, LeastMissing}
-use Rattle.nbd_wire.specs.protocol.Reports.{Report, known_in}
+use Rattle.nbd_wire.specs.declared.entry.Entry.{Entry}
+use Rattle.nbd_wire.specs.protocol.Orders.{FirstBadPart, FirstLate, FirstNoSuchRequest, FirstTwice, LeastMissing, LeastNotCovered}
+use Rattle.nbd_wire.specs.protocol.Reports.{Report, inside_in, known_in}
 use Rattle.nbd_judge.specs.declared.verdict.OrderFault.{OrderFault}
-use Rattle.nbd_judge.specs.declared.verdict.OrderFault.TheVariants.{NoSuchRequest, Twice, Late, Missing}
+use Rattle.nbd_judge.specs.declared.verdict.OrderFault.TheVariants.{NoSuchRequest, Twice, Late, Missing, BadPart, NotCovered}
 
--- the order's answer is this fault at this entry, counted from 1; for Missing of this request
-abbrev pub IsOrderFault : Report → List ℕ → ℕ → OrderFault → Type 0
-IsOrderFault r order entry NoSuchRequest = FirstNoSuchRequest (length r.asked) order entry
-IsOrderFault r order entry Twice = FirstTwice (length r.asked) order entry
-IsOrderFault r order entry Late = FirstLate (length r.asked) (known_in r) order entry
-IsOrderFault r order entry Missing = LeastMissing (length r.asked) (known_in r) order entry
+-- the order's answer is this fault at this entry, counted from 1; for Missing and NotCovered of this request
+abbrev pub IsOrderFault : Report → List Entry → ℕ → OrderFault → Type 0
+IsOrderFault r order entry NoSuchRequest = FirstNoSuchRequest (length r.asked) (inside_in r) order entry
+IsOrderFault r order entry Twice = FirstTwice (length r.asked) (inside_in r) order entry
+IsOrderFault r order entry Late = FirstLate (length r.asked) (known_in r) (inside_in r) order entry
+IsOrderFault r order entry Missing = LeastMissing (length r.asked) (known_in r) (inside_in r) order entry
+IsOrderFault r order entry BadPart = FirstBadPart (length r.asked) (inside_in r) order entry
+IsOrderFault r order entry NotCovered = LeastNotCovered (length r.asked) (known_in r) (inside_in r) order entry

@@ -1,5 +1,6 @@
 -- The cases of the definitions of a verdict exclude each other, and a capture has one answer at most.
 use Rattle.std.specs.Prelude.{ℕ, List, ◌≡◌, Option}
+use Rattle.nbd_wire.specs.declared.entry.Entry.{Entry}
 use Rattle.nbd_wire.specs.declared.fault.WireFault.{WireFault}
 use Rattle.nbd_wire.specs.declared.message.Message.{Message}
 use Rattle.nbd_wire.specs.protocol.Captures.{Pair}
@@ -12,11 +13,11 @@ use Rattle.nbd_judge.specs.declared.verdict.Verdict.{Verdict}
 
 -- there is one verdict at most, where the export's bytes were these at first
 abbrev pub OneJudgement : Type 0
-OneJudgement = (r : Report) (order : List ℕ) (initial : ℕ → Option ℕ) (v w : Verdict) → IsJudged r order initial v → IsJudged r order initial w → v ≡ w
+OneJudgement = (r : Report) (order : List Entry) (initial : ℕ → Option ℕ) (v w : Verdict) → IsJudged r order initial v → IsJudged r order initial w → v ≡ w
 
 -- there is one verdict at most from a start
 abbrev pub OneVerdict : Type 0
-OneVerdict = (r : Report) (order : List ℕ) (initial : Start) (v w : Verdict) → IsVerdict r order initial v → IsVerdict r order initial w → v ≡ w
+OneVerdict = (r : Report) (order : List Entry) (initial : Start) (v w : Verdict) → IsVerdict r order initial v → IsVerdict r order initial w → v ≡ w
 
 -- a capture is refused in one way at most: at one byte, with one fault, after the same messages
 abbrev pub OneWireFault : Type 0
@@ -26,5 +27,5 @@ OneWireFault = (capture : List Pair) (messages more : List Message) (at place : 
 
 -- a capture, an order and a start have one answer at most; so two lists of records with one flat capture get equal answers
 abbrev pub OneAnswer : Type 0
-OneAnswer = (capture : List Pair) (order : List ℕ) (initial : Start) (v w : Verdict) →
+OneAnswer = (capture : List Pair) (order : List Entry) (initial : Start) (v w : Verdict) →
     IsChecked capture order initial v → IsChecked capture order initial w → v ≡ w

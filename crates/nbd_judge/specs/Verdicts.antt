@@ -1,32 +1,32 @@
 -- The verdict on a report, an order of service and what the export held at first.
-use Rattle.std.specs.Prelude.{ℕ, List, ◌≡◌, ◌<◌, Option, length, slice_index}
+use Rattle.std.specs.Prelude.{ℕ, List, ◌≡◌, Option, Some, slice_get}
+use Rattle.nbd_wire.specs.declared.entry.Entry.{Entry}
 use Rattle.nbd_wire.specs.protocol.ExportBytes.{IsWrong, effects}
 use Rattle.nbd_wire.specs.protocol.Explains.{FitsImage, Start, start_byte}
 use Rattle.nbd_wire.specs.protocol.Orders.{IsFirst}
 use Rattle.nbd_wire.specs.protocol.Reports.{Report}
-use Rattle.nbd_wire.specs.protocol.States.{Names}
 use Rattle.nbd_wire.specs.protocol.Verdicts.{IsFaultless, answered_count, improper_count, request_count}
 use Rattle.nbd_judge.specs.Images.{IsOtherSize}
 use Rattle.nbd_judge.specs.Orders.{IsOrderFault}
 use Rattle.nbd_judge.specs.declared.verdict.Verdict.{Verdict}
 use Rattle.nbd_judge.specs.declared.verdict.Verdict.TheVariants.{Yes, Wire, Image, Order, Content}
 
--- no request that the order names has a wrong byte, where the export's bytes were these at first
-abbrev pub HasNoneWrongFrom : Report → List ℕ → (ℕ → Option ℕ) → Type 0
-HasNoneWrongFrom r order initial = (k x : ℕ) → Names order k → IsWrong (effects r) order initial k x → ⊥
+-- no entry of the order serves a wrong byte, where the export's bytes were these at first
+abbrev pub HasNoneWrongFrom : Report → List Entry → (ℕ → Option ℕ) → Type 0
+HasNoneWrongFrom r order initial = (i x : ℕ) → IsWrong (effects r) order initial i x → ⊥
 
--- entry i of the order, counted from 0, names a request with a wrong byte
-abbrev pub HasWrongFrom : Report → List ℕ → (ℕ → Option ℕ) → ℕ → Type 0
-HasWrongFrom r order initial i = (i < length order) × ((x : ℕ) × IsWrong (effects r) order initial (slice_index order i) x)
+-- entry i of the order, counted from 0, serves a wrong byte
+abbrev pub HasWrongFrom : Report → List Entry → (ℕ → Option ℕ) → ℕ → Type 0
+HasWrongFrom r order initial i = (x : ℕ) × IsWrong (effects r) order initial i x
 
--- the request of the first entry with a wrong byte, and its least wrong offset
-abbrev pub FirstWrongFrom : Report → List ℕ → (ℕ → Option ℕ) → (request offset : ℕ) → Type 0
+-- the request of the first entry that serves a wrong byte, and the least offset of one
+abbrev pub FirstWrongFrom : Report → List Entry → (ℕ → Option ℕ) → (request offset : ℕ) → Type 0
 FirstWrongFrom r order initial request offset =
-    ((i : ℕ) × (slice_index order i ≡ request) × IsFirst (HasWrongFrom r order initial) i)
-    × IsFirst (IsWrong (effects r) order initial request) offset
+    (i : ℕ) × (entry : Entry) × (slice_get order i ≡ Some entry) × (entry.request ≡ request)
+    × IsFirst (HasWrongFrom r order initial) i × IsFirst (IsWrong (effects r) order initial i) offset
 
 -- the verdict where the export's bytes were these at first: Order, Content or Yes
-abbrev pub IsJudged : Report → List ℕ → (ℕ → Option ℕ) → Verdict → Type 0
+abbrev pub IsJudged : Report → List Entry → (ℕ → Option ℕ) → Verdict → Type 0
 IsJudged r order initial (Yes of_requests of_answered of_improper) =
     IsFaultless r order × HasNoneWrongFrom r order initial
     × (of_requests ≡ request_count r) × (of_answered ≡ answered_count r) × (of_improper ≡ improper_count r)
@@ -36,7 +36,7 @@ IsJudged r order initial (Wire at fault) = ⊥
 IsJudged r order initial (Image image size) = ⊥
 
 -- the verdict from a start: Image where it is an image of another size than the export
-abbrev pub IsVerdict : Report → List ℕ → Start → Verdict → Type 0
+abbrev pub IsVerdict : Report → List Entry → Start → Verdict → Type 0
 IsVerdict r order initial (Image image size) = IsOtherSize r.export initial image size
 IsVerdict r order initial (Yes of_requests of_answered of_improper) =
     FitsImage r.export initial × IsJudged r order (start_byte initial) (Yes of_requests of_answered of_improper)

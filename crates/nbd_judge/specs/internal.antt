@@ -1,7 +1,6 @@
 pub mod Beginnings
 pub mod Captures
 pub mod Lesser
-pub mod Orders
 pub mod Pieces
-pub mod Seen
+pub mod Services
 pub mod Servable

@@ -1,40 +1,47 @@
-//! What a request changes when it is served (this project's choice).
+//! What a request changes where it is served (this project's choice).
 
-ghost use Rattle.std.specs.Prelude.{◌≡◌, OnOk, Some};
+ghost use Rattle.std.specs.Prelude.{◌≡◌, ◌+◌, ◌-◌, ◌≤◌, OnOk, Some, length, slice_range};
 ghost use Rattle.nbd_export.specs.Ranges.{AreSameBelow, overlay, unknown};
 ghost use Rattle.nbd_wire.specs.protocol.ExportBytes.{effect};
 ghost use Rattle.nbd_state.specs.Transcripts.{report_of_request};
 ghost use Rattle.nbd_judge.specs.Folding.{contents_with_effect};
-ghost use Rattle.nbd_judge.specs.internal.Servable.{IsServable};
+ghost use Rattle.nbd_judge.specs.internal.Servable.{IsPartIn, IsServable, served_span};
 
 use crate::compare::is_success;
 use nbd_export::Contents;
 use nbd_session::Asked;
-use nbd_wire::commands;
+use nbd_state::Span;
+use nbd_wire::{Part, commands};
 use std::alloc::AllocError;
 
-/// Lets the contents be those after this request: a successful WRITE leaves its bytes, a successful
-/// WRITE_ZEROES zeroes, every other change unknown bytes, whatever else is asked no change.
-pub fn change<C: Contents>(one: &Asked, contents: &mut C) -> Result<(), AllocError>
-    requires { IsServable (C.size contents.old) (report_of_request one.now) }
+/// Lets the contents be those after an entry that serves this request, or this part of it: a successful WRITE leaves
+/// its bytes, a successful WRITE_ZEROES zeroes, every other change unknown bytes, whatever else is asked no change.
+pub fn change<C: Contents>(
+    one: &Asked,
+    part: Option<Part>,
+    contents: &mut C,
+) -> Result<(), AllocError>
+    requires servable { IsServable (C.size contents.old) (report_of_request one.now) }
+    requires inside { IsPartIn part (report_of_request one.now) }
     ensures size { C.size contents.new ≡ C.size contents.old }
     ensures done { OnOk result (AreSameBelow (C.size contents.old) (C.byte contents.new)
-        (contents_with_effect (Some (effect (report_of_request one.now))) (C.byte contents.old))) }
+        (contents_with_effect part (Some (effect (report_of_request one.now))) (C.byte contents.old))) }
 {
+    let span = served(one, part);
     match one.command {
         commands::WRITE => {
             if is_success(one.outcome) {
-                contents.put(one.offset, one.payload.as_slice())?;
+                contents.put(span.offset, bytes_of(one, span))?;
             } else {
-                erase(one.offset, one.length, contents)?;
+                erase(span, contents)?;
             }
         }
-        commands::TRIM => erase(one.offset, one.length, contents)?,
+        commands::TRIM => erase(span, contents)?,
         commands::WRITE_ZEROES => {
             if is_success(one.outcome) {
-                contents.zero(one.offset, one.length as u64)?;
+                contents.zero(span.offset, span.size)?;
             } else {
-                erase(one.offset, one.length, contents)?;
+                erase(span, contents)?;
             }
         }
         _ => {}
@@ -42,20 +49,43 @@ pub fn change<C: Contents>(one: &Asked, contents: &mut C) -> Result<(), AllocErr
     Ok(())
 }
 
-// Lets what of the range lies inside the export be unknown.
-fn erase<C: Contents>(offset: u64, len: u32, contents: &mut C) -> Result<(), AllocError>
+// Where an entry with this part serves a request: in the part, or in its range.
+fn served(one: &Asked, part: Option<Part>) -> Span
+    ensures { result ≡ served_span part (report_of_request one.now) }
+{
+    match part {
+        Some(part) => Span {
+            offset: part.offset,
+            size: part.length,
+        },
+        None => Span {
+            offset: one.offset,
+            size: u64::from(one.length),
+        },
+    }
+}
+
+// The bytes of a WRITE that lie in a span of its range.
+fn bytes_of(one: &Asked, span: Span) -> &[u8]
+    requires begins { one.now.offset ≤ span.offset }
+    requires ends { span.offset + span.size ≤ one.now.offset + length one.now.payload }
+    ensures { result.now ≡ slice_range one.now.payload (span.offset - one.now.offset)
+        (span.offset - one.now.offset + span.size) }
+{
+    let first = (span.offset - one.offset) as usize;
+    &one.payload.as_slice()[first..first + span.size as usize]
+}
+
+// Lets what of the span lies inside the export be unknown.
+fn erase<C: Contents>(span: Span, contents: &mut C) -> Result<(), AllocError>
     ensures size { C.size contents.new ≡ C.size contents.old }
     ensures done { OnOk result (AreSameBelow (C.size contents.old) (C.byte contents.new)
-        (overlay offset len unknown (C.byte contents.old))) }
+        (overlay span.offset span.size unknown (C.byte contents.old))) }
 {
     let size = contents.size();
-    if offset < size {
-        let rest = size - offset;
-        if rest < len as u64 {
-            contents.forget(offset, rest)?;
-        } else {
-            contents.forget(offset, len as u64)?;
-        }
+    if span.offset < size {
+        let rest = size - span.offset;
+        contents.forget(span.offset, rest.min(span.size))?;
     }
     Ok(())
 }

@@ -9,7 +9,7 @@ ghost use Rattle.nbd_judge.specs.internal.Captures.{HasReport};
 use crate::{Verdict, conclude};
 use nbd_export::Start;
 use nbd_session::{Session, SessionFault, Transcript};
-use nbd_wire::Side;
+use nbd_wire::{Entry, Side};
 use std::alloc::{AllocError, Global};
 
 /// Checks a capture, given in chunks of any size, against an order of service and what the export held
@@ -19,7 +19,7 @@ use std::alloc::{AllocError, Global};
 pub fn check(
     alloc: Global,
     chunks: &[(Side, Vec<u8>)],
-    order: &[u64],
+    order: &[Entry],
     start: Start,
 ) -> Result<Verdict, AllocError>
     requires { length (flat (records_of chunks.now)) < 2 ^ 63 }

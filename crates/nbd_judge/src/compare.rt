@@ -1,12 +1,12 @@
 //! The bytes of a READ against the contents when it is served.
 
-ghost use Rattle.std.specs.Prelude.{◌≡◌, ◌+◌, ◌≤◌, IfOk, length, map};
+ghost use Rattle.std.specs.Prelude.{◌≡◌, ◌+◌, ◌-◌, ◌≤◌, IfOk, length, map, max, min};
 ghost use Rattle.std.specs.List.Sorted.{IsPermutation};
 ghost use Rattle.nbd_export.specs.Ranges.{IsLeast};
 ghost use Rattle.nbd_wire.specs.protocol.ExportBytes.{IsWrongIn, effect, is_success};
 ghost use Rattle.nbd_wire.specs.protocol.Pieces.{piece_offset, piece_size};
 ghost use Rattle.nbd_state.specs.Transcripts.{report_of_request};
-ghost use Rattle.nbd_judge.specs.internal.Pieces.{AreInside, DiffersInOneOf, DiffersInPiece};
+ghost use Rattle.nbd_judge.specs.internal.Pieces.{AreInside, DiffersInOneOf, DiffersInOneWithin, DiffersInPiece, DiffersWithin};
 ghost use Rattle.nbd_judge.specs.internal.Servable.{IsServable};
 ghost use Rattle.nbd_state.specs.Showing.{outcome_of};
 
@@ -14,22 +14,27 @@ use crate::least::lesser;
 use nbd_export::Contents;
 use nbd_session::{Asked, Outcome};
 use nbd_state::Span;
-use nbd_wire::{Piece, commands};
+use nbd_wire::{Part, Piece, commands};
 use std::alloc::{AllocError, Global};
 
-/// The least offset of a wrong byte of a request that is served now; None where it has none. The cost is
-/// that of the bytes and holes of its reply, and of sorting these. An `Err` says that memory ran out.
+/// The least offset of a wrong byte that an entry serves of this request, or of this part of it, now; None where it
+/// has none. The cost is that of the bytes and holes of its reply, and of sorting these. An `Err` says that memory
+/// ran out.
 pub fn wrong<C: Contents>(
     alloc: Global,
     one: &Asked,
+    part: Option<Part>,
     contents: &C,
 ) -> Result<Option<u64>, AllocError>
     requires { IsServable (C.size contents.now) (report_of_request one.now) }
-    ensures { IfOk result (IsLeast (IsWrongIn (effect (report_of_request one.now)) (C.byte contents.now))) }
+    ensures { IfOk result (IsLeast (IsWrongIn part (effect (report_of_request one.now)) (C.byte contents.now))) }
 {
     if one.command == commands::READ {
         if is_success(one.outcome) {
-            return first_difference(alloc, &one.pieces, contents);
+            return match part {
+                Some(part) => Ok(difference_within(&one.pieces, part, contents)),
+                None => first_difference(alloc, &one.pieces, contents),
+            };
         }
     }
     Ok(None)
@@ -91,5 +96,51 @@ fn piece_difference<C: Contents>(piece: &Piece, contents: &C) -> Option<u64>
     match piece {
         Piece::Bytes { offset, bytes } => contents.differs(*offset, bytes.as_slice()),
         Piece::Hole { offset, size } => contents.differs_zero(*offset, *size as u64),
+    }
+}
+
+// The least offset in a part at which one of these pieces differs from the contents.
+fn difference_within<C: Contents>(pieces: &[Piece], part: Part, contents: &C) -> Option<u64>
+    requires { AreInside (C.size contents.now) pieces.now }
+    ensures { IsLeast (DiffersInOneWithin (C.byte contents.now) pieces.now (length pieces.now) part) result }
+{
+    let mut found = None;
+    for piece in pieces {
+        found = lesser(found, piece_difference_within(piece, part, contents));
+    }
+    found
+}
+
+// The least offset in a part at which a piece differs from the contents.
+fn piece_difference_within<C: Contents>(piece: &Piece, part: Part, contents: &C) -> Option<u64>
+    requires { piece_offset piece.now + piece_size piece.now ≤ C.size contents.now }
+    ensures { IsLeast (DiffersWithin (C.byte contents.now) piece.now part) result }
+{
+    let span = overlap(Span::of(piece), part);
+    if span.size == 0 {
+        return None;
+    }
+    match piece {
+        Piece::Bytes { offset, bytes } => {
+            let first = (span.offset - *offset) as usize;
+            let end = first + span.size as usize;
+            contents.differs(span.offset, &bytes.as_slice()[first..end])
+        }
+        Piece::Hole { .. } => contents.differs_zero(span.offset, span.size),
+    }
+}
+
+// Where a span and a part meet; of size 0 where they do not.
+fn overlap(span: Span, part: Part) -> Span
+    ensures offset { result.offset ≡ max span.offset part.offset }
+    ensures size { result.size ≡
+        min (span.offset + span.size) (part.offset + part.length) - max span.offset part.offset }
+{
+    let skipped = part.offset.saturating_sub(span.offset);
+    let before = span.offset.saturating_sub(part.offset);
+    let rest = span.size.saturating_sub(skipped);
+    Span {
+        offset: span.offset + skipped,
+        size: rest.min(part.length.saturating_sub(before)),
     }
 }

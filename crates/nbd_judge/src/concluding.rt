@@ -14,6 +14,7 @@ ghost use Rattle.nbd_judge.specs.Verdicts.{IsVerdict};
 use crate::{Verdict, judge, laws};
 use nbd_export::{Extents, Start};
 use nbd_session::{SessionFault, Transcript};
+use nbd_wire::Entry;
 use std::alloc::{AllocError, Global};
 
 /// Concludes what a finished session, an order of service and the export's start come to. A wire fault is
@@ -21,7 +22,7 @@ use std::alloc::{AllocError, Global};
 pub fn conclude(
     alloc: Global,
     finished: Result<Transcript, SessionFault>,
-    order: &[u64],
+    order: &[Entry],
     start: Start,
 ) -> Result<Verdict, AllocError>
     ensures verdict { IfOk result (IsConclusion finished order.now (initial_of start)) }
@@ -43,7 +44,7 @@ pub fn conclude(
 fn verdict_on(
     alloc: Global,
     transcript: &Transcript,
-    order: &[u64],
+    order: &[Entry],
     start: Start,
 ) -> Result<Verdict, AllocError>
     ensures { IfOk result (IsVerdict transcript.now order.now (initial_of start)) }

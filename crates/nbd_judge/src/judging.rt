@@ -14,6 +14,7 @@ use crate::replay::replay;
 use crate::tally::{answered_count, improper_count};
 use nbd_export::Contents;
 use nbd_session::Transcript;
+use nbd_wire::Entry;
 use std::alloc::{AllocError, Global};
 
 /// Judges a session by an order of service and the contents that the export had at first: Yes, Order or
@@ -22,7 +23,7 @@ use std::alloc::{AllocError, Global};
 pub fn judge<C: Contents>(
     alloc: Global,
     transcript: &Transcript,
-    order: &[u64],
+    order: &[Entry],
     contents: &mut C,
 ) -> Result<Verdict, AllocError>
     // The contents have the export's size, or none where transmission was not reached.

@@ -6,8 +6,8 @@ ghost use Rattle.nbd_judge.specs.Uniqueness.{OneAnswer, OneJudgement, OneVerdict
 
 use nbd_laws::laws::{explained_exactly, latest_moments, same_reports};
 
-/// The contents after the requests before `k`, each applied to those before it, are the export's bytes
-/// when `k` is served, each looked up backwards.
+/// The contents after the entries before entry `i`, each applied to those before it, are the export's bytes
+/// at entry `i`, each looked up backwards.
 pub fn folding()
     ensures { Folding }
 {}

@@ -11,6 +11,7 @@ pub mod laws;
 mod least;
 mod order;
 mod replay;
+mod service;
 mod tally;
 #[cfg(test)]
 mod tests;

@@ -2,7 +2,8 @@
 
 ghost use Rattle.std.specs.Prelude.{◌≡◌, ℕ, IfOk, MatchOption};
 ghost use Rattle.nbd_laws.specs.Soundness.{IsSoundReport};
-ghost use Rattle.nbd_judge.specs.internal.Orders.{IsOnce};
+ghost use Rattle.nbd_wire.specs.protocol.Orders.{IsBadPart};
+ghost use Rattle.nbd_wire.specs.protocol.Reports.{inside_in};
 ghost use Rattle.nbd_judge.specs.Servable.{size_of};
 ghost use Rattle.nbd_judge.specs.Verdicts.{FirstWrongFrom, HasWrongFrom};
 
@@ -10,19 +11,20 @@ use crate::change::change;
 use crate::compare::wrong;
 use nbd_export::Contents;
 use nbd_session::Transcript;
+use nbd_wire::Entry;
 use std::alloc::{AllocError, Global};
 
-/// The first request in the order with a wrong byte, and its least wrong offset; None where no request
-/// has one. Each request is compared with what those before it left, by the outcomes that stand at the
+/// The request of the first entry that serves a wrong byte, and the least offset of one; None where no entry
+/// does. Each entry is compared with what those before it left, by the outcomes that stand at the
 /// end of the session. After the first wrong byte and after a refusal of memory the contents hold the
 /// effect of some entries.
 pub fn replay<C: Contents>(
     alloc: Global,
     transcript: &Transcript,
-    order: &[u64],
+    order: &[Entry],
     contents: &mut C,
 ) -> Result<Option<(u64, u64)>, AllocError>
-    requires once { IsOnce order.now }
+    requires well { (i : ℕ) → IsBadPart (inside_in transcript.now) order.now i → ⊥ }
     requires sound { IsSoundReport transcript.now }
     requires sized { C.size contents.old ≡ size_of transcript.now.export }
     ensures { IfOk result (λ found. MatchOption found ((i : ℕ) →
@@ -30,13 +32,13 @@ pub fn replay<C: Contents>(
         (λ p. FirstWrongFrom transcript.now order.now (C.byte contents.old) p.0 p.1)) }
 {
     for i in 0..order.len() {
-        let k = order[i];
-        if let Some(one) = transcript.asked(k) {
-            let found = wrong(alloc, one, contents)?;
+        let entry = order[i];
+        if let Some(one) = transcript.asked(entry.request) {
+            let found = wrong(alloc, one, entry.part, contents)?;
             if let Some(offset) = found {
-                return Ok(Some((k, offset)));
+                return Ok(Some((entry.request, offset)));
             }
-            change(one, contents)?;
+            change(one, entry.part, contents)?;
         }
     }
     Ok(None)

@@ -7,13 +7,19 @@ use nbd_session::WireFault;
 pub enum OrderFault {
     /// The entry is 0 or above the number of requests.
     NoSuchRequest,
-    /// The entry names a request that an earlier one names.
+    /// The entry serves a request at once that an earlier one names, or in part one that an earlier entry serves
+    /// at once.
     Twice,
     /// The entry or a later one names a request whose first reply message started before the request
     /// of this entry had completed.
     Late,
     /// No entry names this request, though a reply message to it started.
     Missing,
+    /// The entry's part is empty, leaves the part of the request's range that lies in the export, or shares an
+    /// offset with an earlier part of the request.
+    BadPart,
+    /// Entries name parts of this request that do not cover it, though a reply message to it started.
+    NotCovered,
 }
 
 /// The answer to a session, an order of service and what the export held at first. Of those that
@@ -45,15 +51,16 @@ pub enum Verdict {
     },
     /// The order has a fault.
     Order {
-        /// The first entry that has it, counted from 1; for Missing the least request that is missing.
+        /// The first entry that has it, counted from 1; for Missing and NotCovered the least request that has one of
+        /// these two.
         entry: u64,
         fault: OrderFault,
     },
     /// A successful READ gave a byte that is not the export's known byte.
     Content {
-        /// The number of the first such READ in the order.
+        /// The number of the request that the first entry with such a byte serves.
         request: u64,
-        /// The least offset of such a byte of it, from the export's start.
+        /// The least offset of such a byte that this entry serves, from the export's start.
         offset: u64,
     },
 }

@@ -1,4 +1,5 @@
 pub mod EntryLemmas
+pub mod InsideLemmas
 pub mod ExplainingLemmas
 pub mod LatestLemmas
 pub mod MomentLemmas

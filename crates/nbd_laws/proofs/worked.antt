@@ -6,6 +6,7 @@ pub mod IndexLemmas
 pub mod SessionLemmas
 pub mod WorkedChunkLemmas
 pub mod WorkedOptionLemmas
+pub mod WorkedPartLemmas
 pub mod WorkedReadLemmas
 pub mod WorkedRefusalLemmas
 pub mod WorkedRequestLemmas

@@ -21,7 +21,7 @@ started_messages s [] = []
 started_messages s (Starts t m ∷ items) = if same_side s t then m ∷ started_messages s items else started_messages s items
 started_messages s (Byte t b ∷ items) = started_messages s items
 started_messages s (Completes t m ∷ items) = started_messages s items
-started_messages s (Serves k ∷ items) = started_messages s items
+started_messages s (Serves e ∷ items) = started_messages s items
 
 -- the messages of a side that have completed, in order
 abbrev pub ended_messages : Side → List Item → List Message
@@ -29,7 +29,7 @@ ended_messages s [] = []
 ended_messages s (Completes t m ∷ items) = if same_side s t then m ∷ ended_messages s items else ended_messages s items
 ended_messages s (Byte t b ∷ items) = ended_messages s items
 ended_messages s (Starts t m ∷ items) = ended_messages s items
-ended_messages s (Serves k ∷ items) = ended_messages s items
+ended_messages s (Serves e ∷ items) = ended_messages s items
 
 -- each message that has started has completed
 abbrev pub HasNoneOpen : List Item → Type 0

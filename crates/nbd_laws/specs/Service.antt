@@ -1,15 +1,17 @@
 -- What a run says of its requests at a moment: after its first items, `prefix`.
 use Rattle.std.specs.Prelude.{◌≡◌, ◌<◌, ◌≤◌, ℕ, List, [], ◌∷◌, ◌++◌, Some, false, length}
+use Rattle.nbd_wire.specs.declared.entry.Entry.{Entry}
 use Rattle.nbd_wire.specs.declared.commands.TheConstants as commands
 use Rattle.nbd_wire.specs.declared.message.Side.TheVariants.{Client, Server}
 use Rattle.nbd_wire.specs.declared.message.Message.{Message}
 use Rattle.nbd_wire.specs.declared.message.Message.TheVariants.{Request}
+use Rattle.nbd_wire.specs.protocol.Entries.{IsWhollyServed, MayServe}
 use Rattle.nbd_wire.specs.protocol.Explains.{IsExplained, Start}
 use Rattle.nbd_wire.specs.protocol.Reports.{operations_of, export_of}
 use Rattle.nbd_wire.specs.protocol.Marks.{Item, Completes, Starts, Serves, service_order}
 use Rattle.nbd_wire.specs.protocol.Operations.{Operation, Exporting, is_finished}
-use Rattle.nbd_wire.specs.protocol.Rules.{IsRun, request_of_reply, cookie_of, ends_at}
-use Rattle.nbd_wire.specs.protocol.States.{Names, operation, start}
+use Rattle.nbd_wire.specs.protocol.Rules.{IsRun, request_of_reply, cookie_of, ends_at, inside_at}
+use Rattle.nbd_wire.specs.protocol.States.{operation, start}
 use Rattle.nbd_laws.specs.Prefixes.{ended_messages}
 
 -- request k is outstanding after these items
@@ -22,23 +24,24 @@ abbrev pub CookiesAreDistinct : Type 0
 CookiesAreDistinct = (prefix back : List Item) → IsRun (prefix ++ back) → (j k : ℕ) (d e : Operation) →
     IsOutstanding prefix j d → IsOutstanding prefix k e → d.cookie ≡ e.cookie → j ≡ k
 
--- the request that a reply answers: it is outstanding with the reply's cookie when the reply starts, it was served
+-- the request that a reply answers: it is outstanding with the reply's cookie when the reply starts, it was wholly served
 -- before, and it is the only one
 pub record AnswersRequest (prefix : List Item) (m : Message) (k : ℕ) (e : Operation) : Type 0 where
   pub outstanding : IsOutstanding prefix k e
   pub cookie : cookie_of m ≡ Some e.cookie
-  pub was_served : Names (service_order prefix) k
+  pub was_served : IsWhollyServed (inside_at (ends_at start prefix).core k) (service_order prefix) k
   pub only : (j : ℕ) (d : Operation) → IsOutstanding prefix j d → cookie_of m ≡ Some d.cookie → j ≡ k
 
--- each server message of transmission answers exactly one request, completed and served before its first byte
+-- each server message of transmission answers exactly one request, completed and wholly served before its first byte
 abbrev pub EachReplyAnswersOne : Type 0
 EachReplyAnswersOne = (prefix back : List Item) (m : Message) (export : Exporting) → IsRun (prefix ++ Starts Server m ∷ back) → export_of prefix ≡ Some export →
     (k : ℕ) × (e : Operation) × AnswersRequest prefix m k e
 
--- a served number is that of a request that has completed and was not served before
+-- what is served is of a request that has completed; a part of it is inside it, not empty, and none of it was served before
 abbrev pub ServedOnceAfterCompletion : Type 0
-ServedOnceAfterCompletion = (prefix back : List Item) (k : ℕ) → IsRun (prefix ++ Serves k ∷ back) →
-    (0 < k) × (k ≤ length (operations_of prefix)) × (Names (service_order prefix) k → ⊥)
+ServedOnceAfterCompletion = (prefix back : List Item) (e : Entry) → IsRun (prefix ++ Serves e ∷ back) →
+    (0 < e.request) × (e.request ≤ length (operations_of prefix))
+    × MayServe (inside_at (ends_at start prefix).core e.request) (service_order prefix) e
 
 -- the empty capture is explained by the empty order, from every start
 abbrev pub EmptyIsExplained : Type 0

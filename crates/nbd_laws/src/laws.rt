@@ -54,12 +54,13 @@ pub fn cookies_are_distinct()
 {}
 
 /// Each server message of transmission answers exactly one request, which had completed and was
-/// served before its first byte.
+/// wholly served before its first byte.
 pub fn each_reply_answers_one()
     ensures { EachReplyAnswersOne }
 {}
 
-/// The served numbers are distinct, each that of a request that had completed.
+/// What is served is of a request that had completed: a part lies inside it and is not empty, and no byte of it
+/// is served twice.
 pub fn served_once_after_completion()
     ensures { ServedOnceAfterCompletion }
 {}

@@ -148,10 +148,15 @@ pub fn order_rule(fault: OrderFault) -> Rule
     let sentence = match fault {
         OrderFault::NoSuchRequest =>
             "Each entry of an order is the number of a request, counted from 1.",
-        OrderFault::Twice => "A request is served at most once.",
+        OrderFault::Twice =>
+            "A request is served either at once, by one entry, or in parts, each by an entry of its own.",
         OrderFault::Late =>
             "A request that had not come whole when the reply to another one began was served after that one.",
         OrderFault::Missing => "A request to which a reply began was served.",
+        OrderFault::BadPart =>
+            "A part has a byte or more, lies in the request's range and in the export, and shares no offset with an earlier part of the request.",
+        OrderFault::NotCovered =>
+            "The parts of a request to which a reply began cover all of its range that lies in the export.",
     };
     Rule {
         breaker,

@@ -4,11 +4,10 @@ use Rattle.std.proofs.lemmas.Option.{slice_get_read}
 use Rattle.std.specs.BTreeMap.{get}
 use Rattle.std.specs.Ordering.{nat_cmp}
 use Rattle.nbd_wire.specs.declared.message.Message.{Message}
-use Rattle.nbd_wire.specs.protocol.Reports.{export_in}
 use Rattle.nbd_wire.specs.protocol.Operations.{Operation, Exporting, ends_reply, is_finished}
 use Rattle.nbd_wire.specs.protocol.Rules.{cookie_of, core_with_reply, reply_to, target_of}
 use Rattle.nbd_wire.specs.protocol.States as definitions
-use Rattle.nbd_wire.specs.protocol.States.{Core, Transmission, with_reply_at, operation, target, with_reply}
+use Rattle.nbd_wire.specs.protocol.States.{Core, Transmission, with_reply_at, operation, target, with_reply, export_in}
 use Rattle.nbd_state.specs.declared.asked.Exchange.{Exchange}
 use Rattle.nbd_state.specs.declared.state.Export.{Export}
 use Rattle.nbd_state.specs.declared.state.Phase.TheVariants as shown

@@ -11,7 +11,7 @@ use Rattle.nbd_wire.specs.protocol.Pieces.{piece_offset, piece_size}
 use Rattle.nbd_places.specs.internal.JudgeTransmission.{is_apart, is_apart_from}
 use Rattle.nbd_state.specs.declared.span.Span.{Span}
 use Rattle.nbd_state.specs.Spans.{span_of}
-use Rattle.nbd_state.specs.internal.Indexes.{HasMore, IsApart, IsIndex, size_from}
+use Rattle.nbd_state.specs.Indexes.{HasMore, IsApart, IsIndex, size_from}
 
 -- of no piece
 pub index-none : (sizes : ℕ → Option ℕ) → ((k : ℕ) → sizes k ≡ None) → IsIndex sizes []

@@ -3,9 +3,8 @@ use Rattle.std.proofs.Common.{◌≡◌, ℕ, zero, suc, ◌+◌, ◌-◌, ◌<�
 use Rattle.std.specs.BTreeMap.{get}
 use Rattle.std.specs.Ordering.{nat_cmp}
 use Rattle.nbd_wire.specs.declared.message.Message.{Message}
-use Rattle.nbd_wire.specs.protocol.Reports.{export_in}
 use Rattle.nbd_wire.specs.protocol.Rules.{request_of_reply, cookie_of, target_of}
-use Rattle.nbd_wire.specs.protocol.States.{Core, start, target}
+use Rattle.nbd_wire.specs.protocol.States.{Core, start, target, export_in}
 use Rattle.nbd_state.specs.declared.asked.Exchange.{Exchange}
 use Rattle.nbd_state.specs.declared.state.State.{State}
 use Rattle.nbd_state.specs.internal.Completing.{AddsUnanswered, TellsOne, known_first}
@@ -13,7 +12,7 @@ use Rattle.nbd_state.specs.Completions.{core_from}
 use Rattle.nbd_state.specs.Logs.{LogEntry, known_by, known_here, messages_of}
 use Rattle.nbd_state.specs.Shows.{AreKnown, Shows, place_of}
 use Rattle.nbd_state.proofs.PlacedLemmas.{shown_length, no_entry}
-use Rattle.nbd_laws.proofs.service.LatestLemmas.{same_number}
+use Rattle.nbd_laws.proofs.service.EntryLemmas.{same_number}
 use Rattle.nbd_state.proofs.KnownLemmas.{known_by-within, known_by-snoc, known_here-other, known_here-same, known_or, or_is, or_none}
 use Rattle.nbd_laws.proofs.requests.OutstandingLemmas.{find}
 

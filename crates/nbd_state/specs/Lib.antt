@@ -1,7 +1,9 @@
 pub mod Completions
+pub mod Indexes
 pub mod Logs
 pub mod Showing
 pub mod Shows
+pub mod Sizes
 pub mod Spans
 pub mod Transcripts
 pub mod internal

@@ -1,3 +1,2 @@
 pub mod Completing
-pub mod Indexes
 pub mod Showing

@@ -1,8 +1,8 @@
 //! A numbered request, and what became of it.
 
-ghost use Rattle.nbd_state.specs.internal.Indexes.{Indexes};
+ghost use Rattle.nbd_state.specs.Indexes.{Indexes};
 
-use crate::index::PieceIndex;
+use crate::index::SpanIndex;
 use nbd_wire::{Bytes, Piece};
 
 /// What became of a request.
@@ -43,7 +43,7 @@ pub struct Exchange {
     /// A reply message told a failure.
     pub failed: bool,
     // The pieces by their offsets, from the second one on and until the reply ends.
-    pub(crate) index: PieceIndex,
+    pub(crate) index: SpanIndex,
     // What lies apart from the pieces that the index holds, where it holds any, lies apart from all.
     ghost indexed: { Indexes index.sizes asked.pieces.items },
 }

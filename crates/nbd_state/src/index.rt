@@ -1,8 +1,8 @@
-//! An index of the pieces of a reply by their offsets.
+//! An index of spans by their offsets, and of the pieces of a reply.
 
-ghost use Rattle.std.specs.Prelude.{◌≡◌, ◌↔◌, ◌+◌, ◌++◌, ◌∷◌, ◌<◌, ◌≤◌, ℕ, [], None, Some, false, IfOk, IsTrue, MatchBool};
+ghost use Rattle.std.specs.Prelude.{◌≡◌, ◌⊎◌, ◌↔◌, ◌+◌, ◌++◌, ◌∷◌, ◌<◌, ◌≤◌, ℕ, [], None, Some, false, IfOk, IsTrue, MatchBool};
 ghost use Rattle.std.specs.BTreeMap.{btree_map_len};
-ghost use Rattle.nbd_state.specs.internal.Indexes.{HasMore, Indexes, IsFree, Meets, size_from};
+ghost use Rattle.nbd_state.specs.Indexes.{HasMore, Indexes, IsFree, Meets, size_from};
 
 use crate::proper::ends_by;
 use crate::span::Span;
@@ -10,36 +10,36 @@ use nbd_wire::Piece;
 use std::alloc::{AllocError, Global};
 use std::collections::BTreeMap;
 
-/// The sizes of pieces by their offsets: pieces that share no offset, and none of them empty. It takes no
+/// The sizes of spans by their offsets: spans that share no offset, and none of them empty. It takes no
 /// memory as long as it holds none.
 #[derive(Drop)]
-pub struct PieceIndex {
+pub struct SpanIndex {
     sizes: BTreeMap<u64, u64>,
-    // No piece is empty.
+    // No span is empty.
     ghost filled: { (k n : ℕ) → size_from sizes k ≡ Some n → 0 < n },
-    // A piece ends where a later one begins, or before.
+    // A span ends where a later one begins, or before.
     ghost apart: { (k n j m : ℕ) → size_from sizes k ≡ Some n → size_from sizes j ≡ Some m → k < j → k + n ≤ j },
 }
 
-impl PieceIndex {
-    /// Without a piece.
-    pub fn new(alloc: Global) -> PieceIndex
+impl SpanIndex {
+    /// Without a span.
+    pub fn new(alloc: Global) -> SpanIndex
         ensures empty { (k : ℕ) → size_from result.sizes k ≡ None }
         ensures len { btree_map_len result.sizes ≡ 0 }
     {
-        PieceIndex {
+        SpanIndex {
             sizes: BTreeMap::new(alloc),
         }
     }
 
-    /// Whether it holds no piece.
+    /// Whether it holds no span.
     pub fn is_empty(&self) -> bool
         ensures { IsTrue result ↔ (btree_map_len self.now.sizes ≡ 0) }
     {
         self.sizes.is_empty()
     }
 
-    /// Whether the span lies before or after each of the pieces. The cost is the logarithm of their number.
+    /// Whether the span lies before or after each of those that it holds. The cost is the logarithm of their number.
     pub fn is_apart(&self, span: Span) -> bool
         ensures { MatchBool result (IsFree (size_from self.now.sizes) span.offset span.size)
             (Meets (size_from self.now.sizes) span.offset span.size) }
@@ -47,7 +47,7 @@ impl PieceIndex {
         self.end_before(span.offset) && self.begin_after(span)
     }
 
-    // The pieces that begin before an offset end there or before.
+    // The spans that begin before an offset end there or before.
     fn end_before(&self, offset: u64) -> bool
         ensures { MatchBool result
             ((k n : ℕ) → size_from self.now.sizes k ≡ Some n → k < offset → k + n ≤ offset)
@@ -59,7 +59,7 @@ impl PieceIndex {
         }
     }
 
-    // The pieces that do not begin before the span begin where it ends or after.
+    // The spans that do not begin before this one begin where it ends or after.
     fn begin_after(&self, span: Span) -> bool
         ensures { MatchBool result
             ((k n : ℕ) → size_from self.now.sizes k ≡ Some n → span.offset ≤ k → span.offset + span.size ≤ k)
@@ -72,11 +72,14 @@ impl PieceIndex {
         }
     }
 
-    // Takes a piece in, unless it is empty or does not lie apart from those that are there.
-    fn insert(&mut self, span: Span) -> Result<bool, AllocError>
+    /// Takes a span in, unless it is empty or does not lie apart from those that are there. The cost is the
+    /// logarithm of their number.
+    pub fn insert(&mut self, span: Span) -> Result<bool, AllocError>
         ensures taken { IfOk result (λ taken. IsTrue taken →
-            HasMore (size_from self.old.sizes) (size_from self.new.sizes) span.offset span.size) }
-        ensures left { IfOk result (λ taken. taken ≡ false → self.new.sizes ≡ self.old.sizes) }
+            (0 < span.size) × IsFree (size_from self.old.sizes) span.offset span.size
+            × HasMore (size_from self.old.sizes) (size_from self.new.sizes) span.offset span.size) }
+        ensures left { IfOk result (λ taken. taken ≡ false → (self.new.sizes ≡ self.old.sizes)
+            × ((span.size ≡ 0) ⊎ Meets (size_from self.old.sizes) span.offset span.size)) }
     {
         if span.size == 0 || !self.is_apart(span) {
             return Ok(false);
@@ -92,7 +95,7 @@ impl PieceIndex {
         alloc: Global,
         pieces: &[Piece],
         piece: &Piece,
-    ) -> Result<PieceIndex, AllocError>
+    ) -> Result<SpanIndex, AllocError>
         requires { Indexes self.sizes pieces.now }
         ensures { IfOk result (λ index. Indexes index.sizes (pieces.now ++ piece.now ∷ [])) }
     {
@@ -108,7 +111,7 @@ impl PieceIndex {
         if index.insert(Span::of(piece))? {
             Ok(index)
         } else {
-            Ok(PieceIndex::new(alloc))
+            Ok(SpanIndex::new(alloc))
         }
     }
 }

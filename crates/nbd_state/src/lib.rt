@@ -16,7 +16,8 @@ mod state;
 mod transcript;
 
 pub use asked::{Asked, Exchange, Outcome};
-pub use proper::ends_by;
+pub use index::SpanIndex;
+pub use proper::{ends_by, has_range};
 pub use span::Span;
 pub use state::{Chosen, Export, Phase, State};
 pub use transcript::Transcript;

@@ -35,8 +35,8 @@ fn is_known(command: u16) -> bool
     command == commands::FLUSH || has_range(command)
 }
 
-// The offset and length of requests of this type are a range of the export.
-fn has_range(command: u16) -> bool
+/// Whether the offset and length of requests of this type are a range of the export.
+pub fn has_range(command: u16) -> bool
     ensures { result ≡ operations.has_range command }
 {
     command == commands::READ

@@ -12,12 +12,12 @@ ghost use Rattle.nbd_wire.specs.protocol.Pieces.{chunk_piece};
 ghost use Rattle.nbd_wire.specs.protocol.States.{with_reply};
 ghost use Rattle.nbd_state.specs.declared.asked.Outcome.TheVariants.{Failure, Success};
 ghost use Rattle.std.specs.Option.{option_copied};
-ghost use Rattle.nbd_state.specs.internal.Indexes.{Indexes};
+ghost use Rattle.nbd_state.specs.Indexes.{Indexes};
 ghost use Rattle.nbd_state.specs.internal.Showing.{operation_of_head};
 ghost use Rattle.nbd_state.specs.Showing.{IsShown, exporting};
 
 use crate::asked::{Asked, Exchange, Outcome};
-use crate::index::PieceIndex;
+use crate::index::SpanIndex;
 use crate::proper::is_proper;
 use crate::state::Export;
 use nbd_wire::flags::has;
@@ -51,7 +51,7 @@ impl Exchange {
         Ok(Exchange {
             asked,
             failed: false,
-            index: PieceIndex::new(alloc),
+            index: SpanIndex::new(alloc),
         })
     }
 
@@ -127,7 +127,7 @@ impl Exchange {
             IsShown export e self.old → IsShown export e self.new) }
         ensures kept { IfErr result (λ _. self.new.asked.known_at ≡ self.old.asked.known_at) }
     {
-        let index = mem::replace(&mut self.index, PieceIndex::new(alloc));
+        let index = mem::replace(&mut self.index, SpanIndex::new(alloc));
         let index = index_after(alloc, index, &self.asked.pieces, piece.as_ref(), ends)?;
         push_if(&mut self.asked.pieces, piece)?;
         self.index = index;
@@ -141,16 +141,16 @@ impl Exchange {
 // The index of these pieces and one more, if any; where the reply ends it holds none.
 fn index_after(
     alloc: Global,
-    index: PieceIndex,
+    index: SpanIndex,
     pieces: &[Piece],
     piece: Option<&Piece>,
     ends: bool,
-) -> Result<PieceIndex, AllocError>
+) -> Result<SpanIndex, AllocError>
     requires { Indexes index.sizes pieces.now }
     ensures { IfOk result (λ after. Indexes after.sizes (pieces.now ++ chunk_piece (option_copied piece.entry))) }
 {
     if ends {
-        return Ok(PieceIndex::new(alloc));
+        return Ok(SpanIndex::new(alloc));
     }
     match piece {
         Some(piece) => index.with(alloc, pieces, piece),

@@ -1,5 +1,6 @@
 -- A session over a capture's chunks: what it took, and how it stands at its end.
 use Rattle.std.proofs.Common.{◌≡◌, ℕ, ◌≤◌, List, [], ◌∷◌, ◌++◌, length, refl, sym, ◌∙◌, ap, subst, arith, length-append, append_assoc, append-nil, Option, Some, None, IfSome, Result, Ok, Err, IfOk, IfErr, OnOk, inl}
+use Rattle.nbd_wire.specs.declared.entry.Entry.{Entry}
 use Rattle.nbd_wire.specs.declared.fault.WireFault.{WireFault}
 use Rattle.nbd_wire.specs.declared.message.Side.{Side}
 use Rattle.nbd_wire.specs.protocol.Captures.{Pair, side_pairs}
@@ -139,7 +140,7 @@ next_pushed first old next new chunks s bytes piece before chunk state same over
     (chunks ++ one ∷ [], reads-append first old next chunks (one ∷ []) before chunk, state, subst (λ ps. IsOver ps new) (ap (λ bs. flat_of chunks ++ side_pairs s bs) same ∙ sym (flat-snoc chunks one)) over)
 
 -- the conclusion from a session that is over is the verdict on its capture
-pub checked_over : (capture : List Pair) (r : SessionView) (order : List ℕ) (initial : Start) (finished : Result Report SessionFault) (v : Verdict) → IsOver capture r →
+pub checked_over : (capture : List Pair) (r : SessionView) (order : List Entry) (initial : Start) (finished : Result Report SessionFault) (v : Verdict) → IsOver capture r →
     fault_of finished ≡ fault_at_end r → IfOk finished (IsReported r) → IfErr finished (EndsIn r) → IsConclusion finished order initial v →
     ((items : List Item) → IsRun items → IsReportOf items finished → Answers (pairs items) order initial v) → IsChecked capture order initial v
 checked_over capture r order initial finished v over same reported ends =

@@ -5,14 +5,15 @@ use Rattle.std.specs.Io.KnownBytes.{Appends}
 use Rattle.nbd_capture.specs.Capture.{Chunk, IsCaptureText}
 use Rattle.nbd_capture.specs.Order.{IsOrderText}
 use Rattle.nbd_capture.specs.Writing.{AppendsPrefix}
+use Rattle.nbd_wire.specs.declared.entry.Entry.{Entry}
 use Rattle.nbd_wire.specs.protocol.Explains.{IsExplained, Start}
 use Rattle.nbd_judge.specs.declared.verdict.Verdict.{Verdict}
 use Rattle.nbd_judge.specs.declared.verdict.Verdict.TheVariants.{Yes, Wire, Image, Order, Content}
 use Rattle.nbd_tool.specs.Runs.{IsVerdictOn, SaysYes, flat_of}
 use Rattle.nbd_tool.specs.Verdicts.{line}
 
-abbrev IsExplainedOn : (text numbers_text : List ℕ) → Start → Type 0
-IsExplainedOn text numbers_text initial = (chunks : List Chunk) × (numbers : List ℕ) × IsCaptureText text chunks × IsOrderText numbers_text numbers × IsExplained (flat_of chunks) numbers initial
+abbrev IsExplainedOn : (text order_text : List ℕ) → Start → Type 0
+IsExplainedOn text order_text initial = (chunks : List Chunk) × (entries : List Entry) × IsCaptureText text chunks × IsOrderText order_text entries × IsExplained (flat_of chunks) entries initial
 
 abbrev first : List ℕ → ℕ
 first [] = 0
@@ -23,21 +24,21 @@ n_is_no_y : (text rest : List ℕ) → first text ≡ 110 → text ≡ codes "ye
 n_is_no_y text rest n e = let q : 110 ≡ 121 = sym n ∙ ap first e in omega (arith, q)
 
 -- a verdict whose line begins with yes explains
-explains : (text numbers_text : List ℕ) (initial : Start) (v : Verdict) (rest : List ℕ) → line v ≡ codes "yes" ++ rest → IsVerdictOn (Some text) (Some numbers_text) (Some initial) v → IsExplainedOn text numbers_text initial
-explains text numbers_text initial (Yes a b c) rest e v = (v.0, v.1, v.2, v.3, v.4.answers.explained)
-explains text numbers_text initial (Wire at fault) rest e v = absurd (n_is_no_y (line (Wire at fault)) rest refl e)
-explains text numbers_text initial (Image image size) rest e v = absurd (n_is_no_y (line (Image image size)) rest refl e)
-explains text numbers_text initial (Order entry fault) rest e v = absurd (n_is_no_y (line (Order entry fault)) rest refl e)
-explains text numbers_text initial (Content request offset) rest e v = absurd (n_is_no_y (line (Content request offset)) rest refl e)
+explains : (text order_text : List ℕ) (initial : Start) (v : Verdict) (rest : List ℕ) → line v ≡ codes "yes" ++ rest → IsVerdictOn (Some text) (Some order_text) (Some initial) v → IsExplainedOn text order_text initial
+explains text order_text initial (Yes a b c) rest e v = (v.0, v.1, v.2, v.3, v.4.answers.explained)
+explains text order_text initial (Wire at fault) rest e v = absurd (n_is_no_y (line (Wire at fault)) rest refl e)
+explains text order_text initial (Image image size) rest e v = absurd (n_is_no_y (line (Image image size)) rest refl e)
+explains text order_text initial (Order entry fault) rest e v = absurd (n_is_no_y (line (Order entry fault)) rest refl e)
+explains text order_text initial (Content request offset) rest e v = absurd (n_is_no_y (line (Content request offset)) rest refl e)
 
 -- a prefix of a verdict's line was written
 pub says_prefix : (capture order : Option (List ℕ)) (initial : Option Start) (old new : Option (List ℕ)) (v : Verdict) → IsVerdictOn capture order initial v → AppendsPrefix old new (line v) → SaysYes capture order initial old new
-says_prefix (Some text) (Some numbers_text) (Some initial) (Some old) (Some new) v is f = λ written at begins.
+says_prefix (Some text) (Some order_text) (Some initial) (Some old) (Some new) v is f = λ written at begins.
     (let same : written ≡ f.0 = append_cancel_left old written f.0 (sym at ∙ f.3) in
-    explains text numbers_text initial v (begins.0 ++ f.1) (f.2 ∙ ap (λ l. l ++ f.1) (sym same ∙ begins.1) ∙ append_assoc (codes "yes") begins.0 f.1) is)
-says_prefix (Some text) (Some numbers_text) (Some initial) (Some old) None v is f = tt
-says_prefix (Some text) (Some numbers_text) (Some initial) None new v is f = tt
-says_prefix (Some text) (Some numbers_text) None old new v is f = tt
+    explains text order_text initial v (begins.0 ++ f.1) (f.2 ∙ ap (λ l. l ++ f.1) (sym same ∙ begins.1) ∙ append_assoc (codes "yes") begins.0 f.1) is)
+says_prefix (Some text) (Some order_text) (Some initial) (Some old) None v is f = tt
+says_prefix (Some text) (Some order_text) (Some initial) None new v is f = tt
+says_prefix (Some text) (Some order_text) None old new v is f = tt
 says_prefix (Some text) None initial old new v is f = tt
 says_prefix None order initial old new v is f = tt
 
@@ -56,8 +57,8 @@ nothing_begins rest e = let q : 0 ≡ 121 = ap first e in absurd (omega (arith, 
 
 -- nothing was written
 pub says_nothing : (capture order : Option (List ℕ)) (initial : Option Start) (old : Option (List ℕ)) → SaysYes capture order initial old old
-says_nothing (Some text) (Some numbers_text) (Some initial) (Some old) = λ written at begins. (let e : [] ≡ codes "yes" ++ begins.0 = sym (none_added old written at) ∙ begins.1 in nothing_begins begins.0 e)
-says_nothing (Some text) (Some numbers_text) (Some initial) None = tt
-says_nothing (Some text) (Some numbers_text) None old = tt
+says_nothing (Some text) (Some order_text) (Some initial) (Some old) = λ written at begins. (let e : [] ≡ codes "yes" ++ begins.0 = sym (none_added old written at) ∙ begins.1 in nothing_begins begins.0 e)
+says_nothing (Some text) (Some order_text) (Some initial) None = tt
+says_nothing (Some text) (Some order_text) None old = tt
 says_nothing (Some text) None initial old = tt
 says_nothing None order initial old = tt

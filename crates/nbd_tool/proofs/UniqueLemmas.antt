@@ -1,13 +1,14 @@
 -- Each run has one line, or one output, to write.
-use Rattle.std.proofs.Common.{◌≡◌, ℕ, List, [], ◌∷◌, ◌++◌, length, refl, sym, ◌∙◌, ap, subst}
+use Rattle.std.proofs.Common.{◌≡◌, List, [], ◌∷◌, ◌++◌, length, refl, sym, ◌∙◌, ap, subst}
 use Rattle.std.specs.Prelude.{codes}
+use Rattle.nbd_wire.specs.declared.entry.Entry.{Entry}
 use Rattle.nbd_wire.specs.declared.message.Message.{Message}
 use Rattle.nbd_wire.specs.protocol.Captures.{Pair}
 use Rattle.nbd_wire.specs.protocol.Marks.{Item, Byte, Starts, Completes, Serves, completed_messages, without_service}
 use Rattle.nbd_capture.specs.Capture.{Chunk, IsCaptureLine}
 use Rattle.nbd_capture.specs.Order.{IsOrderLine}
 use Rattle.nbd_capture.proofs.FormLemmas.{one_saying}
-use Rattle.nbd_capture.proofs.NumeralLemmas.{one_number}
+use Rattle.nbd_capture.proofs.OrderLineLemmas.{one_entry}
 use Rattle.nbd_capture.proofs.ReadingLemmas.{one_reading}
 use Rattle.nbd_laws.proofs.service.ServiceLemmas.{same_marks}
 use Rattle.nbd_session.specs.Sessions.{HasRun}
@@ -21,11 +22,11 @@ use Rattle.nbd_tool.specs.Uniqueness.{OneLine, OneOutput}
 use Rattle.nbd_tool.specs.Verdicts.{line}
 
 pub one_line : OneLine
-one_line text numbers_text initial v w a b =
+one_line text order_text initial v w a b =
     let chunks : a.0 ≡ b.0 = one_reading IsCaptureLine one_saying text a.0 b.0 a.2 b.2 in
-    let numbers : a.1 ≡ b.1 = one_reading IsOrderLine one_number numbers_text a.1 b.1 a.3 b.3 in
+    let entries : a.1 ≡ b.1 = one_reading IsOrderLine one_entry order_text a.1 b.1 a.3 b.3 in
     one_answer (flat_of b.0) b.1 initial v w
-    (subst (λ (o : List ℕ). IsChecked (flat_of b.0) o initial v) numbers (subst (λ (c : List Chunk). IsChecked (flat_of c) a.1 initial v) chunks a.4)) b.4
+    (subst (λ (o : List Entry). IsChecked (flat_of b.0) o initial v) entries (subst (λ (c : List Chunk). IsChecked (flat_of c) a.1 initial v) chunks a.4)) b.4
 
 -- the moments of service aside, the same messages complete
 completed_alike : (items : List Item) → completed_messages (without_service items) ≡ completed_messages items

@@ -1,5 +1,6 @@
 -- What a run of `check` says of its inputs and leaves written, where the readers and the writer state their bytes.
 use Rattle.std.specs.Prelude.{◌≡◌, ◌↔◌, ℕ, List, ◌++◌, Option, Some, IfSome, IsTrue, Bool, codes, map}
+use Rattle.nbd_wire.specs.declared.entry.Entry.{Entry}
 use Rattle.nbd_wire.specs.protocol.Explains.{IsExplained, Start}
 use Rattle.nbd_wire.specs.protocol.Captures.{Pair, flat}
 use Rattle.std.specs.Io.KnownBytes.{Appends, Keeps}
@@ -20,7 +21,7 @@ IsCapture known = IfSome known (λ text. (chunks : List Chunk) × IsCaptureText 
 
 -- known bytes are an order text
 abbrev pub IsOrder : Option (List ℕ) → Type 0
-IsOrder known = IfSome known (λ text. (numbers : List ℕ) × IsOrderText text numbers)
+IsOrder known = IfSome known (λ text. (entries : List Entry) × IsOrderText text entries)
 
 -- what a fault that came of reading the capture says of its known bytes
 abbrev pub IsCaptureCause : Option (List ℕ) → RunFault → Type 0
@@ -40,10 +41,10 @@ IsOrderCause order _ = ⊥
 abbrev pub flat_of : List Chunk → List Pair
 flat_of chunks = flat (map (λ (c : Chunk). (c.side, c.bytes)) chunks)
 
--- the verdict on known texts and a known start: that on the capture's chunks and the order's numbers
+-- the verdict on known texts and a known start: that on the capture's chunks and the order's entries
 abbrev pub IsVerdictOn : (capture order : Option (List ℕ)) → Option Start → Verdict → Type 0
-IsVerdictOn (Some text) (Some numbers_text) (Some initial) verdict =
-    (chunks : List Chunk) × (numbers : List ℕ) × IsCaptureText text chunks × IsOrderText numbers_text numbers × IsChecked (flat_of chunks) numbers initial verdict
+IsVerdictOn (Some text) (Some order_text) (Some initial) verdict =
+    (chunks : List Chunk) × (entries : List Entry) × IsCaptureText text chunks × IsOrderText order_text entries × IsChecked (flat_of chunks) entries initial verdict
 IsVerdictOn capture order initial verdict = Unit {0}
 
 -- the whole line of one verdict was written, and true was answered exactly where it is a yes
@@ -80,9 +81,9 @@ abbrev pub BeginsYes : List ℕ → Type 0
 BeginsYes text = (rest : List ℕ) × (text ≡ codes "yes" ++ rest)
 
 -- where what was written begins with `yes`, whether all of its line was written or not, the capture text has chunks and the
--- order text has numbers, and these are explained from the start that was read
+-- order text has entries, and these are explained from the start that was read
 abbrev pub SaysYes : (capture order : Option (List ℕ)) → Option Start → (old new : Option (List ℕ)) → Type 0
-SaysYes (Some text) (Some numbers_text) (Some initial) (Some old) (Some new) =
+SaysYes (Some text) (Some order_text) (Some initial) (Some old) (Some new) =
     (written : List ℕ) → new ≡ old ++ written → BeginsYes written →
-    (chunks : List Chunk) × (numbers : List ℕ) × IsCaptureText text chunks × IsOrderText numbers_text numbers × IsExplained (flat_of chunks) numbers initial
+    (chunks : List Chunk) × (entries : List Entry) × IsCaptureText text chunks × IsOrderText order_text entries × IsExplained (flat_of chunks) entries initial
 SaysYes capture order initial old new = Unit {0}

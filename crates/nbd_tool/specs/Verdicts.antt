@@ -4,7 +4,7 @@ use Rattle.std.specs.Fmt.{decimal}
 use Rattle.nbd_judge.specs.declared.verdict.Verdict.{Verdict}
 use Rattle.nbd_judge.specs.declared.verdict.Verdict.TheVariants.{Yes, Wire, Image, Order, Content}
 use Rattle.nbd_judge.specs.declared.verdict.OrderFault.{OrderFault}
-use Rattle.nbd_judge.specs.declared.verdict.OrderFault.TheVariants.{NoSuchRequest, Twice, Late, Missing}
+use Rattle.nbd_judge.specs.declared.verdict.OrderFault.TheVariants.{NoSuchRequest, Twice, Late, Missing, BadPart, NotCovered}
 use Rattle.nbd_wire.specs.declared.fault.WireFault.{WireFault}
 use Rattle.nbd_wire.specs.declared.fault.WireFault.TheVariants.{BadMagic, NotFixedNewstyle, BadClientFlags, OutOfTurn, WrongOption, BadReplyKind, OutOfProfile, BadReplyPayload, MissingExportInfo, BadExport, ExportTooLarge, CookieInUse, UnknownCookie, SimpleForbidden, ChunkForbidden, BadChunk, BadContent, IncompleteRead, SuccessOfImproper, BadDisconnect, Unfinished}
 
@@ -43,6 +43,8 @@ order_fault_name NoSuchRequest = codes "NoSuchRequest"
 order_fault_name Twice = codes "Twice"
 order_fault_name Late = codes "Late"
 order_fault_name Missing = codes "Missing"
+order_fault_name BadPart = codes "BadPart"
+order_fault_name NotCovered = codes "NotCovered"
 
 -- the words of a verdict's line; numbers are decimal without leading zeros
 abbrev pub words : Verdict → List ℕ

@@ -11,6 +11,7 @@ use crate::start::{StartFrom, read_start};
 use crate::verdict::{Line, is_yes};
 use nbd_capture::{parse_order, write_whole};
 use nbd_judge::conclude;
+use nbd_wire::Entry;
 use std::alloc::Global;
 use std::io::{BufRead, Read, Write};
 
@@ -48,10 +49,10 @@ pub fn run_check<C: BufRead + Drop, O: Read + Drop, I: Read + Drop, W: Write>(
     Ok(is_yes(&verdict))
 }
 
-/// Reads an order text whole, and answers its numbers.
-pub fn read_order<O: Read>(alloc: Global, order: &mut O) -> Result<Vec<u64>, RunFault>
-    ensures text { IfOk result (λ numbers. IfSome (O.remaining order.old)
-        (λ text. IsOrderText text numbers.items)) }
+/// Reads an order text whole, and answers its entries.
+pub fn read_order<O: Read>(alloc: Global, order: &mut O) -> Result<Vec<Entry>, RunFault>
+    ensures text { IfOk result (λ entries. IfSome (O.remaining order.old)
+        (λ text. IsOrderText text entries.items)) }
     ensures limited { OnOk result (IsWithinLimit (O.remaining order.old)) }
     ensures cause { IfErr result (IsOrderCause (O.remaining order.old)) }
 {

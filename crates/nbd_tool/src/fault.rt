@@ -17,7 +17,7 @@ pub enum RunFault {
     CaptureLine(u64),
     /// The capture could not be opened or read, or has more bytes than `READ_LIMIT`.
     CaptureRead,
-    /// The order's line with this number, counted from 1, is no number, or no line feed ends it.
+    /// The order's line with this number, counted from 1, is malformed, or no line feed ends it.
     OrderLine(u64),
     /// The order could not be opened or read, or has more bytes than `READ_LIMIT`.
     OrderRead,

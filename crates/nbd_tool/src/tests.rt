@@ -16,6 +16,7 @@ mod negotiation;
 mod offers;
 mod openings;
 mod orders;
+mod parts;
 mod pieces;
 mod refused_negotiation;
 mod shows;

@@ -89,5 +89,7 @@ fn order_fault_name(fault: OrderFault) -> &'static str
         OrderFault::Twice => "Twice",
         OrderFault::Late => "Late",
         OrderFault::Missing => "Missing",
+        OrderFault::BadPart => "BadPart",
+        OrderFault::NotCovered => "NotCovered",
     }
 }

@@ -9,6 +9,7 @@ pub mod Marks
 pub mod Flags
 pub mod Pieces
 pub mod Operations
+pub mod Entries
 pub mod States
 pub mod Options
 pub mod Replies

@@ -10,6 +10,7 @@ pub mod chunks;
 pub mod command_flags;
 pub mod commands;
 pub mod encoding;
+pub mod entry;
 pub mod fault;
 pub mod flags;
 pub mod handshake;
@@ -31,6 +32,7 @@ pub mod transmission;
 pub use bytes::Bytes;
 pub use chunk_payloads::{content_of, failure_of};
 pub use encoding::append;
+pub use entry::{Entry, Part};
 pub use fault::WireFault;
 pub use heads::negotiation::{
     AnswerHead, ChoiceHead, answer_head, choice_head, client_flags_head, export_head, greeting_head,

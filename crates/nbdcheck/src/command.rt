@@ -32,7 +32,8 @@ Example:
   nbdcheck check session.cap session.ord --start zero
 
 CAPTURE has a line for each recorded piece, 'C' or 'S' for its sender, a space and hexadecimal
-digits. ORDER has the numbers of the requests, one a line, in the order in which they were served.
+digits. ORDER has the numbers of the requests, one a line, in the order in which they were served;
+a line '1 0 512' serves of request 1 the 512 bytes from offset 0 of the export on.
 START is what the export held at first: unknown bytes, zeroes, or the bytes of a file.
 
 Exit status:

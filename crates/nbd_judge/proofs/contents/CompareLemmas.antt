@@ -5,6 +5,8 @@ use Rattle.std.proofs.lemmas.List.Sorted.{Contains-permutation, IsPermutation-sy
 use Rattle.std.specs.List.{Contains}
 use Rattle.std.specs.List.Sorted.{IsPermutation}
 use Rattle.std.proofs.lemmas.Option.{slice_get_within, slice_get-get_or}
+use Rattle.nbd_wire.specs.declared.entry.Part.{Part}
+use Rattle.nbd_wire.specs.protocol.Entries.{in_part}
 use Rattle.nbd_wire.specs.declared.commands.TheConstants as commands
 use Rattle.nbd_wire.specs.declared.payloads.Piece.{Piece}
 use Rattle.nbd_wire.specs.declared.payloads.Piece.TheVariants.{Bytes, Hole}
@@ -22,7 +24,7 @@ pub least_as : (P Q : ℕ → Type 0) (o : Option ℕ) → ((m : ℕ) → P m �
 least_as P Q None to back h = λ n q. h n (back n q)
 least_as P Q (Some n) to back h = (to n h.0, λ m l q. h.1 m l (back m q))
 
-least_lesser : (P Q : ℕ → Type 0) (a b : Option ℕ) → IsLeast P a → IsLeast Q b → IsLeast (λ x. P x ⊎ Q x) (lesser_of a b)
+pub least_lesser : (P Q : ℕ → Type 0) (a b : Option ℕ) → IsLeast P a → IsLeast Q b → IsLeast (λ x. P x ⊎ Q x) (lesser_of a b)
 least_lesser P Q None None p q = λ n e. elim e [ inl x ↦ p n x | inr y ↦ q n y ]
 least_lesser P Q None (Some y) p q = (inr q.0, λ m l e. elim e [ inl u ↦ p m u | inr v ↦ q.1 m l v ])
 least_lesser P Q (Some x) None p q = (inl p.0, λ m l e. elim e [ inl u ↦ p.1 m l u | inr v ↦ q m v ])
@@ -50,9 +52,12 @@ one_more byte pieces n p a b at ha hb =
       | inr ne ↦ (let l : d.0 < n + 1 = d.2 in inl (d.0, d.1, omega arith, d.3, d.4))
     ]
 
-both : (a b : Bool) → (a && b) ≡ true → (a ≡ true) × (b ≡ true)
+pub both : (a b : Bool) → (a && b) ≡ true → (a ≡ true) × (b ≡ true)
 both true b e = (refl, e)
 both false b e = absurd (let q : false ≡ true = e in (cc))
+
+both_in : (a b : Bool) → a ≡ true → b ≡ true → (a && b) ≡ true
+both_in a b e f = ap (λ c. c && b) e ∙ f
 
 pub in_from : (offset len x : ℕ) → offset ≤ x → x < offset + len → IsTrue (is_in offset len x)
 in_from offset len x lo hi = ap (λ b. b && nat_lt x (offset + len)) (le-leb offset x lo) ∙ lt-ltb x (offset + len) hi
@@ -120,24 +125,34 @@ module _ (size : ℕ) (a : Asked) (byte : ℕ → Option ℕ) (reads : a.command
   same_byte : (i : ℕ) (p : Piece) (x : ℕ) → slice_get a.pieces i ≡ Some p → IsTrue (holds p x) → byte_at a.pieces x ≡ Some (piece_byte p x)
   same_byte i p x e h = byte_of a.pieces x (λ j k q r eq er hq hr. sound.laid.apart j k q r x eq er hq hr) i p e h
 
-  to_wrong : (x : ℕ) → DiffersInOneOf byte a.pieces (length a.pieces) x → IsWrongIn (effect a) byte x
-  to_wrong x d =
-      let at : (piece_offset d.1 ≤ x) × (x < piece_offset d.1 + piece_size d.1) = from_in (piece_offset d.1) (piece_size d.1) x d.4.0 in
-      let lo : piece_offset d.1 ≤ x = at.0 in
-      let hi : x < piece_offset d.1 + piece_size d.1 = at.1 in
-      let inside : (a.offset ≤ piece_offset d.1) × (piece_offset d.1 + piece_size d.1 ≤ a.offset + a.length) = sound.laid.inside d.0 d.1 d.3 in
-      let from : a.offset ≤ piece_offset d.1 = inside.0 in
-      let end : piece_offset d.1 + piece_size d.1 ≤ a.offset + a.length = inside.1 in
-      let same : byte_at a.pieces x ≡ Some (piece_byte d.1 x) = same_byte d.0 d.1 x d.3 d.4.0 in
-      (reads, well, in_from a.offset a.length x (omega arith) (omega arith), (d.4.1.0, d.4.1.1, λ e. d.4.1.2 (sym same ∙ e)))
+  module _ (p : Option Part) where
+    -- one of the pieces differs at x, which an entry with this part serves
+    abbrev DiffersHere : ℕ → Type 0
+    DiffersHere x = DiffersInOneOf byte a.pieces (length a.pieces) x × IsTrue (in_part p x)
 
-  from_wrong : (x : ℕ) → IsWrongIn (effect a) byte x → DiffersInOneOf byte a.pieces (length a.pieces) x
-  from_wrong x w =
-      let c : (i : ℕ) × (p : Piece) × (slice_get a.pieces i ≡ Some p) × IsTrue (holds p x) = holding a.pieces x (sound.covered reads well x w.2) in
-      (c.0, c.1, slice_get_within a.pieces c.0 c.1 c.2, c.2, (c.3, (w.3.0, w.3.1, λ e. w.3.2 (same_byte c.0 c.1 x c.2 c.3 ∙ e))))
+    to_wrong : (x : ℕ) → DiffersHere x → IsWrongIn p (effect a) byte x
+    to_wrong x h =
+        let d : DiffersInOneOf byte a.pieces (length a.pieces) x = h.0 in
+        let at : (piece_offset d.1 ≤ x) × (x < piece_offset d.1 + piece_size d.1) = from_in (piece_offset d.1) (piece_size d.1) x d.4.0 in
+        let lo : piece_offset d.1 ≤ x = at.0 in
+        let hi : x < piece_offset d.1 + piece_size d.1 = at.1 in
+        let inside : (a.offset ≤ piece_offset d.1) × (piece_offset d.1 + piece_size d.1 ≤ a.offset + a.length) = sound.laid.inside d.0 d.1 d.3 in
+        let from : a.offset ≤ piece_offset d.1 = inside.0 in
+        let end : piece_offset d.1 + piece_size d.1 ≤ a.offset + a.length = inside.1 in
+        let same : byte_at a.pieces x ≡ Some (piece_byte d.1 x) = same_byte d.0 d.1 x d.3 d.4.0 in
+        (reads, well, both_in (is_in a.offset a.length x) (in_part p x) (in_from a.offset a.length x (omega arith) (omega arith)) h.1, (d.4.1.0, d.4.1.1, λ e. d.4.1.2 (sym same ∙ e)))
 
-  pub wrong_read : (o : Option ℕ) → IsLeast (DiffersInOneOf byte a.pieces (length a.pieces)) o → IsLeast (IsWrongIn (effect a) byte) o
-  wrong_read o h = least_as (DiffersInOneOf byte a.pieces (length a.pieces)) (IsWrongIn (effect a) byte) o to_wrong from_wrong h
+    from_wrong : (x : ℕ) → IsWrongIn p (effect a) byte x → DiffersHere x
+    from_wrong x w =
+        let s = both (is_in a.offset a.length x) (in_part p x) w.2 in
+        let c : (i : ℕ) × (q : Piece) × (slice_get a.pieces i ≡ Some q) × IsTrue (holds q x) = holding a.pieces x (sound.covered reads well x s.0) in
+        ((c.0, c.1, slice_get_within a.pieces c.0 c.1 c.2, c.2, (c.3, (w.3.0, w.3.1, λ e. w.3.2 (same_byte c.0 c.1 x c.2 c.3 ∙ e)))), s.1)
+
+    pub wrong_part : (o : Option ℕ) → IsLeast DiffersHere o → IsLeast (IsWrongIn p (effect a) byte) o
+    wrong_part o h = least_as DiffersHere (IsWrongIn p (effect a) byte) o to_wrong from_wrong h
+
+  pub wrong_read : (o : Option ℕ) → IsLeast (DiffersInOneOf byte a.pieces (length a.pieces)) o → IsLeast (IsWrongIn None (effect a) byte) o
+  wrong_read o h = wrong_part None o (least_as (DiffersInOneOf byte a.pieces (length a.pieces)) (DiffersHere None) o (λ m d. (d, refl)) (λ m d. d.0) h)
 
 -- a piece that a list of references leads to
 pub at_reference : (ps : List (Bor Piece)) (i : ℕ) (p : Bor Piece) → i < length ps → p ≡ slice_index_or ps i p → slice_get (map (λ q. q.now) ps) i ≡ Some p.now

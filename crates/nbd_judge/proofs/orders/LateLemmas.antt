@@ -1,9 +1,21 @@
 -- The pass from the end that keeps the least count known so far.
-use Rattle.std.proofs.Common.{◌≡◌, ℕ, ◌+◌, ◌<◌, ◌≤◌, ◌⊎◌, inl, inr, List, length, refl, sym, ◌∙◌, ap, subst, Option, Some, None, arith, slice_index, Bool, true, false, nat_le, if◌then◌else◌, le_refl}
+use Rattle.std.proofs.Common.{◌≡◌, ℕ, zero, suc, ◌+◌, ◌<◌, ◌≤◌, ◌⊎◌, inl, inr, List, [], ◌∷◌, get_or, length, refl, sym, ◌∙◌, ap, subst, Option, Some, None, arith, slice_index, Bool, true, false, nat_le, if◌then◌else◌, le_refl}
 use Rattle.std.proofs.lemmas.Bool.{leb-true, leb-false, ltb-true, ltb-false}
+use Rattle.nbd_wire.specs.declared.entry.Entry.{Entry}
+use Rattle.nbd_wire.specs.protocol.Entries.{numbers}
 use Rattle.nbd_wire.specs.protocol.Orders.{IsLate}
 use Rattle.nbd_judge.specs.internal.Lesser.{lesser_of, is_above}
 use Rattle.nbd_judge.proofs.verdicts.DecisionLemmas.{same_or_not}
+
+-- the number that an entry names, by its index
+pub number_at : (order : List Entry) (i : ℕ) (d : Entry) → i < length order → (get_or order i d).request ≡ slice_index (numbers order) i
+number_at [] i d w = absurd (omega arith)
+number_at (e ∷ order) zero d w = refl
+number_at (e ∷ order) (suc i) d w = number_at order i d (omega arith)
+
+pub as_many : (order : List Entry) → length (numbers order) ≡ length order
+as_many [] = refl
+as_many (e ∷ order) = ap suc (as_many order)
 
 -- the least count known of the entries from i on
 pub record IsLeastFrom (known : ℕ → Option ℕ) (order : List ℕ) (i : ℕ) (least : Option ℕ) : Type 0 where

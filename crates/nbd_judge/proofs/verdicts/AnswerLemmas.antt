@@ -1,5 +1,6 @@
 -- What a verdict on the report of a run says of the run's bytes.
 use Rattle.std.proofs.Common.{◌≡◌, ℕ, List, sym, ◌∙◌, ap, subst}
+use Rattle.nbd_wire.specs.declared.entry.Entry.{Entry}
 use Rattle.nbd_wire.specs.protocol.Explains.{Start, start_byte}
 use Rattle.nbd_wire.specs.protocol.Marks.{Item, pairs}
 use Rattle.nbd_wire.specs.protocol.Reports.{Report, report}
@@ -17,21 +18,21 @@ use Rattle.nbd_judge.specs.declared.verdict.OrderFault.{OrderFault}
 use Rattle.nbd_judge.proofs.verdicts.SingleLemmas.{fits_not, has_fault, has_wrong}
 
 -- where an order has a fault, no run with these bytes is served in it
-fault_unserved : OrdersAreFaultless → SameReports → (items : List Item) (order : List ℕ) (entry : ℕ) (fault : OrderFault) → IsRun items →
+fault_unserved : OrdersAreFaultless → SameReports → (items : List Item) (order : List Entry) (entry : ℕ) (fault : OrderFault) → IsRun items →
     IsOrderFault (report items) order entry fault → IsUnserved (pairs items) order
 fault_unserved faultless same items order entry fault run is other run' bytes serves = has_fault (report items) order entry fault is
     (subst (λ (r : Report). IsFaultless r order) (same other items run' run bytes)
-    (subst (λ (o : List ℕ). IsFaultless (report other) o) serves (faultless other run')))
+    (subst (λ (o : List Entry). IsFaultless (report other) o) serves (faultless other run')))
 
 -- so an Order verdict is of an order that no run with the session's bytes is served in
-pub order_unserved : (r : Report) (order : List ℕ) (entry : ℕ) (fault : OrderFault) → IsOrderFault r order entry fault →
+pub order_unserved : (r : Report) (order : List Entry) (entry : ℕ) (fault : OrderFault) → IsOrderFault r order entry fault →
     (items : List Item) → IsRun items → report items ≡ r → IsUnserved (pairs items) order
 order_unserved r order entry fault is items run of_run =
     fault_unserved orders_are_faultless same_reports items order entry fault run (subst (λ (q : Report). IsOrderFault q order entry fault) (sym of_run) is)
 
 module _ (passing : PassingIsExplained) (only : ExplainedPasses) (faultless : OrdersAreFaultless) (same : SameReports) where
   -- a run that does not pass is not explained
-  no_pass : (items : List Item) (order : List ℕ) (initial : Start) → IsRun items → (Passes (report items) order initial → ⊥) → IsNo (pairs items) order initial
+  no_pass : (items : List Item) (order : List Entry) (initial : Start) → IsRun items → (Passes (report items) order initial → ⊥) → IsNo (pairs items) order initial
   no_pass items order initial run fails explained = fails (only items order initial run explained)
 
   counted : (f : Report → ℕ) (items : List Item) (n : ℕ) → IsRun items → n ≡ f (report items) → (other : List Item) → IsRun other → pairs other ≡ pairs items → f (report other) ≡ n

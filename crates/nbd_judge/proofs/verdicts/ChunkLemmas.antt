@@ -2,6 +2,7 @@
 use Rattle.std.proofs.Common.{◌≡◌, ℕ, zero, suc, ◌+◌, ◌<◌, ◌≤◌, List, [], ◌∷◌, ◌++◌, length, refl, sym, ◌∙◌, ap, subst, arith, take, get_or, add-one, length-append, append_assoc, Result, Ok, Err, IfOk, IfErr, IsErrAnd}
 use Rattle.std.specs.declared.alloc.Global.{Global}
 use Rattle.std.specs.declared.vec.Vec.{Vec}
+use Rattle.nbd_wire.specs.declared.entry.Entry.{Entry}
 use Rattle.nbd_wire.specs.declared.message.Side.{Side}
 use Rattle.nbd_wire.specs.protocol.Explains.{Start}
 use Rattle.nbd_wire.specs.protocol.Marks.{Item, pairs}
@@ -67,7 +68,7 @@ told_of r capture told same reported = record {
 }
 
 -- the conclusion from what a session over a capture finished with is the verdict on that capture
-pub checked : (capture : List Pair) (order : List ℕ) (initial : Start) (finished : Result Report SessionFault) (v : Verdict)
+pub checked : (capture : List Pair) (order : List Entry) (initial : Start) (finished : Result Report SessionFault) (v : Verdict)
     → IfOk finished (HasReport capture) → IfErr finished (IsFaultOf capture) → IsConclusion finished order initial v
     → ((items : List Item) → IsRun items → IsReportOf items finished → Answers (pairs items) order initial v) → IsChecked capture order initial v
 checked capture order initial (Err session.Memory) v told within is answers = absurd is
@@ -111,7 +112,7 @@ pub finish_told : (r : SessionView) (capture : List Pair) (o : Result Report Ses
 finish_told r capture (Ok told) same h = told_of r capture told same h
 finish_told r capture (Err fault) same h = h
 
-pub conclusion_checked : {E : Type 0} (capture : List Pair) (order : List ℕ) (initial : Start) (finished : Result Report SessionFault) (o : Result Verdict E)
+pub conclusion_checked : {E : Type 0} (capture : List Pair) (order : List Entry) (initial : Start) (finished : Result Report SessionFault) (o : Result Verdict E)
     → IfOk finished (HasReport capture) → IfErr finished (IsFaultOf capture) → IfOk o (IsConclusion finished order initial)
     → IfOk o (λ v. (items : List Item) → IsRun items → IsReportOf items finished → Answers (pairs items) order initial v) → IfOk o (IsChecked capture order initial)
 conclusion_checked capture order initial finished (Ok v) told within is answers = checked capture order initial finished v told within is answers

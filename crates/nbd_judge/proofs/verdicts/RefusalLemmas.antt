@@ -1,6 +1,7 @@
 -- A session over chunks that ends in a fault.
 use Rattle.std.proofs.Common.{◌≡◌, ℕ, zero, suc, ◌<◌, List, [], ◌∷◌, ◌++◌, length, refl, sym, ◌∙◌, ap, subst, arith, take, drop, get_or, append_assoc, inl, Result, Ok, Err, IfOk, IfErr, Vec}
 use Rattle.std.specs.declared.alloc.Global.{Global}
+use Rattle.nbd_wire.specs.declared.entry.Entry.{Entry}
 use Rattle.nbd_wire.specs.declared.message.Side.{Side}
 use Rattle.nbd_wire.specs.protocol.Explains.{IsExplained, Start}
 use Rattle.nbd_wire.specs.protocol.Captures.{Pair, flat, side_pairs}
@@ -62,13 +63,13 @@ finish_fault r capture (Ok told) same h = tt
 finish_fault r capture (Err fault) same h = end_fault r capture fault same h
 
 -- yes is said of exactly the captures that are explained
-says_exactly : (capture : List Pair) (order : List ℕ) (initial : Start) (v : Verdict) → IsChecked capture order initial v → SaysYes v ↔ IsExplained capture order initial
+says_exactly : (capture : List Pair) (order : List Entry) (initial : Start) (v : Verdict) → IsChecked capture order initial v → SaysYes v ↔ IsExplained capture order initial
 says_exactly capture order initial (verdict.Yes a b c) is = ((λ y. is.answers.explained), λ x. tt)
 says_exactly capture order initial (verdict.Wire at fault) is = ((λ y. absurd y), λ x. no_run_of capture is.0 at fault is.1 x.items x.is_run x.has_pairs)
 says_exactly capture order initial (verdict.Image i s) is = ((λ y. absurd y), λ x. is.answers x)
 says_exactly capture order initial (verdict.Order e f) is = ((λ y. absurd y), λ x. is.answers.0 x)
 says_exactly capture order initial (verdict.Content k x) is = ((λ y. absurd y), λ x. is.answers x)
 
-pub answers_exactly : {E : Type 0} (capture : List Pair) (order : List ℕ) (initial : Start) (o : Result Verdict E) → IfOk o (IsChecked capture order initial) → IfOk o (λ v. SaysYes v ↔ IsExplained capture order initial)
+pub answers_exactly : {E : Type 0} (capture : List Pair) (order : List Entry) (initial : Start) (o : Result Verdict E) → IfOk o (IsChecked capture order initial) → IfOk o (λ v. SaysYes v ↔ IsExplained capture order initial)
 answers_exactly capture order initial (Ok v) is = says_exactly capture order initial v is
 answers_exactly capture order initial (Err e) is = tt

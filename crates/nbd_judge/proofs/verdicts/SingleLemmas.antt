@@ -1,21 +1,25 @@
 -- The cases of the definitions of a verdict exclude each other.
-use Rattle.std.proofs.Common.{◌≡◌, ℕ, ◌+◌, ◌<◌, ◌⊎◌, inl, inr, List, length, sym, ◌∙◌, ap, subst, Option, Some, None, arith, slice_index}
+use Rattle.std.proofs.Common.{◌≡◌, ℕ, ◌+◌, ◌<◌, ◌⊎◌, inl, inr, List, length, sym, ◌∙◌, ap, subst, Option, Some, None, slice_get, take}
+use Rattle.nbd_wire.specs.declared.entry.Entry.{Entry}
+use Rattle.nbd_wire.specs.declared.entry.Part.{Part}
+use Rattle.nbd_wire.specs.protocol.Entries.{IsAgain, Names, numbers}
+use Rattle.nbd_laws.proofs.service.EntryLemmas.{whole_names}
 use Rattle.nbd_wire.specs.protocol.ExportBytes.{IsWrong, effects}
 use Rattle.nbd_wire.specs.protocol.Explains.{FitsImage, Start, start_byte}
 use Rattle.nbd_wire.specs.protocol.Explains as starts
-use Rattle.nbd_wire.specs.protocol.Orders.{FirstNoSuchRequest, FirstTwice, IsBad, IsFirst, IsLate, IsMissing}
-use Rattle.nbd_wire.specs.protocol.Reports.{Report, known_in}
+use Rattle.nbd_wire.specs.protocol.Orders.{IsBad, IsFirst, IsLate, IsUnserved, NamesAgain, NamesNone}
+use Rattle.nbd_wire.specs.protocol.Reports.{Report, inside_in, known_in}
 use Rattle.nbd_wire.specs.protocol.Operations.{Exporting}
 use Rattle.nbd_wire.specs.protocol.Verdicts.{IsFaultless}
 use Rattle.nbd_judge.specs.declared.verdict.OrderFault.{OrderFault}
-use Rattle.nbd_judge.specs.declared.verdict.OrderFault.TheVariants.{NoSuchRequest, Twice, Late, Missing}
+use Rattle.nbd_judge.specs.declared.verdict.OrderFault.TheVariants.{NoSuchRequest, Twice, Late, Missing, BadPart, NotCovered}
 use Rattle.nbd_judge.specs.declared.verdict.Verdict.TheVariants.{Yes, Wire, Image, Order, Content}
 use Rattle.nbd_judge.specs.Images.{IsOtherSize}
 use Rattle.nbd_judge.specs.Orders.{IsOrderFault}
 use Rattle.nbd_judge.specs.Uniqueness.{OneJudgement, OneVerdict}
 use Rattle.nbd_judge.specs.Verdicts.{FirstWrongFrom, HasNoneWrongFrom, HasWrongFrom}
 use Rattle.nbd_judge.proofs.verdicts.DecisionLemmas.{before_or_behind}
-use Rattle.nbd_judge.proofs.orders.NameLemmas.{named_at}
+use Rattle.nbd_judge.proofs.orders.FirstLemmas.{place_before}
 
 one_first : (P : ℕ → Type 0) (m n : ℕ) → IsFirst P m → IsFirst P n → m ≡ n
 one_first P m n p q = elim (before_or_behind m n) [
@@ -23,75 +27,111 @@ one_first P m n p q = elim (before_or_behind m n) [
   | inr r ↦ elim r [ inl l ↦ absurd (p.1 n l q.0) | inr e ↦ e ]
 ]
 
-module _ (count : ℕ) (order : List ℕ) where
+module _ (r : Report) (order : List Entry) where
+  abbrev Bad : ℕ → Type 0
+  Bad i = IsBad (length r.asked) (inside_in r) order i
+
+  abbrev Unserved : ℕ → Type 0
+  Unserved k = IsUnserved (length r.asked) (known_in r) (inside_in r) order k
+
   -- the first bad entry, and that its fault is the one
-  first_none : (e : ℕ) → FirstNoSuchRequest count order e → (i : ℕ) × (e ≡ i + 1) × IsFirst (IsBad count order) i
+  abbrev first_none : (e : ℕ) → IsOrderFault r order e NoSuchRequest → (i : ℕ) × (e ≡ i + 1) × IsFirst Bad i
   first_none e f = (f.0, f.1, (inl f.2, f.3))
 
-  first_again : (e : ℕ) → FirstTwice count order e → (i : ℕ) × (e ≡ i + 1) × IsFirst (IsBad count order) i
-  first_again e f = (f.0, f.1, (inr f.2, f.3))
+  abbrev first_again : (e : ℕ) → IsOrderFault r order e Twice → (i : ℕ) × (e ≡ i + 1) × IsFirst Bad i
+  first_again e f = (f.0, f.1, (inr (inl f.2), f.3))
 
-  one_bad : (d e : ℕ) → (i : ℕ) × (d ≡ i + 1) × IsFirst (IsBad count order) i → (j : ℕ) × (e ≡ j + 1) × IsFirst (IsBad count order) j → d ≡ e
-  one_bad d e f g = f.1 ∙ ap (λ n. n + 1) (one_first (IsBad count order) f.0 g.0 f.2 g.2) ∙ sym g.1
+  abbrev first_part : (e : ℕ) → IsOrderFault r order e BadPart → (i : ℕ) × (e ≡ i + 1) × IsFirst Bad i
+  first_part e f = (f.0, f.1, (inr (inr f.2), f.5))
 
-  -- an entry that repeats a number of no request is not the first bad one
-  none_again : (d e : ℕ) → FirstNoSuchRequest count order d → FirstTwice count order e → ⊥
+  one_bad : (d e : ℕ) → (i : ℕ) × (d ≡ i + 1) × IsFirst Bad i → (j : ℕ) × (e ≡ j + 1) × IsFirst Bad j → d ≡ e
+  one_bad d e f g = f.1 ∙ ap (λ n. n + 1) (one_first Bad f.0 g.0 f.2 g.2) ∙ sym g.1
+
+  -- an entry that repeats an entry of no request is not the first bad one
+  none_again : (d e : ℕ) → IsOrderFault r order d NoSuchRequest → IsOrderFault r order e Twice → ⊥
   none_again d e f g =
-      let same : f.0 ≡ g.0 = one_first (IsBad count order) f.0 g.0 (inl f.2, f.3) (inr g.2, g.3) in
-      let j = g.2.1 in
-      let number : slice_index order f.0 ≡ slice_index order j.0 = ap (slice_index order) same ∙ sym j.2 in
-      g.3 j.0 j.1 (inl (
-        before_end j.0 g.0 j.1 g.2.0,
-        subst (λ (n : ℕ). (n ≡ 0) ⊎ (count < n)) number f.2.1,
-      ))
+      let same : f.0 ≡ g.0 = one_first Bad f.0 g.0 (first_none d f).2 (first_again e g).2 in
+      let entry : f.2.0 ≡ g.2.0 = (let q : Some f.2.0 ≡ Some g.2.0 = sym f.2.1 ∙ ap (slice_get order) same ∙ g.2.1 in cc) in
+      let p = place_before g.0 order g.2.0.request (named_before (take g.0 order) g.2.0.request g.2.0.part g.2.2) in
+      let number : f.2.0.request ≡ p.1.request = ap (λ (e : Entry). e.request) entry ∙ sym p.4 in
+      g.3 p.0 p.2 (inl (p.1, p.3, subst (λ (n : ℕ). (n ≡ 0) ⊎ (length r.asked < n)) number f.2.2))
     where
-      before_end : (m n : ℕ) → m < n → n < length order → m < length order
-      before_end m n a b = omega arith
+      named_before : (before : List Entry) (k : ℕ) (p : Option Part) → IsAgain before k p → Names before k
+      named_before before k None h = h
+      named_before before k (Some p) h = whole_names before k h
 
-module _ (r : Report) (order : List ℕ) where
+  none_part : (d e : ℕ) → IsOrderFault r order d NoSuchRequest → IsOrderFault r order e BadPart → ⊥
+  none_part d e f g = g.3 (subst (NamesNone (length r.asked) order) (one_first Bad f.0 g.0 (first_none d f).2 (first_part e g).2) f.2)
+
+  again_part : (d e : ℕ) → IsOrderFault r order d Twice → IsOrderFault r order e BadPart → ⊥
+  again_part d e f g = g.4 (subst (NamesAgain order) (one_first Bad f.0 g.0 (first_again d f).2 (first_part e g).2) f.2)
+
+  least_missing : (e : ℕ) → IsOrderFault r order e Missing → IsFirst Unserved e
+  least_missing e f = (inl f.1, f.0.2)
+
+  least_uncovered : (e : ℕ) → IsOrderFault r order e NotCovered → IsFirst Unserved e
+  least_uncovered e f = (inr f.1, f.0.2)
+
+  missing_covered : (d e : ℕ) → IsOrderFault r order d Missing → IsOrderFault r order e NotCovered → ⊥
+  missing_covered d e f g = f.1.1 (subst (Names order) (sym (one_first Unserved d e (least_missing d f) (least_uncovered e g))) g.1.1)
+
   pub has_fault : (e : ℕ) (p : OrderFault) → IsOrderFault r order e p → IsFaultless r order → ⊥
   has_fault e NoSuchRequest f ok = ok.none_bad f.0 (inl f.2)
-  has_fault e Twice f ok = ok.none_bad f.0 (inr f.2)
+  has_fault e Twice f ok = ok.none_bad f.0 (inr (inl f.2))
+  has_fault e BadPart f ok = ok.none_bad f.0 (inr (inr f.2))
   has_fault e Late f ok = ok.none_late f.0 f.3.0
-  has_fault e Missing f ok = ok.none_missing e f.2.0
-
-  bad_late : (d e : ℕ) → (i : ℕ) × (d ≡ i + 1) × IsFirst (IsBad (length r.asked) order) i → IsOrderFault r order e Late → ⊥
-  bad_late d e f g = g.2 f.0 f.2.0
-
-  bad_missing : (d e : ℕ) → (i : ℕ) × (d ≡ i + 1) × IsFirst (IsBad (length r.asked) order) i → IsOrderFault r order e Missing → ⊥
-  bad_missing d e f g = g.0 f.0 f.2.0
-
-  late_missing : (d e : ℕ) → IsOrderFault r order d Late → IsOrderFault r order e Missing → ⊥
-  late_missing d e f g = g.1 f.0 f.3.0
+  has_fault e Missing f ok = f.1.1 (ok.served e f.1.0).named
+  has_fault e NotCovered f ok = f.1.2 (ok.served e f.1.0)
 
   one_fault : (d e : ℕ) (p q : OrderFault) → IsOrderFault r order d p → IsOrderFault r order e q → Order d p ≡ Order e q
-  one_fault d e NoSuchRequest NoSuchRequest f g = ap (λ n. Order n NoSuchRequest) (one_bad (length r.asked) order d e (first_none (length r.asked) order d f) (first_none (length r.asked) order e g))
-  one_fault d e NoSuchRequest Twice f g = absurd (none_again (length r.asked) order d e f g)
-  one_fault d e NoSuchRequest Late f g = absurd (bad_late d e (first_none (length r.asked) order d f) g)
-  one_fault d e NoSuchRequest Missing f g = absurd (bad_missing d e (first_none (length r.asked) order d f) g)
-  one_fault d e Twice NoSuchRequest f g = absurd (none_again (length r.asked) order e d g f)
-  one_fault d e Twice Twice f g = ap (λ n. Order n Twice) (one_bad (length r.asked) order d e (first_again (length r.asked) order d f) (first_again (length r.asked) order e g))
-  one_fault d e Twice Late f g = absurd (bad_late d e (first_again (length r.asked) order d f) g)
-  one_fault d e Twice Missing f g = absurd (bad_missing d e (first_again (length r.asked) order d f) g)
-  one_fault d e Late NoSuchRequest f g = absurd (bad_late e d (first_none (length r.asked) order e g) f)
-  one_fault d e Late Twice f g = absurd (bad_late e d (first_again (length r.asked) order e g) f)
-  one_fault d e Late Late f g = ap (λ n. Order n Late) (f.1 ∙ ap (λ n. n + 1) (one_first (IsLate (known_in r) order) f.0 g.0 f.3 g.3) ∙ sym g.1)
-  one_fault d e Late Missing f g = absurd (late_missing d e f g)
-  one_fault d e Missing NoSuchRequest f g = absurd (bad_missing e d (first_none (length r.asked) order e g) f)
-  one_fault d e Missing Twice f g = absurd (bad_missing e d (first_again (length r.asked) order e g) f)
-  one_fault d e Missing Late f g = absurd (late_missing e d g f)
-  one_fault d e Missing Missing f g = ap (λ n. Order n Missing) (one_first (IsMissing (length r.asked) (known_in r) order) d e f.2 g.2)
+  one_fault d e NoSuchRequest NoSuchRequest f g = ap (λ n. Order n NoSuchRequest) (one_bad d e (first_none d f) (first_none e g))
+  one_fault d e NoSuchRequest Twice f g = absurd (none_again d e f g)
+  one_fault d e NoSuchRequest BadPart f g = absurd (none_part d e f g)
+  one_fault d e NoSuchRequest Late f g = absurd (g.2 f.0 (first_none d f).2.0)
+  one_fault d e NoSuchRequest Missing f g = absurd (g.0.0 f.0 (first_none d f).2.0)
+  one_fault d e NoSuchRequest NotCovered f g = absurd (g.0.0 f.0 (first_none d f).2.0)
+  one_fault d e Twice NoSuchRequest f g = absurd (none_again e d g f)
+  one_fault d e Twice Twice f g = ap (λ n. Order n Twice) (one_bad d e (first_again d f) (first_again e g))
+  one_fault d e Twice BadPart f g = absurd (again_part d e f g)
+  one_fault d e Twice Late f g = absurd (g.2 f.0 (first_again d f).2.0)
+  one_fault d e Twice Missing f g = absurd (g.0.0 f.0 (first_again d f).2.0)
+  one_fault d e Twice NotCovered f g = absurd (g.0.0 f.0 (first_again d f).2.0)
+  one_fault d e BadPart NoSuchRequest f g = absurd (none_part e d g f)
+  one_fault d e BadPart Twice f g = absurd (again_part e d g f)
+  one_fault d e BadPart BadPart f g = ap (λ n. Order n BadPart) (one_bad d e (first_part d f) (first_part e g))
+  one_fault d e BadPart Late f g = absurd (g.2 f.0 (first_part d f).2.0)
+  one_fault d e BadPart Missing f g = absurd (g.0.0 f.0 (first_part d f).2.0)
+  one_fault d e BadPart NotCovered f g = absurd (g.0.0 f.0 (first_part d f).2.0)
+  one_fault d e Late NoSuchRequest f g = absurd (f.2 g.0 (first_none e g).2.0)
+  one_fault d e Late Twice f g = absurd (f.2 g.0 (first_again e g).2.0)
+  one_fault d e Late BadPart f g = absurd (f.2 g.0 (first_part e g).2.0)
+  one_fault d e Late Late f g = ap (λ n. Order n Late) (f.1 ∙ ap (λ n. n + 1) (one_first (IsLate (known_in r) (numbers order)) f.0 g.0 f.3 g.3) ∙ sym g.1)
+  one_fault d e Late Missing f g = absurd (g.0.1 f.0 f.3.0)
+  one_fault d e Late NotCovered f g = absurd (g.0.1 f.0 f.3.0)
+  one_fault d e Missing NoSuchRequest f g = absurd (f.0.0 g.0 (first_none e g).2.0)
+  one_fault d e Missing Twice f g = absurd (f.0.0 g.0 (first_again e g).2.0)
+  one_fault d e Missing BadPart f g = absurd (f.0.0 g.0 (first_part e g).2.0)
+  one_fault d e Missing Late f g = absurd (f.0.1 g.0 g.3.0)
+  one_fault d e Missing Missing f g = ap (λ n. Order n Missing) (one_first Unserved d e (least_missing d f) (least_missing e g))
+  one_fault d e Missing NotCovered f g = absurd (missing_covered d e f g)
+  one_fault d e NotCovered NoSuchRequest f g = absurd (f.0.0 g.0 (first_none e g).2.0)
+  one_fault d e NotCovered Twice f g = absurd (f.0.0 g.0 (first_again e g).2.0)
+  one_fault d e NotCovered BadPart f g = absurd (f.0.0 g.0 (first_part e g).2.0)
+  one_fault d e NotCovered Late f g = absurd (f.0.1 g.0 g.3.0)
+  one_fault d e NotCovered Missing f g = absurd (missing_covered e d g f)
+  one_fault d e NotCovered NotCovered f g = ap (λ n. Order n NotCovered) (one_first Unserved d e (least_uncovered d f) (least_uncovered e g))
 
-module _ (r : Report) (order : List ℕ) (initial : ℕ → Option ℕ) where
+module _ (r : Report) (order : List Entry) (initial : ℕ → Option ℕ) where
   pub has_wrong : (k x : ℕ) → FirstWrongFrom r order initial k x → HasNoneWrongFrom r order initial → ⊥
-  has_wrong k x w none = (let i = w.0 in let first = i.2.0 in none (slice_index order i.0) first.1.0 (named_at order i.0 first.0) first.1.1)
+  has_wrong k x w none = none w.0 w.4.0.0 w.4.0.1
 
   one_wrong : (j k x y : ℕ) → FirstWrongFrom r order initial j x → FirstWrongFrom r order initial k y → Content j x ≡ Content k y
   one_wrong j k x y v w =
-      let same : v.0.0 ≡ w.0.0 = one_first (HasWrongFrom r order initial) v.0.0 w.0.0 v.0.2 w.0.2 in
-      let request : j ≡ k = sym v.0.1 ∙ ap (slice_index order) same ∙ w.0.1 in
-      let at : IsFirst (IsWrong (effects r) order initial k) x = subst (λ (n : ℕ). IsFirst (IsWrong (effects r) order initial n) x) request v.1 in
-      let offset : x ≡ y = one_first (IsWrong (effects r) order initial k) x y at w.1 in
+      let same : v.0 ≡ w.0 = one_first (HasWrongFrom r order initial) v.0 w.0 v.4 w.4 in
+      let entry : v.1 ≡ w.1 = (let q : Some v.1 ≡ Some w.1 = sym v.2 ∙ ap (slice_get order) same ∙ w.2 in cc) in
+      let request : j ≡ k = sym v.3 ∙ ap (λ (e : Entry). e.request) entry ∙ w.3 in
+      let at : IsFirst (IsWrong (effects r) order initial w.0) x = subst (λ (n : ℕ). IsFirst (IsWrong (effects r) order initial n) x) same v.5 in
+      let offset : x ≡ y = one_first (IsWrong (effects r) order initial w.0) x y at w.5 in
       ap (λ n. Content n x) request ∙ ap (λ n. Content k n) offset
 
 pub one_judgement : OneJudgement

@@ -1,5 +1,6 @@
 -- A capture is refused in one way at most, and has one answer at most.
 use Rattle.std.proofs.Common.{◌≡◌, ℕ, List, [], ◌∷◌, ◌++◌, ◌⊎◌, length, refl, sym, ◌∙◌, ap, subst, inl, inr, append-nil}
+use Rattle.nbd_wire.specs.declared.entry.Entry.{Entry}
 use Rattle.nbd_wire.specs.declared.fault.WireFault.{WireFault}
 use Rattle.nbd_wire.specs.declared.message.Message.{Message}
 use Rattle.nbd_wire.specs.protocol.Captures.{Pair}
@@ -57,7 +58,7 @@ record IsRefusing (capture : List Pair) (v : Verdict) : Type 0 where
   pub is : v ≡ Wire at fault
   pub of_capture : IsFaultOf capture (session.Wire at fault)
 
-parts_of : (capture : List Pair) (order : List ℕ) (initial : Start) (v : Verdict) → IsChecked capture order initial v → IsRefusing capture v ⊎ HasVerdict capture order initial v
+parts_of : (capture : List Pair) (order : List Entry) (initial : Start) (v : Verdict) → IsChecked capture order initial v → IsRefusing capture v ⊎ HasVerdict capture order initial v
 parts_of capture order initial (Wire at fault) c = inl (record { at = at; fault = fault; is = refl; of_capture = c })
 parts_of capture order initial (Yes a b c) h = inr h
 parts_of capture order initial (Image i s) h = inr h

@@ -6,8 +6,8 @@ use super::recordings::{Sent, one_by_one, recorded};
 use crate::{OrderFault, Verdict, check, judge};
 use nbd_export::{Flat, Start};
 use nbd_session::{Session, WireFault};
-use nbd_wire::Side;
 use nbd_wire::commands::{READ, TRIM, WRITE_ZEROES};
+use nbd_wire::{Entry, Side};
 use std::alloc::Global;
 use std::process::Abort;
 use std::test::Fail;
@@ -18,7 +18,7 @@ struct Case {
     name: &'static str,
     structured: bool,
     sent: &'static [Sent],
-    order: &'static [u64],
+    order: &'static [Entry],
     want: Verdict,
 }
 
@@ -26,7 +26,7 @@ struct Case {
 const fn plain(
     name: &'static str,
     sent: &'static [Sent],
-    order: &'static [u64],
+    order: &'static [Entry],
     want: Verdict,
 ) -> Case {
     Case {
@@ -37,6 +37,22 @@ const fn plain(
         want,
     }
 }
+
+// Entries that serve a request at once.
+const ONE: Entry = Entry {
+    request: 1,
+    part: None,
+};
+
+const TWO: Entry = Entry {
+    request: 2,
+    part: None,
+};
+
+const THREE: Entry = Entry {
+    request: 3,
+    part: None,
+};
 
 const fn yes(requests: u64, answered: u64, improper: u64) -> Verdict {
     Verdict::Yes {
@@ -57,7 +73,7 @@ const fn content(request: u64, offset: u64) -> Verdict {
 fn answer<R: Abort + AllocGlobal>(
     rt: &R,
     chunks: &[(Side, Vec<u8>)],
-    order: &[u64],
+    order: &[Entry],
     start: Start,
 ) -> Result<Verdict, Fail> {
     assert!(rt; are_countable(chunks));
@@ -92,7 +108,7 @@ fn reads_give_what_was_written(rt: HostRuntime) -> Result<(), Fail> {
                     Ask(READ, 2, 0, 4),
                     Good(2, b"\xab\xcd\0\0"),
                 ],
-                &[1, 2],
+                &[ONE, TWO],
                 yes(2, 2, 0),
             ),
             plain(
@@ -103,7 +119,7 @@ fn reads_give_what_was_written(rt: HostRuntime) -> Result<(), Fail> {
                     Ask(READ, 2, 0, 4),
                     Good(2, b"\xab\xce\0\0"),
                 ],
-                &[1, 2],
+                &[ONE, TWO],
                 content(2, 1),
             ),
             plain(
@@ -114,13 +130,13 @@ fn reads_give_what_was_written(rt: HostRuntime) -> Result<(), Fail> {
                     Good(2, b"\xab\xcd"),
                     Good(1, b""),
                 ],
-                &[1, 2],
+                &[ONE, TWO],
                 yes(2, 2, 0),
             ),
             plain(
                 "a write that fails leaves unknown bytes",
                 &[WRITTEN, Ask(READ, 2, 0, 2), Good(2, b"\xee\xff"), Bad(1, 5)],
-                &[1, 2],
+                &[ONE, TWO],
                 yes(2, 2, 0),
             ),
             plain(
@@ -131,19 +147,19 @@ fn reads_give_what_was_written(rt: HostRuntime) -> Result<(), Fail> {
                     Good(2, b"\xee\xff"),
                     Good(1, b""),
                 ],
-                &[1, 2],
+                &[ONE, TWO],
                 content(2, 0),
             ),
             plain(
                 "a pending write leaves unknown bytes where it is named",
                 &[Write(1, 0, b"\xab"), Ask(READ, 2, 0, 1), Good(2, b"\xff")],
-                &[1, 2],
+                &[ONE, TWO],
                 yes(2, 1, 0),
             ),
             plain(
                 "a pending write does nothing where it is not named",
                 &[Write(1, 0, b"\xab"), Ask(READ, 2, 0, 1), Good(2, b"\xff")],
-                &[2],
+                &[TWO],
                 content(2, 0),
             ),
             plain(
@@ -154,7 +170,7 @@ fn reads_give_what_was_written(rt: HostRuntime) -> Result<(), Fail> {
                     Ask(READ, 2, 0, 8),
                     Good(2, b"\x01\x02\x03\x04\x05\x06\x07\x08"),
                 ],
-                &[1, 2],
+                &[ONE, TWO],
                 yes(2, 2, 0),
             ),
             plain(
@@ -165,13 +181,13 @@ fn reads_give_what_was_written(rt: HostRuntime) -> Result<(), Fail> {
                     Ask(READ, 2, 0, 8),
                     Good(2, b"\x01\x02\x03\x04\x05\x06\x07\x08"),
                 ],
-                &[1, 2],
+                &[ONE, TWO],
                 content(2, 0),
             ),
             plain(
                 "a read past the end fails",
                 &[Ask(READ, 1, 8, 1), Bad(1, 22)],
-                &[1],
+                &[ONE],
                 yes(1, 1, 1),
             ),
         ],
@@ -196,7 +212,7 @@ fn pieces_are_compared_each(rt: HostRuntime) -> Result<(), Fail> {
                     Hole(2, 0, 4),
                     Done(2),
                 ],
-                order: &[1, 2],
+                order: &[ONE, TWO],
                 want: yes(2, 2, 0),
             },
             Case {
@@ -210,7 +226,7 @@ fn pieces_are_compared_each(rt: HostRuntime) -> Result<(), Fail> {
                     Data(2, 0, b"\0\0\0\x01"),
                     Done(2),
                 ],
-                order: &[1, 2],
+                order: &[ONE, TWO],
                 want: content(2, 3),
             },
             Case {
@@ -242,13 +258,18 @@ fn orders_have_faults(rt: HostRuntime) -> Result<(), Fail> {
             plain(
                 "no such request",
                 &[],
-                &[1],
+                &[ONE],
                 order(1, OrderFault::NoSuchRequest),
             ),
-            plain("late", ONE_BY_ONE, &[2, 1], order(1, OrderFault::Late)),
-            plain("in time", ONE_BY_ONE, &[1, 2], yes(2, 2, 0)),
-            plain("twice", ONE_BY_ONE, &[1, 1], order(2, OrderFault::Twice)),
-            plain("missing", ONE_BY_ONE, &[1], order(2, OrderFault::Missing)),
+            plain("late", ONE_BY_ONE, &[TWO, ONE], order(1, OrderFault::Late)),
+            plain("in time", ONE_BY_ONE, &[ONE, TWO], yes(2, 2, 0)),
+            plain(
+                "twice",
+                ONE_BY_ONE,
+                &[ONE, ONE],
+                order(2, OrderFault::Twice),
+            ),
+            plain("missing", ONE_BY_ONE, &[ONE], order(2, OrderFault::Missing)),
             plain(
                 "late, though each entry is in time for the next",
                 &[
@@ -259,7 +280,7 @@ fn orders_have_faults(rt: HostRuntime) -> Result<(), Fail> {
                     Good(2, b"\0"),
                     Good(3, b"\0"),
                 ],
-                &[3, 2, 1],
+                &[THREE, TWO, ONE],
                 order(1, OrderFault::Late),
             ),
         ],
@@ -273,7 +294,7 @@ fn captures_of_nothing_and_images(rt: HostRuntime) -> Result<(), Fail> {
     assert_eq!(rt; answer(&rt, &none, &[], Start::Zeroes)?, yes(0, 0, 0));
     let image = Start::Image(vec![in alloc; 0; 9]?);
     assert_eq!(rt;
-        answer(&rt, &none, &[1], image)?,
+        answer(&rt, &none, &[ONE], image)?,
         order(1, OrderFault::NoSuchRequest)
     );
     let chunks = recorded(&rt, false, &[])?;
@@ -298,12 +319,12 @@ fn a_transcript_is_judged_over_contents(rt: HostRuntime) -> Result<(), Fail> {
     assert!(rt; size <= 1024);
     let mut contents = Flat::new(rt.alloc(), size, Start::Unknown)?;
     assert_eq!(rt;
-        judge(rt.alloc(), &transcript, &[1], &mut contents)?,
+        judge(rt.alloc(), &transcript, &[ONE], &mut contents)?,
         yes(1, 1, 0)
     );
     let mut contents = Flat::new(rt.alloc(), size, Start::Zeroes)?;
     assert_eq!(rt;
-        judge(rt.alloc(), &transcript, &[1], &mut contents)?,
+        judge(rt.alloc(), &transcript, &[ONE], &mut contents)?,
         content(1, 0)
     );
     Ok(())

@@ -1,4 +1,5 @@
 use Rattle.std.proofs.Common.{◌≡◌, ℕ, ◌<◌, ◌⊎◌, List, [], ◌∷◌, ◌++◌, refl, sym, ◌∙◌, ap, subst, inl, inr, Ok}
+use Rattle.nbd_wire.specs.declared.entry.Entry.{Entry}
 use Rattle.nbd_wire.specs.declared.message.Side.{Side}
 use Rattle.nbd_wire.specs.declared.message.Side.TheVariants.{Client, Server}
 use Rattle.nbd_wire.specs.declared.message.Message.{Message}
@@ -46,7 +47,7 @@ IsNotBusy Loose = Unit {0}
 -- marked captures, read from the left. Where a byte belongs to no message, P holds
 pub data Walk (P : Type 0) : Both Open → List Item → Type 0 where
   ended : {o : Both Open} → IsNotBusy (get o Client) → IsNotBusy (get o Server) → Walk P o []
-  serving : {o : Both Open} (k : ℕ) {items : List Item} → Walk P o items → Walk P o (Serves k ∷ items)
+  serving : {o : Both Open} (e : Entry) {items : List Item} → Walk P o items → Walk P o (Serves e ∷ items)
   opening : {o : Both Open} (s : Side) (m : Message) (b : ℕ) (left : List ℕ) {items : List Item} →
       get o s ≡ Idle → enc m ≡ b ∷ left → IsFilled left → Walk P (put o s (Busy m left)) items → Walk P o (Starts s m ∷ Byte s b ∷ items)
   middle : {o : Both Open} (s : Side) (m : Message) (b : ℕ) (left : List ℕ) {items : List Item} →

@@ -1,5 +1,6 @@
 -- A run's pairs are read without a fault, and what completes is the run's.
 use Rattle.std.proofs.Common.{◌≡◌, ℕ, ◌<◌, ◌⊎◌, List, [], ◌∷◌, ◌++◌, length, refl, sym, ◌∙◌, ap, subst, inl, inr, Ok, append_assoc, append-nil}
+use Rattle.nbd_wire.specs.declared.entry.Entry.{Entry}
 use Rattle.nbd_wire.specs.declared.message.Side.{Side}
 use Rattle.nbd_wire.specs.declared.message.Message.{Message}
 use Rattle.nbd_wire.specs.protocol.Encoding.{enc}
@@ -130,7 +131,7 @@ judged_whole judge exact core rest s m b i ok k =
     (subst (λ l. Kept judge s rest.since core l) (sym i.0.encodes) (subst (λ c. Kept judge s c core (rest.bytes ++ b ∷ [])) since_is k))
 
 -- the pairs that a walk begins with are read, with the messages that complete within them
-pub marks : (judge : Judge) → IsExact judge → {o : Both Open} {items : List Item} (w : Walk ⊥ o items) (machine : Machine) (js : List ℕ) →
+pub marks : (judge : Judge) → IsExact judge → {o : Both Open} {items : List Item} (w : Walk ⊥ o items) (machine : Machine) (js : List Entry) →
     Obeys (record { core = machine.core; served = js }) items → AreInStep machine o → AreHeld judge machine → (ps more : List Pair) → ArePairs ps → pairs items ≡ ps ++ more → IsRead judge machine ps (within (length ps) items)
 marks judge exact (ended c d) machine js ob st hd [] more lt e = nothing_read judge machine _ refl
 marks judge exact (ended c d) machine js ob st hd (p ∷ ps) more lt e = absurd (cc)

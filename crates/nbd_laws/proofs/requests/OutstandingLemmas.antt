@@ -1,14 +1,15 @@
 -- The outstanding requests of a core have distinct cookies.
 use Rattle.std.proofs.Common.{◌≡◌, ℕ, zero, suc, ◌+◌, ◌==◌, ◌&&◌, ◌||◌, not, List, [], ◌∷◌, ◌++◌, refl, sym, ◌∙◌, ap, subst, Option, Some, None, Bool, true, false, if◌then◌else◌, arith, eqb-true, eq-eqb, IsTrue, is_some}
+use Rattle.nbd_wire.specs.protocol.Entries.{IsWhollyServed, MayServe}
 use Rattle.nbd_wire.specs.declared.commands.TheConstants as commands
 use Rattle.nbd_wire.specs.declared.message.Side.TheVariants.{Server}
 use Rattle.nbd_wire.specs.declared.message.Message.{Message}
 use Rattle.nbd_wire.specs.declared.message.Message.TheVariants.{Greeting, ClientFlags, Choice, Answer, Exported, Request, Simple, Chunk}
-use Rattle.nbd_wire.specs.protocol.Reports.{operations_of, export_in, report}
+use Rattle.nbd_wire.specs.protocol.Reports.{operations_of, report}
 use Rattle.nbd_wire.specs.protocol.Marks.{Item, Byte, Starts, Completes, Serves, service_order}
 use Rattle.nbd_wire.specs.protocol.Operations.{Operation, Exporting, any, ends_reply, is_finished}
-use Rattle.nbd_wire.specs.protocol.Rules.{MayAsk, MayComplete, MayStartIn, Obeys, after, request_of_reply, complete, cookie_of, ends_at, reply_to, core_with_request, target_of}
-use Rattle.nbd_wire.specs.protocol.States.{Core, Names, Phase, State, Greet, Flags, Choosing, Naming, Aborting, Answering, Ended, Transmission, with_reply_at, operation, is_awaiting, start, target, target_from, with_reply}
+use Rattle.nbd_wire.specs.protocol.Rules.{MayAsk, MayComplete, MayStartIn, Obeys, after, request_of_reply, complete, cookie_of, ends_at, inside_at, reply_to, core_with_request, target_of}
+use Rattle.nbd_wire.specs.protocol.States.{Core, Phase, State, Greet, Flags, Choosing, Naming, Aborting, Answering, Ended, Transmission, with_reply_at, operation, is_awaiting, start, target, target_from, with_reply, export_in}
 use Rattle.nbd_laws.proofs.runs.PartLemmas.{obeys_back, obeys_prefix, served_in}
 use Rattle.nbd_laws.specs.Service.{AnswersRequest, CookiesAreDistinct, EachReplyAnswersOne, EmptyIsExplained, ServedOnceAfterCompletion}
 
@@ -112,7 +113,7 @@ distinct state [] ob d = d
 distinct state (Byte s b ∷ items) ob d = distinct state items ob.1 d
 distinct state (Starts s m ∷ items) ob d = distinct state items ob.1 d
 distinct state (Completes s m ∷ items) ob d = distinct (after state (Completes s m)) items ob.1 (distinct_complete state.core state.core.phase m ob.0 d)
-distinct state (Serves k ∷ items) ob d = distinct (after state (Serves k)) items ob.1 d
+distinct state (Serves e ∷ items) ob d = distinct (after state (Serves e)) items ob.1 d
 
 pub free_at : (cookie k : ℕ) (es : List Operation) (e : Operation) → Free cookie es → operation k es ≡ Some e → e.cookie ≡ cookie → is_finished e ≡ false → ⊥
 free_at cookie k [] e f h c u = absurd (cc)
@@ -168,7 +169,8 @@ pub not_true_is_false : (b : Bool) → not b ≡ true → b ≡ false
 not_true_is_false true e = absurd (cc)
 not_true_is_false false e = refl
 
-answers_found : (prefix : List Item) (m : Message) (cookie k : ℕ) → AreDistinct (operations_of prefix) → cookie_of m ≡ Some cookie → target cookie (operations_of prefix) ≡ Some k → Names (service_order prefix) k →
+answers_found : (prefix : List Item) (m : Message) (cookie k : ℕ) → AreDistinct (operations_of prefix) → cookie_of m ≡ Some cookie → target cookie (operations_of prefix) ≡ Some k →
+    IsWhollyServed (inside_at (ends_at start prefix).core k) (service_order prefix) k →
     (k : ℕ) × (e : Operation) × AnswersRequest prefix m k e
 answers_found prefix m cookie k d c h n =
     let f : IsFound cookie k (operations_of prefix) = find cookie (operations_of prefix) k h in
@@ -212,12 +214,12 @@ each_reply_answers_one prefix back m export run e = go (cookie_of m) refl some
         at : (t : Option ℕ) → target cookie (operations_of prefix) ≡ t → IsTrue (is_some t) → (k : ℕ) × (e : Operation) × AnswersRequest prefix m k e
         at None t h = absurd (cc)
         at (Some k) t h = answers_found prefix m cookie k (distinct start prefix (obeys_prefix start prefix (Starts Server m ∷ back) run.obeys) tt) c t
-            (subst (λ js. Names js k) (served_in start prefix) (ob.0.3 k (ap (λ o. target_of o (operations_of prefix)) c ∙ t)))
+            (subst (λ js. IsWhollyServed (inside_at (ends_at start prefix).core k) js k) (served_in start prefix) (ob.0.3 k (ap (λ o. target_of o (operations_of prefix)) c ∙ t)))
 
 pub served_once_after_completion : ServedOnceAfterCompletion
-served_once_after_completion prefix back k run =
-    let ob : Obeys (ends_at start prefix) (Serves k ∷ back) = obeys_back start prefix (Serves k ∷ back) run.obeys in
-    (ob.0.0, ob.0.1, λ n. ob.0.2 (subst (λ js. Names js k) (sym (served_in start prefix)) n))
+served_once_after_completion prefix back e run =
+    let ob : Obeys (ends_at start prefix) (Serves e ∷ back) = obeys_back start prefix (Serves e ∷ back) run.obeys in
+    (ob.0.0, ob.0.1, subst (λ js. MayServe (inside_at (ends_at start prefix).core e.request) js e) (served_in start prefix) ob.0.2)
 
 pub empty_is_explained : EmptyIsExplained
 unfolding report
@@ -227,5 +229,5 @@ empty_is_explained initial = record {
   has_pairs = refl;
   has_order = refl;
   fits_image = tt;
-  reads = λ k x n w. n;
+  reads = λ i x w. (let none : None ≡ Some w.0 = w.1 in absurd (cc));
 }

@@ -14,18 +14,18 @@ use Rattle.nbd_wire.specs.declared.payloads.Info.TheVariants.{Export, BlockSize,
 use Rattle.nbd_wire.specs.protocol.Marks.{Item, Byte, Starts, Completes, Serves}
 use Rattle.nbd_wire.specs.protocol.Options.{IsInfo, MayAcknowledge, MayAnswer, ack_phase, reply_phase, choice_phase, last_info, next_phase}
 use Rattle.nbd_wire.specs.protocol.Payloads.{info_of}
-use Rattle.nbd_wire.specs.protocol.Reports.{Asked, operations_of, export_in, export_of, known_count, known_from, known_if, first_known, report, asked_of, asked_list}
+use Rattle.nbd_wire.specs.protocol.Reports.{Asked, operations_of, export_of, known_count, known_from, known_if, first_known, report, asked_of, asked_list}
 use Rattle.nbd_wire.specs.protocol.Operations.{Covers, Operation, Exporting, Outcome, Success, Pending, any, ends_reply, has_failed, has_range, is_failing, is_finished, is_proper, outcome, pieces, pieces_of}
 use Rattle.nbd_wire.specs.protocol.Flags.{has}
 use Rattle.nbd_wire.specs.protocol.Operations as requests
 use Rattle.nbd_wire.specs.protocol.Flags as requests_flags
 use Rattle.nbd_wire.specs.protocol.Rules.{MayComplete, request_of_reply, complete, ends_at, reply_to, core_with_request}
 use Rattle.nbd_wire.specs.protocol.Sendable.{IsSendable}
-use Rattle.nbd_wire.specs.protocol.States.{Core, Phase, Greet, Flags, Choosing, Naming, Aborting, Answering, Ended, Transmission, with_reply_at, operation, start, target, with_reply}
+use Rattle.nbd_wire.specs.protocol.States.{Core, Phase, Greet, Flags, Choosing, Naming, Aborting, Answering, Ended, Transmission, with_reply_at, operation, start, target, with_reply, export_in}
 use Rattle.nbd_laws.specs.Soundness.{IsSoundAsked, IsSoundReport, ReportsAreSound}
 use Rattle.nbd_laws.proofs.runs.PrefixLemmas.{InTransmission, asks, gives, phase-complete, replies, transmission_row}
 use Rattle.nbd_laws.proofs.requests.LaidLemmas.{are_laid}
-use Rattle.nbd_laws.proofs.service.LatestLemmas.{core_end, entries_grow}
+use Rattle.nbd_laws.proofs.service.InsideLemmas.{core_end, entries_grow}
 use Rattle.nbd_laws.specs.Reached.{IsReached, at_start, after_message}
 use Rattle.nbd_laws.proofs.requests.OutstandingLemmas.{IsFound, both_true, find, not_true_is_false}
 use Rattle.nbd_laws.proofs.runs.ReachLemmas.{run_reaches}

@@ -1,5 +1,6 @@
 -- Marked captures by blocks are those that are read from the left.
 use Rattle.std.proofs.Common.{◌≡◌, ℕ, List, [], ◌∷◌, ◌++◌, map, flat_map, refl, sym, ◌∙◌, ap, subst, inl, inr, append_assoc}
+use Rattle.nbd_wire.specs.protocol.Entries.{whole}
 use Rattle.nbd_wire.specs.declared.message.Side.{Side}
 use Rattle.nbd_wire.specs.declared.message.Side.TheVariants.{Client, Server}
 use Rattle.nbd_wire.specs.declared.message.Message.{Message}
@@ -176,7 +177,7 @@ walk_is_marked {P} {items} w =
       record {
         client_side = record { messages = c.messages; blocks = c.blocks };
         server_side = record { messages = s.messages; blocks = s.blocks };
-        tight = tight_tail (Serves 0) items (tight_after w (Serves 0) tt);
+        tight = tight_tail (Serves (whole 0)) items (tight_after w (Serves (whole 0)) tt);
       },
       c.strays,
       s.strays,
@@ -352,8 +353,8 @@ unblocked {P} (Starts u m ∷ Completes v n ∷ items) o un l t = elim t.0 [ ]
 unblocked {P} (Starts u m ∷ Serves k ∷ items) o un l t = elim t.0 [ ]
 unblocked {P} (Byte u b ∷ Completes v m ∷ items) o un l t = unended u v m b items (unblocked items) o un l t
 unblocked {P} (Byte u b ∷ []) o un l t = unbyted u b [] (unblocked []) (λ m y e. (cc)) o un l t
-unblocked {P} (Byte u b ∷ Byte v c ∷ items) o un l t = unbyted u b (Byte v c ∷ items) (unblocked (Byte v c ∷ items)) (λ n y e. ends_now u n (Byte v c ∷ items) y (Serves 0) (λ q. q) (tt, t.1) e) o un l t
-unblocked {P} (Byte u b ∷ Starts v m ∷ items) o un l t = unbyted u b (Starts v m ∷ items) (unblocked (Starts v m ∷ items)) (λ n y e. ends_now u n (Starts v m ∷ items) y (Serves 0) (λ q. q) (tt, t.1) e) o un l t
+unblocked {P} (Byte u b ∷ Byte v c ∷ items) o un l t = unbyted u b (Byte v c ∷ items) (unblocked (Byte v c ∷ items)) (λ n y e. ends_now u n (Byte v c ∷ items) y (Serves (whole 0)) (λ q. q) (tt, t.1) e) o un l t
+unblocked {P} (Byte u b ∷ Starts v m ∷ items) o un l t = unbyted u b (Starts v m ∷ items) (unblocked (Starts v m ∷ items)) (λ n y e. ends_now u n (Starts v m ∷ items) y (Serves (whole 0)) (λ q. q) (tt, t.1) e) o un l t
 unblocked {P} (Byte u b ∷ Serves k ∷ items) o un l t = unbyted u b (Serves k ∷ items) (unblocked (Serves k ∷ items)) (λ m y e. ends_now u m items y (Serves k) (λ q. q) t.1 e) o un l t
 
 -- a marked capture is read from the left

@@ -1,5 +1,6 @@
 -- In a run no row of the table of faults holds before a byte: its messages are judged to go on until they complete.
 use Rattle.std.proofs.Common.{◌≡◌, ℕ, List, [], ◌∷◌, ◌++◌, length, refl, sym, ◌∙◌, ap, subst, Option, Some, None, Result, Ok, Err}
+use Rattle.nbd_wire.specs.declared.entry.Entry.{Entry}
 use Rattle.nbd_wire.specs.declared.fault.WireFault.{WireFault}
 use Rattle.nbd_wire.specs.declared.message.Message.{Message}
 use Rattle.nbd_wire.specs.declared.message.Side.{Side}
@@ -30,7 +31,7 @@ module _ (judge : Judge) (exact : IsExact judge) where
   more_at machine s b j k = subst (λ (r : Rest). IsMoreAt judge machine.core s r) (sym (get-put_same machine.rests s (rest_with machine.core (get machine.rests s) b))) (j, k)
 
   -- each byte of a run but the last of a message is judged to go on
-  tracks_run : {o : Both Open} {items : List Item} (w : Walk ⊥ o items) (machine : Machine) (js : List ℕ) → Obeys (record { core = machine.core; served = js }) items → AreInStep machine o → AreHeld judge machine → ArePairs (pairs items) → Tracks judge machine items
+  tracks_run : {o : Both Open} {items : List Item} (w : Walk ⊥ o items) (machine : Machine) (js : List Entry) → Obeys (record { core = machine.core; served = js }) items → AreInStep machine o → AreHeld judge machine → ArePairs (pairs items) → Tracks judge machine items
   tracks_run (ended c d) machine js ob st hd lt = tt
   tracks_run (serving k w) machine js ob st hd lt = tracks_run w machine _ ob.1 st hd lt
   tracks_run {o} (opening s m b left {items = items} is f g w) machine js ob st hd lt =
@@ -86,7 +87,7 @@ last_snoc (Serves k ∷ items) last s b = last_snoc items last s b
 
 module _ (judge : Judge) (exact : IsExact judge) (low : IsTelling judge) where
   -- with its last byte a message of a run is whole, and no row holds of it
-  done_at : {o : Both Open} {items : List Item} (w : Walk ⊥ o items) (machine : Machine) (js : List ℕ) → Obeys (record { core = machine.core; served = js }) items → AreInStep machine o → AreHeld judge machine → ArePairs (pairs items) →
+  done_at : {o : Both Open} {items : List Item} (w : Walk ⊥ o items) (machine : Machine) (js : List Entry) → Obeys (record { core = machine.core; served = js }) items → AreInStep machine o → AreHeld judge machine → ArePairs (pairs items) →
       (before more : List Item) (t : Side) (c : ℕ) (n : Message) → items ≡ before ++ Byte t c ∷ Completes t n ∷ more → IsDone (led machine (before ++ Byte t c ∷ [])) t
   done_at (ended c d) machine js ob st hd lt [] more t e n q = absurd (cc)
   done_at (ended c d) machine js ob st hd lt (x ∷ before) more t e n q = absurd (cc)

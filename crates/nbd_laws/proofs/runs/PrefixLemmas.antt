@@ -247,7 +247,7 @@ phase-complete core export m (asks flags command cookie offset len p h) = phase-
 phase-complete core export m (replies error cookie p h) = phase-reply_to (request_of_reply core (Simple error cookie p)) core (Simple error cookie p)
 phase-complete core export m (gives flags kind cookie p h) = phase-reply_to (request_of_reply core (Chunk flags kind cookie p)) core (Chunk flags kind cookie p)
 
-in_transmission : {core : Core} {export : Exporting} {m : Message} → core.phase ≡ Transmission export → MayComplete core core.phase m → InTransmission core export m
+pub in_transmission : {core : Core} {export : Exporting} {m : Message} → core.phase ≡ Transmission export → MayComplete core core.phase m → InTransmission core export m
 in_transmission {core} {export} {m} t ok = transmission_row core export m (subst (λ phase. MayComplete core phase m) t ok)
 
 pub still : {s : Side} {c d : Core} {export : Exporting} → Later s c d → c.phase ≡ Transmission export → d.phase ≡ Transmission export

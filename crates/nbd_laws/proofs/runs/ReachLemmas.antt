@@ -7,7 +7,7 @@ use Rattle.nbd_wire.specs.protocol.Rules.{IsRun, complete, ends_at}
 use Rattle.nbd_wire.specs.protocol.Sendable.{IsSendable}
 use Rattle.nbd_wire.specs.protocol.States.{Core, start}
 use Rattle.nbd_laws.proofs.runs.FollowLemmas.{Follows, each_with, follows}
-use Rattle.nbd_laws.proofs.service.LatestLemmas.{core_end}
+use Rattle.nbd_laws.proofs.service.InsideLemmas.{core_end}
 use Rattle.nbd_laws.specs.internal.Machine.{Both, get}
 use Rattle.nbd_laws.specs.Reached.{IsReached, at_start, after_message}
 use Rattle.nbd_laws.proofs.machine.MachineLemmas.{Open, Idle, Busy, Loose, Walk, ended, serving, opening, middle, final, loose}

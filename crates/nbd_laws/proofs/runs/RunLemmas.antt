@@ -1,11 +1,12 @@
 -- The laws over runs.
 use Rattle.std.proofs.Common.{◌≡◌, ℕ, List, [], ◌∷◌, ◌++◌, length, refl, sym, ◌∙◌, ap, subst, inr, Ok, Err, arith}
+use Rattle.nbd_wire.specs.declared.entry.Entry.{Entry}
 use Rattle.nbd_wire.specs.declared.message.Side.{Side}
 use Rattle.nbd_wire.specs.declared.message.Side.TheVariants.{Client, Server}
 use Rattle.nbd_wire.specs.protocol.Marks.{Item, Byte, Starts, Completes, Serves, pairs, completed_messages, service_order, IsMarkedBut}
 use Rattle.nbd_wire.specs.protocol.Captures.{Pair, ArePairs}
 use Rattle.nbd_wire.specs.protocol.States.{Core, start}
-use Rattle.nbd_wire.specs.protocol.Rules.{IsRun, IsRunBut, Obeys, complete, ends_at}
+use Rattle.nbd_wire.specs.protocol.Rules.{IsRun, IsRunBut, Obeys, complete, ends_at, inside_at}
 use Rattle.nbd_wire.specs.protocol.Reports.{operations_of, known_count}
 use Rattle.nbd_laws.proofs.service.EntryLemmas.{HasNoFault}
 use Rattle.nbd_wire.specs.declared.fault.WireFault.{WireFault}
@@ -16,9 +17,10 @@ use Rattle.nbd_laws.proofs.runs.TraceLemmas.{trace, IsTrace, IsCanonical, IsStra
 use Rattle.nbd_laws.proofs.machine.MarkLemmas.{marks, IsRead}
 use Rattle.nbd_wire.specs.protocol.Within.{within}
 use Rattle.nbd_laws.proofs.runs.BlockLemmas.{walk_is_marked, marked_is_walk, Idles}
-use Rattle.nbd_laws.proofs.service.LatestLemmas.{placed, walk_placed, served_placed, pairs_placed, core_end, Fits, obeys_placed}
+use Rattle.nbd_laws.proofs.service.InsideLemmas.{core_end}
+use Rattle.nbd_laws.proofs.service.LatestLemmas.{placed, walk_placed, served_placed, pairs_placed, Fits, obeys_placed}
 
-pub core_end-ends_at : (core : Core) (js : List ℕ) (items : List Item) → core_end core items ≡ (ends_at (record { core = core; served = js }) items).core
+pub core_end-ends_at : (core : Core) (js : List Entry) (items : List Item) → core_end core items ≡ (ends_at (record { core = core; served = js }) items).core
 core_end-ends_at core js [] = refl
 core_end-ends_at core js (Byte s b ∷ items) = core_end-ends_at core js items
 core_end-ends_at core js (Starts s m ∷ items) = core_end-ends_at core js items
@@ -41,20 +43,19 @@ run_of {P} {items} no_stray w ob =
 pub walk_of : {items : List Item} → IsRun items → Walk ⊥ Idles items
 walk_of {items} run = marked_is_walk items [] [] (λ f. f) (λ f. f) run.marked
 
-pub latest : (items : List Item) (order : List ℕ) → IsRun items → HasNoFault (length (operations_of items)) (known_count items) order →
+pub latest : (items : List Item) (order : List Entry) → IsRun items → HasNoFault (length (operations_of items)) (known_count items) (inside_at (ends_at start items).core) order →
     (items' : List Item) × IsRun items' × (pairs items' ≡ pairs items) × (service_order items' ≡ order)
 latest items order run fit =
-    let fits : Fits (known_count items) (length (operations_of items)) start.core [] order items = record {
-      once = fit.once;
-      apart = λ k h. absurd h;
+    let fits : Fits (known_count items) (ends_at start items).core start.core [] order items = record {
+      fine = fit.fine;
       in_time = fit.in_time;
       known = λ k. inr refl;
-      all = λ k n p h e. inr (fit.all k n p h e);
-      named = fit.named;
-      end = ap (λ (c : Core). length c.entries) (core_end-ends_at start.core [] items);
+      served = fit.served;
+      settled = λ l. absurd (omega arith);
+      end = core_end-ends_at start.core [] items;
     } in (
       placed start.core order items,
-      run_of (λ x. x) (walk_placed (walk_of run) start.core order) (obeys_placed (known_count items) (length (operations_of items)) items start.core [] [] order run.obeys fits),
+      run_of (λ x. x) (walk_placed (walk_of run) start.core order) (obeys_placed (known_count items) (ends_at start items).core items start.core [] [] order run.obeys fits),
       pairs_placed start.core order items,
       served_placed start.core order items,
     )

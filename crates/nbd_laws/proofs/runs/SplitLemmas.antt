@@ -1,5 +1,6 @@
 -- The bytes of a split at which no row of the table of faults holds before the last of them are read so: the law of marks, with open bytes.
 use Rattle.std.proofs.Common.{◌≡◌, ℕ, ◌<◌, ◌⊎◌, List, [], ◌∷◌, ◌++◌, length, refl, sym, ◌∙◌, ap, subst, inl, inr, Option, Some, Ok, append_assoc, append-nil}
+use Rattle.nbd_wire.specs.declared.entry.Entry.{Entry}
 use Rattle.nbd_wire.specs.declared.message.Side.{Side}
 use Rattle.nbd_wire.specs.declared.message.Message.{Message}
 use Rattle.nbd_wire.specs.protocol.Sides.{side}
@@ -116,7 +117,7 @@ clear_byte machine last s b items c before more t d e u is = c (Byte s b ∷ bef
 clear_starts : (machine : Machine) (last : Option Side) (s : Side) (m : Message) (items : List Item) → IsClearFrom machine last (Starts s m ∷ items) → IsClearFrom machine last items
 clear_starts machine last s m items c before more t d e u is = c (Starts s m ∷ before) more t d (ap (λ l. Starts s m ∷ l) e) u is
 
-clear_serves : (machine : Machine) (last : Option Side) (k : ℕ) (items : List Item) → IsClearFrom machine last (Serves k ∷ items) → IsClearFrom machine last items
+clear_serves : (machine : Machine) (last : Option Side) (k : Entry) (items : List Item) → IsClearFrom machine last (Serves k ∷ items) → IsClearFrom machine last items
 clear_serves machine last k items c before more t d e u is = c (Serves k ∷ before) more t d (ap (λ l. Serves k ∷ l) e) u is
 
 clear_completes : (machine : Machine) (last : Option Side) (s : Side) (m : Message) (items : List Item) → IsClearFrom machine last (Completes s m ∷ items) →
@@ -179,7 +180,7 @@ module _ (judge : Judge) (exact : IsExact judge) (low : IsTelling judge) where
   }
 
   -- the law of marks, from runs to runs but for open bytes
-  pub marks_but : {P : Type 0} {o : Both Open} {items : List Item} (w : Walk P o items) (machine : Machine) (js : List ℕ) → Obeys (record { core = machine.core; served = js }) items → AreInStep machine o → AreHeld judge machine →
+  pub marks_but : {P : Type 0} {o : Both Open} {items : List Item} (w : Walk P o items) (machine : Machine) (js : List Entry) → Obeys (record { core = machine.core; served = js }) items → AreInStep machine o → AreHeld judge machine →
       (last : Option Side) → IsClearFrom machine last items → (prefix : List Pair) (p : Pair) → ArePairs prefix → p.byte < 256 → pairs items ≡ prefix ++ p ∷ [] → IsReadBefore judge machine items prefix p
   marks_but (ended c d) machine js ob st hd last clear prefix p lt pl e = absurd (no_pair prefix p e)
   marks_but (serving k {items = items} w) machine js ob st hd last clear prefix p lt pl e =

@@ -1,5 +1,7 @@
 -- What a machine read is a run with exactly the pairs that it read.
 use Rattle.std.proofs.Common.{◌≡◌, ℕ, suc, zero, ◌+◌, ◌<◌, ◌≤◌, ◌⊎◌, List, [], ◌∷◌, ◌++◌, length, refl, sym, ◌∙◌, ap, subst, inl, inr, Ok, Option, Some, None, append_assoc, append-nil, arith, true, false, Bool, not, ◌==◌, ◌&&◌, if◌then◌else◌, length-append, add-one, le_refl, eq-or-lt_of_le}
+use Rattle.nbd_wire.specs.protocol.Entries.{Names, NamesWhole, whole}
+use Rattle.nbd_wire.specs.declared.entry.Entry.{Entry}
 use Rattle.nbd_wire.specs.declared.message.Side.{Side}
 use Rattle.nbd_wire.specs.declared.message.Side.TheVariants.{Client, Server}
 use Rattle.nbd_wire.specs.declared.message.Message.{Message}
@@ -9,28 +11,17 @@ use Rattle.nbd_wire.specs.protocol.Sides.{side}
 use Rattle.nbd_wire.specs.protocol.Marks.{Item, Byte, Starts, Completes, Serves, pairs, completed_messages}
 use Rattle.nbd_wire.specs.protocol.Captures.{Pair, ArePairs}
 use Rattle.nbd_wire.specs.protocol.Operations.{Operation, is_finished}
-use Rattle.nbd_wire.specs.protocol.States.{Core, State, Names, target, target_from, with_reply_at}
+use Rattle.nbd_wire.specs.protocol.States.{Core, State, target, target_from, with_reply_at}
 use Rattle.nbd_wire.specs.protocol.Sendable.{IsSendable}
 use Rattle.nbd_wire.specs.protocol.Rules.{MayStart, complete, reply_to, core_with_request, Obeys, request_of_reply, IsServedFor}
+use Rattle.nbd_laws.proofs.service.EntryLemmas.{Names-push_cases, NamesWhole-left, NamesWhole-push, served_at_once}
 use Rattle.nbd_laws.proofs.machine.MachineLemmas.{old-empty, old-filled, IsFilled-snoc, IsMoreAt, AreHeld, kept_next, held_more, held_whole, led, ended_by, with_byte, IsMore, Tracks, get-put_same, get-put_other, put-put, same_or_not, Open, Idle, Busy, Loose, IsNotBusy, Walk, ended, serving, opening, middle, final, loose, IsSoundAt, IsSound}
 use Rattle.nbd_laws.specs.internal.Machine.{Both, get, put, IsFilled, Rest, Machine, Reading, More, Whole, Bad, settle, Judge, rest_with, reads, on_ok}
 
--- each request that has completed was served, and no other
+-- each request that has completed was served at once, and no other
 pub record IsCanonical (state : State) : Type 0 where
-  pub all : (k : ℕ) → 0 < k → k ≤ length state.core.entries → Names state.served k
+  pub all : (k : ℕ) → 0 < k → k ≤ length state.core.entries → NamesWhole state.served k
   pub only : (k : ℕ) → Names state.served k → k ≤ length state.core.entries
-
-pub Names-push : (js : List ℕ) (k : ℕ) → Names (js ++ k ∷ []) k
-Names-push [] k = inl refl
-Names-push (j ∷ js) k = inr (Names-push js k)
-
-pub Names-left : (js ks : List ℕ) (k : ℕ) → Names js k → Names (js ++ ks) k
-Names-left (j ∷ js) ks k = elim [ inl e ↦ inl e | inr h ↦ inr (Names-left js ks k h) ]
-Names-left [] ks k = λ h. absurd h
-
-pub Names-push_cases : (js : List ℕ) (j k : ℕ) → Names (js ++ j ∷ []) k → Names js k ⊎ (j ≡ k)
-Names-push_cases [] j k = elim [ inl e ↦ inr e | inr h ↦ absurd h ]
-Names-push_cases (i ∷ js) j k = elim [ inl e ↦ inl (inl e) | inr h ↦ elim (Names-push_cases js j k h) [ inl n ↦ inl (inr n) | inr e ↦ inr e ] ]
 
 pub length-answered : (k : ℕ) (m : Message) (es : List Operation) → length (with_reply_at k m es) ≡ length es
 length-answered k m [] = refl
@@ -82,7 +73,7 @@ answered_by-within core (Request flags command cookie offset len payload) k e = 
 
 canonical_serves : (state : State) → IsCanonical state → (s : Side) (m : Message) → IsServedFor state s m
 canonical_serves state c Client m = tt
-canonical_serves state c Server m = λ k e. let w : (0 < k) × (k ≤ length state.core.entries) = answered_by-within state.core m k e in c.all k w.0 w.1
+canonical_serves state c Server m = λ k e. let w : (0 < k) × (k ≤ length state.core.entries) = answered_by-within state.core m k e in served_at_once _ state.served k (c.all k w.0 w.1)
 
 -- the placing of a request's service: directly after its completion
 abbrev pub IsGrown : Core → Core → Type 0
@@ -90,31 +81,34 @@ IsGrown old new = (length new.entries ≡ length old.entries) ⊎ (length new.en
 
 abbrev pub service : (old new : Core) → IsGrown old new → List Item
 service old new (inl e) = []
-service old new (inr e) = Serves (length new.entries) ∷ []
+service old new (inr e) = Serves (whole (length new.entries)) ∷ []
 
-abbrev pub serviced : (old new : Core) → IsGrown old new → List ℕ → List ℕ
+abbrev pub serviced : (old new : Core) → IsGrown old new → List Entry → List Entry
 serviced old new (inl e) js = js
-serviced old new (inr e) js = js ++ length new.entries ∷ []
+serviced old new (inr e) js = js ++ whole (length new.entries) ∷ []
 
-canonical_serviced : (old new : Core) (g : IsGrown old new) (js : List ℕ) → IsCanonical (record { core = old; served = js }) →
+canonical_serviced : (old new : Core) (g : IsGrown old new) (js : List Entry) → IsCanonical (record { core = old; served = js }) →
     IsCanonical (record { core = new; served = serviced old new g js })
 canonical_serviced old new (inl e) js c = record {
   all = λ k p h. c.all k p (omega arith);
   only = λ k n. let h : k ≤ length old.entries = c.only k n in omega arith;
 }
 canonical_serviced old new (inr e) js c = record {
-  all = λ k p h. elim (eq-or-lt_of_le h) [ inl q ↦ subst (λ n. Names (js ++ length new.entries ∷ []) n) (sym q) (Names-push js (length new.entries)) | inr l ↦ Names-left js (length new.entries ∷ []) k (c.all k p (omega arith)) ];
-  only = λ k n. elim (Names-push_cases js (length new.entries) k n) [ inl m ↦ (let h : k ≤ length old.entries = c.only k m in omega arith) | inr q ↦ omega arith ];
+  all = λ k p h. elim (eq-or-lt_of_le h) [ inl q ↦ subst (λ n. NamesWhole (js ++ whole (length new.entries) ∷ []) n) (sym q) (NamesWhole-push js (length new.entries)) | inr l ↦ NamesWhole-left js (whole (length new.entries) ∷ []) k (c.all k p (omega arith)) ];
+  only = λ k n. elim (Names-push_cases js (whole (length new.entries)) k n) [ inl m ↦ (let h : k ≤ length old.entries = c.only k m in omega arith) | inr q ↦ omega arith ];
 }
 
-obeys_service : (old new : Core) (g : IsGrown old new) (js : List ℕ) (items : List Item) → IsCanonical (record { core = old; served = js }) →
+obeys_service : (old new : Core) (g : IsGrown old new) (js : List Entry) (items : List Item) → IsCanonical (record { core = old; served = js }) →
     Obeys (record { core = new; served = serviced old new g js }) items → Obeys (record { core = new; served = js }) (service old new g ++ items)
 obeys_service old new (inl e) js items c h = h
-obeys_service old new (inr e) js items c h = ((omega arith, le_refl (length new.entries), λ n. let q : length new.entries ≤ length old.entries = c.only (length new.entries) n in omega arith), h)
+obeys_service old new (inr e) js items c h = (
+      (omega arith, le_refl (length new.entries), ((λ n. let q : length new.entries ≤ length old.entries = c.only (length new.entries) n in omega arith), λ b. b)),
+      h,
+    )
 
 walk_service : {P : Type 0} (old new : Core) (g : IsGrown old new) (o : Both Open) (items : List Item) → Walk P o items → Walk P o (service old new g ++ items)
 walk_service old new (inl e) o items w = w
-walk_service old new (inr e) o items w = serving (length new.entries) w
+walk_service old new (inr e) o items w = serving (whole (length new.entries)) w
 
 pairs_service : (old new : Core) (g : IsGrown old new) (items : List Item) → pairs (service old new g ++ items) ≡ pairs items
 pairs_service old new (inl e) items = refl
@@ -229,7 +223,7 @@ tracks_more judge machine s b (Starts t m ∷ items) h more = (more (Starts t m)
 tracks_more judge machine s b (Serves k ∷ items) h more = (more (Serves k) items refl, h)
 tracks_more judge machine s b (Completes t m ∷ items) h more = absurd h
 
-module _ (judge : Judge) (machine end : Machine) (js : List ℕ) (canonical : IsCanonical (record { core = machine.core; served = js })) (s : Side) (b : ℕ) (ps : List Pair) where
+module _ (judge : Judge) (machine end : Machine) (js : List Entry) (canonical : IsCanonical (record { core = machine.core; served = js })) (s : Side) (b : ℕ) (ps : List Pair) where
   abbrev rest_of : Rest
   rest_of = get machine.rests s
 
@@ -345,8 +339,8 @@ module _ (judge : Judge) (machine end : Machine) (js : List ℕ) (canonical : Is
       go (Busy n left) is g = absurd g.filled
       go Loose is g = absurd g.0
 
-trace_by : (judge : Judge) → IsSound judge → (machine mid end : Machine) (js : List ℕ) → AreHeld judge machine → IsCanonical (record { core = machine.core; served = js }) → (p : Pair) (ps qs : List Pair) → p.byte < 256 →
-    ((next : Machine) (js' : List ℕ) → AreHeld judge next → IsCanonical (record { core = next.core; served = js' }) → reads judge next ps ≡ Ok mid → IsTrace judge next end (record { core = next.core; served = js' }) (ps ++ qs)) →
+trace_by : (judge : Judge) → IsSound judge → (machine mid end : Machine) (js : List Entry) → AreHeld judge machine → IsCanonical (record { core = machine.core; served = js }) → (p : Pair) (ps qs : List Pair) → p.byte < 256 →
+    ((next : Machine) (js' : List Entry) → AreHeld judge next → IsCanonical (record { core = next.core; served = js' }) → reads judge next ps ≡ Ok mid → IsTrace judge next end (record { core = next.core; served = js' }) (ps ++ qs)) →
     (r : Reading) → judge (rest_with machine.core (get machine.rests p.from) p.byte).since machine.core p.from (rest_with machine.core (get machine.rests p.from) p.byte).bytes ≡ r →
     on_ok (settle machine p.from (rest_with machine.core (get machine.rests p.from) p.byte) r) (λ next. reads judge next ps) ≡ Ok mid →
     IsTrace judge machine end (record { core = machine.core; served = js }) (p ∷ ps ++ qs)
@@ -360,17 +354,17 @@ trace_by judge sound machine mid end js held canonical p ps qs lt ih (Whole m) i
 trace_by judge sound machine mid end js held canonical p ps qs lt ih (Bad f) is h = absurd (cc)
 
 -- what was read without a fault is a run, but for the rests, and what comes then
-pub trace_then : (judge : Judge) → IsSound judge → (ps qs : List Pair) (machine mid end : Machine) (js : List ℕ) → ArePairs ps → AreHeld judge machine → IsCanonical (record { core = machine.core; served = js }) →
+pub trace_then : (judge : Judge) → IsSound judge → (ps qs : List Pair) (machine mid end : Machine) (js : List Entry) → ArePairs ps → AreHeld judge machine → IsCanonical (record { core = machine.core; served = js }) →
     reads judge machine ps ≡ Ok mid →
-    ((js' : List ℕ) → AreHeld judge mid → IsCanonical (record { core = mid.core; served = js' }) → IsTrace judge mid end (record { core = mid.core; served = js' }) qs) →
+    ((js' : List Entry) → AreHeld judge mid → IsCanonical (record { core = mid.core; served = js' }) → IsTrace judge mid end (record { core = mid.core; served = js' }) qs) →
     IsTrace judge machine end (record { core = machine.core; served = js }) (ps ++ qs)
 trace_then judge sound [] qs machine mid end js lt held canonical e go_on =
     let q : mid ≡ machine = cc in
-    subst (λ (x : Machine). (js' : List ℕ) → AreHeld judge x → IsCanonical (record { core = x.core; served = js' }) → IsTrace judge x end (record { core = x.core; served = js' }) qs) q go_on js held canonical
+    subst (λ (x : Machine). (js' : List Entry) → AreHeld judge x → IsCanonical (record { core = x.core; served = js' }) → IsTrace judge x end (record { core = x.core; served = js' }) qs) q go_on js held canonical
 trace_then judge sound (p ∷ ps) qs machine mid end js lt held canonical e go_on =
     trace_by judge sound machine mid end js held canonical p ps qs lt.0 (λ next js' hd c h. trace_then judge sound ps qs next mid end js' lt.1 hd c h go_on) _ refl e
 
-pub trace : (judge : Judge) → IsSound judge → (ps : List Pair) (machine end : Machine) (js : List ℕ) → ArePairs ps → AreHeld judge machine → IsCanonical (record { core = machine.core; served = js }) →
+pub trace : (judge : Judge) → IsSound judge → (ps : List Pair) (machine end : Machine) (js : List Entry) → ArePairs ps → AreHeld judge machine → IsCanonical (record { core = machine.core; served = js }) →
     reads judge machine ps ≡ Ok end → IsTrace judge machine end (record { core = machine.core; served = js }) ps
 trace judge sound ps machine end js lt held canonical e =
     subst (λ l. IsTrace judge machine end (record { core = machine.core; served = js }) l) (append-nil ps)

@@ -1,5 +1,6 @@
 -- The open bytes of a side and what had completed before them, as functions of the items, are those of the machine.
 use Rattle.std.proofs.Common.{◌≡◌, ℕ, List, [], ◌∷◌, ◌++◌, refl, sym, ◌∙◌, ap, subst, inl, inr, Bool, true, false, not, ◌&&◌, ◌||◌, if◌then◌else◌, append_assoc, append-nil}
+use Rattle.nbd_wire.specs.declared.entry.Entry.{Entry}
 use Rattle.nbd_wire.specs.declared.message.Side.{Side}
 use Rattle.nbd_wire.specs.declared.message.Side.TheVariants.{Client, Server}
 use Rattle.nbd_wire.specs.declared.message.Message.{Message}
@@ -39,7 +40,7 @@ rest_if c b bs = if c then b ∷ bs else bs
 abbrev since_if : Bool → Core → Core → Core
 since_if c core later = if c then core else later
 
-module _ (s : Side) (b : ℕ) (items : List Item) (rests : Both Rest) (core : Core) (js : List ℕ) where
+module _ (s : Side) (b : ℕ) (items : List Item) (rests : Both Rest) (core : Core) (js : List Entry) where
   rest_same : bytes_by (completes_in s items) (get (put rests s (rest_with core (get rests s) b)) s).bytes (open_bytes s items) ≡ bytes_by (completes_in s items) (get rests s).bytes (open_bytes s (Byte s b ∷ items))
   rest_same = ap (λ (r : Rest). bytes_by (completes_in s items) r.bytes (open_bytes s items)) (get-put_same rests s (rest_with core (get rests s) b))
       ∙ go (completes_in s items) (open_bytes s items)
@@ -69,7 +70,7 @@ module _ (s : Side) (b : ℕ) (items : List Item) (rests : Both Rest) (core : Co
       ∙ ap (λ z. since_by (completes_in s items) (get rests s) (since_if (z && not (completes_in s items)) core (since_from s core items))) (sym (same_other s t ne))
 
 -- the machine's data of a side, from those of the items
-pub record IsTracked (s : Side) (items : List Item) (machine : Machine) (js : List ℕ) : Type 0 where
+pub record IsTracked (s : Side) (items : List Item) (machine : Machine) (js : List Entry) : Type 0 where
   pub rest_is : (get (led machine items).rests s).bytes ≡ bytes_by (completes_in s items) (get machine.rests s).bytes (open_bytes s items)
   pub since_is : old_of (led machine items).core (get (led machine items).rests s) ≡ since_by (completes_in s items) (get machine.rests s) (since_from s machine.core items)
   pub core_is : (led machine items).core ≡ (ends_at (record { core = machine.core; served = js }) items).core
@@ -83,7 +84,7 @@ module _ (s : Side) (m : Message) (items : List Item) (old : Rest) where
   ended_since true past core = refl
   ended_since false past core = refl
 
-pub machine_is_tracked : (s : Side) (items : List Item) (machine : Machine) (js : List ℕ) → IsTracked s items machine js
+pub machine_is_tracked : (s : Side) (items : List Item) (machine : Machine) (js : List Entry) → IsTracked s items machine js
 machine_is_tracked s [] machine js = record { rest_is = sym (append-nil (get machine.rests s).bytes); since_is = refl; core_is = refl }
 machine_is_tracked s (Starts t m ∷ items) machine js = let h : IsTracked s items machine js = machine_is_tracked s items machine js in record { rest_is = h.rest_is; since_is = h.since_is; core_is = h.core_is }
 machine_is_tracked s (Serves k ∷ items) machine js = let h : IsTracked s items machine (js ++ k ∷ []) = machine_is_tracked s items machine _ in record { rest_is = h.rest_is; since_is = h.since_is; core_is = h.core_is }

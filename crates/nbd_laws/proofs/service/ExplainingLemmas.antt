@@ -1,5 +1,6 @@
 -- A capture is explained exactly where a run with its bytes passes the tests.
 use Rattle.std.proofs.Common.{◌≡◌, ℕ, List, sym, ◌∙◌, ap, subst}
+use Rattle.nbd_wire.specs.declared.entry.Entry.{Entry}
 use Rattle.nbd_wire.specs.protocol.Explains.{IsExplained, FitsImage, HasNoWrongByte, Start}
 use Rattle.nbd_wire.specs.protocol.Marks.{Item, pairs, service_order}
 use Rattle.nbd_wire.specs.protocol.Captures.{Pair}
@@ -43,6 +44,6 @@ counts_of items capture r a i run e er ea ei = record {
     same items' run' e' = same_reports items' items run' run (e' ∙ sym e)
 
 -- a test that a run with these bytes does not pass
-pub failing_is_no : (items : List Item) (capture : List Pair) (order : List ℕ) (initial : Start) → IsRun items → pairs items ≡ capture → (Passes (report items) order initial → ⊥) → IsNo capture order initial
+pub failing_is_no : (items : List Item) (capture : List Pair) (order : List Entry) (initial : Start) → IsRun items → pairs items ≡ capture → (Passes (report items) order initial → ⊥) → IsNo capture order initial
 failing_is_no items capture order initial run e no_pass x =
     no_pass (explained_passes items order initial run (subst (λ c. IsExplained c order initial) (sym e) x))

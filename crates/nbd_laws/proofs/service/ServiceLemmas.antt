@@ -1,12 +1,12 @@
 -- What a run leads to and states does not depend on the moments of service.
 use Rattle.std.proofs.Common.{◌≡◌, ℕ, List, [], ◌∷◌, refl, sym, ◌∙◌, ap, Option}
 use Rattle.nbd_wire.specs.declared.message.Side.TheVariants.{Client, Server}
-use Rattle.nbd_wire.specs.protocol.Reports.{export_in, Report, first_known, known_count, known_from, report, asked_list}
+use Rattle.nbd_wire.specs.protocol.Reports.{Report, first_known, known_count, known_from, report, asked_list}
 use Rattle.nbd_wire.specs.protocol.Marks.{Item, Byte, Starts, Completes, Serves, without_service}
 use Rattle.nbd_wire.specs.protocol.Rules.{request_of_reply, complete, ends_at}
-use Rattle.nbd_wire.specs.protocol.States.{Core, start}
+use Rattle.nbd_wire.specs.protocol.States.{Core, start, export_in}
 use Rattle.nbd_laws.proofs.runs.FollowLemmas.{bare, follows, follows_unserved, pairs_unserved, walk_unserved}
-use Rattle.nbd_laws.proofs.service.LatestLemmas.{core_end}
+use Rattle.nbd_laws.proofs.service.InsideLemmas.{core_end}
 use Rattle.nbd_laws.proofs.runs.RunLemmas.{core_end-ends_at, walk_of}
 use Rattle.nbd_laws.proofs.machine.TwinLemmas.{AreEqual, twins}
 use Rattle.nbd_laws.proofs.runs.BlockLemmas.{Idles}

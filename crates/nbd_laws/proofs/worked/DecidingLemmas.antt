@@ -1,6 +1,9 @@
 -- Tests that decide the rules of negotiation by computing, and what a message needs to start.
-use Rattle.std.proofs.Common.{◌≡◌, ℕ, zero, suc, ◌+◌, ◌<◌, ◌≤◌, ◌^◌, ◌⊎◌, ◌==◌, ◌&&◌, ◌||◌, not, nat_le, nat_lt, List, [], ◌∷◌, length, refl, ap, subst, inl, inr, Option, Some, None, Bool, true, false, if◌then◌else◌, IsTrue, is_some, eqb-true, arith}
+use Rattle.std.proofs.Common.{◌≡◌, ℕ, zero, suc, ◌+◌, ◌<◌, ◌≤◌, ◌^◌, ◌⊎◌, ◌==◌, ◌&&◌, ◌||◌, not, nat_le, nat_lt, List, [], ◌∷◌, length, refl, ap, subst, inl, inr, Option, Some, None, Bool, true, false, if◌then◌else◌, IsTrue, is_some, eqb-true, arith, sym, ◌∙◌, eq-eqb}
 use Rattle.std.proofs.lemmas.Bool.{eqb-false, leb-true, ltb-true}
+use Rattle.nbd_wire.specs.declared.entry.Entry.{Entry}
+use Rattle.nbd_wire.specs.declared.entry.Part.{Part}
+use Rattle.nbd_wire.specs.protocol.Entries.{HasBadPart, IsWhollyServed, MayServe, Names, NamesWhole, in_part, inside, is_served}
 use Rattle.nbd_wire.specs.declared.answers.TheConstants as answers
 use Rattle.nbd_wire.specs.declared.commands.TheConstants as commands
 use Rattle.nbd_wire.specs.declared.limits.TheConstants.{EXPORT_SIZE}
@@ -15,13 +18,13 @@ use Rattle.nbd_wire.specs.declared.payloads.Info.TheVariants.{Export, BlockSize,
 use Rattle.nbd_wire.specs.protocol.Encoding.{AreBytes}
 use Rattle.nbd_wire.specs.protocol.Options.{IsInfo, MayAcknowledge, MayAnswer, is_error, is_proper_option, turn}
 use Rattle.nbd_wire.specs.protocol.Payloads.{info_of, is_listed}
-use Rattle.nbd_wire.specs.protocol.Operations.{Exporting}
+use Rattle.nbd_wire.specs.protocol.Operations.{Exporting, Operation, has_range}
 use Rattle.nbd_wire.specs.protocol.Flags.{has}
 use Rattle.nbd_wire.specs.protocol.Pieces.{is_in}
-use Rattle.nbd_wire.specs.protocol.Rules.{IsServedFor, MayStartIn, request_of_reply, is_request}
+use Rattle.nbd_wire.specs.protocol.Rules.{IsServedFor, MayStartIn, inside_at, inside_operation, request_of_reply, is_request}
 use Rattle.nbd_wire.specs.protocol.Sendable.{IsPayload, IsSendable}
 use Rattle.nbd_wire.specs.protocol.Sides.{same_side}
-use Rattle.nbd_wire.specs.protocol.States.{Core, Names, Phase, State, Greet, Flags, Choosing, Naming, Aborting, Answering, Ended, Transmission}
+use Rattle.nbd_wire.specs.protocol.States.{Core, Phase, State, Greet, Flags, Choosing, Naming, Aborting, Answering, Ended, Transmission, export_in, operation}
 
 -- both tests pass
 pub both : (a b : Bool) → IsTrue (a && b) → IsTrue a × IsTrue b
@@ -166,39 +169,105 @@ starts_in Aborting core s m e = turn_is (turn Aborting) s e
 starts_in (Answering option payload info) core s m e = turn_is (turn (Answering option payload info)) s e
 starts_in Ended core s m e = turn_is (turn Ended) s e
 
-abbrev pub names : List ℕ → ℕ → Bool
+abbrev pub names : List Entry → ℕ → Bool
 names [] k = false
-names (j ∷ js) k = (j == k) || names js k
+names (e ∷ es) k = (e.request == k) || names es k
 
-pub true_names : (js : List ℕ) (k : ℕ) → IsTrue (names js k) → Names js k
-true_names [] k e = absurd (cc)
-true_names (j ∷ js) k e = elim (one (j == k) (names js k) e) [ inl h ↦ inl (eqb-true j k h) | inr h ↦ inr (true_names js k h) ]
+pub true_names : (es : List Entry) (k : ℕ) → IsTrue (names es k) → Names es k
+true_names [] k h = absurd (cc)
+true_names (e ∷ es) k h = elim (one (e.request == k) (names es k) h) [ inl q ↦ inl (eqb-true e.request k q) | inr h ↦ inr (true_names es k h) ]
 
-abbrev pub is_unnamed : List ℕ → ℕ → Bool
+abbrev pub is_unnamed : List Entry → ℕ → Bool
 is_unnamed [] k = true
-is_unnamed (j ∷ js) k = not (j == k) && is_unnamed js k
+is_unnamed (e ∷ es) k = not (e.request == k) && is_unnamed es k
 
-pub true_is_unnamed : (js : List ℕ) (k : ℕ) → IsTrue (is_unnamed js k) → Names js k → ⊥
-true_is_unnamed [] k e n = n
-true_is_unnamed (j ∷ js) k e n =
-    let h = both (not (j == k)) (is_unnamed js k) e in
-    elim n [ inl q ↦ eqb-false j k (was_false (j == k) h.0) q | inr m ↦ true_is_unnamed js k h.1 m ]
+pub true_is_unnamed : (es : List Entry) (k : ℕ) → IsTrue (is_unnamed es k) → Names es k → ⊥
+true_is_unnamed [] k h n = n
+true_is_unnamed (e ∷ es) k h n =
+    let a = both (not (e.request == k)) (is_unnamed es k) h in
+    elim n [ inl q ↦ eqb-false e.request k (was_false (e.request == k) a.0) q | inr m ↦ true_is_unnamed es k a.1 m ]
 
-abbrev pub served_for : List ℕ → Option ℕ → Bool
-served_for js (Some k) = names js k
-served_for js None = true
+-- no entry without a part names the request
+abbrev pub is_in_parts : List Entry → ℕ → Bool
+is_in_parts [] k = true
+is_in_parts (e ∷ es) k = (not (e.request == k) || is_some e.part) && is_in_parts es k
+
+true_is_in_parts : (es : List Entry) (k : ℕ) → IsTrue (is_in_parts es k) → NamesWhole es k → ⊥
+true_is_in_parts [] k h n = n
+true_is_in_parts (e ∷ es) k h n =
+    let a = both (not (e.request == k) || is_some e.part) (is_in_parts es k) h in
+    elim n [
+      | inl q ↦ (let some : IsTrue (is_some e.part) = then_too (e.request == k) (is_some e.part) a.0 (eq-eqb e.request k q.0) in
+          let none : false ≡ true = ap (λ p. is_some p) (sym q.1) ∙ some in absurd (cc))
+      | inr m ↦ true_is_in_parts es k a.1 m
+    ]
+
+-- an entry names the request, and what lies inside it is served
+abbrev pub served_inside : Option Exporting → Option Operation → List Entry → ℕ → Bool
+served_inside export (Some e) es k = names es k && all_in e.offset e.length (λ x. not (inside export e.command e.offset e.length x) || is_served es k x)
+served_inside export None es k = names es k
+
+true_served : (export : Option Exporting) (o : Option Operation) (es : List Entry) (k : ℕ) → IsTrue (served_inside export o es k) → IsWhollyServed (inside_operation export o) es k
+true_served export None es k h = record { named = true_names es k h; covered = λ x i. absurd (let q : false ≡ true = i in cc) }
+true_served (Some export) (Some e) es k h =
+    let a = both (names es k) _ h in
+    record {
+      named = true_names es k a.0;
+      covered = λ x i.
+          (let b = both (has_range e.command) (is_in e.offset e.length x && nat_lt x export.size) i in
+          let r = in_range e.offset e.length x (both (is_in e.offset e.length x) (nat_lt x export.size) b.1).0 in
+          then_too (inside (Some export) e.command e.offset e.length x) (is_served es k x)
+          (all_at e.offset e.length (λ x. not (inside (Some export) e.command e.offset e.length x) || is_served es k x) a.1 x r.0 r.1) i);
+    }
+true_served None (Some e) es k h =
+    let a = both (names es k) _ h in
+    record { named = true_names es k a.0; covered = λ x i. absurd (let q : false ≡ true = i in cc) }
+
+abbrev pub served_for : Core → List Entry → Option ℕ → Bool
+served_for core es (Some k) = served_inside (export_in core.phase) (operation k core.entries) es k
+served_for core es None = true
 
 abbrev pub is_served_for : State → Side → Message → Bool
 is_served_for state Client m = true
-is_served_for state Server m = served_for state.served (request_of_reply state.core m)
+is_served_for state Server m = served_for state.core state.served (request_of_reply state.core m)
 
 pub serves : (state : State) (s : Side) (m : Message) → IsTrue (is_served_for state s m) → IsServedFor state s m
 serves state Client m e = tt
 serves state Server m e = λ k q. go (request_of_reply state.core m) k q e
   where
-    go : (o : Option ℕ) (k : ℕ) → o ≡ Some k → IsTrue (served_for state.served o) → Names state.served k
-    go (Some j) k q e = (let h : j ≡ k = cc in subst (Names state.served) h (true_names state.served j e))
+    go : (o : Option ℕ) (k : ℕ) → o ≡ Some k → IsTrue (served_for state.core state.served o) → IsWhollyServed (inside_at state.core k) state.served k
+    go (Some j) k q e =
+        (let h : j ≡ k = cc in
+        subst (λ i. IsWhollyServed (inside_at state.core i) state.served i) h
+        (true_served (export_in state.core.phase) (operation j state.core.entries) state.served j e))
     go None k q e = absurd (cc)
+
+-- an entry with this part may be served after these
+abbrev pub is_fresh : (within : ℕ → Bool) → List Entry → ℕ → Option Part → Bool
+is_fresh within before k None = is_unnamed before k
+is_fresh within before k (Some p) =
+    is_in_parts before k && (nat_lt 0 p.length && all_in p.offset p.length (λ x. within x && not (is_served before k x)))
+
+pub true_is_fresh : (within : ℕ → Bool) (before : List Entry) (e : Entry) → IsTrue (is_fresh within before e.request e.part) → MayServe within before e
+true_is_fresh within before e h = go e.part h
+  where
+    go : (p : Option Part) → IsTrue (is_fresh within before e.request p) → MayServe within before (record { request = e.request; part = p })
+    go None h = ((λ n. true_is_unnamed before e.request h n), λ b. b)
+    go (Some p) h =
+        let a = both (is_in_parts before e.request) _ h in
+        let b = both (nat_lt 0 p.length) _ a.1 in
+        let some : 0 < p.length = ltb-true 0 p.length b.0 in
+        let each = λ (x : ℕ) (i : IsTrue (is_in p.offset p.length x)). (let r = in_range p.offset p.length x i in
+            both (within x) (not (is_served before e.request x)) (all_at p.offset p.length (λ x. within x && not (is_served before e.request x)) b.1 x r.0 r.1)) in (
+          (λ n. true_is_in_parts before e.request a.0 n),
+          elim [
+            | inl empty ↦ absurd (omega arith)
+            | inr bad ↦ elim bad [
+              | inl out ↦ (let q : true ≡ false = sym (each out.0 out.1).0 ∙ out.2 in absurd (cc))
+              | inr twice ↦ (let q : true ≡ false = sym twice.2 ∙ was_false (is_served before e.request twice.0) (each twice.0 twice.1).1 in absurd (cc))
+            ]
+          ],
+        )
 
 abbrev pub is_info : Option Info → Bool
 is_info (Some (Export size flags)) = has flags transmission.HAS_FLAGS

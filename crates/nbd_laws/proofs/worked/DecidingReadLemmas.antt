@@ -1,10 +1,12 @@
 -- Tests that decide by computing whether a byte is wrong.
-use Rattle.std.proofs.Common.{◌≡◌, ℕ, ◌==◌, ◌&&◌, ◌||◌, not, List, [], ◌∷◌, refl, sym, ◌∙◌, ap, subst, inl, inr, Option, Some, None, Bool, true, false, IsTrue, eqb-true, eq-eqb}
+use Rattle.std.proofs.Common.{◌≡◌, ℕ, ◌==◌, ◌&&◌, ◌||◌, not, List, [], ◌∷◌, refl, sym, ◌∙◌, ap, subst, inl, inr, Option, Some, None, Bool, true, false, IsTrue, eqb-true, eq-eqb, zero, suc, ◌++◌, take, slice_get, append_assoc, append-nil}
 use Rattle.std.proofs.lemmas.Bool.{eqb-false}
+use Rattle.nbd_wire.specs.declared.entry.Entry.{Entry}
+use Rattle.nbd_wire.specs.declared.entry.Part.{Part}
+use Rattle.nbd_wire.specs.protocol.Entries.{in_part}
 use Rattle.nbd_wire.specs.declared.commands.TheConstants as commands
-use Rattle.nbd_wire.specs.protocol.ExportBytes.{Differs, Effect, IsWrong, IsWrongIn, byte_before}
+use Rattle.nbd_wire.specs.protocol.ExportBytes.{Differs, Effect, IsWrong, IsWrongIn, IsWrongOf, byte_before, byte_or_start, last_touch, serves}
 use Rattle.nbd_wire.specs.protocol.Pieces.{is_in}
-use Rattle.nbd_wire.specs.protocol.States.{Names}
 use Rattle.nbd_laws.proofs.worked.DecidingLemmas.{all_at, all_in, both, in_range, then_too, was_false}
 
 -- the read gives the known byte
@@ -18,33 +20,48 @@ true_agrees None read b h e ne = absurd (cc)
 true_agrees (Some c) (Some d) b h e ne = ne (ap Some (eqb-true d c h) ∙ e)
 true_agrees (Some c) None b h e ne = absurd (cc)
 
-abbrev pub reads_right : (byte : ℕ → Option ℕ) → Option Effect → Bool
-reads_right byte (Some e) = not ((e.command == commands.READ) && e.succeeded) || all_in e.offset e.length (λ x. agrees (byte x) (e.read x))
-reads_right byte None = true
+abbrev pub reads_right : Option Part → (byte : ℕ → Option ℕ) → Option Effect → Bool
+reads_right p byte (Some e) = not ((e.command == commands.READ) && e.succeeded) || all_in e.offset e.length (λ x. not (in_part p x) || agrees (byte x) (e.read x))
+reads_right p byte None = true
 
-abbrev pub all_right : (requests : ℕ → Option Effect) (order : List ℕ) (initial : ℕ → Option ℕ) → List ℕ → Bool
-all_right requests order initial [] = true
-all_right requests order initial (k ∷ ks) = reads_right (byte_before requests order initial k) (requests k) && all_right requests order initial ks
+-- the export's byte at x after these entries
+abbrev pub byte_after : (ℕ → Option Effect) → (ℕ → Option ℕ) → List Entry → ℕ → Option ℕ
+byte_after requests initial before x = byte_or_start (last_touch requests x before) initial x
 
-pub right : (byte : ℕ → Option ℕ) (o : Option Effect) (e : Effect) (x : ℕ) → IsTrue (reads_right byte o) → o ≡ Some e → IsWrongIn e byte x → ⊥
-right byte (Some d) e x h q w =
+-- each entry after these passes the test
+abbrev pub all_right : (requests : ℕ → Option Effect) (initial : ℕ → Option ℕ) (before order : List Entry) → Bool
+all_right requests initial before [] = true
+all_right requests initial before (e ∷ order) =
+    reads_right e.part (byte_after requests initial before) (requests e.request) && all_right requests initial (before ++ e ∷ []) order
+
+pub right : (p : Option Part) (byte : ℕ → Option ℕ) (o : Option Effect) (e : Effect) (x : ℕ) → IsTrue (reads_right p byte o) → o ≡ Some e → IsWrongIn p e byte x → ⊥
+right p byte (Some d) e x h q w =
     let s : d ≡ e = cc in
-    let w' : IsWrongIn d byte x = subst (λ y. IsWrongIn y byte x) (sym s) w in
+    let w' : IsWrongIn p d byte x = subst (λ y. IsWrongIn p y byte x) (sym s) w in
     let all = then_too ((d.command == commands.READ) && d.succeeded) _ h (ap (λ b. b && d.succeeded) (eq-eqb d.command commands.READ w'.0) ∙ w'.1) in
-    let r = in_range d.offset d.length x w'.2 in
-    true_agrees (byte x) (d.read x) w'.3.0 (all_at d.offset d.length (λ x. agrees (byte x) (d.read x)) all x r.0 r.1) w'.3.1 w'.3.2
-right byte None e x h q w = absurd (cc)
+    let at = both (is_in d.offset d.length x) (in_part p x) w'.2 in
+    let r = in_range d.offset d.length x at.0 in
+    let here = then_too (in_part p x) (agrees (byte x) (d.read x)) (all_at d.offset d.length (λ x. not (in_part p x) || agrees (byte x) (d.read x)) all x r.0 r.1) at.1 in
+    true_agrees (byte x) (d.read x) w'.3.0 here w'.3.1 w'.3.2
+right p byte None e x h q w = absurd (cc)
 
--- where each request that the order names passes the test, no byte is wrong
-pub none_wrong : (requests : ℕ → Option Effect) (order : List ℕ) (initial : ℕ → Option ℕ) (ks : List ℕ) → IsTrue (all_right requests order initial ks) → (k x : ℕ) → Names ks k → IsWrong requests order initial k x → ⊥
-none_wrong requests order initial [] h k x n w = n
-none_wrong requests order initial (j ∷ ks) h k x n w =
-    let a = both (reads_right (byte_before requests order initial j) (requests j)) (all_right requests order initial ks) h in
-    elim n [
-      | inl q ↦ (let w' : IsWrong requests order initial j x = subst (λ i. IsWrong requests order initial i x) (sym q) w in
-          right (byte_before requests order initial j) (requests j) w'.0 x a.0 w'.1 w'.2)
-      | inr m ↦ none_wrong requests order initial ks a.1 k x m w
-    ]
+none_wrong_after : (requests : ℕ → Option Effect) (initial : ℕ → Option ℕ) (before order : List Entry) → IsTrue (all_right requests initial before order) → (i x : ℕ) (entry : Entry) →
+    slice_get order i ≡ Some entry → IsWrongOf requests entry (byte_after requests initial (before ++ take i order)) x → ⊥
+none_wrong_after requests initial before [] h i x entry at w = absurd (cc)
+none_wrong_after requests initial before (e ∷ order) h zero x entry at w =
+    let a = both (reads_right e.part (byte_after requests initial before) (requests e.request)) _ h in
+    let s : e ≡ entry = cc in
+    let w' : IsWrongOf requests e (byte_after requests initial before) x =
+        subst (λ l. IsWrongOf requests e (byte_after requests initial l) x) (append-nil before) (subst (λ y. IsWrongOf requests y (byte_after requests initial (before ++ [])) x) (sym s) w) in
+    right e.part (byte_after requests initial before) (requests e.request) w'.0 x a.0 w'.1 w'.2
+none_wrong_after requests initial before (e ∷ order) h (suc i) x entry at w =
+    let a = both (reads_right e.part (byte_after requests initial before) (requests e.request)) _ h in
+    none_wrong_after requests initial (before ++ e ∷ []) order a.1 i x entry at
+    (subst (λ l. IsWrongOf requests entry (byte_after requests initial l) x) (sym (append_assoc before (e ∷ []) (take i order))) w)
+
+-- where each entry of the order passes the test, no byte is wrong
+pub none_wrong : (requests : ℕ → Option Effect) (order : List Entry) (initial : ℕ → Option ℕ) → IsTrue (all_right requests initial [] order) → (i x : ℕ) → IsWrong requests order initial i x → ⊥
+none_wrong requests order initial h i x w = none_wrong_after requests initial [] order h i x w.0 w.1 w.2
 
 -- the read gives another byte than the known one
 abbrev pub differ : (byte read : Option ℕ) → Bool
@@ -52,9 +69,13 @@ differ None read = false
 differ (Some b) (Some c) = not (c == b)
 differ (Some b) None = true
 
-abbrev pub is_wrong_in : (byte : ℕ → Option ℕ) → ℕ → Option Effect → Bool
-is_wrong_in byte x (Some e) = (e.command == commands.READ) && (e.succeeded && (is_in e.offset e.length x && differ (byte x) (e.read x)))
-is_wrong_in byte x None = false
+abbrev pub is_wrong_in : Option Part → (byte : ℕ → Option ℕ) → ℕ → Option Effect → Bool
+is_wrong_in p byte x (Some e) = (e.command == commands.READ) && (e.succeeded && (serves p e x && differ (byte x) (e.read x)))
+is_wrong_in p byte x None = false
+
+abbrev pub is_wrong_at : (requests : ℕ → Option Effect) (byte : ℕ → Option ℕ) → ℕ → Option Entry → Bool
+is_wrong_at requests byte x (Some entry) = is_wrong_in entry.part byte x (requests entry.request)
+is_wrong_at requests byte x None = false
 
 pub differs : (byte read : ℕ → Option ℕ) (x : ℕ) (o p : Option ℕ) → byte x ≡ o → read x ≡ p → IsTrue (differ o p) → Differs byte read x
 differs byte read x None p e f h = absurd (cc)
@@ -62,13 +83,17 @@ differs byte read x (Some b) (Some c) e f h = (b, e, λ q. eqb-false c b (was_fa
 differs byte read x (Some b) None e f h = (b, e, λ q. (let r : None ≡ Some b = sym f ∙ q in absurd (cc)))
 
 -- a byte that passes this test is wrong
-pub wrong : (requests : ℕ → Option Effect) (order : List ℕ) (initial : ℕ → Option ℕ) (k x : ℕ) → IsTrue (is_wrong_in (byte_before requests order initial k) x (requests k)) → IsWrong requests order initial k x
-wrong requests order initial k x h = go (requests k) refl h
+pub wrong : (requests : ℕ → Option Effect) (order : List Entry) (initial : ℕ → Option ℕ) (i x : ℕ) → IsTrue (is_wrong_at requests (byte_before requests order initial i) x (slice_get order i)) → IsWrong requests order initial i x
+wrong requests order initial i x h = at (slice_get order i) refl h
   where
-    go : (o : Option Effect) → requests k ≡ o → IsTrue (is_wrong_in (byte_before requests order initial k) x o) → IsWrong requests order initial k x
-    go None q h = absurd (cc)
-    go (Some e) q h =
+    go : (entry : Entry) (o : Option Effect) → requests entry.request ≡ o → IsTrue (is_wrong_in entry.part (byte_before requests order initial i) x o) → IsWrongOf requests entry (byte_before requests order initial i) x
+    go entry None q h = absurd (cc)
+    go entry (Some e) q h =
         let a = both (e.command == commands.READ) _ h in
         let b = both e.succeeded _ a.1 in
-        let c = both (is_in e.offset e.length x) _ b.1 in
-        (e, q, (eqb-true e.command commands.READ a.0, b.0, c.0, differs (byte_before requests order initial k) e.read x _ _ refl refl c.1))
+        let c = both (serves entry.part e x) _ b.1 in
+        (e, q, (eqb-true e.command commands.READ a.0, b.0, c.0, differs (byte_before requests order initial i) e.read x _ _ refl refl c.1))
+
+    at : (o : Option Entry) → slice_get order i ≡ o → IsTrue (is_wrong_at requests (byte_before requests order initial i) x o) → IsWrong requests order initial i x
+    at None q h = absurd (cc)
+    at (Some entry) q h = (entry, q, go entry (requests entry.request) refl h)

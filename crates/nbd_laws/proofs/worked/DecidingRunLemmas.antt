@@ -14,11 +14,11 @@ use Rattle.nbd_wire.specs.declared.message.Message.TheVariants.{Greeting, Client
 use Rattle.nbd_wire.specs.protocol.Marks.{Item, Byte, Starts, Completes, Serves, IsTight, MayFollow, block, of_side}
 use Rattle.nbd_wire.specs.protocol.Options.{is_error}
 use Rattle.nbd_wire.specs.protocol.Flags.{has, has_only}
-use Rattle.nbd_wire.specs.protocol.Rules.{Allows, IsRun, MayAsk, MayComplete, Obeys, after}
+use Rattle.nbd_wire.specs.protocol.Rules.{Allows, IsRun, MayAsk, MayComplete, Obeys, after, inside_at}
 use Rattle.nbd_wire.specs.protocol.Sides.{same_side, side}
 use Rattle.nbd_laws.specs.Prefixes.{ended_messages}
 use Rattle.nbd_wire.specs.protocol.States.{Core, Phase, State, Greet, Flags, Choosing, Naming, Aborting, Answering, Transmission, start, target}
-use Rattle.nbd_laws.proofs.worked.DecidingLemmas.{answers_it, are_equal, both, empty, equal_bools, is_empty, is_sendable, is_served_for, is_unnamed, may_answer, may_start_in, one, same_sides, sendable, serves, starts_in, then_too, true_is_unnamed}
+use Rattle.nbd_laws.proofs.worked.DecidingLemmas.{answers_it, are_equal, both, empty, equal_bools, is_empty, is_sendable, is_served_for, is_fresh, may_answer, may_start_in, one, same_sides, sendable, serves, starts_in, then_too, true_is_fresh}
 use Rattle.nbd_laws.proofs.worked.DecidingReplyLemmas.{answers_one, answers_target, none_is}
 
 abbrev pub may_ask : Bool → Core → (cookie offset len : ℕ) → Bool
@@ -77,7 +77,8 @@ abbrev pub allows : State → Item → Bool
 allows state (Byte s b) = true
 allows state (Starts s m) = same_side (side m) s && (is_sendable m && (may_start_in state.core.phase state.core s m && is_served_for state s m))
 allows state (Completes s m) = may_complete state.core state.core.phase m
-allows state (Serves k) = nat_lt 0 k && (nat_le k (length state.core.entries) && is_unnamed state.served k)
+allows state (Serves e) =
+    nat_lt 0 e.request && (nat_le e.request (length state.core.entries) && is_fresh (inside_at state.core e.request) state.served e.request e.part)
 
 pub true_allows : (state : State) (item : Item) → IsTrue (allows state item) → Allows state item
 true_allows state (Byte s b) h = tt
@@ -87,10 +88,10 @@ true_allows state (Starts s m) h =
     let c = both (may_start_in state.core.phase state.core s m) (is_served_for state s m) b.1 in
     (same_sides (side m) s a.0, sendable m b.0, starts_in state.core.phase state.core s m c.0, serves state s m c.1)
 true_allows state (Completes s m) h = completes state.core state.core.phase m h
-true_allows state (Serves k) h =
-    let a = both (nat_lt 0 k) _ h in
-    let b = both (nat_le k (length state.core.entries)) (is_unnamed state.served k) a.1 in
-    (ltb-true 0 k a.0, leb-true k (length state.core.entries) b.0, true_is_unnamed state.served k b.1)
+true_allows state (Serves e) h =
+    let a = both (nat_lt 0 e.request) _ h in
+    let b = both (nat_le e.request (length state.core.entries)) _ a.1 in
+    (ltb-true 0 e.request a.0, leb-true e.request (length state.core.entries) b.0, true_is_fresh (inside_at state.core e.request) state.served e b.1)
 
 -- each item passes the test where it stands
 abbrev pub obeys : State → List Item → Bool

@@ -1,5 +1,6 @@
 -- Explicit runs of structured replies: each is checked by computing.
 use Rattle.std.proofs.Common.{List, [], ◌∷◌, ◌++◌, refl, inl, inr}
+use Rattle.nbd_wire.specs.protocol.Entries.{whole}
 use Rattle.nbd_wire.specs.protocol.Encoding.{enc, head, tail}
 use Rattle.nbd_wire.specs.protocol.ExportBytes.{effects}
 use Rattle.nbd_wire.specs.protocol.Explains.{Zeroes, start_byte}
@@ -21,13 +22,13 @@ use Rattle.nbd_laws.proofs.service.ExplainingLemmas.{counts_of, failing_is_no}
 use Rattle.nbd_laws.proofs.worked.SessionLemmas.{broken, content, done, gone, greeted, hole, read, sends, structured, write}
 
 structured_read_items : List Item
-structured_read_items = sends (greeted ++ structured ++ gone ++ write 1 4 (10 ∷ 11 ∷ 12 ∷ 13 ∷ []) ∷ []) ++ Serves 1 ∷ sends (done 1 ∷ read 2 0 8 ∷ []) ++ Serves 2 ∷ sends (content 2 4 (10 ∷ 11 ∷ 12 ∷ 13 ∷ []) ∷ hole 2 0 4 ∷ done 2 ∷ [])
+structured_read_items = sends (greeted ++ structured ++ gone ++ write 1 4 (10 ∷ 11 ∷ 12 ∷ 13 ∷ []) ∷ []) ++ Serves (whole 1) ∷ sends (done 1 ∷ read 2 0 8 ∷ []) ++ Serves (whole 2) ∷ sends (content 2 4 (10 ∷ 11 ∷ 12 ∷ 13 ∷ []) ∷ hole 2 0 4 ∷ done 2 ∷ [])
 
 structured_read_run : IsRun structured_read_items
 unfolding structured_read_items enc head tail complete next_phase target has has_only is_proper is_proper_option info_of is_listed is_go content_of failure_of ends_reply is_failing piece_of report
 structured_read_run = is_run structured_read_items refl refl refl refl
 
-pub structured_read : IsYes (flat captures.structured_read) (1 ∷ 2 ∷ []) Zeroes 2 2 0
+pub structured_read : IsYes (flat captures.structured_read) (whole 1 ∷ whole 2 ∷ []) Zeroes 2 2 0
 unfolding structured_read_items enc head tail complete next_phase target has has_only is_proper is_proper_option info_of is_listed is_go content_of failure_of ends_reply is_failing piece_of report
 structured_read = record {
   explained = record {
@@ -36,30 +37,30 @@ structured_read = record {
     has_pairs = refl;
     has_order = refl;
     fits_image = tt;
-    reads = none_wrong (effects (report structured_read_items)) (1 ∷ 2 ∷ []) (start_byte Zeroes) (1 ∷ 2 ∷ []) refl;
+    reads = none_wrong (effects (report structured_read_items)) (whole 1 ∷ whole 2 ∷ []) (start_byte Zeroes) refl;
   };
   counts = counts_of structured_read_items (flat captures.structured_read) 2 2 0 structured_read_run refl refl refl refl;
 }
 
 later_piece_items : List Item
-later_piece_items = sends (greeted ++ structured ++ gone ++ write 1 4 (10 ∷ 11 ∷ 12 ∷ 13 ∷ []) ∷ []) ++ Serves 1 ∷ sends (done 1 ∷ read 2 0 8 ∷ []) ++ Serves 2 ∷ sends (content 2 4 (10 ∷ 11 ∷ 12 ∷ 13 ∷ []) ∷ content 2 0 (0 ∷ 0 ∷ 0 ∷ 1 ∷ []) ∷ done 2 ∷ [])
+later_piece_items = sends (greeted ++ structured ++ gone ++ write 1 4 (10 ∷ 11 ∷ 12 ∷ 13 ∷ []) ∷ []) ++ Serves (whole 1) ∷ sends (done 1 ∷ read 2 0 8 ∷ []) ++ Serves (whole 2) ∷ sends (content 2 4 (10 ∷ 11 ∷ 12 ∷ 13 ∷ []) ∷ content 2 0 (0 ∷ 0 ∷ 0 ∷ 1 ∷ []) ∷ done 2 ∷ [])
 
 later_piece_run : IsRun later_piece_items
 unfolding later_piece_items enc head tail complete next_phase target has has_only is_proper is_proper_option info_of is_listed is_go content_of failure_of ends_reply is_failing piece_of report
 later_piece_run = is_run later_piece_items refl refl refl refl
 
-pub later_piece : IsNo (flat captures.later_piece) (1 ∷ 2 ∷ []) Zeroes
+pub later_piece : IsNo (flat captures.later_piece) (whole 1 ∷ whole 2 ∷ []) Zeroes
 unfolding later_piece_items enc head tail complete next_phase target has has_only is_proper is_proper_option info_of is_listed is_go content_of failure_of ends_reply is_failing piece_of report
-later_piece = failing_is_no later_piece_items (flat captures.later_piece) (1 ∷ 2 ∷ []) Zeroes later_piece_run refl (λ p. p.reads 2 3 (inr (inl refl)) (wrong (effects (report later_piece_items)) (1 ∷ 2 ∷ []) (start_byte Zeroes) 2 3 refl))
+later_piece = failing_is_no later_piece_items (flat captures.later_piece) (whole 1 ∷ whole 2 ∷ []) Zeroes later_piece_run refl (λ p. p.reads 1 3 (wrong (effects (report later_piece_items)) (whole 1 ∷ whole 2 ∷ []) (start_byte Zeroes) 1 3 refl))
 
 empty_read_items : List Item
-empty_read_items = sends (greeted ++ structured ++ gone ++ read 1 0 0 ∷ []) ++ Serves 1 ∷ sends (done 1 ∷ [])
+empty_read_items = sends (greeted ++ structured ++ gone ++ read 1 0 0 ∷ []) ++ Serves (whole 1) ∷ sends (done 1 ∷ [])
 
 empty_read_run : IsRun empty_read_items
 unfolding empty_read_items enc head tail complete next_phase target has has_only is_proper is_proper_option info_of is_listed is_go content_of failure_of ends_reply is_failing piece_of report
 empty_read_run = is_run empty_read_items refl refl refl refl
 
-pub empty_read : IsYes (flat captures.empty_read) (1 ∷ []) Zeroes 1 1 0
+pub empty_read : IsYes (flat captures.empty_read) (whole 1 ∷ []) Zeroes 1 1 0
 unfolding empty_read_items enc head tail complete next_phase target has has_only is_proper is_proper_option info_of is_listed is_go content_of failure_of ends_reply is_failing piece_of report
 empty_read = record {
   explained = record {
@@ -68,19 +69,19 @@ empty_read = record {
     has_pairs = refl;
     has_order = refl;
     fits_image = tt;
-    reads = none_wrong (effects (report empty_read_items)) (1 ∷ []) (start_byte Zeroes) (1 ∷ []) refl;
+    reads = none_wrong (effects (report empty_read_items)) (whole 1 ∷ []) (start_byte Zeroes) refl;
   };
   counts = counts_of empty_read_items (flat captures.empty_read) 1 1 0 empty_read_run refl refl refl refl;
 }
 
 failed_read_items : List Item
-failed_read_items = sends (greeted ++ structured ++ gone ++ read 1 0 2 ∷ []) ++ Serves 1 ∷ sends (broken 1 5 1 ∷ [])
+failed_read_items = sends (greeted ++ structured ++ gone ++ read 1 0 2 ∷ []) ++ Serves (whole 1) ∷ sends (broken 1 5 1 ∷ [])
 
 failed_read_run : IsRun failed_read_items
 unfolding failed_read_items enc head tail complete next_phase target has has_only is_proper is_proper_option info_of is_listed is_go content_of failure_of ends_reply is_failing piece_of report
 failed_read_run = is_run failed_read_items refl refl refl refl
 
-pub failed_read : IsYes (flat captures.failed_read) (1 ∷ []) Zeroes 1 1 0
+pub failed_read : IsYes (flat captures.failed_read) (whole 1 ∷ []) Zeroes 1 1 0
 unfolding failed_read_items enc head tail complete next_phase target has has_only is_proper is_proper_option info_of is_listed is_go content_of failure_of ends_reply is_failing piece_of report
 failed_read = record {
   explained = record {
@@ -89,19 +90,19 @@ failed_read = record {
     has_pairs = refl;
     has_order = refl;
     fits_image = tt;
-    reads = none_wrong (effects (report failed_read_items)) (1 ∷ []) (start_byte Zeroes) (1 ∷ []) refl;
+    reads = none_wrong (effects (report failed_read_items)) (whole 1 ∷ []) (start_byte Zeroes) refl;
   };
   counts = counts_of failed_read_items (flat captures.failed_read) 1 1 0 failed_read_run refl refl refl refl;
 }
 
 failed_content_items : List Item
-failed_content_items = sends (greeted ++ structured ++ gone ++ read 1 0 2 ∷ []) ++ Serves 1 ∷ sends (content 1 0 (255 ∷ []) ∷ broken 1 5 1 ∷ [])
+failed_content_items = sends (greeted ++ structured ++ gone ++ read 1 0 2 ∷ []) ++ Serves (whole 1) ∷ sends (content 1 0 (255 ∷ []) ∷ broken 1 5 1 ∷ [])
 
 failed_content_run : IsRun failed_content_items
 unfolding failed_content_items enc head tail complete next_phase target has has_only is_proper is_proper_option info_of is_listed is_go content_of failure_of ends_reply is_failing piece_of report
 failed_content_run = is_run failed_content_items refl refl refl refl
 
-pub failed_content : IsYes (flat captures.failed_content) (1 ∷ []) Zeroes 1 1 0
+pub failed_content : IsYes (flat captures.failed_content) (whole 1 ∷ []) Zeroes 1 1 0
 unfolding failed_content_items enc head tail complete next_phase target has has_only is_proper is_proper_option info_of is_listed is_go content_of failure_of ends_reply is_failing piece_of report
 failed_content = record {
   explained = record {
@@ -110,7 +111,7 @@ failed_content = record {
     has_pairs = refl;
     has_order = refl;
     fits_image = tt;
-    reads = none_wrong (effects (report failed_content_items)) (1 ∷ []) (start_byte Zeroes) (1 ∷ []) refl;
+    reads = none_wrong (effects (report failed_content_items)) (whole 1 ∷ []) (start_byte Zeroes) refl;
   };
   counts = counts_of failed_content_items (flat captures.failed_content) 1 1 0 failed_content_run refl refl refl refl;
 }

@@ -1,6 +1,7 @@
 -- Explicit runs of negotiation: each is checked by computing.
 use Rattle.std.proofs.Common.{◌+◌, List, [], ◌∷◌, ◌++◌, refl, true, false}
 use Rattle.byteorder.specs.Endian.{big_bytes}
+use Rattle.nbd_wire.specs.protocol.Entries.{whole}
 use Rattle.nbd_wire.specs.declared.answers.TheConstants as answers
 use Rattle.nbd_wire.specs.declared.options.TheConstants as options
 use Rattle.nbd_wire.specs.declared.message.Message.TheVariants.{Greeting, ClientFlags, Choice, Answer, Exported}
@@ -25,13 +26,13 @@ use Rattle.nbd_laws.proofs.service.ExplainingLemmas.{counts_of}
 use Rattle.nbd_laws.proofs.worked.SessionLemmas.{gives, gone, greeted, read, sends}
 
 padded_export_items : List Item
-padded_export_items = sends (Greeting 3 ∷ ClientFlags 1 ∷ Choice options.EXPORT_NAME (100 ∷ 105 ∷ 115 ∷ 107 ∷ []) ∷ Exported 8 109 true ∷ read 1 0 1 ∷ []) ++ Serves 1 ∷ sends (gives 1 (0 ∷ []) ∷ [])
+padded_export_items = sends (Greeting 3 ∷ ClientFlags 1 ∷ Choice options.EXPORT_NAME (100 ∷ 105 ∷ 115 ∷ 107 ∷ []) ∷ Exported 8 109 true ∷ read 1 0 1 ∷ []) ++ Serves (whole 1) ∷ sends (gives 1 (0 ∷ []) ∷ [])
 
 padded_export_run : IsRun padded_export_items
 unfolding padded_export_items enc head tail complete next_phase target has has_only is_proper is_proper_option info_of is_listed is_go content_of failure_of ends_reply is_failing piece_of report
 padded_export_run = is_run padded_export_items refl refl refl refl
 
-pub padded_export : IsYes (flat captures.padded_export) (1 ∷ []) Zeroes 1 1 0
+pub padded_export : IsYes (flat captures.padded_export) (whole 1 ∷ []) Zeroes 1 1 0
 unfolding padded_export_items enc head tail complete next_phase target has has_only is_proper is_proper_option info_of is_listed is_go content_of failure_of ends_reply is_failing piece_of report
 padded_export = record {
   explained = record {
@@ -40,19 +41,19 @@ padded_export = record {
     has_pairs = refl;
     has_order = refl;
     fits_image = tt;
-    reads = none_wrong (effects (report padded_export_items)) (1 ∷ []) (start_byte Zeroes) (1 ∷ []) refl;
+    reads = none_wrong (effects (report padded_export_items)) (whole 1 ∷ []) (start_byte Zeroes) refl;
   };
   counts = counts_of padded_export_items (flat captures.padded_export) 1 1 0 padded_export_run refl refl refl refl;
 }
 
 bare_export_items : List Item
-bare_export_items = sends (Greeting 3 ∷ ClientFlags 3 ∷ Choice options.EXPORT_NAME (100 ∷ 105 ∷ 115 ∷ 107 ∷ []) ∷ Exported 8 109 false ∷ read 1 0 1 ∷ []) ++ Serves 1 ∷ sends (gives 1 (0 ∷ []) ∷ [])
+bare_export_items = sends (Greeting 3 ∷ ClientFlags 3 ∷ Choice options.EXPORT_NAME (100 ∷ 105 ∷ 115 ∷ 107 ∷ []) ∷ Exported 8 109 false ∷ read 1 0 1 ∷ []) ++ Serves (whole 1) ∷ sends (gives 1 (0 ∷ []) ∷ [])
 
 bare_export_run : IsRun bare_export_items
 unfolding bare_export_items enc head tail complete next_phase target has has_only is_proper is_proper_option info_of is_listed is_go content_of failure_of ends_reply is_failing piece_of report
 bare_export_run = is_run bare_export_items refl refl refl refl
 
-pub bare_export : IsYes (flat captures.bare_export) (1 ∷ []) Zeroes 1 1 0
+pub bare_export : IsYes (flat captures.bare_export) (whole 1 ∷ []) Zeroes 1 1 0
 unfolding bare_export_items enc head tail complete next_phase target has has_only is_proper is_proper_option info_of is_listed is_go content_of failure_of ends_reply is_failing piece_of report
 bare_export = record {
   explained = record {
@@ -61,7 +62,7 @@ bare_export = record {
     has_pairs = refl;
     has_order = refl;
     fits_image = tt;
-    reads = none_wrong (effects (report bare_export_items)) (1 ∷ []) (start_byte Zeroes) (1 ∷ []) refl;
+    reads = none_wrong (effects (report bare_export_items)) (whole 1 ∷ []) (start_byte Zeroes) refl;
   };
   counts = counts_of bare_export_items (flat captures.bare_export) 1 1 0 bare_export_run refl refl refl refl;
 }
@@ -82,7 +83,7 @@ refused_tls = record {
     has_pairs = refl;
     has_order = refl;
     fits_image = tt;
-    reads = none_wrong (effects (report refused_tls_items)) [] (start_byte Zeroes) [] refl;
+    reads = none_wrong (effects (report refused_tls_items)) [] (start_byte Zeroes) refl;
   };
   counts = counts_of refused_tls_items (flat captures.refused_tls) 0 0 0 refused_tls_run refl refl refl refl;
 }
@@ -103,7 +104,7 @@ abort_acknowledged = record {
     has_pairs = refl;
     has_order = refl;
     fits_image = tt;
-    reads = none_wrong (effects (report aborted_items)) [] (start_byte Zeroes) [] refl;
+    reads = none_wrong (effects (report aborted_items)) [] (start_byte Zeroes) refl;
   };
   counts = counts_of aborted_items (flat captures.abort_acknowledged) 0 0 0 aborted_run refl refl refl refl;
 }
@@ -124,7 +125,7 @@ export_list = record {
     has_pairs = refl;
     has_order = refl;
     fits_image = tt;
-    reads = none_wrong (effects (report listed_items)) [] (start_byte Zeroes) [] refl;
+    reads = none_wrong (effects (report listed_items)) [] (start_byte Zeroes) refl;
   };
   counts = counts_of listed_items (flat captures.export_list) 0 0 0 listed_run refl refl refl refl;
 }
@@ -145,7 +146,7 @@ export_name_alone = record {
     has_pairs = refl;
     has_order = refl;
     fits_image = tt;
-    reads = none_wrong (effects (report unnamed_items)) [] (start_byte Zeroes) [] refl;
+    reads = none_wrong (effects (report unnamed_items)) [] (start_byte Zeroes) refl;
   };
   counts = counts_of unnamed_items (flat captures.export_name_alone) 0 0 0 unnamed_run refl refl refl refl;
 }

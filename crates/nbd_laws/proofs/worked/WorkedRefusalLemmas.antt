@@ -1,5 +1,7 @@
 -- Refusals that need no search over runs.
-use Rattle.std.proofs.Common.{◌≡◌, ℕ, List, [], ◌∷◌, ◌++◌, length, refl, ◌∙◌, subst, inr, lit<, Some, arith}
+use Rattle.std.proofs.Common.{◌≡◌, ℕ, List, [], ◌∷◌, ◌++◌, length, refl, ◌∙◌, subst, inl, inr, lit<, Some, arith}
+use Rattle.nbd_wire.specs.declared.entry.Entry.{Entry}
+use Rattle.nbd_wire.specs.protocol.Entries.{whole}
 use Rattle.nbd_wire.specs.declared.message.Side.TheVariants.{Client, Server}
 use Rattle.nbd_wire.specs.protocol.Encoding.{enc, head, tail}
 use Rattle.nbd_wire.specs.protocol.Explains.{Image, Start}
@@ -37,13 +39,13 @@ unfolding opening_items enc head tail complete next_phase target has has_only is
 wrong_image bytes e = failing_is_no opening_items (flat captures.opening) [] (Image bytes) opening_run refl (λ p. (let q : length bytes ≡ 8 = p.fits_image in absurd (omega arith)))
 
 -- whatever the capture, no run serves a request twice
-pub named_twice : (capture : List Pair) (initial : Start) → IsNo capture (1 ∷ 1 ∷ []) initial
+pub named_twice : (capture : List Pair) (initial : Start) → IsNo capture (whole 1 ∷ whole 1 ∷ []) initial
 named_twice capture initial x =
-    let o : IsFaultless (report x.items) (1 ∷ 1 ∷ []) = subst (IsFaultless (report x.items)) x.has_order (orders_are_faultless x.items x.is_run) in
-    o.none_bad 1 (inr (lit< tt, (0, lit< tt, refl)))
+    let o : IsFaultless (report x.items) (whole 1 ∷ whole 1 ∷ []) = subst (IsFaultless (report x.items)) x.has_order (orders_are_faultless x.items x.is_run) in
+    o.none_bad 1 (inr (inl (whole 1, refl, inl refl)))
 
 -- no run begins with a byte of the client
-pub hasty_client : (order : List ℕ) (initial : Start) → IsNo (flat captures.hasty_client) order initial
+pub hasty_client : (order : List Entry) (initial : Start) → IsNo (flat captures.hasty_client) order initial
 unfolding MayStartIn
 hasty_client order initial x =
     go (next (walk_unserved (walk_of x.is_run)) (bare x.items) Client 0 [] (pairs_unserved x.items ∙ x.has_pairs)) (follows_unserved x.items start.core (follows x.items start x.is_run.obeys))

@@ -150,3 +150,31 @@ disconnection =
     ∷ server 17 0x6744669800000000000000000000000200
     ∷ server 16 0x67446698000000000000000000000001
     ∷ [])
+
+-- a READ that gives the first byte of a WRITE under way, and a zero
+abbrev pub half_written : Chunks
+half_written =
+    opening
+    ++ (client 30 0x25609513000000010000000000000001000000000000000000000002abcd
+    ∷ client 28 0x25609513000000000000000000000002000000000000000000000002
+    ∷ server 18 0x67446698000000000000000000000002ab00
+    ∷ server 16 0x67446698000000000000000000000001
+    ∷ [])
+
+-- a READ that gives a zero, and the second byte of a WRITE under way
+abbrev pub half_read : Chunks
+half_read =
+    opening
+    ++ (client 30 0x25609513000000010000000000000001000000000000000000000002abcd
+    ∷ client 28 0x25609513000000000000000000000002000000000000000000000002
+    ∷ server 18 0x6744669800000000000000000000000200cd
+    ∷ server 16 0x67446698000000000000000000000001
+    ∷ [])
+
+-- a WRITE of four bytes of which two lie in the export, and which fails
+abbrev pub improper_write : Chunks
+improper_write =
+    opening
+    ++ (client 32 0x25609513000000010000000000000001000000000000000600000004aabbccdd
+    ∷ server 16 0x67446698000000160000000000000001
+    ∷ [])

@@ -1,5 +1,5 @@
 -- Pieces inside a range that share no offset cover it exactly where their sizes add up to its length.
-use Rattle.std.proofs.Common.{◌≡◌, ℕ, zero, suc, ◌<◌, ◌≤◌, ◌≢◌, ◌+◌, ◌-◌, ◌==◌, List, [], ◌∷◌, min, max, refl, sym, ◌∙◌, ap, inl, inr, Option, Some, None, Bool, true, false, ◌&&◌, if◌then◌else◌, nat_le, nat_lt, is_some, arith, IsTrue}
+use Rattle.std.proofs.Common.{◌≡◌, ℕ, zero, suc, ◌<◌, ◌≤◌, ◌≢◌, ◌+◌, ◌-◌, ◌==◌, List, [], ◌∷◌, min, max, refl, sym, ◌∙◌, ap, subst, inl, inr, Option, Some, None, Bool, true, false, ◌&&◌, if◌then◌else◌, nat_le, nat_lt, is_some, arith, IsTrue}
 use Rattle.std.proofs.lemmas.Bool.{lt-ltb, eqb-true, eqb-false, le-ltb, ltb-false, leb-false, leb-true, ltb-true, le-leb, lt-leb}
 use Rattle.nbd_wire.specs.declared.payloads.Piece.{Piece}
 use Rattle.nbd_wire.specs.protocol.Pieces.{piece_offset, piece_size, piece_byte, byte_at, holds, is_in, SharesNone}
@@ -95,6 +95,10 @@ total-counted offset len (p ∷ ps) i a =
     let here : counted (holds p) offset len ≡ piece_size p = inside-counted offset len p i.0.0 i.0.1 in
     let rest : counted (has_byte ps) offset len ≡ total ps = total-counted offset len ps i.1 a.1 in
     omega arith
+
+-- the sizes add up to no more than the range's length
+pub total_within : (offset len : ℕ) (ps : List Piece) → AreInside offset len ps → AreApart ps → total ps ≤ len
+total_within offset len ps i a = subst (λ n. n ≤ len) (total-counted offset len ps i a) (counted-le (has_byte ps) offset len)
 
 -- what is covered, by the sizes
 pub full_total_covers : (offset len : ℕ) (ps : List Piece) → AreInside offset len ps → AreApart ps → total ps ≡ len → (x : ℕ) → offset ≤ x → x < offset + len → IsTrue (has_byte ps x)

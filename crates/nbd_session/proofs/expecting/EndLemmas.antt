@@ -1,10 +1,9 @@
 -- What the last byte of a message shows to be wrong, where the exchanges show the requests.
 use Rattle.std.proofs.Common.{◌≡◌, ◌<◌, ◌+◌, ℕ, zero, suc, List, [], ◌∷◌, length, refl, sym, ◌∙◌, ap, subst, Option, Some, None, arith, add-one, slice_get, slice_index_or}
 use Rattle.std.proofs.lemmas.Option.{slice_get_read, same_Some}
-use Rattle.nbd_wire.specs.protocol.Reports.{export_in}
 use Rattle.nbd_wire.specs.protocol.Operations.{Operation, Exporting}
 use Rattle.nbd_wire.specs.protocol.States as definitions
-use Rattle.nbd_wire.specs.protocol.States.{Core, Transmission, operation}
+use Rattle.nbd_wire.specs.protocol.States.{Core, Transmission, operation, export_in}
 use Rattle.nbd_state.specs.declared.asked.Exchange.{Exchange}
 use Rattle.nbd_state.specs.declared.state.State.{State}
 use Rattle.nbd_state.specs.Showing.{IsShown}

@@ -6,13 +6,16 @@ use Rattle.nbd_wire.specs.declared.message.Message.{Message}
 use Rattle.nbd_wire.specs.protocol.Encoding.{enc}
 use Rattle.nbd_wire.specs.protocol.Captures.{ArePairs, Pair}
 use Rattle.nbd_wire.specs.protocol.Marks.{Item, completed_messages, pairs}
-use Rattle.nbd_wire.specs.protocol.Reports.{Report, export_in, known_count, report, asked_list}
+use Rattle.nbd_wire.specs.protocol.Reports.{Report, known_count, report, asked_list}
 use Rattle.nbd_wire.specs.protocol.Rules.{IsRun, MayComplete, complete, ends_at}
-use Rattle.nbd_wire.specs.protocol.States.{Core, Names, start}
+use Rattle.nbd_wire.specs.protocol.States.{Core, start, export_in}
 use Rattle.nbd_session.proofs.log.FoldLemmas.{core_of}
 use Rattle.nbd_state.specs.Logs.{LogEntry, known_by}
 use Rattle.nbd_session.specs.internal.Logging.{log_with, log_of_pairs, log_of_rest}
 use Rattle.nbd_session.proofs.log.Logs.{log_from, log_of, report_by}
+use Rattle.nbd_wire.specs.declared.entry.Entry.{Entry}
+use Rattle.nbd_wire.specs.protocol.Entries.{Names, NamesWhole, whole}
+use Rattle.nbd_laws.proofs.service.EntryLemmas.{Names-push_cases, NamesWhole-left, NamesWhole-push}
 use Rattle.nbd_laws.proofs.machine.MachineLemmas.{AreHeld, Busy, Idle, IsFilled-snoc, IsSound, IsSoundAt, Loose, Open, Walk, at_once, ended, final, get-put_same, held_more, held_whole, kept_next, loose, middle, old-empty, old-filled, opening, serving, with_byte}
 use Rattle.nbd_laws.specs.internal.Machine.{Bad, Both, IsFilled, Judge, Machine, More, Reading, Rest, Whole, fresh, get, rest_with, old_of, on_ok, put, reads, settle}
 use Rattle.nbd_session.proofs.log.FoldLemmas.{core_is, ends_folded}
@@ -21,7 +24,7 @@ use Rattle.nbd_laws.proofs.runs.PrefixLemmas.{IsSame, same_message}
 use Rattle.nbd_session.proofs.log.KnownLemmas.{known-log}
 use Rattle.nbd_laws.proofs.machine.MarkLemmas.{AreInStep, InStep, in_step_completed, in_step_sided, in_step_with, within_middle, within_opening}
 use Rattle.nbd_laws.proofs.runs.RunLemmas.{fresh_held, run_law, walk_of}
-use Rattle.nbd_laws.proofs.runs.TraceLemmas.{Guess, IsCanonical, IsTrace, Names-left, Names-push, Names-push_cases, enc-long, not_empty, trace}
+use Rattle.nbd_laws.proofs.runs.TraceLemmas.{Guess, IsCanonical, IsTrace, enc-long, not_empty, trace}
 use Rattle.nbd_laws.proofs.service.ServiceLemmas.{same_reports}
 
 -- how many requests were complete when each side's rest began
@@ -51,28 +54,28 @@ counts_kept core rests s bytes f =
 count_is : (core : Core) (rests : Both Rest) (s : Side) → IsFilled (get rests s).bytes → get (counts_of rests) s ≡ length (old_of core (get rests s)).entries
 count_is core rests s f = counts_get rests s ∙ ap (λ (c : Core). length c.entries) (sym (old-filled core (get rests s) f))
 
--- the numbers from 1 to n
-abbrev numbers : ℕ → List ℕ
-numbers zero = []
-numbers (suc n) = numbers n ++ suc n ∷ []
+-- the requests from 1 to n, each served at once
+abbrev numbered : ℕ → List Entry
+numbered zero = []
+numbered (suc n) = numbered n ++ whole (suc n) ∷ []
 
-numbers_all : (n k : ℕ) → 0 < k → k ≤ n → Names (numbers n) k
-numbers_all zero k p h = absurd (omega (arith, p, h))
-numbers_all (suc n) k p h = elim (eq-or-lt_of_le h) [
-  | inl q ↦ subst (λ j. Names (numbers n ++ suc n ∷ []) j) (sym q) (Names-push (numbers n) (suc n))
-  | inr l ↦ Names-left (numbers n) (suc n ∷ []) k (numbers_all n k p (omega (arith, l)))
+numbered_all : (n k : ℕ) → 0 < k → k ≤ n → NamesWhole (numbered n) k
+numbered_all zero k p h = absurd (omega (arith, p, h))
+numbered_all (suc n) k p h = elim (eq-or-lt_of_le h) [
+  | inl q ↦ subst (λ j. NamesWhole (numbered n ++ whole (suc n) ∷ []) j) (sym q) (NamesWhole-push (numbered n) (suc n))
+  | inr l ↦ NamesWhole-left (numbered n) (whole (suc n) ∷ []) k (numbered_all n k p (omega (arith, l)))
 ]
 
-numbers_only : (n k : ℕ) → Names (numbers n) k → k ≤ n
-numbers_only zero k h = absurd h
-numbers_only (suc n) k h = elim (Names-push_cases (numbers n) (suc n) k h) [
-  | inl m ↦ (let l : k ≤ n = numbers_only n k m in omega (arith, l))
+numbered_only : (n k : ℕ) → Names (numbered n) k → k ≤ n
+numbered_only zero k h = absurd h
+numbered_only (suc n) k h = elim (Names-push_cases (numbered n) (whole (suc n)) k h) [
+  | inl m ↦ (let l : k ≤ n = numbered_only n k m in omega (arith, l))
   | inr q ↦ omega (arith, q)
 ]
 
 -- all requests may be thought served
-all_served : (core : Core) → IsCanonical (record { core = core; served = numbers (length core.entries) })
-all_served core = record { all = λ k p h. numbers_all (length core.entries) k p h; only = λ k h. numbers_only (length core.entries) k h }
+all_served : (core : Core) → IsCanonical (record { core = core; served = numbered (length core.entries) })
+all_served core = record { all = λ k p h. numbered_all (length core.entries) k p h; only = λ k h. numbered_only (length core.entries) k h }
 
 -- the message that a rest goes on with completes later
 record EndsLater (core : Core) (s : Side) (rest : Rest) : Type 0 where
@@ -91,10 +94,10 @@ guess_sided s rest end Loose g = tt
 ends_later : (judge : Judge) → IsSound judge → (ps : List Pair) (machine end : Machine) → ArePairs ps → AreHeld judge machine → reads judge machine ps ≡ Ok end → ((u : Side) → (get end.rests u).bytes ≡ []) →
     (s : Side) → IsFilled (get machine.rests s).bytes → EndsLater machine.core s (get machine.rests s)
 ends_later judge sd ps machine end lt held e none s f =
-    let t : IsTrace judge machine end (record { core = machine.core; served = numbers (length machine.core.entries) }) ps = trace judge sd ps machine end (numbers (length machine.core.entries)) lt held (all_served machine.core) e in
+    let t : IsTrace judge machine end (record { core = machine.core; served = numbered (length machine.core.entries) }) ps = trace judge sd ps machine end (numbered (length machine.core.entries)) lt held (all_served machine.core) e in
     go t (get t.open_ s) refl (t.guess s)
   where
-    go : (t : IsTrace judge machine end (record { core = machine.core; served = numbers (length machine.core.entries) }) ps) (o : Open) → get t.open_ s ≡ o → Guess (get machine.rests s) (get end.rests s) s o → EndsLater machine.core s (get machine.rests s)
+    go : (t : IsTrace judge machine end (record { core = machine.core; served = numbered (length machine.core.entries) }) ps) (o : Open) → get t.open_ s ≡ o → Guess (get machine.rests s) (get end.rests s) s o → EndsLater machine.core s (get machine.rests s)
     go t Idle is g = absurd (not_empty (get machine.rests s).bytes f g)
     go t (Busy m left) is g = record {
       message = m;
@@ -102,7 +105,7 @@ ends_later judge sd ps machine end lt held e none s f =
       filled = g.unfinished;
       encodes = g.encodes;
       begun = record { sided = g.sided; sendable = g.sendable; starts = g.starts };
-      end = completes_later t.walk machine.core (follows t.items (record { core = machine.core; served = numbers (length machine.core.entries) }) t.obeys)
+      end = completes_later t.walk machine.core (follows t.items (record { core = machine.core; served = numbered (length machine.core.entries) }) t.obeys)
           (λ u. guess_sided u (get machine.rests u) (get end.rests u) (get t.open_ u) (t.guess u)) s m left is;
     }
     go t Loose is g = absurd (not_empty (get end.rests s).bytes g.1 (none s))

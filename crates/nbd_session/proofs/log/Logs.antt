@@ -1,9 +1,9 @@
 -- The log of a run, and what a log states of each request.
 use Rattle.std.specs.Prelude.{ℕ, List, [], ◌∷◌, length}
 use Rattle.nbd_wire.specs.protocol.Marks.{Item, Byte, Starts, Completes, Serves}
-use Rattle.nbd_wire.specs.protocol.Reports.{Report, export_in, asked_list}
+use Rattle.nbd_wire.specs.protocol.Reports.{Report, asked_list}
 use Rattle.nbd_wire.specs.protocol.Rules.{complete}
-use Rattle.nbd_wire.specs.protocol.States.{Core, start}
+use Rattle.nbd_wire.specs.protocol.States.{Core, start, export_in}
 use Rattle.nbd_laws.specs.internal.Machine.{Both, get, put}
 use Rattle.nbd_state.specs.Logs.{LogEntry, known_by}
 

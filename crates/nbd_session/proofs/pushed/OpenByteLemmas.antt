@@ -1,6 +1,8 @@
 -- The bytes that belong to no completed message are the rests, and more of them may come.
 use Rattle.std.proofs.Common.{◌≡◌, ℕ, List, [], ◌∷◌, ◌++◌, map, flat_map, refl, sym, ◌∙◌, ap, subst, Ok, Bool, true, false, if◌then◌else◌, append_assoc, append-nil}
 use Rattle.std.proofs.lemmas.List.{append_cancel_left, map-append}
+use Rattle.nbd_wire.specs.declared.entry.Entry.{Entry}
+use Rattle.nbd_wire.specs.protocol.Entries.{whole}
 use Rattle.nbd_wire.specs.declared.message.Side.{Side}
 use Rattle.nbd_wire.specs.declared.message.Side.TheVariants.{Client, Server}
 use Rattle.nbd_wire.specs.declared.message.Message.{Message}
@@ -178,7 +180,7 @@ starts_after (Starts t n) s m k = absurd k
 starts_after (Completes t n) s m k = tt
 starts_after (Serves j) s m k = tt
 
-serves_after : (x : Item) (i : ℕ) → IsCalm x → MayFollow x (Serves i)
+serves_after : (x : Item) (i : Entry) → IsCalm x → MayFollow x (Serves i)
 serves_after (Byte t c) i k = tt
 serves_after (Starts t n) i k = absurd k
 serves_after (Completes t n) i k = tt
@@ -238,7 +240,7 @@ run_but_more items client server s more run = record {
   marked = record {
     client_side = sided_with s Client items client more run.marked.client_side;
     server_side = sided_with s Server items server more run.marked.server_side;
-    tight = tight_tail (Serves 0) (items ++ bytes_items s more) (tight_more (marked_is_walk {P = Unit {0}} items client server (λ f. tt) (λ f. tt) run.marked) (Serves 0) tt s more);
+    tight = tight_tail (Serves (whole 0)) (items ++ bytes_items s more) (tight_more (marked_is_walk {P = Unit {0}} items client server (λ f. tt) (λ f. tt) run.marked) (Serves (whole 0)) tt s more);
   };
   obeys = obeys_more items start s more run.obeys;
 }

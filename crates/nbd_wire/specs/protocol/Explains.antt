@@ -1,12 +1,12 @@
 -- What it means that an order of service explains a capture.
 use Rattle.std.specs.Prelude.{ℕ, List, ◌≡◌, Option, Some, None, length, slice_get}
+use Rattle.nbd_wire.specs.declared.entry.Entry.{Entry}
 use Rattle.nbd_wire.specs.protocol.ExportBytes.{IsWrong, effects}
 use Rattle.nbd_wire.specs.protocol.Marks.{Item, pairs, service_order}
 use Rattle.nbd_wire.specs.protocol.Captures.{Pair}
 use Rattle.nbd_wire.specs.protocol.Reports.{Report, report}
 use Rattle.nbd_wire.specs.protocol.Operations.{Exporting}
 use Rattle.nbd_wire.specs.protocol.Rules.{IsRun}
-use Rattle.nbd_wire.specs.protocol.States.{Names}
 
 -- what the export held at first: unknown bytes, zeroes, or these
 pub data Start : Type 0 where
@@ -25,13 +25,13 @@ abbrev pub FitsImage : Option Exporting → Start → Type 0
 FitsImage (Some export) (Image bytes) = length bytes ≡ export.size
 FitsImage _ _ = Unit {0}
 
--- no request that the order names has a wrong byte
-abbrev pub HasNoWrongByte : Report → List ℕ → Start → Type 0
-HasNoWrongByte r order initial = (k x : ℕ) → Names order k → IsWrong (effects r) order (start_byte initial) k x → ⊥
+-- no entry of the order serves a wrong byte
+abbrev pub HasNoWrongByte : Report → List Entry → Start → Type 0
+HasNoWrongByte r order initial = (i x : ℕ) → IsWrong (effects r) order (start_byte initial) i x → ⊥
 
 -- some run has these bytes and is served in this order, an image has the export's size, and no byte
 -- of a READ that is served is wrong (this project's choice)
-pub record IsExplained (capture : List Pair) (order : List ℕ) (initial : Start) : Type 0 where
+pub record IsExplained (capture : List Pair) (order : List Entry) (initial : Start) : Type 0 where
   pub items : List Item
   pub is_run : IsRun items
   pub has_pairs : pairs items ≡ capture

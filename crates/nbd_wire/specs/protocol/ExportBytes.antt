@@ -1,6 +1,9 @@
--- The export's bytes, looked up backwards from a request.
-use Rattle.std.specs.Prelude.{ℕ, List, [], ◌∷◌, ◌≡◌, ◌-◌, ◌==◌, ◌&&◌, Bool, true, false, if◌then◌else◌, Option, Some, None, slice_get, IsTrue}
+-- The export's bytes, looked up backwards from an entry of the order of service.
+use Rattle.std.specs.Prelude.{ℕ, List, [], ◌∷◌, ◌≡◌, ◌-◌, ◌==◌, ◌&&◌, Bool, true, false, if◌then◌else◌, Option, Some, None, slice_get, take, IsTrue}
 use Rattle.nbd_wire.specs.declared.commands.TheConstants as commands
+use Rattle.nbd_wire.specs.declared.entry.Entry.{Entry}
+use Rattle.nbd_wire.specs.declared.entry.Part.{Part}
+use Rattle.nbd_wire.specs.protocol.Entries.{in_part}
 use Rattle.nbd_wire.specs.protocol.Reports.{Asked, Report, asked_at}
 use Rattle.nbd_wire.specs.protocol.Operations.{Outcome, Success, Failure, Pending, is_change}
 use Rattle.nbd_wire.specs.protocol.Pieces.{byte_at, is_in}
@@ -40,9 +43,13 @@ effect_if None = None
 abbrev pub effects : Report → ℕ → Option Effect
 effects r k = effect_if (asked_at k r.asked)
 
--- a WRITE, TRIM or WRITE_ZEROES with x in its range
-abbrev pub touches : Effect → ℕ → Bool
-touches e x = is_change e.command && is_in e.offset e.length x
+-- the request has x in its range, and an entry with this part serves x of it
+abbrev pub serves : Option Part → Effect → ℕ → Bool
+serves p e x = is_in e.offset e.length x && in_part p x
+
+-- a WRITE, TRIM or WRITE_ZEROES of which x is served
+abbrev pub touches : Option Part → Effect → ℕ → Bool
+touches p e x = is_change e.command && serves p e x
 
 -- a successful WRITE leaves its byte, a successful WRITE_ZEROES a zero, and all else an unknown one
 abbrev pub new_byte : (succeeded : Bool) (command offset : ℕ) (payload : List ℕ) → ℕ → Option ℕ
@@ -54,44 +61,44 @@ new_byte false command offset payload x = None
 abbrev pub effect_byte : Effect → ℕ → Option ℕ
 effect_byte e x = new_byte e.succeeded e.command e.offset e.payload x
 
--- the numbers before the first k
-abbrev pub entries_before : ℕ → List ℕ → List ℕ
-entries_before k [] = []
-entries_before k (j ∷ order) = if j == k then [] else j ∷ entries_before k order
-
--- the request, where it touches x
-abbrev pub touch_of : Option Effect → ℕ → Option Effect
-touch_of (Some e) x = if touches e x then Some e else None
-touch_of None x = None
+-- the request, where an entry with this part touches x
+abbrev pub touch_of : Option Part → Option Effect → ℕ → Option Effect
+touch_of p (Some e) x = if touches p e x then Some e else None
+touch_of p None x = None
 
 -- the later of two, if there is one
 abbrev pub later : Option Effect → Option Effect → Option Effect
 later (Some e) earlier = Some e
 later None earlier = earlier
 
--- the last of these requests that touches x
-abbrev pub last_touch : (ℕ → Option Effect) → ℕ → List ℕ → Option Effect
+-- the request of the last of these entries that touches x
+abbrev pub last_touch : (ℕ → Option Effect) → ℕ → List Entry → Option Effect
 last_touch requests x [] = None
-last_touch requests x (k ∷ order) = later (last_touch requests x order) (touch_of (requests k) x)
+last_touch requests x (entry ∷ order) = later (last_touch requests x order) (touch_of entry.part (requests entry.request) x)
 
 -- what a change left at x, or the byte at the start where none did
 abbrev pub byte_or_start : Option Effect → (ℕ → Option ℕ) → ℕ → Option ℕ
 byte_or_start (Some e) initial x = effect_byte e x
 byte_or_start None initial x = initial x
 
--- the export's byte at x when request k is served: what the last change before it left, or else the
--- byte at the start (this project's choice)
-abbrev pub byte_before : (ℕ → Option Effect) → List ℕ → (ℕ → Option ℕ) → ℕ → ℕ → Option ℕ
-byte_before requests order initial k x = byte_or_start (last_touch requests x (entries_before k order)) initial x
+-- the export's byte at x at entry i of the order, counted from 0: what the last change before it left, or else the byte at the
+-- start (this project's choice)
+abbrev pub byte_before : (ℕ → Option Effect) → List Entry → (ℕ → Option ℕ) → ℕ → ℕ → Option ℕ
+byte_before requests order initial i x = byte_or_start (last_touch requests x (take i order)) initial x
 
 -- the byte at x is known, and the read gives another or none
 abbrev pub Differs : (byte read : ℕ → Option ℕ) → ℕ → Type 0
 Differs byte read x = (b : ℕ) × (byte x ≡ Some b) × (read x ≡ Some b → ⊥)
 
--- x lies in a successful READ, which gives another byte there than the known one, or none
-abbrev pub IsWrongIn : Effect → (ℕ → Option ℕ) → ℕ → Type 0
-IsWrongIn e byte x = (e.command ≡ commands.READ) × (e.succeeded ≡ true) × IsTrue (is_in e.offset e.length x) × Differs byte e.read x
+-- x is served of a successful READ, which gives another byte there than the known one, or none
+abbrev pub IsWrongIn : Option Part → Effect → (ℕ → Option ℕ) → ℕ → Type 0
+IsWrongIn p e byte x = (e.command ≡ commands.READ) × (e.succeeded ≡ true) × IsTrue (serves p e x) × Differs byte e.read x
 
--- request k gives a wrong byte at x, against the export as it is when k is served
-abbrev pub IsWrong : (ℕ → Option Effect) → List ℕ → (ℕ → Option ℕ) → ℕ → ℕ → Type 0
-IsWrong requests order initial k x = (e : Effect) × (requests k ≡ Some e) × IsWrongIn e (byte_before requests order initial k) x
+-- the request of this entry gives a wrong byte at x, which the entry serves, against these bytes of the export
+abbrev pub IsWrongOf : (ℕ → Option Effect) → Entry → (ℕ → Option ℕ) → ℕ → Type 0
+IsWrongOf requests entry byte x = (e : Effect) × (requests entry.request ≡ Some e) × IsWrongIn entry.part e byte x
+
+-- entry i of the order, counted from 0, serves a wrong byte at x, against the export as it is then
+abbrev pub IsWrong : (ℕ → Option Effect) → List Entry → (ℕ → Option ℕ) → ℕ → ℕ → Type 0
+IsWrong requests order initial i x =
+    (entry : Entry) × (slice_get order i ≡ Some entry) × IsWrongOf requests entry (byte_before requests order initial i) x

@@ -1,19 +1,20 @@
--- A capture with the marks of its messages: where each starts and completes, and where requests are served.
+-- A capture with the marks of its messages: where each starts and completes, and where requests or parts of them are served.
 use Rattle.std.specs.Prelude.{ℕ, List, [], ◌∷◌, ◌++◌, map, flat_map, ◌≡◌, if◌then◌else◌}
 use Rattle.nbd_wire.specs.declared.message.Side.{Side}
 use Rattle.nbd_wire.specs.declared.message.Side.TheVariants.{Client, Server}
 use Rattle.nbd_wire.specs.declared.message.Message.{Message}
+use Rattle.nbd_wire.specs.declared.entry.Entry.{Entry}
 use Rattle.nbd_wire.specs.protocol.Encoding.{enc}
 use Rattle.nbd_wire.specs.protocol.Sides.{same_side}
 use Rattle.nbd_wire.specs.protocol.Captures.{Pair}
 
 -- a byte of a side, or a mark between two bytes: a message starts, a message completes, or the
--- server carries out request k (this project's choice)
+-- server carries out what an entry names (this project's choice)
 pub data Item : Type 0 where
   Byte : (side : Side) (byte : ℕ) → Item
   Starts : (side : Side) (message : Message) → Item
   Completes : (side : Side) (message : Message) → Item
-  Serves : (request : ℕ) → Item
+  Serves : (entry : Entry) → Item
 
 -- the bytes alone
 abbrev pub pairs : List Item → List Pair
@@ -21,12 +22,12 @@ pairs [] = []
 pairs (Byte s b ∷ items) = record { from = s; byte = b } ∷ pairs items
 pairs (Starts s m ∷ items) = pairs items
 pairs (Completes s m ∷ items) = pairs items
-pairs (Serves k ∷ items) = pairs items
+pairs (Serves e ∷ items) = pairs items
 
--- the numbers of the requests that are served, in order
-abbrev pub service_order : List Item → List ℕ
+-- what is served, in order
+abbrev pub service_order : List Item → List Entry
 service_order [] = []
-service_order (Serves k ∷ items) = k ∷ service_order items
+service_order (Serves e ∷ items) = e ∷ service_order items
 service_order (Byte s b ∷ items) = service_order items
 service_order (Starts s m ∷ items) = service_order items
 service_order (Completes s m ∷ items) = service_order items
@@ -37,12 +38,12 @@ completed_messages [] = []
 completed_messages (Completes s m ∷ items) = m ∷ completed_messages items
 completed_messages (Byte s b ∷ items) = completed_messages items
 completed_messages (Starts s m ∷ items) = completed_messages items
-completed_messages (Serves k ∷ items) = completed_messages items
+completed_messages (Serves e ∷ items) = completed_messages items
 
 -- all but the moments of service
 abbrev pub without_service : List Item → List Item
 without_service [] = []
-without_service (Serves k ∷ items) = without_service items
+without_service (Serves e ∷ items) = without_service items
 without_service (Byte s b ∷ items) = Byte s b ∷ without_service items
 without_service (Starts s m ∷ items) = Starts s m ∷ without_service items
 without_service (Completes s m ∷ items) = Completes s m ∷ without_service items
@@ -53,7 +54,7 @@ of_side s [] = []
 of_side s (Byte t b ∷ items) = if same_side s t then Byte t b ∷ of_side s items else of_side s items
 of_side s (Starts t m ∷ items) = if same_side s t then Starts t m ∷ of_side s items else of_side s items
 of_side s (Completes t m ∷ items) = if same_side s t then Completes t m ∷ of_side s items else of_side s items
-of_side s (Serves k ∷ items) = of_side s items
+of_side s (Serves e ∷ items) = of_side s items
 
 -- a whole message of a side: its start, the bytes of its encoding, its completion
 abbrev pub block : Side → Message → List Item
@@ -70,7 +71,7 @@ abbrev pub IsByteOf : Side → Item → Type 0
 IsByteOf s (Byte t b) = s ≡ t
 IsByteOf s (Starts t m) = ⊥
 IsByteOf s (Completes t m) = ⊥
-IsByteOf s (Serves k) = ⊥
+IsByteOf s (Serves e) = ⊥
 
 -- which items may stand beside each other: a message starts directly before its first byte and
 -- completes directly after its last
@@ -78,10 +79,10 @@ abbrev pub MayFollow : Item → Item → Type 0
 MayFollow (Starts s m) next = IsByteOf s next
 MayFollow (Byte s b) (Completes t m) = s ≡ t
 MayFollow (Completes s m) (Completes t n) = ⊥
-MayFollow (Serves k) (Completes t m) = ⊥
+MayFollow (Serves e) (Completes t m) = ⊥
 MayFollow (Byte s b) _ = Unit {0}
 MayFollow (Completes s m) _ = Unit {0}
-MayFollow (Serves k) _ = Unit {0}
+MayFollow (Serves e) _ = Unit {0}
 
 -- each mark of a message stands directly beside its byte
 abbrev pub IsTight : List Item → Type 0

@@ -3,18 +3,14 @@ use Rattle.std.specs.Prelude.{ℕ, zero, suc, List, [], ◌∷◌, ◌==◌, Boo
 use Rattle.nbd_wire.specs.declared.message.Side.TheVariants.{Client, Server}
 use Rattle.nbd_wire.specs.declared.payloads.Piece.{Piece}
 use Rattle.nbd_wire.specs.protocol.Marks.{Item, Byte, Starts, Completes, Serves}
+use Rattle.nbd_wire.specs.protocol.Entries.{inside}
 use Rattle.nbd_wire.specs.protocol.Operations.{Operation, Exporting, Outcome, is_proper, outcome, pieces}
 use Rattle.nbd_wire.specs.protocol.Rules.{request_of_reply, complete, ends_at}
-use Rattle.nbd_wire.specs.protocol.States.{Core, Phase, Transmission, start}
+use Rattle.nbd_wire.specs.protocol.States.{Core, export_in, start}
 
 -- the numbered requests of a run
 abbrev pub operations_of : List Item → List Operation
 operations_of items = (ends_at start items).core.entries
-
--- the export of a phase: in transmission, the one that was entered
-abbrev pub export_in : Phase → Option Exporting
-export_in (Transmission export) = Some export
-export_in _ = None
 
 -- the export of a run that reaches transmission
 abbrev pub export_of : List Item → Option Exporting
@@ -37,7 +33,7 @@ known_from core k (Starts Server m ∷ items) = first_known (request_of_reply co
 known_from core k (Starts Client m ∷ items) = known_from core k items
 known_from core k (Byte s b ∷ items) = known_from core k items
 known_from core k (Completes s m ∷ items) = known_from (complete core m) k items
-known_from core k (Serves j ∷ items) = known_from core k items
+known_from core k (Serves e ∷ items) = known_from core k items
 
 -- how many numbered requests had completed when the first reply to request k started, if one did
 abbrev pub known_count : List Item → ℕ → Option ℕ
@@ -104,3 +100,12 @@ known_of None = None
 -- how many requests had completed when the first reply to request k of the report started, if one did
 abbrev pub known_in : Report → ℕ → Option ℕ
 known_in r k = known_of (asked_at k r.asked)
+
+-- the offsets inside a request on an export, if there is one
+abbrev pub inside_asked : Option Exporting → Option Asked → ℕ → Bool
+inside_asked export (Some a) = inside export a.command a.offset a.length
+inside_asked export None = λ x. false
+
+-- the offsets inside request k of the report
+abbrev pub inside_in : Report → ℕ → ℕ → Bool
+inside_in r k = inside_asked r.export (asked_at k r.asked)

@@ -10,13 +10,14 @@ use Rattle.nbd_wire.specs.declared.handshake.TheConstants as handshake
 use Rattle.nbd_wire.specs.declared.options.TheConstants as options
 use Rattle.nbd_wire.specs.declared.transmission.TheConstants as transmission
 use Rattle.nbd_wire.specs.protocol.Marks.{Item, Byte, Starts, Completes, Serves, IsMarkedBut}
+use Rattle.nbd_wire.specs.protocol.Entries.{IsWhollyServed, MayServe, inside}
 use Rattle.nbd_wire.specs.protocol.Options.{FitsLimit, MayAnswer, is_error, next_phase, turn}
 use Rattle.nbd_wire.specs.protocol.Replies.{MayReply}
 use Rattle.nbd_wire.specs.protocol.Operations.{Operation, Exporting}
 use Rattle.nbd_wire.specs.protocol.Flags.{has, has_only}
 use Rattle.nbd_wire.specs.protocol.Sendable.{IsSendable}
 use Rattle.nbd_wire.specs.protocol.Sides.{side}
-use Rattle.nbd_wire.specs.protocol.States.{Core, Names, Phase, State, Greet, Flags, Choosing, Naming, Aborting, Answering, Transmission, with_reply_at, operation, start, target}
+use Rattle.nbd_wire.specs.protocol.States.{Core, Phase, State, Greet, Flags, Choosing, Naming, Aborting, Answering, Transmission, export_in, with_reply_at, operation, start, target}
 
 -- the cookie that a reply repeats
 abbrev pub cookie_of : Message → Option ℕ
@@ -122,25 +123,35 @@ complete core (Request flags command cookie offset len payload) =
 complete core (Simple error cookie payload) = core_with_reply core (Simple error cookie payload)
 complete core (Chunk flags kind cookie payload) = core_with_reply core (Chunk flags kind cookie payload)
 
--- a reply starts only when the request that it answers was served (this project's choice)
+-- the offsets inside a request on an export, if there is one
+abbrev pub inside_operation : Option Exporting → Option Operation → ℕ → Bool
+inside_operation export (Some e) = inside export e.command e.offset e.length
+inside_operation export None = λ x. false
+
+-- the offsets inside request k
+abbrev pub inside_at : Core → ℕ → ℕ → Bool
+inside_at core k = inside_operation (export_in core.phase) (operation k core.entries)
+
+-- a reply starts only when the request that it answers was wholly served (this project's choice)
 abbrev pub IsServedFor : State → Side → Message → Type 0
 IsServedFor state Client m = Unit {0}
-IsServedFor state Server m = (k : ℕ) → request_of_reply state.core m ≡ Some k → Names state.served k
+IsServedFor state Server m = (k : ℕ) → request_of_reply state.core m ≡ Some k → IsWhollyServed (inside_at state.core k) state.served k
 
 -- what an item needs: a start its message's fields and turn, and of a reply that its request was served; a completion what
--- `MayComplete` says; a service a completed request that was not served before; a byte nothing
+-- `MayComplete` says; a service a completed request that may be served so; a byte nothing
 abbrev pub Allows : State → Item → Type 0
 Allows state (Byte s b) = Unit {0}
 Allows state (Starts s m) = (side m ≡ s) × IsSendable m × MayStart state.core s m × IsServedFor state s m
 Allows state (Completes s m) = MayComplete state.core state.core.phase m
-Allows state (Serves k) = (0 < k) × (k ≤ length state.core.entries) × (Names state.served k → ⊥)
+Allows state (Serves e) =
+    (0 < e.request) × (e.request ≤ length state.core.entries) × MayServe (inside_at state.core e.request) state.served e
 
 -- what an item leads to: bytes and starts change nothing
 abbrev pub after : State → Item → State
 after state (Byte s b) = state
 after state (Starts s m) = state
 after state (Completes s m) = record { core = complete state.core m; served = state.served }
-after state (Serves k) = record { core = state.core; served = state.served ++ k ∷ [] }
+after state (Serves e) = record { core = state.core; served = state.served ++ e ∷ [] }
 
 -- each item is allowed where it stands
 abbrev pub Obeys : State → List Item → Type 0

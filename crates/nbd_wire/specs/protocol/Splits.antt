@@ -18,7 +18,7 @@ completes_in s [] = false
 completes_in s (Byte t b ∷ items) = completes_in s items
 completes_in s (Starts t m ∷ items) = completes_in s items
 completes_in s (Completes t m ∷ items) = same_side s t || completes_in s items
-completes_in s (Serves k ∷ items) = completes_in s items
+completes_in s (Serves e ∷ items) = completes_in s items
 
 -- the open bytes of a side: those after its last completed message; they begin its next one, or belong to none
 abbrev pub open_bytes : Side → List Item → List ℕ
@@ -26,7 +26,7 @@ open_bytes s [] = []
 open_bytes s (Byte t b ∷ items) = if same_side s t && not (completes_in s items) then b ∷ open_bytes s items else open_bytes s items
 open_bytes s (Starts t m ∷ items) = open_bytes s items
 open_bytes s (Completes t m ∷ items) = open_bytes s items
-open_bytes s (Serves k ∷ items) = open_bytes s items
+open_bytes s (Serves e ∷ items) = open_bytes s items
 
 -- what had completed, from this core on, before the first open byte of a side; where there is none, before the end
 abbrev pub since_from : Side → Core → List Item → Core
@@ -34,7 +34,7 @@ since_from s core [] = core
 since_from s core (Byte t b ∷ items) = if same_side s t && not (completes_in s items) then core else since_from s core items
 since_from s core (Starts t m ∷ items) = since_from s core items
 since_from s core (Completes t m ∷ items) = since_from s (complete core m) items
-since_from s core (Serves k ∷ items) = since_from s core items
+since_from s core (Serves e ∷ items) = since_from s core items
 
 -- whose byte is the last
 abbrev pub last_or : Option Side → List Item → Option Side
@@ -42,7 +42,7 @@ last_or last [] = last
 last_or last (Byte t b ∷ items) = last_or (Some t) items
 last_or last (Starts t m ∷ items) = last_or last items
 last_or last (Completes t m ∷ items) = last_or last items
-last_or last (Serves k ∷ items) = last_or last items
+last_or last (Serves e ∷ items) = last_or last items
 
 -- the row of a fault holds of the open bytes of the side whose byte is the last
 pub record HoldsAt (fault : WireFault) (items : List Item) : Type 0 where

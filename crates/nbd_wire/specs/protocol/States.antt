@@ -1,6 +1,7 @@
 -- What the completed messages of a session have led to.
-use Rattle.std.specs.Prelude.{◌≡◌, ◌⊎◌, ℕ, zero, suc, List, [], ◌∷◌, ◌++◌, ◌==◌, ◌&&◌, not, Bool, false, if◌then◌else◌, Option, Some, None}
+use Rattle.std.specs.Prelude.{ℕ, zero, suc, List, [], ◌∷◌, ◌++◌, ◌==◌, ◌&&◌, not, Bool, false, if◌then◌else◌, Option, Some, None}
 use Rattle.nbd_wire.specs.declared.message.Message.{Message}
+use Rattle.nbd_wire.specs.declared.entry.Entry.{Entry}
 use Rattle.nbd_wire.specs.protocol.Operations.{Exporting, Operation, is_finished}
 
 -- where the session stands (proto.md, "Newstyle negotiation", "Transmission")
@@ -32,10 +33,10 @@ pub record Core : Type 0 where
   pub disconnected : Bool
   pub entries : List Operation
 
--- the same, and the numbers of the requests that were served
+-- the same, and what was served, in order
 pub record State : Type 0 where
   pub core : Core
-  pub served : List ℕ
+  pub served : List Entry
 
 -- before the first byte
 abbrev pub start : State
@@ -43,6 +44,11 @@ start = record {
   core = record { phase = Greet; offered = 0; client_flags = 0; structured = false; disconnected = false; entries = [] };
   served = [];
 }
+
+-- the export of a phase: in transmission, the one that was entered
+abbrev pub export_in : Phase → Option Exporting
+export_in (Transmission export) = Some export
+export_in _ = None
 
 -- the request is outstanding and has this cookie (proto.md, "Transmission")
 abbrev pub is_awaiting : ℕ → Operation → Bool
@@ -74,8 +80,3 @@ with_reply_at k m [] = []
 with_reply_at zero m (e ∷ entries) = e ∷ entries
 with_reply_at (suc zero) m (e ∷ entries) = with_reply e m ∷ entries
 with_reply_at (suc (suc k)) m (e ∷ entries) = e ∷ with_reply_at (suc k) m entries
-
--- the list names k
-abbrev pub Names : List ℕ → ℕ → Type 0
-Names [] k = ⊥
-Names (j ∷ js) k = (j ≡ k) ⊎ Names js k

@@ -1,16 +1,17 @@
 -- The tests that part a yes from a no, on the report of a run, and what they answer with.
 use Rattle.std.specs.Prelude.{ℕ, List, Bool, true, false, not, length, count_by}
+use Rattle.nbd_wire.specs.declared.entry.Entry.{Entry}
 use Rattle.nbd_wire.specs.protocol.Explains.{FitsImage, HasNoWrongByte, Start}
 use Rattle.nbd_wire.specs.protocol.Orders.{HasNoOrderFault}
-use Rattle.nbd_wire.specs.protocol.Reports.{Asked, Report, known_in}
+use Rattle.nbd_wire.specs.protocol.Reports.{Asked, Report, inside_in, known_in}
 use Rattle.nbd_wire.specs.protocol.Operations.{Outcome, Success, Failure, Pending}
 
 -- the order has no fault for the requests of the report
-abbrev pub IsFaultless : Report → List ℕ → Type 0
-IsFaultless r order = HasNoOrderFault (length r.asked) (known_in r) order
+abbrev pub IsFaultless : Report → List Entry → Type 0
+IsFaultless r order = HasNoOrderFault (length r.asked) (known_in r) (inside_in r) order
 
 -- the three tests: the order has no fault, an image has the export's size, no byte is wrong
-pub record Passes (r : Report) (order : List ℕ) (initial : Start) : Type 0 where
+pub record Passes (r : Report) (order : List Entry) (initial : Start) : Type 0 where
   pub faultless : IsFaultless r order
   pub fits_image : FitsImage r.export initial
   pub reads : HasNoWrongByte r order initial

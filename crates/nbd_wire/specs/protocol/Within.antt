@@ -10,7 +10,7 @@ abbrev pub within : ℕ → List Item → List Message
 within n [] = []
 within n (Completes s m ∷ items) = m ∷ within n items
 within n (Starts s m ∷ items) = within n items
-within n (Serves k ∷ items) = within n items
+within n (Serves e ∷ items) = within n items
 within zero (Byte s b ∷ items) = []
 within (suc n) (Byte s b ∷ items) = within n items
 

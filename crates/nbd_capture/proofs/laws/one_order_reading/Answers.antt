@@ -1,7 +1,7 @@
 use Rattle.nbd_capture.specs.Order.{IsOrderLine}
-use Rattle.nbd_capture.proofs.NumeralLemmas.{one_number}
+use Rattle.nbd_capture.proofs.OrderLineLemmas.{one_entry}
 use Rattle.nbd_capture.proofs.ReadingLemmas.{one_reading}
 use Rattle.nbd_capture.proofs.laws.one_order_reading.Goals as goal
 
 pub returns : goal.returns
-returns c = one_reading IsOrderLine one_number
+returns c = one_reading IsOrderLine one_entry

@@ -4,7 +4,7 @@ use Rattle.nbd_capture.proofs.ProgressLemmas.{Progress}
 use Rattle.nbd_capture.proofs.order.parse_order.Given as goal
 
 abbrev pub invariant-loop-rest : goal.invariant-loop-rest
-invariant-loop-rest l = Progress IsOrderLine l.text l.rest l.numbers.items l.line_number
+invariant-loop-rest l = Progress IsOrderLine l.text l.rest l.entries.items l.line_number
 
 abbrev pub decreases-loop-rest : goal.decreases-loop-rest
 decreases-loop-rest l = length l.rest

@@ -1,4 +1,5 @@
-use Rattle.nbd_judge.proofs.orders.NameLemmas.{none_wrong}
+use Rattle.std.proofs.Common.{inr}
+use Rattle.nbd_wire.specs.protocol.Verdicts.{IsFaultless}
 use Rattle.nbd_judge.proofs.verdicts.AnswerLemmas.{order_unserved}
 use Rattle.nbd_judge.proofs.judging.judge.Goals as goal
 
@@ -7,7 +8,7 @@ returns-clause-judged g c =
     let faultless = rw c.in_default.is at c.in_ok-entry.ensures in
     let none = rw c.in_default-2.is at c.in_ok-request.ensures in (
       faultless,
-      none_wrong c.args.transcript.now c.args.order.now (g.C.Contents.byte c.args.contents.now) none,
+      (λ i x w. none i (x, w)),
       c.count-requests.ensures.count,
       c.answered_count.ensures,
       c.improper_count.ensures,
@@ -15,3 +16,6 @@ returns-clause-judged g c =
 
 pub returns-in-Some-clause-unserved : goal.returns-in-Some-clause-unserved
 returns-in-Some-clause-unserved g c = order_unserved c.args.transcript.now c.args.order.now c.in-Some.entry c.in-Some.fault (rw c.in-Some.is at c.in_ok-entry.ensures)
+
+pub replay-requires-clause-well : goal.replay-requires-clause-well
+replay-requires-clause-well g c = λ i b. (let faultless : IsFaultless c.args.transcript.now c.args.order.now = rw c.in_default.is at c.in_ok-entry.ensures in faultless.none_bad i (inr (inr b)))

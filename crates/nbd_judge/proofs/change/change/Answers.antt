@@ -1,0 +1,16 @@
+use Rattle.std.proofs.Common.{◌+◌, ◌-◌, ℕ, Option, length, ap, sym, ◌∙◌, slice_range}
+use Rattle.nbd_wire.specs.protocol.Reports.{Asked}
+use Rattle.nbd_export.specs.Ranges.{bytes_from, overlay}
+use Rattle.nbd_state.specs.Transcripts.{report_of_request}
+use Rattle.nbd_state.specs.declared.span.Span.{Span}
+use Rattle.nbd_judge.proofs.contents.RangeLemmas.{written}
+use Rattle.nbd_judge.proofs.change.change.Goals as goal
+
+pub returns-in_ok-put-in-1-clause-done : goal.returns-in_ok-put-in-1-clause-done
+returns-in_ok-put-in-1-clause-done g c = λ x l.
+    let a : Asked = report_of_request c.args.one.now in
+    let old : ℕ → Option ℕ = g.C.Contents.byte c.args.contents.now in
+    let is = c.bytes_of.ensures ∙ ap (λ (s : Span). slice_range a.payload (s.offset - a.offset) (s.offset - a.offset + s.size)) c.served-span.ensures in
+    c.in_ok-put-in-1.ensures.done x l
+    ∙ ap (λ (s : Span). overlay s.offset (length c.bytes_of.result.now) (bytes_from s.offset c.bytes_of.result.now) old x) c.served-span.ensures
+    ∙ written c.args.part a c.requires.inside c.in-1.is (sym c.is_success.ensures ∙ c.if-is_success.true) (c.requires.servable.carried c.in-1.is) c.bytes_of.result.now is old x

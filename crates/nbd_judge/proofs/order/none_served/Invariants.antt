@@ -1,0 +1,9 @@
+use Rattle.std.proofs.Common.{◌≡◌, ◌≤◌, replicate}
+use Rattle.nbd_judge.specs.declared.service.Service.TheVariants.{Unnamed}
+use Rattle.nbd_judge.proofs.order.none_served.Given as goal
+
+abbrev pub invariant-loop : goal.invariant-loop
+invariant-loop l = record {
+  bound : l.counter ≤ l.count;
+  items : l.table.items ≡ replicate l.counter Unnamed;
+}

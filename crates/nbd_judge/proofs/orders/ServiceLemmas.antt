@@ -1,0 +1,247 @@
+-- What entries serve of a request.
+use Rattle.std.proofs.Common.{◌≡◌, ℕ, zero, suc, ◌+◌, ◌-◌, ◌<◌, ◌≤◌, ◌==◌, ◌&&◌, ◌||◌, ◌⊎◌, inl, inr, List, [], ◌∷◌, ◌++◌, refl, sym, ◌∙◌, ap, subst, Option, Some, None, Bool, true, false, is_some, if◌then◌else◌, arith, nat_le, nat_lt, eqb-true, eq-eqb, append_assoc, append-nil}
+use Rattle.std.proofs.lemmas.Bool.{leb-true, leb-false, le-leb, lt-ltb, ltb-true}
+use Rattle.nbd_wire.specs.declared.entry.Entry.{Entry}
+use Rattle.nbd_wire.specs.declared.entry.Part.{Part}
+use Rattle.nbd_wire.specs.declared.payloads.Piece.{Piece}
+use Rattle.nbd_wire.specs.declared.payloads.Piece.TheVariants.{Hole}
+use Rattle.nbd_wire.specs.protocol.Entries.{HasBadPart, IsWhollyServed, MayServe, Names, NamesWhole, in_part, is_served}
+use Rattle.nbd_wire.specs.protocol.Pieces.{SharesNone, byte_at, holds, is_in, piece_byte, piece_offset, piece_size}
+use Rattle.nbd_places.specs.internal.JudgeTransmission.{is_apart, is_apart_from, total}
+use Rattle.nbd_places.proofs.judge.CoverLemmas.{apart_from-shares, covered_total, full_total_covers, no_overlap, total_within}
+use Rattle.nbd_laws.proofs.requests.LaidLemmas.{AreApart, AreInside}
+use Rattle.nbd_laws.proofs.service.EntryLemmas.{whole_names}
+use Rattle.nbd_state.specs.declared.span.Span.{Span}
+use Rattle.nbd_state.specs.Indexes.{HasMore, IsFree, IsIndex, Meets}
+use Rattle.nbd_state.proofs.IndexLemmas.{index-more, index-none}
+use Rattle.nbd_judge.specs.internal.Services.{AreParts, IsSpanOf, LieApart, part_pieces, parts_of}
+
+-- offsets of holes
+both : (a b : Bool) → (a && b) ≡ true → (a ≡ true) × (b ≡ true)
+both true b e = (refl, e)
+both false b e = absurd (let q : false ≡ true = e in (cc))
+
+in_from : (offset len x : ℕ) → offset ≤ x → x < offset + len → is_in offset len x ≡ true
+in_from offset len x lo hi = ap (λ b. b && nat_lt x (offset + len)) (le-leb offset x lo) ∙ lt-ltb x (offset + len) hi
+
+from_in : (offset len x : ℕ) → is_in offset len x ≡ true → (offset ≤ x) × (x < offset + len)
+from_in offset len x h =
+    let b = both (nat_le offset x) (nat_lt x (offset + len)) h in
+    (leb-true offset x b.0, ltb-true x (offset + len) b.1)
+
+outside : (offset len x : ℕ) → (offset ≤ x → x < offset + len → ⊥) → is_in offset len x ≡ false
+outside offset len x none = go (is_in offset len x) refl
+  where
+    go : (b : Bool) → is_in offset len x ≡ b → b ≡ false
+    go true e = (let i = from_in offset len x e in absurd (none i.0 i.1))
+    go false e = refl
+
+-- where no entry serves the request at once, its served offsets are those of its parts
+has : List Piece → ℕ → Bool
+has ps x = is_some (byte_at ps x)
+
+pub served_parts : (es : List Entry) (k x : ℕ) → (NamesWhole es k → ⊥) → is_served es k x ≡ is_some (byte_at (parts_of es k) x)
+served_parts [] k x none = refl
+served_parts (e ∷ es) k x none = go (e.request == k) refl (served_parts es k x (λ n. none (inr n)))
+  where
+    part : (p : Option Part) → e.part ≡ p → e.request ≡ k → is_served es k x ≡ is_some (byte_at (parts_of es k) x) →
+        (in_part p x || is_served es k x) ≡ is_some (byte_at (part_pieces p ++ parts_of es k) x)
+    part None q n ih = absurd (none (inl (n, q)))
+    part (Some p) q n ih = at (is_in p.offset p.length x)
+      where
+        at : (b : Bool) → (b || is_served es k x) ≡ is_some (if b then Some 0 else byte_at (parts_of es k) x)
+        at true = refl
+        at false = ih
+
+    go : (b : Bool) → (e.request == k) ≡ b → is_served es k x ≡ is_some (byte_at (parts_of es k) x) →
+        ((b && in_part e.part x) || is_served es k x) ≡ is_some (byte_at ((if b then part_pieces e.part else []) ++ parts_of es k) x)
+    go true q ih = part e.part refl (eqb-true e.request k q) ih
+    go false q ih = ih
+
+-- one more part
+pub parts_push : (es : List Entry) (k : ℕ) (p : Option Part) → parts_of (es ++ record { request = k; part = p } ∷ []) k ≡ parts_of es k ++ part_pieces p
+parts_push [] k p = ap (λ b. (if b then part_pieces p else []) ++ []) (eq-eqb k k refl) ∙ append-nil (part_pieces p)
+parts_push (e ∷ es) k p =
+    ap (λ l. (if e.request == k then part_pieces e.part else []) ++ l) (parts_push es k p)
+    ∙ sym (append_assoc (if e.request == k then part_pieces e.part else []) (parts_of es k) (part_pieces p))
+
+pub parts_unnamed : (es : List Entry) (k : ℕ) → (Names es k → ⊥) → parts_of es k ≡ []
+parts_unnamed [] k none = refl
+parts_unnamed (e ∷ es) k none = go (e.request == k) refl (parts_unnamed es k (λ n. none (inr n)))
+  where
+    go : (b : Bool) → (e.request == k) ≡ b → parts_of es k ≡ [] → ((if b then part_pieces e.part else []) ++ parts_of es k) ≡ []
+    go true q ih = absurd (none (inl (eqb-true e.request k q)))
+    go false q ih = ih
+
+-- an entry with a part does not serve the request at once
+pub whole_push : (es : List Entry) (k : ℕ) (p : Part) → (NamesWhole es k → ⊥) → NamesWhole (es ++ record { request = k; part = Some p } ∷ []) k → ⊥
+whole_push [] k p none h = elim h [ inl q ↦ (let e : Some p ≡ None = q.1 in absurd (cc)) | inr n ↦ n ]
+whole_push (e ∷ es) k p none h = elim h [ inl q ↦ none (inl q) | inr n ↦ whole_push es k p (λ m. none (inr m)) n ]
+
+-- pieces in a span that share no offset
+are_inside : (span : Span) (ps : List Piece) → LieApart span ps → AreInside span.offset span.size ps
+are_inside span [] l = tt
+are_inside span (p ∷ ps) l = ((l.0, l.1), are_inside span ps l.4)
+
+are_apart : (span : Span) (ps : List Piece) → LieApart span ps → AreApart ps
+are_apart span [] l = tt
+are_apart span (p ∷ ps) l = (l.3, are_apart span ps l.4)
+
+laid_push : (span : Span) (ps : List Piece) (q : Piece) → LieApart span ps → span.offset ≤ piece_offset q → piece_offset q + piece_size q ≤ span.offset + span.size → 0 < piece_size q → SharesNone q ps → LieApart span (ps ++ q ∷ [])
+laid_push span [] q l lo hi some none = (lo, hi, some, (λ x h. refl), tt)
+laid_push span (p ∷ ps) q l lo hi some none =
+    (l.0, l.1, l.2, shares p ps q l.3 (λ x h. (first_none p ps x (none x h)).0), laid_push span ps q l.4 lo hi some (λ x h. (first_none p ps x (none x h)).1))
+  where
+    first_none : (p : Piece) (ps : List Piece) (x : ℕ) → byte_at (p ∷ ps) x ≡ None → (holds p x ≡ false) × (byte_at ps x ≡ None)
+    first_none p ps x e = go (holds p x) refl e
+      where
+        go : (b : Bool) → holds p x ≡ b → (if b then Some (piece_byte p x) else byte_at ps x) ≡ None → (b ≡ false) × (byte_at ps x ≡ None)
+        go true is e = absurd (cc)
+        go false is e = (refl, e)
+
+    shares : (p : Piece) (ps : List Piece) (q : Piece) → SharesNone p ps → ((x : ℕ) → holds q x ≡ true → holds p x ≡ false) → SharesNone p (ps ++ q ∷ [])
+    shares p [] q none apart x h = at (holds q x) refl
+      where
+        at : (b : Bool) → holds q x ≡ b → (if b then Some (piece_byte q x) else None) ≡ None
+        at true is = absurd (let z : true ≡ false = sym h ∙ apart x is in (cc))
+        at false is = refl
+    shares p (r ∷ ps) q none apart x h =
+        (let f = first_none r ps x (none x h) in
+        ap (λ b. if b then Some (piece_byte r x) else byte_at (ps ++ q ∷ []) x) f.0 ∙ shares p ps q (λ y i. (first_none r ps y (none y i)).1) apart x h)
+
+total_push : (ps : List Piece) (q : Piece) → total (ps ++ q ∷ []) ≡ total ps + piece_size q
+total_push [] q = omega arith
+total_push (p ∷ ps) q = let ih : total (ps ++ q ∷ []) ≡ total ps + piece_size q = total_push ps q in omega arith
+
+-- a piece that does not lie apart from others, none of them empty, shares an offset with them
+shared : (span : Span) (p : Piece) (ps : List Piece) → 0 < piece_size p → LieApart span ps → is_apart_from p ps ≡ false → (x : ℕ) × (holds p x ≡ true) × (is_some (byte_at ps x) ≡ true)
+shared span p [] some l e = absurd (let q : true ≡ false = e in (cc))
+shared span p (q ∷ ps) some l e = go (is_apart p q) refl e (shared span p ps some l.4)
+  where
+    later : (x : ℕ) → is_some (byte_at ps x) ≡ true → is_some (if holds q x then Some (piece_byte q x) else byte_at ps x) ≡ true
+    later x h = at (holds q x)
+      where
+        at : (b : Bool) → is_some (if b then Some (piece_byte q x) else byte_at ps x) ≡ true
+        at true = refl
+        at false = h
+
+    go : (b : Bool) → is_apart p q ≡ b → (b && is_apart_from p ps) ≡ false → (is_apart_from p ps ≡ false → (x : ℕ) × (holds p x ≡ true) × (is_some (byte_at ps x) ≡ true)) →
+        (x : ℕ) × (holds p x ≡ true) × (is_some (byte_at (q ∷ ps) x) ≡ true)
+    go true a e ih = (let r = ih e in (r.0, r.1, later r.0 r.2))
+    go false a e ih = (let o = no_overlap p q some l.2 a in
+        (o.0, o.1, ap (λ b. is_some (if b then Some (piece_byte q o.0) else byte_at ps o.0)) o.2))
+
+module _ (span : Span) (within : ℕ → Bool) (is_span : IsSpanOf span within) (before : List Entry) (k : ℕ) where
+  at_entry : Option Part → Entry
+  at_entry p = record { request = k; part = p }
+
+  -- after an entry that serves the request at once
+  pub whole_named : NamesWhole (before ++ record { request = k; part = None } ∷ []) k
+  whole_named = go before
+    where
+      go : (es : List Entry) → NamesWhole (es ++ record { request = k; part = None } ∷ []) k
+      go [] = inl (refl, refl)
+      go (e ∷ es) = inr (go es)
+
+  module _ (sizes : ℕ → Option ℕ) (left : ℕ) (h : AreParts sizes left span before k) where
+    parts_within : total (parts_of before k) ≤ span.size
+    parts_within = total_within span.offset span.size (parts_of before k) (are_inside span (parts_of before k) h.laid) (are_apart span (parts_of before k) h.laid)
+
+    none_left : left ≡ 0 → total (parts_of before k) ≡ span.size
+    none_left e = (let c : left ≡ span.size - total (parts_of before k) = h.count in let l : total (parts_of before k) ≤ span.size = parts_within in omega arith)
+
+    pub full : Names before k → left ≡ 0 → IsWhollyServed within before k
+    full named e = record {
+      named = named;
+      covered = λ x i.
+          (let r = from_in span.offset span.size x (sym (is_span x) ∙ i) in
+          served_parts before k x h.in_parts
+          ∙ full_total_covers span.offset span.size (parts_of before k) (are_inside span (parts_of before k) h.laid) (are_apart span (parts_of before k) h.laid) (none_left e) x r.0 r.1);
+    }
+
+    all_served : total (parts_of before k) ≡ span.size → left ≡ 0
+    all_served e = (let c : left ≡ span.size - total (parts_of before k) = h.count in omega arith)
+
+    pub not_full : (left ≡ 0 → ⊥) → IsWhollyServed within before k → ⊥
+    not_full ne w = ne (all_served (covered_total span.offset span.size (parts_of before k) (are_inside span (parts_of before k) h.laid) (are_apart span (parts_of before k) h.laid)
+        (λ x lo hi. sym (served_parts before k x h.in_parts) ∙ w.covered x (is_span x ∙ in_from span.offset span.size x lo hi))))
+
+    -- a part may be served where it is not empty, lies in the span, and apart from the others
+    module _ (p : Part) (some : 0 < p.length) (lo : span.offset ≤ p.offset) (hi : p.offset + p.length ≤ span.offset + span.size) (free : IsFree sizes p.offset p.length) where
+      none_shared : SharesNone (Hole p.offset p.length) (parts_of before k)
+      none_shared = apart_from-shares (Hole p.offset p.length) (parts_of before k) (h.index.free (Hole p.offset p.length) free)
+
+      pub may_serve : MayServe within before (record { request = k; part = Some p })
+      may_serve = (
+        h.in_parts,
+        λ m. elim m [
+          | inl empty ↦ absurd (omega arith)
+          | inr m ↦ elim m [
+            | inl out ↦ (let i = from_in p.offset p.length out.0 out.1 in
+                let at_p : p.offset ≤ out.0 = i.0 in
+                let below : out.0 < p.offset + p.length = i.1 in
+                let q : true ≡ false = sym (in_from span.offset span.size out.0 (omega arith) (omega arith)) ∙ sym (is_span out.0) ∙ out.2 in absurd (cc))
+            | inr twice ↦ (let q : true ≡ false = sym twice.2 ∙ served_parts before k twice.0 h.in_parts ∙ ap (λ o. is_some o) (none_shared twice.0 twice.1) in absurd (cc))
+          ]
+        ],
+      )
+
+      pub one_more : (new : ℕ → Option ℕ) → HasMore sizes new p.offset p.length → AreParts new (left - p.length) span (before ++ record { request = k; part = Some p } ∷ []) k
+      one_more new more = record {
+        in_parts = whole_push before k p h.in_parts;
+        index = subst (IsIndex new) (sym (parts_push before k (Some p))) (index-more sizes new (parts_of before k) (Hole p.offset p.length) h.index more);
+        laid = subst (LieApart span) (sym (parts_push before k (Some p))) (laid_push span (parts_of before k) (Hole p.offset p.length) h.laid lo hi some none_shared);
+        count = (let c : left ≡ span.size - total (parts_of before k) = h.count in
+            let t : total (parts_of before k ++ Hole p.offset p.length ∷ []) ≡ total (parts_of before k) + p.length = total_push (parts_of before k) (Hole p.offset p.length) in
+            let r : left - p.length ≡ span.size - total (parts_of before k ++ Hole p.offset p.length ∷ []) = omega arith in
+            r ∙ ap (λ ps. span.size - total ps) (sym (parts_push before k (Some p))));
+      }
+
+    -- a part that does not lie in the span, or meets another, is bad
+    pub out_of_span : (p : Part) → (span.offset ≤ p.offset → p.offset + p.length ≤ span.offset + span.size → ⊥) → HasBadPart within before (record { request = k; part = Some p })
+    out_of_span p out = go p.length refl
+      where
+        go : (n : ℕ) → p.length ≡ n → HasBadPart within before (record { request = k; part = Some p })
+        go zero e = inl e
+        go (suc n) e = by (nat_le span.offset p.offset) refl
+          where
+            by : (b : Bool) → nat_le span.offset p.offset ≡ b → HasBadPart within before (record { request = k; part = Some p })
+            by false q =
+                (let l : p.offset < span.offset = leb-false span.offset p.offset q in
+                inr (inl (p.offset, in_from p.offset p.length p.offset (omega arith) (omega arith), is_span p.offset ∙ outside span.offset span.size p.offset (λ lo hi. omega arith))))
+            by true q =
+                (let l : span.offset ≤ p.offset = leb-true span.offset p.offset q in
+                let far : span.offset + span.size < p.offset + p.length = beyond (nat_le (p.offset + p.length) (span.offset + span.size)) refl l in
+                inr (inl (p.offset + n, in_from p.offset p.length (p.offset + n) (omega arith) (omega arith), is_span (p.offset + n) ∙ outside span.offset span.size (p.offset + n) (λ lo hi. omega arith))))
+              where
+                beyond : (b : Bool) → nat_le (p.offset + p.length) (span.offset + span.size) ≡ b → span.offset ≤ p.offset → span.offset + span.size < p.offset + p.length
+                beyond true r l = absurd (out l (leb-true (p.offset + p.length) (span.offset + span.size) r))
+                beyond false r l = leb-false (p.offset + p.length) (span.offset + span.size) r
+
+    pub meets_part : (p : Part) → (p.length ≡ 0) ⊎ Meets sizes p.offset p.length → HasBadPart within before (record { request = k; part = Some p })
+    meets_part p (inl empty) = inl empty
+    meets_part p (inr m) = go p.length refl
+      where
+        go : (n : ℕ) → p.length ≡ n → HasBadPart within before (record { request = k; part = Some p })
+        go zero e = inl e
+        go (suc n) e =
+            (let s = shared span (Hole p.offset p.length) (parts_of before k) (omega arith) h.laid (h.index.meets (Hole p.offset p.length) m.0 m.1 m.2 m.3) in
+            inr (inr (s.0, s.1, served_parts before k s.0 h.in_parts ∙ s.2)))
+
+-- a request of which nothing is served
+pub no_parts : (sizes : ℕ → Option ℕ) (span : Span) (before : List Entry) (k : ℕ) → ((n : ℕ) → sizes n ≡ None) → (Names before k → ⊥) → AreParts sizes span.size span before k
+no_parts sizes span before k none unnamed = record {
+  in_parts = λ h. unnamed (whole_names before k h);
+  index = subst (IsIndex sizes) (sym (parts_unnamed before k unnamed)) (index-none sizes none);
+  laid = subst (LieApart span) (sym (parts_unnamed before k unnamed)) tt;
+  count = (let all : span.size ≡ span.size - 0 = omega arith in all ∙ ap (λ ps. span.size - total ps) (sym (parts_unnamed before k unnamed)));
+}
+
+-- the spans' test, as bounds
+pub in_span : (span : Span) (p : Part) → (nat_le span.offset p.offset && nat_le (p.offset + p.length) (span.offset + span.size)) ≡ true → (span.offset ≤ p.offset) × (p.offset + p.length ≤ span.offset + span.size)
+in_span span p e = (let b = both (nat_le span.offset p.offset) (nat_le (p.offset + p.length) (span.offset + span.size)) e in (leb-true _ _ b.0, leb-true _ _ b.1))
+
+pub off_span : (span : Span) (p : Part) → (nat_le span.offset p.offset && nat_le (p.offset + p.length) (span.offset + span.size)) ≡ false → span.offset ≤ p.offset → p.offset + p.length ≤ span.offset + span.size → ⊥
+off_span span p e lo hi =
+    let q : true ≡ false = sym (ap (λ b. b && nat_le (p.offset + p.length) (span.offset + span.size)) (le-leb span.offset p.offset lo) ∙ le-leb (p.offset + p.length) (span.offset + span.size) hi) ∙ e in
+    absurd (cc)

@@ -1,0 +1,324 @@
+-- The table of what an order serves of each request.
+use Rattle.std.proofs.lemmas.Option.{slice_get_within}
+use Rattle.nbd_wire.specs.protocol.Verdicts.{IsFaultless}
+use Rattle.std.proofs.Common.{MatchOption, is_some, ◌≡◌, ℕ, zero, suc, ◌+◌, ◌-◌, ◌<◌, ◌≤◌, ◌==◌, ◌&&◌, ◌⊎◌, inl, inr, List, [], ◌∷◌, ◌++◌, length, refl, sym, ◌∙◌, ap, subst, Option, Some, None, Result, Ok, Err, Bool, true, false, if◌then◌else◌, arith, nat_le, nat_lt, min, eqb-true, slice_get, slice_set, take, replicate, add-one}
+use Rattle.std.proofs.lemmas.Bool.{leb-true, le-leb, lt-ltb, ltb-true, ltb-false}
+use Rattle.nbd_wire.specs.declared.entry.Entry.{Entry}
+use Rattle.nbd_wire.specs.protocol.Entries.{HasBadPart, IsTwice, IsWhollyServed, MayServe, NamesWhole, inside, numbers}
+use Rattle.nbd_wire.specs.protocol.Operations.{Exporting, has_range}
+use Rattle.nbd_wire.specs.protocol.Orders.{IsAnswered, IsBad, IsLate, IsUnserved, NamesNone}
+use Rattle.nbd_wire.specs.protocol.Pieces.{is_in}
+use Rattle.nbd_wire.specs.protocol.Reports.{Asked, Report, asked_at, inside_asked, inside_in, known_in, known_of}
+use Rattle.nbd_laws.proofs.service.EntryLemmas.{Names-left, Names-push_cases, NamesWhole-left}
+use Rattle.nbd_places.specs.internal.JudgeTransmission.{total}
+use Rattle.nbd_state.specs.declared.span.Span.{Span}
+use Rattle.nbd_state.specs.Indexes.{IsIndex}
+use Rattle.nbd_state.specs.Sizes.{sizes_of}
+use Rattle.nbd_judge.specs.declared.service.Service.{Service}
+use Rattle.nbd_judge.specs.declared.service.Service.TheVariants.{Unnamed, Whole, InParts}
+use Rattle.nbd_judge.specs.declared.verdict.OrderFault.{OrderFault}
+use Rattle.nbd_judge.specs.declared.verdict.OrderFault.TheVariants.{NoSuchRequest, Twice, Late, Missing, BadPart, NotCovered}
+use Rattle.nbd_judge.specs.Orders.{IsOrderFault}
+use Rattle.nbd_judge.specs.internal.Services.{AreServices, IsBadAt, IsFaultAfter, IsFaultOfService, IsFirstBad, IsNext, IsServiceAfter, IsServiceOf, IsSpanOf, IsUnservedBy, LieApart, TellsFault, TellsUnserved, part_pieces, parts_of, span_if, span_of_asked}
+use Rattle.nbd_judge.proofs.contents.EffectLemmas.{taken_one}
+use Rattle.nbd_judge.proofs.verdicts.DecisionLemmas.{same_or_not}
+
+-- truth values that imply each other
+same_bool : (a b : Bool) → (a ≡ true → b ≡ true) → (b ≡ true → a ≡ true) → a ≡ b
+same_bool true b to back = sym (to refl)
+same_bool false true to back = back refl
+same_bool false false to back = refl
+
+both : (a b : Bool) → (a && b) ≡ true → (a ≡ true) × (b ≡ true)
+both true b e = (refl, e)
+both false b e = absurd (let q : false ≡ true = e in (cc))
+
+both_in : {a b : Bool} → a ≡ true → b ≡ true → (a && b) ≡ true
+both_in {a} {b} e f = ap (λ c. c && b) e ∙ f
+
+in_from : (offset len x : ℕ) → offset ≤ x → x < offset + len → is_in offset len x ≡ true
+in_from offset len x lo hi = both_in (le-leb offset x lo) (lt-ltb x (offset + len) hi)
+
+from_in : (offset len x : ℕ) → is_in offset len x ≡ true → (offset ≤ x) × (x < offset + len)
+from_in offset len x h = (let b = both (nat_le offset x) (nat_lt x (offset + len)) h in (leb-true offset x b.0, ltb-true x (offset + len) b.1))
+
+-- a range, as far as the export goes
+abbrev IsSame : (size offset len x : ℕ) → Bool → Span → Type 0
+IsSame size offset len x b span = (b && (is_in offset len x && nat_lt x size)) ≡ is_in span.offset span.size x
+
+span_is : (size : ℕ) (b : Bool) (offset len x : ℕ) → IsSame size offset len x b (span_if (b && nat_lt offset size) offset len size)
+span_is size false offset len x = same_bool false (is_in 0 0 x) (λ e. absurd (cc)) (λ e. (let i = from_in 0 0 x e in let hi : x < 0 = i.1 in absurd (omega arith)))
+span_is size true offset len x = go (nat_lt offset size) refl
+  where
+    go : (c : Bool) → nat_lt offset size ≡ c → IsSame size offset len x true (span_if c offset len size)
+    go true e = same_bool (is_in offset len x && nat_lt x size) (is_in offset (min len (size - offset)) x)
+        (λ h. (let b = both (is_in offset len x) (nat_lt x size) h in let i = from_in offset len x b.0 in
+            let lo : offset ≤ x = i.0 in let hi : x < offset + len = i.1 in let in_size : x < size = ltb-true x size b.1 in
+            in_from offset (min len (size - offset)) x lo (omega arith)))
+        (λ h. (let i = from_in offset (min len (size - offset)) x h in
+            let lo : offset ≤ x = i.0 in let hi : x < offset + min len (size - offset) = i.1 in let begins : offset < size = ltb-true offset size e in
+            both_in (in_from offset len x lo (omega arith)) (lt-ltb x size (omega arith))))
+    go false e = same_bool (is_in offset len x && nat_lt x size) (is_in 0 0 x)
+        (λ h. (let b = both (is_in offset len x) (nat_lt x size) h in let i = from_in offset len x b.0 in
+            let lo : offset ≤ x = i.0 in let in_size : x < size = ltb-true x size b.1 in let far : size ≤ offset = ltb-false offset size e in absurd (omega arith)))
+        (λ h. (let i = from_in 0 0 x h in let hi : x < 0 = i.1 in absurd (omega arith)))
+
+span_of_inside : (export : Option Exporting) (a : Asked) → IsSpanOf (span_of_asked export a) (inside export a.command a.offset a.length)
+span_of_inside (Some export) a x = span_is export.size (has_range a.command) a.offset a.length x
+span_of_inside None a x = none (has_range a.command) (span_is 0 (has_range a.command) a.offset a.length x)
+  where
+    none : {c : Bool} (b : Bool) → (b && (is_in a.offset a.length x && nat_lt x 0)) ≡ c → false ≡ c
+    none b e = sym (same_bool (b && (is_in a.offset a.length x && nat_lt x 0)) false
+        (λ h. (let q = both b (is_in a.offset a.length x && nat_lt x 0) h in let r = both (is_in a.offset a.length x) (nat_lt x 0) q.1 in
+            let below : x < 0 = ltb-true x 0 r.1 in absurd (omega arith))) (λ h. absurd (cc))) ∙ e
+
+pub span_of_request : (r : Report) (k : ℕ) (a : Asked) → asked_at k r.asked ≡ Some a → IsSpanOf (span_of_asked r.export a) (inside_in r k)
+span_of_request r k a at x = ap (λ o. inside_asked r.export o x) at ∙ span_of_inside r.export a x
+
+-- the place of a request
+pub request_within : (k : ℕ) (asked : List Asked) (a : Asked) → asked_at k asked ≡ Some a → (0 < k) × (k ≤ length asked) × (slice_get asked (k - 1) ≡ Some a)
+request_within zero asked a e = absurd (let q : None ≡ Some a = e in cc)
+request_within (suc k) asked a e = (omega arith, below asked k e, ap (slice_get asked) (omega arith) ∙ e)
+  where
+    below : (asked : List Asked) (k : ℕ) → slice_get asked k ≡ Some a → suc k ≤ length asked
+    below [] k e = absurd (let q : None ≡ Some a = e in cc)
+    below (x ∷ asked) zero e = omega arith
+    below (x ∷ asked) (suc k) e = (let l : suc k ≤ length asked = below asked k e in omega arith)
+
+pub no_request : (k : ℕ) (asked : List Asked) → asked_at k asked ≡ None → (k ≡ 0) ⊎ (length asked < k)
+no_request zero asked e = inl refl
+no_request (suc k) asked e = inr (above asked k e)
+  where
+    above : (asked : List Asked) (k : ℕ) → slice_get asked k ≡ None → length asked < suc k
+    above [] k e = omega arith
+    above (x ∷ asked) zero e = absurd (let q : Some x ≡ None = e in cc)
+    above (x ∷ asked) (suc k) e = (let l : length asked < suc k = above asked k e in omega arith)
+
+-- a table of requests of which nothing is served
+replicated : {A : Type 0} (n k : ℕ) (x y : A) → slice_get (replicate n x) k ≡ Some y → x ≡ y
+replicated zero k x y e = absurd (let q : None ≡ Some y = e in cc)
+replicated (suc n) zero x y e = cc
+replicated (suc n) (suc k) x y e = replicated n k x y e
+
+many : {A : Type 0} (n : ℕ) (x : A) → length (replicate n x) ≡ n
+many zero x = refl
+many (suc n) x = ap suc (many n x)
+
+pub nothing_served : (r : Report) (order : List Entry) (n : ℕ) (table : List Service) → n ≡ length r.asked → table ≡ replicate n Unnamed → AreServices r order 0 table
+nothing_served r order n table e t = record {
+  len = ap length t ∙ many n Unnamed ∙ e;
+  none_bad = λ i l. absurd (omega arith);
+  each = λ k s a at told. (let q : Unnamed ≡ s = replicated n k Unnamed s (sym (ap (λ l. slice_get l k) t) ∙ at) in
+      subst (λ s. IsServiceOf s (span_of_asked r.export a) [] (suc k)) q (λ h. h));
+}
+
+-- entries that name another request
+parts_other : (es : List Entry) (e : Entry) (k : ℕ) → (e.request ≡ k → ⊥) → parts_of (es ++ e ∷ []) k ≡ parts_of es k
+parts_other [] e k ne = go (e.request == k) refl
+  where
+    go : (b : Bool) → (e.request == k) ≡ b → ((if b then part_pieces e.part else []) ++ []) ≡ []
+    go true q = absurd (ne (eqb-true e.request k q))
+    go false q = refl
+parts_other (d ∷ es) e k ne = ap (λ l. (if d.request == k then part_pieces d.part else []) ++ l) (parts_other es e k ne)
+
+whole_other : (es : List Entry) (e : Entry) (k : ℕ) → (e.request ≡ k → ⊥) → NamesWhole (es ++ e ∷ []) k → NamesWhole es k
+whole_other [] e k ne h = elim h [ inl q ↦ absurd (ne q.0) | inr n ↦ n ]
+whole_other (d ∷ es) e k ne h = elim h [ inl q ↦ inl q | inr n ↦ inr (whole_other es e k ne n) ]
+
+service_other : (s : Service) (span : Span) (before : List Entry) (e : Entry) (k : ℕ) → (e.request ≡ k → ⊥) → IsServiceOf s span before k → IsServiceOf s span (before ++ e ∷ []) k
+service_other Unnamed span before e k ne h = λ n. elim (Names-push_cases before e k n) [ inl a ↦ h a | inr q ↦ ne q ]
+service_other Whole span before e k ne h = NamesWhole-left before (e ∷ []) k h
+service_other (InParts spans left) span before e k ne h = (
+  Names-left before (e ∷ []) k h.0,
+  record {
+    in_parts = λ w. h.1.in_parts (whole_other before e k ne w);
+    index = subst (IsIndex (sizes_of spans)) (sym (parts_other before e k ne)) h.1.index;
+    laid = subst (LieApart span) (sym (parts_other before e k ne)) h.1.laid;
+    count = subst (λ ps. left ≡ span.size - total ps) (sym (parts_other before e k ne)) h.1.count;
+  },
+)
+
+set_same : {A : Type 0} (xs : List A) (i : ℕ) (x y : A) → slice_get (slice_set xs i x) i ≡ Some y → x ≡ y
+set_same [] i x y e = absurd (let q : None ≡ Some y = e in cc)
+set_same (z ∷ xs) zero x y e = cc
+set_same (z ∷ xs) (suc i) x y e = set_same xs i x y e
+
+set_other : {A : Type 0} (xs : List A) (i j : ℕ) (x : A) → (j ≡ i → ⊥) → slice_get (slice_set xs i x) j ≡ slice_get xs j
+set_other [] i j x ne = refl
+set_other (z ∷ xs) zero zero x ne = absurd (ne refl)
+set_other (z ∷ xs) zero (suc j) x ne = refl
+set_other (z ∷ xs) (suc i) zero x ne = refl
+set_other (z ∷ xs) (suc i) (suc j) x ne = set_other xs i j x (λ e. ne (ap suc e))
+
+set_length : {A : Type 0} (xs : List A) (i : ℕ) (x : A) → length (slice_set xs i x) ≡ length xs
+set_length [] i x = refl
+set_length (z ∷ xs) zero x = refl
+set_length (z ∷ xs) (suc i) x = ap suc (set_length xs i x)
+
+-- entry i, of a request that there is
+module _ (r : Report) (order : List Entry) (i : ℕ) (e : Entry) (at : slice_get order i ≡ Some e) (a : Asked) (told : asked_at e.request r.asked ≡ Some a)
+    (table : List Service) (h : AreServices r order i table) (old : Service) (cell : slice_get table (e.request - 1) ≡ Some old) where
+  abbrev place : ℕ
+  place = e.request - 1
+
+  back : suc place ≡ e.request
+  back = (let p : 0 < e.request = (request_within e.request r.asked a told).0 in omega arith)
+
+  old_of : IsServiceOf old (span_of_asked r.export a) (take i order) e.request
+  old_of = subst (IsServiceOf old (span_of_asked r.export a) (take i order)) back (h.each place old a cell (request_within e.request r.asked a told).2)
+
+  same_entry : (d : Entry) → slice_get order i ≡ Some d → d ≡ e
+  same_entry d q = (let w : Some d ≡ Some e = sym q ∙ at in cc)
+
+  named : NamesNone (length r.asked) order i → ⊥
+  named n = (let w = request_within e.request r.asked a told in let lo : 0 < e.request = w.0 in let hi : e.request ≤ length r.asked = w.1 in
+      let q : n.0.request ≡ e.request = ap (λ (d : Entry). d.request) (same_entry n.0 n.1) in
+      elim n.2 [ inl z ↦ absurd (omega arith) | inr l ↦ absurd (omega arith) ])
+
+  module _ (after : Result Service OrderFault) (next : IsServiceAfter old (span_of_asked r.export a) e.part after) where
+    told_next : IsNext (span_of_asked r.export a) (inside_in r e.request) (take i order) e after
+    told_next = next (inside_in r e.request) (take i order) e.request (span_of_request r e.request a told) old_of
+
+  -- an entry that may be served
+  pub one_more_served : (s : Service) → IsServiceAfter old (span_of_asked r.export a) e.part (Ok s) → (other : Service) → AreServices r order (i + 1) (slice_set (slice_set table (e.request - 1) other) (e.request - 1) s)
+  one_more_served s next other = record {
+    len = set_length (slice_set table place other) place s ∙ set_length table place other ∙ h.len;
+    none_bad = λ j l b. elim (same_or_not j i) [
+      | inl q ↦ none_here (subst (IsBad (length r.asked) (inside_in r) order) q b)
+      | inr ne ↦ h.none_bad j (omega arith) b
+    ];
+    each = λ j t c is asked. subst (λ l. IsServiceOf t (span_of_asked r.export c) l (suc j)) (sym taken) (elim (same_or_not j place) [
+      | inl q ↦ here j t c q is asked
+      | inr ne ↦ service_other t (span_of_asked r.export c) (take i order) e (suc j) (λ z. ne (omega arith))
+          (h.each j t c (sym (set_other (slice_set table place other) place j s ne ∙ set_other table place j other ne) ∙ is) asked)
+    ]);
+  }
+    where
+      told_ok : MayServe (inside_in r e.request) (take i order) e × IsServiceOf s (span_of_asked r.export a) (take i order ++ e ∷ []) e.request
+      told_ok = told_next (Ok s) next
+
+      taken : take (i + 1) order ≡ take i order ++ e ∷ []
+      taken = ap (λ n. take n order) (add-one i) ∙ taken_one order i e at
+
+      none_here : IsBad (length r.asked) (inside_in r) order i → ⊥
+      none_here b = elim b [
+        | inl n ↦ named n
+        | inr b ↦ elim b [
+          | inl t ↦ told_ok.0.0 (subst (IsTwice (take i order)) (same_entry t.0 t.1) t.2)
+          | inr p ↦ told_ok.0.1 (subst (λ (d : Entry). HasBadPart (inside_in r d.request) (take i order) d) (same_entry p.0 p.1) p.2)
+        ]
+      ]
+
+      here : (j : ℕ) (t : Service) (c : Asked) → j ≡ place → slice_get (slice_set (slice_set table place other) place s) j ≡ Some t → slice_get r.asked j ≡ Some c →
+          IsServiceOf t (span_of_asked r.export c) (take i order ++ e ∷ []) (suc j)
+      here j t c q is asked =
+          let same : s ≡ t = set_same (slice_set table place other) place s t (sym (ap (slice_get (slice_set (slice_set table place other) place s)) q) ∙ is) in
+          let same_asked : a ≡ c = (let w : Some a ≡ Some c = sym (request_within e.request r.asked a told).2 ∙ sym (ap (slice_get r.asked) q) ∙ asked in cc) in
+          let k : e.request ≡ suc j = sym back ∙ ap suc (sym q) in
+          subst (λ n. IsServiceOf t (span_of_asked r.export c) (take i order ++ e ∷ []) n) k
+          (subst (λ c. IsServiceOf t (span_of_asked r.export c) (take i order ++ e ∷ []) e.request) same_asked
+          (subst (λ t. IsServiceOf t (span_of_asked r.export a) (take i order ++ e ∷ []) e.request) same told_ok.1))
+
+  -- an entry with a fault
+  pub first_bad : (fault : OrderFault) → IsServiceAfter old (span_of_asked r.export a) e.part (Err fault) → IsFirstBad r order (i + 1) fault
+  first_bad fault next = (i, refl, bad fault (told_next (Err fault) next), h.none_bad)
+    where
+      bad : (fault : OrderFault) → IsFaultAfter (inside_in r e.request) (take i order) e fault → IsBadAt r order i fault
+      bad Twice f = (e, at, f)
+      bad BadPart f = ((e, at, f.0), named, λ t. f.1 (subst (IsTwice (take i order)) (same_entry t.0 t.1) t.2))
+      bad NoSuchRequest f = absurd f
+      bad Late f = absurd f
+      bad Missing f = absurd f
+      bad NotCovered f = absurd f
+
+-- an entry of no request
+pub first_unknown : (r : Report) (order : List Entry) (i : ℕ) (e : Entry) (table : List Service) → slice_get order i ≡ Some e → asked_at e.request r.asked ≡ None → AreServices r order i table → IsFirstBad r order (i + 1) NoSuchRequest
+first_unknown r order i e table at none h = (i, refl, (e, at, no_request e.request r.asked none), h.none_bad)
+
+-- what is wholly served has no fault
+pub not_unserved : (r : Report) (order : List Entry) (k : ℕ) → (IsAnswered (length r.asked) (known_in r) k → IsWhollyServed (inside_in r k) order k) →
+    IsUnserved (length r.asked) (known_in r) (inside_in r) order k → ⊥
+not_unserved r order k served u = elim u [ inl m ↦ m.1 (served m.0).named | inr n ↦ n.2 (served n.0) ]
+
+take_all : {A : Type 0} (xs : List A) → take (length xs) xs ≡ xs
+take_all [] = refl
+take_all (x ∷ xs) = ap (λ l. x ∷ l) (take_all xs)
+
+pub some_of : (o : Option ℕ) → is_some o ≡ true → (n : ℕ) × (o ≡ Some n)
+some_of (Some n) e = (n, refl)
+some_of None e = absurd (let q : false ≡ true = e in cc)
+
+-- a request and its cell, when the order is through
+module _ (r : Report) (order : List Entry) (table : List Service) (h : AreServices r order (length order) table) (k : ℕ) (a : Asked) (s : Service)
+    (told : asked_at k r.asked ≡ Some a) (cell : slice_get table (k - 1) ≡ Some s) where
+  pub service_at : IsServiceOf s (span_of_asked r.export a) order k
+  service_at =
+      let w = request_within k r.asked a told in
+      let lo : 0 < k = w.0 in
+      let same : suc (k - 1) ≡ k = omega arith in
+      subst (λ es. IsServiceOf s (span_of_asked r.export a) es k) (take_all order) (subst (IsServiceOf s (span_of_asked r.export a) (take (length order) order)) same (h.each (k - 1) s a cell w.2))
+
+  answered_at : (n : ℕ) → a.known_at ≡ Some n → IsAnswered (length r.asked) (known_in r) k
+  answered_at n e = (let w = request_within k r.asked a told in (w.0, w.1, (n, ap known_of told ∙ e)))
+
+  pub fault_here : (found : Option OrderFault) → TellsFault s found → IsFaultOfService (inside_in r k) order k found
+  fault_here found tells = tells (span_of_asked r.export a) (inside_in r k) order k (span_of_request r k a told) service_at
+
+  pub unserved_by : (fault : OrderFault) → TellsFault s (Some fault) → (n : ℕ) × (a.known_at ≡ Some n) → IsUnservedBy r order k fault
+  unserved_by fault tells n = go fault (fault_here (Some fault) tells)
+    where
+      go : (fault : OrderFault) → IsFaultOfService (inside_in r k) order k (Some fault) → IsUnservedBy r order k fault
+      go Missing f = (answered_at n.0 n.1, f)
+      go NotCovered f = (answered_at n.0 n.1, f.0, f.1)
+      go NoSuchRequest f = absurd f
+      go Twice f = absurd f
+      go Late f = absurd f
+      go BadPart f = absurd f
+
+-- a request with a count is there
+pub known_request : (r : Report) (k n : ℕ) → known_in r k ≡ Some n → (a : Asked) × (asked_at k r.asked ≡ Some a) × (a.known_at ≡ Some n)
+known_request r k n e = go (asked_at k r.asked) refl e
+  where
+    go : (o : Option Asked) → asked_at k r.asked ≡ o → known_of o ≡ Some n → (a : Asked) × (asked_at k r.asked ≡ Some a) × (a.known_at ≡ Some n)
+    go (Some a) q e = (a, q, e)
+    go None q e = absurd (let z : None ≡ Some n = e in cc)
+
+-- what is not answered has no count
+pub unanswered : (r : Report) (k : ℕ) → known_in r k ≡ None → IsAnswered (length r.asked) (known_in r) k → ⊥
+unanswered r k e a = (let q : None ≡ Some a.2.0 = sym e ∙ a.2.1 in cc)
+
+pub none_of : (o : Option ℕ) → is_some o ≡ false → o ≡ None
+none_of None e = refl
+none_of (Some n) e = absurd (let q : true ≡ false = e in cc)
+
+-- the first bad entry is what the order is answered with
+pub answered_with : (r : Report) (order : List Entry) (entry : ℕ) (fault : OrderFault) → IsFirstBad r order entry fault → IsOrderFault r order entry fault
+answered_with r order entry NoSuchRequest h = h
+answered_with r order entry Twice h = h
+answered_with r order entry BadPart h = (h.0, h.1, h.2.0, h.2.1, h.2.2, h.3)
+answered_with r order entry Late h = absurd h.2
+answered_with r order entry Missing h = absurd h.2
+answered_with r order entry NotCovered h = absurd h.2
+
+bad_within : (r : Report) (order : List Entry) (i : ℕ) → IsBad (length r.asked) (inside_in r) order i → i < length order
+bad_within r order i b = elim b [
+  | inl a ↦ slice_get_within order i a.0 a.1
+  | inr b ↦ elim b [ inl a ↦ slice_get_within order i a.0 a.1 | inr a ↦ slice_get_within order i a.0 a.1 ]
+]
+
+pub none_bad : (r : Report) (order : List Entry) (table : List Service) → AreServices r order (length order) table → (i : ℕ) → IsBad (length r.asked) (inside_in r) order i → ⊥
+none_bad r order table h i b = h.none_bad i (bad_within r order i b) b
+
+-- where no entry is bad or late, what the table tells is the answer
+pub told_by_table : (r : Report) (order : List Entry) (table : List Service) → AreServices r order (length order) table → ((i : ℕ) → IsLate (known_in r) (numbers order) i → ⊥) →
+    (o : Option (ℕ × OrderFault)) → TellsUnserved r table o → MatchOption o (IsFaultless r order) (λ p. IsOrderFault r order p.0 p.1)
+told_by_table r order table h late None tells = record { none_bad = none_bad r order table h; none_late = late; served = tells order h }
+told_by_table r order table h late (Some p) tells = go p.1 (tells order h)
+  where
+    go : (fault : OrderFault) → IsUnservedBy r order p.0 fault × ((k : ℕ) → k < p.0 → IsUnserved (length r.asked) (known_in r) (inside_in r) order k → ⊥) → IsOrderFault r order p.0 fault
+    go Missing t = ((none_bad r order table h, late, t.1), t.0)
+    go NotCovered t = ((none_bad r order table h, late, t.1), t.0)
+    go NoSuchRequest t = absurd t.0
+    go Twice t = absurd t.0
+    go Late t = absurd t.0
+    go BadPart t = absurd t.0

@@ -1,0 +1,117 @@
+//! What an order serves of a request, entry by entry.
+
+ghost use Rattle.std.specs.Prelude.{◌≡◌, ◌+◌, ◌&&◌, None, Some, IfOk, nat_le};
+ghost use Rattle.nbd_judge.specs.internal.Services.{IsPartsAfter, IsServiceAfter, TellsFault};
+ghost use Rattle.nbd_state.specs.Sizes.{sizes_of};
+ghost use Rattle.nbd_state.specs.declared.span.Span.{Span};
+
+use crate::OrderFault;
+use nbd_state::{Span, SpanIndex};
+use nbd_wire::Part;
+use std::alloc::{AllocError, Global};
+
+/// What the entries so far serve of a request.
+#[derive(Drop)]
+pub enum Service {
+    /// No entry names it.
+    Unnamed,
+    /// An entry serves it at once.
+    Whole,
+    /// Entries serve parts of it: where they lie, and how many bytes inside the request they leave.
+    InParts { spans: SpanIndex, left: u64 },
+}
+
+impl Service {
+    /// The service after one more entry that names the request, or the entry's fault. `inside` is where what
+    /// lies inside the request lies. The cost is the logarithm of the number of its parts.
+    pub fn with(
+        self,
+        alloc: Global,
+        part: Option<Part>,
+        inside: Span,
+    ) -> Result<Result<Service, OrderFault>, AllocError>
+        ensures { IfOk result (IsServiceAfter self inside part) }
+    {
+        match part {
+            None => Ok(self.at_once()),
+            Some(part) => self.with_part(alloc, part, inside),
+        }
+    }
+
+    // After an entry that serves the request at once.
+    fn at_once(self) -> Result<Service, OrderFault>
+        ensures { (span : Span) → IsServiceAfter self span None result }
+    {
+        match self {
+            Service::Unnamed => Ok(Service::Whole),
+            Service::Whole => Err(OrderFault::Twice),
+            Service::InParts { .. } => Err(OrderFault::Twice),
+        }
+    }
+
+    // After an entry that serves a part.
+    fn with_part(
+        self,
+        alloc: Global,
+        part: Part,
+        inside: Span,
+    ) -> Result<Result<Service, OrderFault>, AllocError>
+        ensures { IfOk result (IsServiceAfter self inside (Some part)) }
+    {
+        match self {
+            Service::Unnamed => with_span(SpanIndex::new(alloc), inside.size, part, inside),
+            Service::Whole => Ok(Err(OrderFault::Twice)),
+            Service::InParts { spans, left } => with_span(spans, left, part, inside),
+        }
+    }
+
+    /// The fault of the request if it is answered: Missing or NotCovered, or none where it is wholly served.
+    pub fn fault(&self) -> Option<OrderFault>
+        ensures { TellsFault self.now result }
+    {
+        match self {
+            Service::Unnamed => Some(OrderFault::Missing),
+            Service::Whole => None,
+            Service::InParts { left, .. } => {
+                if *left == 0 {
+                    None
+                } else {
+                    Some(OrderFault::NotCovered)
+                }
+            }
+        }
+    }
+}
+
+// The service of a request of which these spans are served and so many bytes left, after a part; BadPart where the part
+// may not be served.
+fn with_span(
+    mut spans: SpanIndex,
+    left: u64,
+    part: Part,
+    inside: Span,
+) -> Result<Result<Service, OrderFault>, AllocError>
+    ensures { IfOk result (IsPartsAfter (sizes_of spans) left inside part) }
+{
+    let span = Span {
+        offset: part.offset,
+        size: part.length,
+    };
+    if !lies_in(span, inside) || !spans.insert(span)? {
+        return Ok(Err(OrderFault::BadPart));
+    }
+    Ok(Ok(Service::InParts {
+        spans,
+        left: left.saturating_sub(part.length),
+    }))
+}
+
+// Whether a span lies in another.
+fn lies_in(span: Span, other: Span) -> bool
+    ensures { result ≡ (nat_le other.offset span.offset
+        && nat_le (span.offset + span.size) (other.offset + other.size)) }
+{
+    span.size <= other.size
+        && other.offset <= span.offset
+        && span.offset - other.offset <= other.size - span.size
+}

@@ -1,0 +1,104 @@
+-- What lies inside a request does not change while messages complete.
+use Rattle.std.proofs.Common.{◌≡◌, ℕ, zero, suc, ◌<◌, ◌≤◌, ◌==◌, List, [], ◌∷◌, ◌++◌, length, refl, sym, ◌∙◌, ap, subst, inl, inr, Option, Some, None, Bool, true, false, arith, le_refl}
+use Rattle.nbd_wire.specs.declared.commands.TheConstants as commands
+use Rattle.nbd_wire.specs.declared.entry.Entry.{Entry}
+use Rattle.nbd_wire.specs.declared.message.Message.{Message}
+use Rattle.nbd_wire.specs.declared.message.Message.TheVariants.{Greeting, ClientFlags, Choice, Answer, Exported, Request, Simple, Chunk}
+use Rattle.nbd_wire.specs.protocol.Marks.{Item, Byte, Starts, Completes, Serves}
+use Rattle.nbd_wire.specs.protocol.Operations.{Exporting, Operation}
+use Rattle.nbd_wire.specs.protocol.Rules.{MayComplete, Obeys, complete, core_with_request, inside_at, inside_operation, reply_to, request_of_reply}
+use Rattle.nbd_wire.specs.protocol.States.{Core, Phase, Greet, Flags, Choosing, Naming, Aborting, Answering, Ended, Transmission, export_in, operation, with_reply_at}
+use Rattle.nbd_laws.proofs.runs.PrefixLemmas.{InTransmission, asks, gives, in_transmission, phase-complete, replies, transmission_row}
+use Rattle.nbd_laws.proofs.runs.TraceLemmas.{length-complete}
+
+-- the core after the items
+abbrev pub core_end : Core → List Item → Core
+core_end core [] = core
+core_end core (Completes s m ∷ items) = core_end (complete core m) items
+core_end core (Byte s b ∷ items) = core_end core items
+core_end core (Starts s m ∷ items) = core_end core items
+core_end core (Serves e ∷ items) = core_end core items
+
+pub entries_grow : (core : Core) (items : List Item) → length core.entries ≤ length (core_end core items).entries
+entries_grow core [] = le_refl _
+entries_grow core (Byte s b ∷ items) = entries_grow core items
+entries_grow core (Starts s m ∷ items) = entries_grow core items
+entries_grow core (Completes s m ∷ items) =
+    let ih : length (complete core m).entries ≤ length (core_end (complete core m) items).entries = entries_grow (complete core m) items in
+    elim (length-complete core m) [ inl e ↦ omega arith | inr e ↦ omega arith ]
+entries_grow core (Serves e ∷ items) = entries_grow core items
+
+-- requests come in transmission alone
+abbrev pub IsSettled : Core → Type 0
+IsSettled core = 0 < length core.entries → (export : Exporting) × (core.phase ≡ Transmission export)
+
+-- a message completes in a phase without requests
+settled_before : (core end : Core) (phase : Phase) → IsSettled core → core.phase ≡ phase → ((export : Exporting) → phase ≡ Transmission export → ⊥) → end.entries ≡ core.entries → IsSettled end
+settled_before core end phase settled q other same l =
+    let t : (export : Exporting) × (core.phase ≡ Transmission export) = settled (subst (λ es. 0 < length es) same l) in
+    absurd (other t.0 (sym q ∙ t.1))
+
+settled_in : (core : Core) (phase : Phase) (m : Message) → core.phase ≡ phase → MayComplete core phase m → IsSettled core → IsSettled (complete core m)
+unfolding MayComplete complete
+settled_in core Greet (Greeting flags) q ok h = settled_before core (complete core (Greeting flags)) Greet h q (λ export t. cc) refl
+settled_in core Flags (ClientFlags flags) q ok h = settled_before core (complete core (ClientFlags flags)) Flags h q (λ export t. cc) refl
+settled_in core Choosing (Choice id p) q ok h = settled_before core (complete core (Choice id p)) Choosing h q (λ export t. cc) refl
+settled_in core Naming (Exported size flags padded) q ok h = settled_before core (complete core (Exported size flags padded)) Naming h q (λ export t. cc) refl
+settled_in core Aborting (Answer option kind p) q ok h = settled_before core (complete core (Answer option kind p)) Aborting h q (λ export t. cc) refl
+settled_in core (Answering asked asked_with info) (Answer option kind p) q ok h =
+    settled_before core (complete core (Answer option kind p)) (Answering asked asked_with info) h q (λ export t. cc) refl
+settled_in core (Transmission export) m q ok h = λ l. (export, phase-complete core export m (transmission_row core export m ok) ∙ q)
+settled_in core phase m q ok h = absurd ok
+
+pub settled_complete : (core : Core) (m : Message) → MayComplete core core.phase m → IsSettled core → IsSettled (complete core m)
+settled_complete core m ok h = settled_in core core.phase m refl ok h
+
+inside_replied : (export : Option Exporting) (j : ℕ) (m : Message) (es : List Operation) (k : ℕ) → inside_operation export (operation k (with_reply_at j m es)) ≡ inside_operation export (operation k es)
+inside_replied export j m [] k = refl
+inside_replied export zero m (e ∷ es) k = refl
+inside_replied export (suc zero) m (e ∷ es) zero = refl
+inside_replied export (suc zero) m (e ∷ es) (suc zero) = refl
+inside_replied export (suc zero) m (e ∷ es) (suc (suc k)) = refl
+inside_replied export (suc (suc j)) m (e ∷ es) zero = refl
+inside_replied export (suc (suc j)) m (e ∷ es) (suc zero) = refl
+inside_replied export (suc (suc j)) m (e ∷ es) (suc (suc k)) = inside_replied export (suc j) m es (suc k)
+
+inside_reply_to : (export : Option Exporting) (o : Option ℕ) (core : Core) (m : Message) (k : ℕ) → inside_operation export (operation k (reply_to o core m).entries) ≡ inside_operation export (operation k core.entries)
+inside_reply_to export (Some j) core m k = inside_replied export j m core.entries k
+inside_reply_to export None core m k = refl
+
+operation_before : (k : ℕ) (es : List Operation) (e : Operation) → k ≤ length es → operation k (es ++ e ∷ []) ≡ operation k es
+operation_before zero [] e l = refl
+operation_before (suc k) [] e l = absurd (omega arith)
+operation_before zero (x ∷ es) e l = refl
+operation_before (suc zero) (x ∷ es) e l = refl
+operation_before (suc (suc k)) (x ∷ es) e l = operation_before (suc k) es e (omega arith)
+
+operation_requested : (b : Bool) (core : Core) (e : Operation) (k : ℕ) → k ≤ length core.entries → operation k (core_with_request b core e).entries ≡ operation k core.entries
+operation_requested true core e k l = refl
+operation_requested false core e k l = operation_before k core.entries e l
+
+inside_transmitted : (core : Core) (export : Exporting) (m : Message) → InTransmission core export m → (o : Option Exporting) (k : ℕ) → k ≤ length core.entries →
+    inside_operation o (operation k (complete core m).entries) ≡ inside_operation o (operation k core.entries)
+unfolding complete
+inside_transmitted core export m (asks flags command cookie offset len p h) o k l = ap (inside_operation o) (operation_requested (command == commands.DISC) core _ k l)
+inside_transmitted core export m (replies error cookie p h) o k l = inside_reply_to o (request_of_reply core (Simple error cookie p)) core (Simple error cookie p) k
+inside_transmitted core export m (gives flags kind cookie p h) o k l = inside_reply_to o (request_of_reply core (Chunk flags kind cookie p)) core (Chunk flags kind cookie p) k
+
+inside_complete : (core : Core) (m : Message) → MayComplete core core.phase m → IsSettled core → (k : ℕ) → 0 < k → k ≤ length core.entries → inside_at (complete core m) k ≡ inside_at core k
+inside_complete core m ok settled k p l =
+    let t : (export : Exporting) × (core.phase ≡ Transmission export) = settled (omega arith) in
+    let i : InTransmission core t.0 m = in_transmission t.1 ok in
+    inside_transmitted core t.0 m i (export_in (complete core m).phase) k l
+    ∙ ap (λ phase. inside_operation (export_in phase) (operation k core.entries)) (phase-complete core t.0 m i)
+
+-- what lies inside a request that has completed lies inside it at the end
+pub inside_end : (items : List Item) (core : Core) (js : List Entry) → IsSettled core → Obeys (record { core = core; served = js }) items →
+    (k : ℕ) → 0 < k → k ≤ length core.entries → inside_at core k ≡ inside_at (core_end core items) k
+inside_end [] core js settled ob k p l = refl
+inside_end (Byte s b ∷ items) core js settled ob k p l = inside_end items core js settled ob.1 k p l
+inside_end (Starts s m ∷ items) core js settled ob k p l = inside_end items core js settled ob.1 k p l
+inside_end (Completes s m ∷ items) core js settled ob k p l =
+    let more : k ≤ length (complete core m).entries = elim (length-complete core m) [ inl e ↦ omega arith | inr e ↦ omega arith ] in
+    sym (inside_complete core m ob.0 settled k p l) ∙ inside_end items (complete core m) js (settled_complete core m ob.0 settled) ob.1 k p more
+inside_end (Serves e ∷ items) core js settled ob k p l = inside_end items core (js ++ e ∷ []) settled ob.1 k p l
