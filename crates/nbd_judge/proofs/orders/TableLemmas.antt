@@ -6,7 +6,7 @@ use Rattle.std.proofs.lemmas.Bool.{leb-true, le-leb, lt-ltb, ltb-true, ltb-false
 use Rattle.nbd_wire.specs.declared.entry.Entry.{Entry}
 use Rattle.nbd_wire.specs.protocol.Entries.{HasBadPart, IsTwice, IsWhollyServed, MayServe, NamesWhole, inside, numbers}
 use Rattle.nbd_wire.specs.protocol.Operations.{Exporting, has_range}
-use Rattle.nbd_wire.specs.protocol.Orders.{IsAnswered, IsBad, IsLate, IsUnserved, NamesNone}
+use Rattle.nbd_wire.specs.protocol.Orders.{HasReplyStarted, IsBad, IsLate, IsUnserved, NamesNone}
 use Rattle.nbd_wire.specs.protocol.Pieces.{is_in}
 use Rattle.nbd_wire.specs.protocol.Reports.{Asked, Report, asked_at, inside_asked, inside_in, known_in, known_of}
 use Rattle.nbd_laws.proofs.service.EntryLemmas.{Names-left, Names-push_cases, NamesWhole-left}
@@ -236,7 +236,7 @@ pub first_unknown : (r : Report) (order : List Entry) (i : ℕ) (e : Entry) (tab
 first_unknown r order i e table at none h = (i, refl, (e, at, no_request e.request r.asked none), h.none_bad)
 
 -- what is wholly served has no fault
-pub not_unserved : (r : Report) (order : List Entry) (k : ℕ) → (IsAnswered (length r.asked) (known_in r) k → IsWhollyServed (inside_in r k) order k) →
+pub not_unserved : (r : Report) (order : List Entry) (k : ℕ) → (HasReplyStarted (length r.asked) (known_in r) k → IsWhollyServed (inside_in r k) order k) →
     IsUnserved (length r.asked) (known_in r) (inside_in r) order k → ⊥
 not_unserved r order k served u = elim u [ inl m ↦ m.1 (served m.0).named | inr n ↦ n.2 (served n.0) ]
 
@@ -258,7 +258,7 @@ module _ (r : Report) (order : List Entry) (table : List Service) (h : AreServic
       let same : suc (k - 1) ≡ k = omega arith in
       subst (λ es. IsServiceOf s (span_of_asked r.export a) es k) (take_all order) (subst (IsServiceOf s (span_of_asked r.export a) (take (length order) order)) same (h.each (k - 1) s a cell w.2))
 
-  answered_at : (n : ℕ) → a.known_at ≡ Some n → IsAnswered (length r.asked) (known_in r) k
+  answered_at : (n : ℕ) → a.known_at ≡ Some n → HasReplyStarted (length r.asked) (known_in r) k
   answered_at n e = (let w = request_within k r.asked a told in (w.0, w.1, (n, ap known_of told ∙ e)))
 
   pub fault_here : (found : Option OrderFault) → TellsFault s found → IsFaultOfService (inside_in r k) order k found
@@ -284,7 +284,7 @@ known_request r k n e = go (asked_at k r.asked) refl e
     go None q e = absurd (let z : None ≡ Some n = e in cc)
 
 -- what is not answered has no count
-pub unanswered : (r : Report) (k : ℕ) → known_in r k ≡ None → IsAnswered (length r.asked) (known_in r) k → ⊥
+pub unanswered : (r : Report) (k : ℕ) → known_in r k ≡ None → HasReplyStarted (length r.asked) (known_in r) k → ⊥
 unanswered r k e a = (let q : None ≡ Some a.2.0 = sym e ∙ a.2.1 in cc)
 
 pub none_of : (o : Option ℕ) → is_some o ≡ false → o ≡ None

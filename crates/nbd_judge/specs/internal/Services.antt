@@ -7,7 +7,7 @@ use Rattle.nbd_wire.specs.declared.payloads.Piece.{Piece}
 use Rattle.nbd_wire.specs.declared.payloads.Piece.TheVariants.{Hole}
 use Rattle.nbd_wire.specs.protocol.Entries.{HasBadPart, IsTwice, IsWhollyServed, MayServe, Names, NamesWhole}
 use Rattle.nbd_wire.specs.protocol.Operations.{Exporting, has_range}
-use Rattle.nbd_wire.specs.protocol.Orders.{IsBad, IsMissing, IsNotCovered, IsUnserved, IsAnswered, NamesNone, NamesAgain, IsBadPart}
+use Rattle.nbd_wire.specs.protocol.Orders.{IsBad, IsMissing, IsNotCovered, IsUnserved, HasReplyStarted, NamesNone, NamesAgain, IsBadPart}
 use Rattle.nbd_wire.specs.protocol.Pieces.{SharesNone, is_in, piece_offset, piece_size}
 use Rattle.nbd_wire.specs.protocol.Reports.{Asked, Report, inside_in, known_in}
 use Rattle.nbd_places.specs.internal.JudgeTransmission.{total}
@@ -137,7 +137,7 @@ IsUnservedBy r order k _ = ⊥
 
 -- each answered request is wholly served, or this is the least one that is not, with its fault
 abbrev pub IsLeastUnserved : Report → List Entry → Option (ℕ × OrderFault) → Type 0
-IsLeastUnserved r order None = (k : ℕ) → IsAnswered (length r.asked) (known_in r) k → IsWhollyServed (inside_in r k) order k
+IsLeastUnserved r order None = (k : ℕ) → HasReplyStarted (length r.asked) (known_in r) k → IsWhollyServed (inside_in r k) order k
 IsLeastUnserved r order (Some found) =
     IsUnservedBy r order found.0 found.1 × ((k : ℕ) → k < found.0 → IsUnserved (length r.asked) (known_in r) (inside_in r) order k → ⊥)
 

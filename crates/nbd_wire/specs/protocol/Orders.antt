@@ -30,16 +30,16 @@ abbrev pub IsLate : (ℕ → Option ℕ) → List ℕ → ℕ → Type 0
 IsLate known order i = (j : ℕ) × (n : ℕ) × (i ≤ j) × (j < length order) × (known (slice_index order j) ≡ Some n) × (n < slice_index order i)
 
 -- a reply to request k started
-abbrev pub IsAnswered : ℕ → (ℕ → Option ℕ) → ℕ → Type 0
-IsAnswered count known k = (0 < k) × (k ≤ count) × ((n : ℕ) × (known k ≡ Some n))
+abbrev pub HasReplyStarted : ℕ → (ℕ → Option ℕ) → ℕ → Type 0
+HasReplyStarted count known k = (0 < k) × (k ≤ count) × ((n : ℕ) × (known k ≡ Some n))
 
 -- a reply to request k started, and no entry names it
 abbrev pub IsMissing : ℕ → (ℕ → Option ℕ) → List Entry → ℕ → Type 0
-IsMissing count known order k = IsAnswered count known k × (Names order k → ⊥)
+IsMissing count known order k = HasReplyStarted count known k × (Names order k → ⊥)
 
 -- a reply to request k started, and entries name it that do not serve all of it
 abbrev pub IsNotCovered : ℕ → (ℕ → Option ℕ) → (inside : ℕ → ℕ → Bool) → List Entry → ℕ → Type 0
-IsNotCovered count known inside order k = IsAnswered count known k × Names order k × (IsWhollyServed (inside k) order k → ⊥)
+IsNotCovered count known inside order k = HasReplyStarted count known k × Names order k × (IsWhollyServed (inside k) order k → ⊥)
 
 -- request k has one of these two faults
 abbrev pub IsUnserved : ℕ → (ℕ → Option ℕ) → (inside : ℕ → ℕ → Bool) → List Entry → ℕ → Type 0
@@ -49,7 +49,7 @@ IsUnserved count known inside order k = IsMissing count known order k ⊎ IsNotC
 pub record HasNoOrderFault (count : ℕ) (known : ℕ → Option ℕ) (inside : ℕ → ℕ → Bool) (order : List Entry) : Type 0 where
   pub none_bad : (i : ℕ) → IsBad count inside order i → ⊥
   pub none_late : (i : ℕ) → IsLate known (numbers order) i → ⊥
-  pub served : (k : ℕ) → IsAnswered count known k → IsWhollyServed (inside k) order k
+  pub served : (k : ℕ) → HasReplyStarted count known k → IsWhollyServed (inside k) order k
 
 -- NoSuchRequest is answered with this entry, counted from 1: no earlier entry is bad
 abbrev pub FirstNoSuchRequest : ℕ → (inside : ℕ → ℕ → Bool) → List Entry → ℕ → Type 0

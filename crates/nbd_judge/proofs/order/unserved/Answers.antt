@@ -1,6 +1,6 @@
 use Rattle.std.proofs.Common.{◌≡◌, ℕ, ◌+◌, ◌-◌, ◌<◌, ◌≤◌, length, slice_get, None, inl, inr, sym, ◌∙◌, ap, subst, arith}
 use Rattle.nbd_wire.specs.protocol.Entries.{IsWhollyServed}
-use Rattle.nbd_wire.specs.protocol.Orders.{IsAnswered}
+use Rattle.nbd_wire.specs.protocol.Orders.{HasReplyStarted}
 use Rattle.nbd_wire.specs.protocol.Reports.{inside_in, known_in}
 use Rattle.nbd_judge.proofs.orders.FirstLemmas.{read_at}
 use Rattle.nbd_judge.proofs.orders.TableLemmas.{fault_here, known_request, none_of, not_unserved, some_of, unanswered, unserved_by}
@@ -35,7 +35,7 @@ loop-i-preserved c = λ order h j l a. elim (same_or_not j (c.loop-i.i + 1)) [
         fault_here c.args.transcript.now order c.args.table.now h k q.0 w.index-table-i.result q.1 cell None w.in_default.ensures)
     | else-is_some w ↦
         absurd (unanswered c.args.transcript.now (c.loop-i.i + 1) (sym c.known_at.ensures ∙ none_of c.known_at.result (sym c.is_some.ensures ∙ w.if-is_some.false))
-        (subst (IsAnswered (length c.args.transcript.now.asked) (known_in c.args.transcript.now)) e a))
+        (subst (HasReplyStarted (length c.args.transcript.now.asked) (known_in c.args.transcript.now)) e a))
   ])
 ]
 
