@@ -4,3 +4,4 @@ pub mod ForwardLemmas
 pub mod StartLemmas
 pub mod RangeLemmas
 pub mod PartLemmas
+pub mod SortLemmas

@@ -1,38 +1,49 @@
 //! The bytes of a READ against the contents when it is served.
 
-ghost use Rattle.std.specs.Prelude.{◌≡◌, ◌+◌, ◌-◌, ◌≤◌, IfOk, length, map, max, min};
-ghost use Rattle.std.specs.List.Sorted.{IsPermutation};
+ghost use Rattle.std.specs.Prelude.{◌≡◌, ◌+◌, ◌-◌, ◌≤◌, IfOk, OnOk, length, map, max, min};
 ghost use Rattle.nbd_export.specs.Ranges.{IsLeast};
 ghost use Rattle.nbd_wire.specs.protocol.ExportBytes.{IsWrongIn, effect, is_success};
 ghost use Rattle.nbd_wire.specs.protocol.Pieces.{piece_offset, piece_size};
 ghost use Rattle.nbd_state.specs.Transcripts.{report_of_request};
-ghost use Rattle.nbd_judge.specs.internal.Pieces.{AreInside, DiffersInOneOf, DiffersInOneWithin, DiffersInPiece, DiffersWithin};
+ghost use Rattle.nbd_judge.specs.internal.Pieces.{AddsSorted, AreApart, AreInOrder, AreInside, DiffersInOneOf, DiffersInOneWithin, DiffersInPiece, DiffersWithin, IsSortedAt};
 ghost use Rattle.nbd_judge.specs.internal.Servable.{IsServable};
 ghost use Rattle.nbd_state.specs.Showing.{outcome_of};
 
 use crate::least::lesser;
+use crate::sorting::{SortedReads, by_offset, meeting};
 use nbd_export::Contents;
 use nbd_session::{Asked, Outcome};
 use nbd_state::Span;
-use nbd_wire::{Part, Piece, commands};
+use nbd_wire::{Entry, Part, Piece, commands};
 use std::alloc::{AllocError, Global};
 
-/// The least offset of a wrong byte that an entry serves of this request, or of this part of it, now; None where it
-/// has none. The cost is that of the bytes and holes of its reply, and of sorting these. An `Err` says that memory
-/// ran out.
-pub fn wrong<C: Contents>(
+/// The least offset of a wrong byte that this entry serves of its request, or of a part of it, now; None where it has
+/// none. Where it serves a part, the cost is that of the bytes and holes that meet it and the logarithm of the number of
+/// pieces, beside sorting these the first time: `reads` keeps them. An `Err` says that memory ran out.
+pub fn wrong<'a, C: Contents>(
     alloc: Global,
-    one: &Asked,
-    part: Option<Part>,
+    entry: Entry,
+    one: &'a Asked,
+    reads: &mut SortedReads<'a>,
     contents: &C,
 ) -> Result<Option<u64>, AllocError>
-    requires { IsServable (C.size contents.now) (report_of_request one.now) }
-    ensures { IfOk result (IsLeast (IsWrongIn part (effect (report_of_request one.now)) (C.byte contents.now))) }
+    requires servable { IsServable (C.size contents.now) (report_of_request one.now) }
+    requires sorted { IsSortedAt reads.old entry.request one.now.pieces.items }
+    ensures least { IfOk result
+        (IsLeast (IsWrongIn entry.part (effect (report_of_request one.now)) (C.byte contents.now))) }
+    ensures sorted { OnOk result (AddsSorted reads.old reads.new entry.request one.now.pieces.items) }
 {
     if one.command == commands::READ {
         if is_success(one.outcome) {
-            return match part {
-                Some(part) => Ok(difference_within(&one.pieces, part, contents)),
+            return match entry.part {
+                Some(part) => part_difference(
+                    alloc,
+                    entry.request,
+                    &one.pieces,
+                    part,
+                    reads,
+                    contents,
+                ),
                 None => first_difference(alloc, &one.pieces, contents),
             };
         }
@@ -57,7 +68,8 @@ fn first_difference<C: Contents>(
     pieces: &[Piece],
     contents: &C,
 ) -> Result<Option<u64>, AllocError>
-    requires { AreInside (C.size contents.now) pieces.now }
+    requires inside { AreInside (C.size contents.now) pieces.now }
+    requires apart { AreApart pieces.now }
     ensures { IfOk result (IsLeast (DiffersInOneOf (C.byte contents.now) pieces.now (length pieces.now))) }
 {
     if let [piece] = pieces {
@@ -65,15 +77,6 @@ fn first_difference<C: Contents>(
     }
     let sorted = by_offset(alloc, pieces)?;
     Ok(least_difference(&sorted, contents))
-}
-
-// The pieces in the order of their offsets.
-fn by_offset(alloc: Global, pieces: &[Piece]) -> Result<Vec<&Piece>, AllocError>
-    ensures { IfOk result (λ sorted. IsPermutation pieces.now (map (λ p. p.now) sorted.items)) }
-{
-    let mut sorted: Vec<&Piece> = pieces.iter().collect(alloc)?;
-    sorted.sort_by_key(|piece| Span::of(piece).offset)?;
-    Ok(sorted)
 }
 
 // The least offset at which one of these pieces differs from the contents.
@@ -99,13 +102,45 @@ fn piece_difference<C: Contents>(piece: &Piece, contents: &C) -> Option<u64>
     }
 }
 
-// The least offset in a part at which one of these pieces differs from the contents.
-fn difference_within<C: Contents>(pieces: &[Piece], part: Part, contents: &C) -> Option<u64>
-    requires { AreInside (C.size contents.now) pieces.now }
-    ensures { IsLeast (DiffersInOneWithin (C.byte contents.now) pieces.now (length pieces.now) part) result }
+// The least offset in a part at which one of the pieces of this request differs from the contents. Several pieces are
+// sorted the first time.
+fn part_difference<'a, C: Contents>(
+    alloc: Global,
+    request: u64,
+    pieces: &'a [Piece],
+    part: Part,
+    reads: &mut SortedReads<'a>,
+    contents: &C,
+) -> Result<Option<u64>, AllocError>
+    requires inside { AreInside (C.size contents.now) pieces.now }
+    requires apart { AreApart pieces.now }
+    requires sorted { IsSortedAt reads.old request pieces.now }
+    ensures least { IfOk result
+        (IsLeast (DiffersInOneWithin (C.byte contents.now) pieces.now (length pieces.now) part)) }
+    ensures sorted { OnOk result (AddsSorted reads.old reads.new request pieces.now) }
 {
+    if let [piece] = pieces {
+        return Ok(piece_difference_within(piece, part, contents));
+    }
+    if let Some(sorted) = reads.get(&request) {
+        return Ok(difference_within(sorted, part, contents));
+    }
+    let sorted = by_offset(alloc, pieces)?;
+    let found = difference_within(&sorted, part, contents);
+    reads.insert(request, sorted)?;
+    Ok(found)
+}
+
+// The least offset in a part at which one of these pieces differs from the contents.
+fn difference_within<C: Contents>(pieces: &[&Piece], part: Part, contents: &C) -> Option<u64>
+    requires inside { AreInside (C.size contents.now) (map (λ p. p.now) pieces.now) }
+    requires in_order { AreInOrder (map (λ p. p.now) pieces.now) }
+    ensures { IsLeast (DiffersInOneWithin (C.byte contents.now) (map (λ p. p.now) pieces.now) (length pieces.now) part)
+        result }
+{
+    let met = meeting(pieces, part);
     let mut found = None;
-    for piece in pieces {
+    for piece in met {
         found = lesser(found, piece_difference_within(piece, part, contents));
     }
     found

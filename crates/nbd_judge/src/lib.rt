@@ -12,6 +12,7 @@ mod least;
 mod order;
 mod replay;
 mod service;
+mod sorting;
 mod tally;
 #[cfg(test)]
 mod tests;

@@ -13,6 +13,7 @@ use nbd_export::Contents;
 use nbd_session::Transcript;
 use nbd_wire::Entry;
 use std::alloc::{AllocError, Global};
+use std::collections::BTreeMap;
 
 /// The request of the first entry that serves a wrong byte, and the least offset of one; None where no entry
 /// does. Each entry is compared with what those before it left, by the outcomes that stand at the
@@ -31,10 +32,11 @@ pub fn replay<C: Contents>(
         HasWrongFrom transcript.now order.now (C.byte contents.old) i → ⊥)
         (λ p. FirstWrongFrom transcript.now order.now (C.byte contents.old) p.0 p.1)) }
 {
+    let mut reads = BTreeMap::new(alloc);
     for i in 0..order.len() {
         let entry = order[i];
         if let Some(one) = transcript.asked(entry.request) {
-            let found = wrong(alloc, one, entry.part, contents)?;
+            let found = wrong(alloc, entry, one, &mut reads, contents)?;
             if let Some(offset) = found {
                 return Ok(Some((entry.request, offset)));
             }

@@ -1,9 +1,7 @@
 -- The least wrong byte of a READ, from its pieces.
 use Rattle.std.proofs.Common.{◌≡◌, ℕ, zero, suc, ◌+◌, ◌-◌, ◌<◌, ◌≤◌, ◌⊎◌, inl, inr, List, [], ◌∷◌, length, refl, sym, ◌∙◌, ap, subst, Option, Some, None, arith, Bool, true, false, nat_le, nat_lt, ◌&&◌, if◌then◌else◌, slice_get, slice_index_or, IsTrue, is_some, map, Bor}
 use Rattle.std.proofs.lemmas.Bool.{leb-true, leb-false, le-leb, lt-ltb, ltb-true}
-use Rattle.std.proofs.lemmas.List.Sorted.{Contains-permutation, IsPermutation-sym}
 use Rattle.std.specs.List.{Contains}
-use Rattle.std.specs.List.Sorted.{IsPermutation}
 use Rattle.std.proofs.lemmas.Option.{slice_get_within, slice_get-get_or}
 use Rattle.nbd_wire.specs.declared.entry.Part.{Part}
 use Rattle.nbd_wire.specs.protocol.Entries.{in_part}
@@ -160,22 +158,8 @@ at_reference [] i p l e = absurd (omega (arith, l))
 at_reference (q ∷ ps) zero p l e = ap (λ (r : Bor Piece). Some r.now) (sym e)
 at_reference (q ∷ ps) (suc i) p l e = at_reference ps i p (omega (arith, l)) e
 
-contained : (ps : List Piece) (i : ℕ) (p : Piece) → slice_get ps i ≡ Some p → Contains ps p
+pub contained : (ps : List Piece) (i : ℕ) (p : Piece) → slice_get ps i ≡ Some p → Contains ps p
 contained ps i p e =
     let l : i < length ps = slice_get_within ps i p e in
     let same : Some (slice_index_or ps i p) ≡ Some p = sym (slice_get-get_or ps i p l) ∙ e in
     (i, l, cc)
-
--- pieces in another order
-pub inside_permuted : (size : ℕ) (xs ys : List Piece) → IsPermutation xs ys → AreInside size xs → AreInside size ys
-inside_permuted size xs ys perm inside i p e =
-    let c : Contains xs p = Contains-permutation ys xs p (IsPermutation-sym xs ys perm) (contained ys i p e) in
-    inside c.0 p (slice_get-get_or xs c.0 p c.1 ∙ ap Some c.2)
-
-pub least_permuted : (byte : ℕ → Option ℕ) (xs ys : List Piece) (o : Option ℕ) → IsPermutation xs ys → IsLeast (DiffersInOneOf byte ys (length ys)) o → IsLeast (DiffersInOneOf byte xs (length xs)) o
-least_permuted byte xs ys o perm h = least_as (DiffersInOneOf byte ys (length ys)) (DiffersInOneOf byte xs (length xs)) o (moved ys xs (IsPermutation-sym xs ys perm)) (moved xs ys perm) h
-  where
-    moved : (ps qs : List Piece) → IsPermutation ps qs → (x : ℕ) → DiffersInOneOf byte ps (length ps) x → DiffersInOneOf byte qs (length qs) x
-    moved ps qs p x d =
-        let c : Contains qs d.1 = Contains-permutation ps qs d.1 p (contained ps d.0 d.1 d.3) in
-        (c.0, d.1, c.1, slice_get-get_or qs c.0 d.1 c.1 ∙ ap Some c.2, d.4)

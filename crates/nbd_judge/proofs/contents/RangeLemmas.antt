@@ -18,7 +18,7 @@ use Rattle.std.proofs.lemmas.Option.{slice_get-get_or}
 use Rattle.nbd_judge.specs.internal.Servable.{IsPartIn, served_span}
 use Rattle.nbd_judge.proofs.contents.CompareLemmas.{from_in, in_from, least_as, least_lesser}
 
-drop_get : {A : Type 0} (xs : List A) (a i : ℕ) → slice_get (drop a xs) i ≡ slice_get xs (a + i)
+pub drop_get : {A : Type 0} (xs : List A) (a i : ℕ) → slice_get (drop a xs) i ≡ slice_get xs (a + i)
 drop_get [] zero i = refl
 drop_get [] (suc a) i = refl
 drop_get (x ∷ xs) zero i = ap (slice_get (x ∷ xs)) (omega arith)
@@ -27,7 +27,7 @@ drop_get (x ∷ xs) (suc a) i = drop_get xs a i ∙ next (omega arith)
     next : suc (a + i) ≡ suc a + i → slice_get xs (a + i) ≡ slice_get (x ∷ xs) (suc a + i)
     next e = ap (slice_get (x ∷ xs)) e
 
-take_get : {A : Type 0} (xs : List A) (n i : ℕ) → i < n → slice_get (take n xs) i ≡ slice_get xs i
+pub take_get : {A : Type 0} (xs : List A) (n i : ℕ) → i < n → slice_get (take n xs) i ≡ slice_get xs i
 take_get xs zero i l = absurd (omega arith)
 take_get [] (suc n) i l = refl
 take_get (x ∷ xs) (suc n) zero l = refl
@@ -37,13 +37,13 @@ take_get (x ∷ xs) (suc n) (suc i) l = take_get xs n i (omega arith)
 pub range_get : {A : Type 0} (xs : List A) (a n i : ℕ) → i < n → slice_get (slice_range xs a (a + n)) i ≡ slice_get xs (a + i)
 range_get xs a n i l = take_get (drop a xs) ((a + n) - a) i (omega arith) ∙ drop_get xs a i
 
-drop_length : {A : Type 0} (xs : List A) (a : ℕ) → length (drop a xs) ≡ length xs - a
+pub drop_length : {A : Type 0} (xs : List A) (a : ℕ) → length (drop a xs) ≡ length xs - a
 drop_length [] zero = refl
 drop_length [] (suc a) = omega arith
 drop_length (x ∷ xs) zero = omega arith
 drop_length (x ∷ xs) (suc a) = (let h : length (drop a xs) ≡ length xs - a = drop_length xs a in omega arith)
 
-take_length : {A : Type 0} (xs : List A) (n : ℕ) → n ≤ length xs → length (take n xs) ≡ n
+pub take_length : {A : Type 0} (xs : List A) (n : ℕ) → n ≤ length xs → length (take n xs) ≡ n
 take_length xs zero l = refl
 take_length [] (suc n) l = absurd (omega arith)
 take_length (x ∷ xs) (suc n) l = ap suc (take_length xs n (omega arith))

@@ -53,14 +53,14 @@ span_is size true offset len x = go (nat_lt offset size) refl
     go : (c : Bool) → nat_lt offset size ≡ c → IsSame size offset len x true (span_if c offset len size)
     go true e = same_bool (is_in offset len x && nat_lt x size) (is_in offset (min len (size - offset)) x)
         (λ h. (let b = both (is_in offset len x) (nat_lt x size) h in let i = from_in offset len x b.0 in
-            let lo : offset ≤ x = i.0 in let hi : x < offset + len = i.1 in let in_size : x < size = ltb-true x size b.1 in
-            in_from offset (min len (size - offset)) x lo (omega arith)))
+        let lo : offset ≤ x = i.0 in let hi : x < offset + len = i.1 in let in_size : x < size = ltb-true x size b.1 in
+        in_from offset (min len (size - offset)) x lo (omega arith)))
         (λ h. (let i = from_in offset (min len (size - offset)) x h in
-            let lo : offset ≤ x = i.0 in let hi : x < offset + min len (size - offset) = i.1 in let begins : offset < size = ltb-true offset size e in
-            both_in (in_from offset len x lo (omega arith)) (lt-ltb x size (omega arith))))
+        let lo : offset ≤ x = i.0 in let hi : x < offset + min len (size - offset) = i.1 in let begins : offset < size = ltb-true offset size e in
+        both_in (in_from offset len x lo (omega arith)) (lt-ltb x size (omega arith))))
     go false e = same_bool (is_in offset len x && nat_lt x size) (is_in 0 0 x)
         (λ h. (let b = both (is_in offset len x) (nat_lt x size) h in let i = from_in offset len x b.0 in
-            let lo : offset ≤ x = i.0 in let in_size : x < size = ltb-true x size b.1 in let far : size ≤ offset = ltb-false offset size e in absurd (omega arith)))
+        let lo : offset ≤ x = i.0 in let in_size : x < size = ltb-true x size b.1 in let far : size ≤ offset = ltb-false offset size e in absurd (omega arith)))
         (λ h. (let i = from_in 0 0 x h in let hi : x < 0 = i.1 in absurd (omega arith)))
 
 span_of_inside : (export : Option Exporting) (a : Asked) → IsSpanOf (span_of_asked export a) (inside export a.command a.offset a.length)
@@ -70,7 +70,7 @@ span_of_inside None a x = none (has_range a.command) (span_is 0 (has_range a.com
     none : {c : Bool} (b : Bool) → (b && (is_in a.offset a.length x && nat_lt x 0)) ≡ c → false ≡ c
     none b e = sym (same_bool (b && (is_in a.offset a.length x && nat_lt x 0)) false
         (λ h. (let q = both b (is_in a.offset a.length x && nat_lt x 0) h in let r = both (is_in a.offset a.length x) (nat_lt x 0) q.1 in
-            let below : x < 0 = ltb-true x 0 r.1 in absurd (omega arith))) (λ h. absurd (cc))) ∙ e
+        let below : x < 0 = ltb-true x 0 r.1 in absurd (omega arith))) (λ h. absurd (cc))) ∙ e
 
 pub span_of_request : (r : Report) (k : ℕ) (a : Asked) → asked_at k r.asked ≡ Some a → IsSpanOf (span_of_asked r.export a) (inside_in r k)
 span_of_request r k a at x = ap (λ o. inside_asked r.export o x) at ∙ span_of_inside r.export a x

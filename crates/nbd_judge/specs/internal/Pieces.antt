@@ -1,5 +1,9 @@
--- Where the pieces of a READ differ from contents.
-use Rattle.std.specs.Prelude.{ℕ, List, ◌≡◌, ◌+◌, ◌<◌, ◌≤◌, Option, Some, IsTrue, slice_get}
+-- Where the pieces of a READ differ from contents, and these pieces in the order of their offsets.
+use Rattle.std.specs.Prelude.{ℕ, List, ◌≡◌, ◌+◌, ◌<◌, ◌≤◌, ◌⊎◌, Option, Some, IsTrue, map, slice_get}
+use Rattle.std.specs.Borrow.{Bor}
+use Rattle.std.specs.BTreeMap.{BTreeMap, get}
+use Rattle.std.specs.Ordering.{nat_cmp}
+use Rattle.std.specs.declared.vec.Vec.{Vec}
 use Rattle.nbd_wire.specs.declared.entry.Part.{Part}
 use Rattle.nbd_wire.specs.declared.payloads.Piece.{Piece}
 use Rattle.nbd_wire.specs.protocol.ExportBytes.{Differs}
@@ -24,3 +28,37 @@ DiffersWithin byte piece part x = DiffersInPiece byte piece x × IsTrue (is_in p
 -- one of the first n pieces differs at x, in a part
 abbrev pub DiffersInOneWithin : (ℕ → Option ℕ) → List Piece → ℕ → Part → ℕ → Type 0
 DiffersInOneWithin byte pieces n part x = DiffersInOneOf byte pieces n x × IsTrue (is_in part.offset part.length x)
+
+-- no two of the pieces hold the same offset
+abbrev pub AreApart : List Piece → Type 0
+AreApart pieces =
+    (i j : ℕ) (p q : Piece) (x : ℕ) → slice_get pieces i ≡ Some p → slice_get pieces j ≡ Some q → IsTrue (holds p x) → IsTrue (holds q x) → i ≡ j
+
+-- the piece is one of these
+abbrev pub IsOneOf : List Piece → Piece → Type 0
+IsOneOf pieces p = (i : ℕ) × (slice_get pieces i ≡ Some p)
+
+-- the chosen ones are among the pieces, and each piece that holds an offset with the property is chosen
+pub record AreThose (P : ℕ → Type 0) (pieces chosen : List Piece) : Type 0 where
+  pub among : (i : ℕ) (p : Piece) → slice_get chosen i ≡ Some p → IsOneOf pieces p
+  pub all : (i : ℕ) (p : Piece) (x : ℕ) → slice_get pieces i ≡ Some p → IsTrue (holds p x) → P x → IsOneOf chosen p
+
+-- no piece is empty, and each ends where a later one begins, or before
+pub record AreInOrder (pieces : List Piece) : Type 0 where
+  pub filled : (i : ℕ) (p : Piece) → slice_get pieces i ≡ Some p → 0 < piece_size p
+  pub apart : (i j : ℕ) (p q : Piece) → i < j → slice_get pieces i ≡ Some p → slice_get pieces j ≡ Some q → piece_offset p + piece_size p ≤ piece_offset q
+
+-- the pieces that hold an offset, in the order of their offsets
+pub record AreSorted (pieces sorted : List Piece) : Type 0 where
+  pub those : AreThose (λ x. Unit {0}) pieces sorted
+  pub in_order : AreInOrder sorted
+
+-- what a map has of request k are these pieces in order
+abbrev pub IsSortedAt : {A : Type 0} → BTreeMap ℕ (Vec (Bor Piece) A) → ℕ → List Piece → Type 0
+IsSortedAt {A} reads k pieces = (v : Vec (Bor Piece) A) → get nat_cmp reads k ≡ Some v → AreSorted pieces (map (λ p. p.now) v.items)
+
+-- the new map has what the old one has, and of request k it may have these pieces in order
+abbrev pub AddsSorted : {A : Type 0} → (old new : BTreeMap ℕ (Vec (Bor Piece) A)) → ℕ → List Piece → Type 0
+AddsSorted {A} old new k pieces =
+    (j : ℕ) (v : Vec (Bor Piece) A) → get nat_cmp new j ≡ Some v
+    → (get nat_cmp old j ≡ Some v) ⊎ ((j ≡ k) × AreSorted pieces (map (λ p. p.now) v.items))

@@ -1,13 +1,30 @@
-use Rattle.std.proofs.Common.{◌+◌, sym, subst}
+use Rattle.std.proofs.Common.{◌≡◌, ◌+◌, ℕ, Option, Bor, List, arith, length, map, subst, sym}
+use Rattle.std.proofs.lemmas.List.{length-map}
 use Rattle.nbd_export.specs.Ranges.{IsLeast}
+use Rattle.nbd_wire.specs.declared.payloads.Piece.{Piece}
 use Rattle.nbd_judge.specs.internal.Pieces.{DiffersInOneWithin}
+use Rattle.nbd_judge.proofs.contents.CompareLemmas.{at_reference}
 use Rattle.nbd_judge.proofs.contents.RangeLemmas.{one_within}
-use Rattle.nbd_judge.proofs.orders.FirstLemmas.{read_at}
+use Rattle.nbd_judge.proofs.contents.SortLemmas.{inside_those, least_references}
 use Rattle.nbd_judge.proofs.compare.difference_within.Goals as goal
+
+pub piece_difference_within-requires : goal.piece_difference_within-requires
+piece_difference_within-requires g c =
+    inside_those _ (g.C.Contents.size c.args.contents.now) (map (λ p. p.now) c.args.pieces.now) (map (λ p. p.now) c.meeting-met.result.now) c.meeting-met.ensures c.requires.inside
+    c.loop-piece.piece-index c.piece-item.result.now (at_reference c.meeting-met.result.now c.loop-piece.piece-index c.piece-item.result c.loop-piece-test.true c.piece-item.is)
 
 pub loop-piece-preserved : goal.loop-piece-preserved
 loop-piece-preserved g c =
-    let byte = g.C.Contents.byte c.args.contents.now in
-    subst (IsLeast (DiffersInOneWithin byte c.args.pieces.now (c.loop-piece.piece-index + 1) c.args.part)) (sym c.lesser-found.ensures)
-    (one_within byte c.args.pieces.now c.loop-piece.piece-index c.piece-item.result c.args.part c.loop-piece.found c.piece_difference_within.result
-    (read_at c.args.pieces.now c.loop-piece.piece-index c.piece-item.result c.loop-piece-test.true c.piece-item.is) c.loop-piece.invariant c.piece_difference_within.ensures)
+    let byte : ℕ → Option ℕ = g.C.Contents.byte c.args.contents.now in
+    let met : List Piece = map (λ (p : Bor Piece). p.now) c.meeting-met.result.now in
+    let at = at_reference c.meeting-met.result.now c.loop-piece.piece-index c.piece-item.result c.loop-piece-test.true c.piece-item.is in
+    subst (IsLeast (DiffersInOneWithin byte met (c.loop-piece.piece-index + 1) c.args.part)) (sym c.lesser-found.ensures)
+    (one_within byte met c.loop-piece.piece-index c.piece-item.result.now c.args.part c.loop-piece.found c.piece_difference_within.result at c.loop-piece.invariant c.piece_difference_within.ensures)
+
+pub returns : goal.returns
+returns g c =
+    let byte : ℕ → Option ℕ = g.C.Contents.byte c.args.contents.now in
+    let pieces : List Piece = map (λ (p : Bor Piece). p.now) c.args.pieces.now in
+    let end : c.loop-piece.piece-index ≡ length c.meeting-met.result.now = omega arith in
+    subst (λ n. IsLeast (DiffersInOneWithin byte pieces n c.args.part) c.loop-piece.found) (length-map c.args.pieces.now (λ p. p.now))
+    (least_references byte c.args.part pieces c.meeting-met.result.now c.loop-piece.piece-index c.loop-piece.found c.meeting-met.ensures end c.loop-piece.invariant)

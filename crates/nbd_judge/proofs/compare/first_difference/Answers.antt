@@ -2,17 +2,17 @@ use Rattle.std.proofs.Common.{map, subst, sym}
 use Rattle.std.proofs.lemmas.List.{length-map}
 use Rattle.nbd_export.specs.Ranges.{IsLeast}
 use Rattle.nbd_judge.specs.internal.Pieces.{DiffersInOneOf}
-use Rattle.nbd_judge.proofs.contents.CompareLemmas.{inside_permuted, least_permuted}
+use Rattle.nbd_judge.proofs.contents.SortLemmas.{inside_those, least_sorted}
 use Rattle.nbd_judge.proofs.compare.first_difference.Goals as goal
 
 pub least_difference-requires : goal.least_difference-requires
 least_difference-requires g c =
-    rw c.deref.ensures.value (inside_permuted (g.C.Contents.size c.args.contents.now) c.args.pieces.now (map (λ p. p.now) c.in_ok-sorted.sorted.items) c.in_ok-sorted.ensures c.requires)
+    rw c.deref.ensures.value (inside_those _ (g.C.Contents.size c.args.contents.now) c.args.pieces.now (map (λ p. p.now) c.in_ok-sorted.sorted.items) c.in_ok-sorted.ensures.those c.requires.inside)
 
 pub returns : goal.returns
 returns g c =
     let byte = g.C.Contents.byte c.args.contents.now in
     let sorted = map (λ p. p.now) c.in_ok-sorted.sorted.items in
     let least = rw c.deref.ensures.value at c.least_difference.ensures in
-    least_permuted byte c.args.pieces.now sorted c.least_difference.result c.in_ok-sorted.ensures
+    least_sorted byte c.args.pieces.now sorted c.least_difference.result c.in_ok-sorted.ensures
     (subst (λ n. IsLeast (DiffersInOneOf byte sorted n) c.least_difference.result) (sym (length-map c.in_ok-sorted.sorted.items (λ p. p.now))) least)

@@ -9,12 +9,18 @@ use Rattle.nbd_judge.specs.Folding.{contents_with_effect}
 use Rattle.nbd_judge.specs.internal.Servable.{IsServable}
 use Rattle.nbd_judge.proofs.contents.EffectLemmas.{next, none_through, served}
 use Rattle.nbd_judge.proofs.contents.PartLemmas.{well_placed}
+use Rattle.nbd_judge.proofs.contents.SortLemmas.{kept_sorted}
 use Rattle.nbd_judge.proofs.verdicts.SoundLemmas.{servable}
 use Rattle.nbd_judge.proofs.replay.replay.Goals as goal
 use Rattle.nbd_judge.proofs.replay.replay.Goals.{in-Some+in_ok-found+in_default-found+in_ok-change, in_default}
 
-pub wrong-requires : goal.wrong-requires
-wrong-requires g c =
+pub wrong-requires-clause-sorted : goal.wrong-requires-clause-sorted
+wrong-requires-clause-sorted g c =
+    let e : Entry = slice_index_or c.args.order.now c.loop-i.i (record { request = 0; part = None }) in
+    c.loop-i.invariant.sorted e.request (report_of_request c.in-Some.one.now) (sym c.in-Some.ensures)
+
+pub wrong-requires-clause-servable : goal.wrong-requires-clause-servable
+wrong-requires-clause-servable g c =
     let e : Entry = slice_index_or c.args.order.now c.loop-i.i (record { request = 0; part = None }) in
     subst (λ (n : ℕ). IsServable n (report_of_request c.in-Some.one.now)) (sym (c.loop-i.invariant.size ∙ c.requires.sized))
     (servable c.args.transcript.now c.requires.sound e.request (report_of_request c.in-Some.one.now) (sym c.in-Some.ensures))
@@ -42,7 +48,7 @@ returns-in-Some-found g c =
     let here : slice_get c.args.order.now c.loop-i.i ≡ Some e = slice_get-get_or c.args.order.now c.loop-i.i (record { request = 0; part = None }) c.loop-i-test.true in
     let sound : IsServable size told = subst (λ (n : ℕ). IsServable n told) (sym c.requires.sized) (servable c.args.transcript.now c.requires.sound e.request told (sym c.in-Some.ensures)) in
     let at : requests e.request ≡ Some (effect told) = ap effect_if (sym c.in-Some.ensures) in
-    let least = served size requests c.args.order.now initial now c.loop-i.i e here c.loop-i.invariant.bytes told at sound (Some c.in-Some-found.offset) (rw c.in-Some-found.is at c.in_ok-found.ensures) in
+    let least = served size requests c.args.order.now initial now c.loop-i.i e here c.loop-i.invariant.bytes told at sound (Some c.in-Some-found.offset) (rw c.in-Some-found.is at c.in_ok-found.ensures.least) in
     (c.loop-i.i, e, here, refl, ((c.in-Some-found.offset, least.0), c.loop-i.invariant.none), least)
 
 pub loop-i-preserved : goal.loop-i-preserved
@@ -62,12 +68,13 @@ loop-i-preserved g c =
           let done : AreSameBelow size after (contents_with_effect e.part (Some (effect told)) now) =
           subst (λ (n : ℕ). AreSameBelow n after (contents_with_effect e.part (Some (effect told)) now)) c.loop-i.invariant.size w.in_ok-change.ensures.done in
           let none : (x : ℕ) → IsWrong requests c.args.order.now initial c.loop-i.i x → ⊥ =
-          served size requests c.args.order.now initial now c.loop-i.i e here c.loop-i.invariant.bytes told at sound None (rw w.in_default-found.is at w.in_ok-found.ensures) in
+          served size requests c.args.order.now initial now c.loop-i.i e here c.loop-i.invariant.bytes told at sound None (rw w.in_default-found.is at w.in_ok-found.ensures.least) in
           record {
             size = ap g.C.Contents.size w.contents-is ∙ w.change.ensures.size ∙ c.loop-i.invariant.size;
             bytes = λ x l. ap (λ s. g.C.Contents.byte s x) w.contents-is
                 ∙ next size requests c.args.order.now initial now c.loop-i.i e here c.loop-i.invariant.bytes after
                 (subst (λ (o : Option Effect). AreSameBelow size after (contents_with_effect e.part o now)) (sym at) done) x l;
+            sorted = λ k a at. rw w.reads-is (kept_sorted c.loop-i.reads w.wrong.new.reads c.args.transcript.now.asked e.request told (sym w.in-Some.ensures) w.in_ok-found.ensures.sorted c.loop-i.invariant.sorted k a at);
             none = none_through c.args.transcript.now c.args.order.now initial c.loop-i.i c.loop-i.invariant.none none;
           })
       | in_default w ↦
@@ -77,6 +84,7 @@ loop-i-preserved g c =
             bytes = λ x l. ap (λ s. g.C.Contents.byte s x) w.contents-is
                 ∙ next size requests c.args.order.now initial now c.loop-i.i e here c.loop-i.invariant.bytes now
                 (subst (λ (o : Option Effect). AreSameBelow size now (contents_with_effect e.part o now)) (sym at) (λ y m. refl)) x l;
+            sorted = λ k a at. rw w.reads-is (c.loop-i.invariant.sorted k a at);
             none = none_through c.args.transcript.now c.args.order.now initial c.loop-i.i c.loop-i.invariant.none
                 (λ x h. (let d : h.0 ≡ e = (let q : Some h.0 ≡ Some e = sym h.1 ∙ here in cc) in
                 let r : requests e.request ≡ Some h.2.0 = ap (λ (y : Entry). requests y.request) (sym d) ∙ h.2.1 in

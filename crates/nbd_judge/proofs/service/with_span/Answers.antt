@@ -7,9 +7,11 @@ use Rattle.nbd_judge.proofs.service.with_span.Goals.{then-not-lies_in-via-then-n
 
 pub returns-then-not-lies_in : goal.returns-then-not-lies_in
 returns-then-not-lies_in c = λ within before k is_span h. elim c.then-not-lies_in.branch [
-  | then-not-lies_in-via-then-not-lies_in w ↦
-      (out_of_span c.args.inside within is_span before k (sizes_of c.args.spans) c.args.left h c.args.part
-      (off_span c.args.inside c.args.part (sym c.lies_in.ensures ∙ w.if-not-lies_in.true)), h.in_parts)
+  | then-not-lies_in-via-then-not-lies_in w ↦ (
+    out_of_span c.args.inside within is_span before k (sizes_of c.args.spans) c.args.left h c.args.part
+        (off_span c.args.inside c.args.part (sym c.lies_in.ensures ∙ w.if-not-lies_in.true)),
+    h.in_parts,
+  )
   | then-not-lies_in-via-else-not-lies_in+in_ok-insert+then-not-branch w ↦
       (meets_part c.args.inside within is_span before k (sizes_of c.args.spans) c.args.left h c.args.part (w.in_ok-insert.ensures.left w.if-not-branch.true).1, h.in_parts)
 ]

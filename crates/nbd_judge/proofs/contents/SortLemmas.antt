@@ -1,0 +1,308 @@
+-- Pieces in the order of their offsets, and those that meet a part.
+use Rattle.std.proofs.Common.{◌≡◌, ℕ, zero, suc, ◌+◌, ◌-◌, ◌<◌, ◌≤◌, inl, inr, List, [], ◌∷◌, length, refl, sym, ◌∙◌, ap, subst, Option, Some, None, Bool, true, false, arith, nat_le, nat_lt, cond, slice_get, slice_index_or, IsTrue, map, Bor, take, drop, filter, sum_by}
+use Rattle.std.proofs.lemmas.Bool.{leb-true, leb-false, lt-ltb, ltb-false, ltb-true}
+use Rattle.std.proofs.lemmas.List.{length-map}
+use Rattle.std.proofs.lemmas.List.Sums.{sum_by-cons}
+use Rattle.std.proofs.lemmas.List.Sorted.{Contains-permutation, IsPermutation-map, IsPermutation-sym, sum_by-IsPermutation}
+use Rattle.std.proofs.lemmas.Option.{get_or_from_slice_get, slice_get_within, slice_get-get_or}
+use Rattle.std.specs.BTreeMap.{BTreeMap}
+use Rattle.std.specs.List.{Contains}
+use Rattle.std.specs.List.Sorted.{IsNonDecreasingBy, IsPartitionPoint, IsPermutation}
+use Rattle.std.specs.declared.vec.Vec.{Vec}
+use Rattle.nbd_wire.specs.declared.entry.Part.{Part}
+use Rattle.nbd_wire.specs.declared.payloads.Piece.{Piece}
+use Rattle.nbd_wire.specs.protocol.Pieces.{holds, is_in, piece_offset, piece_size}
+use Rattle.nbd_wire.specs.protocol.Reports.{Asked, asked_at}
+use Rattle.nbd_export.specs.Ranges.{IsLeast}
+use Rattle.nbd_judge.specs.internal.Pieces.{AddsSorted, AreApart, AreInOrder, AreInside, AreSorted, AreThose, DiffersInOneOf, DiffersInOneWithin, IsOneOf, IsSortedAt}
+use Rattle.nbd_judge.proofs.contents.CompareLemmas.{contained, from_in, in_from, least_as}
+use Rattle.nbd_judge.proofs.contents.RangeLemmas.{drop_get, drop_length, take_get, take_length}
+use Rattle.nbd_judge.proofs.verdicts.DecisionLemmas.{same_or_not}
+
+-- the pieces behind references
+abbrev seen : List (Bor Piece) → List Piece
+seen ps = map (λ p. p.now) ps
+
+at_seen : (ps : List (Bor Piece)) (i : ℕ) (d : Bor Piece) → i < length ps → slice_get (seen ps) i ≡ Some (slice_index_or ps i d).now
+at_seen [] i d l = absurd (omega arith)
+at_seen (p ∷ ps) zero d l = refl
+at_seen (p ∷ ps) (suc i) d l = at_seen ps i d (omega arith)
+
+from_seen : (ps : List (Bor Piece)) (i : ℕ) (p : Piece) → slice_get (seen ps) i ≡ Some p → (b : Bor Piece) × (slice_get ps i ≡ Some b) × (b.now ≡ p)
+from_seen [] i p e = absurd (let q : None ≡ Some p = e in cc)
+from_seen (b ∷ ps) zero p e = (b, refl, cc)
+from_seen (b ∷ ps) (suc i) p e = from_seen ps i p e
+
+in_seen : (ps : List (Bor Piece)) (i : ℕ) (b : Bor Piece) → slice_get ps i ≡ Some b → slice_get (seen ps) i ≡ Some b.now
+in_seen [] i b e = absurd (let q : None ≡ Some b = e in cc)
+in_seen (p ∷ ps) zero b e = (let q : p ≡ b = cc in ap (λ (r : Bor Piece). Some r.now) q)
+in_seen (p ∷ ps) (suc i) b e = in_seen ps i b e
+
+-- what a search over pieces in order asks
+pub ends_rise : (ps : List (Bor Piece)) → AreInOrder (seen ps) → IsNonDecreasingBy (λ (p : Bor Piece). piece_offset p.now + piece_size p.now) ps
+ends_rise ps h i j d le l = elim (same_or_not i j) [
+  | inl e ↦ (let s : slice_index_or ps i d ≡ slice_index_or ps j d = ap (λ k. slice_index_or ps k d) e in
+      let t : piece_offset (slice_index_or ps i d).now + piece_size (slice_index_or ps i d).now ≡ piece_offset (slice_index_or ps j d).now + piece_size (slice_index_or ps j d).now = ap (λ (p : Bor Piece). piece_offset p.now + piece_size p.now) s in omega (arith, t))
+  | inr ne ↦ (let a = h.apart i j (slice_index_or ps i d).now (slice_index_or ps j d).now (omega arith) (at_seen ps i d (omega arith)) (at_seen ps j d l) in omega (arith, a))
+]
+
+pub begins_rise : (ps : List (Bor Piece)) (from : ℕ) → AreInOrder (seen ps) → IsNonDecreasingBy (λ (p : Bor Piece). piece_offset p.now - from) ps
+begins_rise ps from h i j d le l = elim (same_or_not i j) [
+  | inl e ↦ (let s : slice_index_or ps i d ≡ slice_index_or ps j d = ap (λ k. slice_index_or ps k d) e in
+      let t : piece_offset (slice_index_or ps i d).now - from ≡ piece_offset (slice_index_or ps j d).now - from = ap (λ (p : Bor Piece). piece_offset p.now - from) s in omega (arith, t))
+  | inr ne ↦ (let a = h.apart i j (slice_index_or ps i d).now (slice_index_or ps j d).now (omega arith) (at_seen ps i d (omega arith)) (at_seen ps j d l) in omega (arith, a))
+]
+
+-- the pieces between two places
+module _ (ps : List (Bor Piece)) (before count : ℕ) (low : before ≤ length ps) (high : count ≤ length (take (length ps - before) (drop before ps))) where
+  abbrev rest : List (Bor Piece)
+  rest = take (length ps - before) (drop before ps)
+
+  rest_length : length rest ≡ length ps - before
+  rest_length = (let d : length (drop before ps) ≡ length ps - before = drop_length ps before in take_length (drop before ps) (length ps - before) (omega arith))
+
+  rest_get : (j : ℕ) → j < length ps - before → slice_get rest j ≡ slice_get ps (before + j)
+  rest_get j l = take_get (drop before ps) (length ps - before) j l ∙ drop_get ps before j
+
+  chosen_get : (j : ℕ) → j < count → slice_get (take count rest) j ≡ slice_get ps (before + j)
+  chosen_get j l = take_get rest count j l ∙ rest_get j (let r = rest_length in omega (arith, r))
+
+  pub those_between : (part : Part) → IsPartitionPoint (λ (p : Bor Piece). nat_le (piece_offset p.now + piece_size p.now) part.offset ≡ true) (λ (p : Bor Piece). nat_le (piece_offset p.now + piece_size p.now) part.offset ≡ false) ps before
+      → IsPartitionPoint (λ (p : Bor Piece). nat_lt (piece_offset p.now - part.offset) part.length ≡ true) (λ (p : Bor Piece). nat_lt (piece_offset p.now - part.offset) part.length ≡ false) rest count
+      → AreThose (λ x. IsTrue (is_in part.offset part.length x)) (seen ps) (seen (take count rest))
+  those_between part first last = record { among = among; all = all }
+    where
+      among : (i : ℕ) (p : Piece) → slice_get (seen (take count rest)) i ≡ Some p → IsOneOf (seen ps) p
+      among i p e =
+          let b = from_seen (take count rest) i p e in
+          let l : i < length (take count rest) = slice_get_within (take count rest) i b.0 b.1 in
+          let c : length (take count rest) ≡ count = take_length rest count high in
+          (before + i, in_seen ps (before + i) b.0 (sym (chosen_get i (omega (arith, l, c))) ∙ b.1) ∙ ap Some b.2)
+
+      all : (i : ℕ) (p : Piece) (x : ℕ) → slice_get (seen ps) i ≡ Some p → IsTrue (holds p x) → IsTrue (is_in part.offset part.length x) → IsOneOf (seen (take count rest)) p
+      all i p x e h m =
+          let b = from_seen ps i p e in
+          let l : i < length ps = slice_get_within ps i b.0 b.1 in
+          let at = from_in (piece_offset p) (piece_size p) x h in
+          let lo : piece_offset p ≤ x = at.0 in
+          let hi : x < piece_offset p + piece_size p = at.1 in
+          let within = from_in part.offset part.length x m in
+          let from : part.offset ≤ x = within.0 in
+          let below : x < part.offset + part.length = within.1 in
+          go b l lo hi from below (nat_lt i before) refl
+        where
+          go : (b : (b : Bor Piece) × (slice_get ps i ≡ Some b) × (b.now ≡ p)) → i < length ps → piece_offset p ≤ x → x < piece_offset p + piece_size p → part.offset ≤ x → x < part.offset + part.length
+              → (t : Bool) → nat_lt i before ≡ t → IsOneOf (seen (take count rest)) p
+          go b l lo hi from below true t =
+              (let is : slice_index_or ps i b.0 ≡ b.0 = get_or_from_slice_get ps i b.0 b.0 b.1 in
+              let ends : nat_le (piece_offset b.0.now + piece_size b.0.now) part.offset ≡ true =
+              subst (λ (r : Bor Piece). nat_le (piece_offset r.now + piece_size r.now) part.offset ≡ true) is (first.0 i b.0 (omega arith) (ltb-true i before t)) in
+              let bad : piece_offset p + piece_size p ≤ part.offset = leb-true (piece_offset p + piece_size p) part.offset (subst (λ (r : Piece). nat_le (piece_offset r + piece_size r) part.offset ≡ true) b.2 ends) in
+              absurd (omega arith))
+          go b l lo hi from below false t =
+              (let behind : before ≤ i = ltb-false i before t in
+              let place : before + (i - before) ≡ i = omega arith in
+              let len = rest_length in
+              let at : slice_get rest (i - before) ≡ Some b.0 = rest_get (i - before) (omega arith) ∙ ap (slice_get ps) place ∙ b.1 in
+              let is : slice_index_or rest (i - before) b.0 ≡ b.0 = get_or_from_slice_get rest (i - before) b.0 b.0 at in
+              by behind place len at is (nat_lt (i - before) count) refl)
+            where
+              by : before ≤ i → before + (i - before) ≡ i → length rest ≡ length ps - before → slice_get rest (i - before) ≡ Some b.0 → slice_index_or rest (i - before) b.0 ≡ b.0
+                  → (u : Bool) → nat_lt (i - before) count ≡ u → IsOneOf (seen (take count rest)) p
+              by behind place len at is true u = (i - before, in_seen (take count rest) (i - before) b.0 (take_get rest count (i - before) (ltb-true (i - before) count u) ∙ at) ∙ ap Some b.2)
+              by behind place len at is false u =
+                  (let past : nat_lt (piece_offset b.0.now - part.offset) part.length ≡ false =
+                  subst (λ (r : Bor Piece). nat_lt (piece_offset r.now - part.offset) part.length ≡ false) is (last.1 (i - before) b.0 (ltb-false (i - before) count u) (omega arith)) in
+                  let bad : part.length ≤ piece_offset p - part.offset = ltb-false (piece_offset p - part.offset) part.length (subst (λ (r : Piece). nat_lt (piece_offset r - part.offset) part.length ≡ false) b.2 past) in
+                  absurd (omega arith))
+
+-- how many of the pieces hold an offset
+abbrev one : Bool → ℕ
+one true = 1
+one false = 0
+
+abbrev holders : ℕ → List Piece → ℕ
+holders x [] = 0
+holders x (p ∷ ps) = one (holds p x) + holders x ps
+
+holders_sum : (x : ℕ) (ps : List Piece) → holders x ps ≡ sum_by (λ p. one (holds p x)) ps
+holders_sum x [] = refl
+holders_sum x (p ∷ ps) = ap (λ n. one (holds p x) + n) (holders_sum x ps) ∙ sym (sum_by-cons (λ q. one (holds q x)) p ps)
+
+none_held : (x : ℕ) (ps : List Piece) → ((j : ℕ) (q : Piece) → slice_get ps j ≡ Some q → IsTrue (holds q x) → ⊥) → holders x ps ≡ 0
+none_held x [] h = refl
+none_held x (p ∷ ps) h = go (holds p x) refl (none_held x ps (λ j q. h (suc j) q))
+  where
+    go : (b : Bool) → holds p x ≡ b → holders x ps ≡ 0 → one b + holders x ps ≡ 0
+    go true e z = absurd (h 0 p refl e)
+    go false e z = omega arith
+
+one_held : (x : ℕ) (ps : List Piece) → ((i j : ℕ) (p q : Piece) → slice_get ps i ≡ Some p → slice_get ps j ≡ Some q → IsTrue (holds p x) → IsTrue (holds q x) → i ≡ j) → holders x ps ≤ 1
+one_held x [] h = omega arith
+one_held x (p ∷ ps) h = go (holds p x) refl (one_held x ps (λ i j q r a c d f. (let s : suc i ≡ suc j = h (suc i) (suc j) q r a c d f in omega arith)))
+  where
+    go : (b : Bool) → holds p x ≡ b → holders x ps ≤ 1 → one b + holders x ps ≤ 1
+    go true e few = (let z : holders x ps ≡ 0 = none_held x ps (λ j q at held. (let s : 0 ≡ suc j = h 0 (suc j) p q refl at e held in omega arith)) in omega arith)
+    go false e few = omega arith
+
+some_held : (x : ℕ) (ps : List Piece) (j : ℕ) (q : Piece) → slice_get ps j ≡ Some q → IsTrue (holds q x) → 1 ≤ holders x ps
+some_held x [] j q e h = absurd (let s : None ≡ Some q = e in cc)
+some_held x (p ∷ ps) zero q e h = (let s : p ≡ q = cc in let o : one (holds p x) ≡ 1 = ap (λ (r : Piece). one (holds r x)) s ∙ ap one h in omega arith)
+some_held x (p ∷ ps) (suc j) q e h = (let l : 1 ≤ holders x ps = some_held x ps j q e h in omega arith)
+
+two_held : (x : ℕ) (ps : List Piece) (i j : ℕ) (p q : Piece) → i < j → slice_get ps i ≡ Some p → slice_get ps j ≡ Some q → IsTrue (holds p x) → IsTrue (holds q x) → 2 ≤ holders x ps
+two_held x [] i j p q l e f g h = absurd (let s : None ≡ Some p = e in cc)
+two_held x (r ∷ ps) i zero p q l e f g h = absurd (omega arith)
+two_held x (r ∷ ps) zero (suc j) p q l e f g h =
+    (let s : r ≡ p = cc in let o : one (holds r x) ≡ 1 = ap (λ (t : Piece). one (holds t x)) s ∙ ap one g in let m : 1 ≤ holders x ps = some_held x ps j q f h in omega arith)
+two_held x (r ∷ ps) (suc i) (suc j) p q l e f g h = (let m : 2 ≤ holders x ps = two_held x ps i j p q (omega arith) e f g h in omega arith)
+
+-- the pieces that hold an offset
+abbrev is_filled : Piece → Bool
+is_filled p = nat_lt 0 (piece_size p)
+
+fewer_held : (x : ℕ) (ps : List Piece) → holders x (filter is_filled ps) ≤ holders x ps
+fewer_held x [] = omega arith
+fewer_held x (p ∷ ps) = go (is_filled p) (fewer_held x ps)
+  where
+    go : (b : Bool) → holders x (filter is_filled ps) ≤ holders x ps → holders x (cond b (p ∷ filter is_filled ps) (filter is_filled ps)) ≤ one (holds p x) + holders x ps
+    go true l = omega arith
+    go false l = omega arith
+
+from_filled : (ps : List Piece) (i : ℕ) (p : Piece) → slice_get (filter is_filled ps) i ≡ Some p → IsOneOf ps p × (is_filled p ≡ true)
+from_filled [] i p e = absurd (let q : None ≡ Some p = e in cc)
+from_filled (q ∷ ps) i p e = go (is_filled q) refl i (from_filled ps) e
+  where
+    go : (b : Bool) → is_filled q ≡ b → (i : ℕ) → ((i : ℕ) (p : Piece) → slice_get (filter is_filled ps) i ≡ Some p → IsOneOf ps p × (is_filled p ≡ true))
+        → slice_get (cond b (q ∷ filter is_filled ps) (filter is_filled ps)) i ≡ Some p → IsOneOf (q ∷ ps) p × (is_filled p ≡ true)
+    go true t zero ih f = (let s : q ≡ p = cc in ((0, ap Some s), ap is_filled (sym s) ∙ t))
+    go true t (suc i) ih f = (let r = ih i p f in ((suc r.0.0, r.0.1), r.1))
+    go false t i ih f = (let r = ih i p f in ((suc r.0.0, r.0.1), r.1))
+
+to_filled : (ps : List Piece) (i : ℕ) (p : Piece) → slice_get ps i ≡ Some p → is_filled p ≡ true → IsOneOf (filter is_filled ps) p
+to_filled [] i p e h = absurd (let q : None ≡ Some p = e in cc)
+to_filled (q ∷ ps) zero p e h =
+    (let s : q ≡ p = cc in let t : is_filled q ≡ true = ap is_filled s ∙ h in (0, ap (λ b. slice_get (cond b (q ∷ filter is_filled ps) (filter is_filled ps)) 0) t ∙ ap Some s))
+to_filled (q ∷ ps) (suc i) p e h = go (is_filled q) (to_filled ps i p e h)
+  where
+    go : (b : Bool) → IsOneOf (filter is_filled ps) p → IsOneOf (cond b (q ∷ filter is_filled ps) (filter is_filled ps)) p
+    go true r = (suc r.0, r.1)
+    go false r = r
+
+moved : (xs ys : List Piece) (p : Piece) → IsPermutation xs ys → IsOneOf xs p → IsOneOf ys p
+moved xs ys p perm o = (let c : Contains ys p = Contains-permutation xs ys p perm (contained xs o.0 p o.1) in (c.0, slice_get-get_or ys c.0 p c.1 ∙ ap Some c.2))
+
+module _ (pieces sorted : List Piece) (apart : AreApart pieces) (perm : IsPermutation (filter is_filled pieces) sorted)
+    (rise : (i j : ℕ) (p q : Piece) → i < j → slice_get sorted i ≡ Some p → slice_get sorted j ≡ Some q → piece_offset p ≤ piece_offset q) where
+  held_once : (x : ℕ) → holders x sorted ≤ 1
+  held_once x =
+      let same : holders x sorted ≡ holders x (filter is_filled pieces) =
+      holders_sum x sorted ∙ sum_by-IsPermutation (λ p. one (holds p x)) (filter is_filled pieces) sorted perm ∙ sym (holders_sum x (filter is_filled pieces)) in
+      let few : holders x (filter is_filled pieces) ≤ holders x pieces = fewer_held x pieces in
+      let single : holders x pieces ≤ 1 = one_held x pieces (λ i j p q. apart i j p q x) in
+      omega arith
+
+  back : (i : ℕ) (p : Piece) → slice_get sorted i ≡ Some p → IsOneOf pieces p × (is_filled p ≡ true)
+  back i p e = (let o = moved sorted (filter is_filled pieces) p (IsPermutation-sym (filter is_filled pieces) sorted perm) (i, e) in from_filled pieces o.0 p o.1)
+
+  filled : (i : ℕ) (p : Piece) → slice_get sorted i ≡ Some p → 0 < piece_size p
+  filled i p e = ltb-true 0 (piece_size p) (back i p e).1
+
+  in_order : (i j : ℕ) (p q : Piece) → i < j → slice_get sorted i ≡ Some p → slice_get sorted j ≡ Some q → piece_offset p + piece_size p ≤ piece_offset q
+  in_order i j p q l e f = go (nat_le (piece_offset p + piece_size p) (piece_offset q)) refl
+    where
+      go : (b : Bool) → nat_le (piece_offset p + piece_size p) (piece_offset q) ≡ b → piece_offset p + piece_size p ≤ piece_offset q
+      go true t = leb-true (piece_offset p + piece_size p) (piece_offset q) t
+      go false t =
+          (let over : piece_offset q < piece_offset p + piece_size p = leb-false (piece_offset p + piece_size p) (piece_offset q) t in
+          let up : piece_offset p ≤ piece_offset q = rise i j p q l e f in
+          let size : 0 < piece_size q = filled j q f in
+          let two : 2 ≤ holders (piece_offset q) sorted =
+          two_held (piece_offset q) sorted i j p q l e f (in_from (piece_offset p) (piece_size p) (piece_offset q) up over) (in_from (piece_offset q) (piece_size q) (piece_offset q) (omega arith) (omega arith)) in
+          let few : holders (piece_offset q) sorted ≤ 1 = held_once (piece_offset q) in
+          absurd (omega arith))
+
+  pub sorted_pieces : AreSorted pieces sorted
+  sorted_pieces = record {
+    those = record {
+      among = λ i p e. (back i p e).0;
+      all = λ i p x e h u. (let at = from_in (piece_offset p) (piece_size p) x h in let lo : piece_offset p ≤ x = at.0 in let hi : x < piece_offset p + piece_size p = at.1 in
+          moved (filter is_filled pieces) sorted p perm (to_filled pieces i p e (lt-ltb 0 (piece_size p) (omega arith))));
+    };
+    in_order = record { filled = filled; apart = in_order };
+  }
+
+-- the same of references to pieces
+filter_seen : (ps : List (Bor Piece)) → seen (filter (λ p. is_filled p.now) ps) ≡ filter is_filled (seen ps)
+filter_seen [] = refl
+filter_seen (p ∷ ps) = go (is_filled p.now) (filter_seen ps)
+  where
+    go : (b : Bool) → seen (filter (λ q. is_filled q.now) ps) ≡ filter is_filled (seen ps)
+        → seen (cond b (p ∷ filter (λ q. is_filled q.now) ps) (filter (λ q. is_filled q.now) ps)) ≡ cond b (p.now ∷ filter is_filled (seen ps)) (filter is_filled (seen ps))
+    go true e = ap (λ l. p.now ∷ l) e
+    go false e = e
+
+pub sorted_references : (pieces : List Piece) (all sorted : List (Bor Piece)) → AreApart pieces → seen all ≡ pieces → IsPermutation (filter (λ (p : Bor Piece). nat_lt 0 (piece_size p.now)) all) sorted
+    → IsNonDecreasingBy (λ (p : Bor Piece). piece_offset p.now) sorted → AreSorted pieces (seen sorted)
+sorted_references pieces all sorted apart is perm rises =
+    sorted_pieces pieces (seen sorted) apart
+    (subst (λ l. IsPermutation l (seen sorted)) (filter_seen all ∙ ap (filter is_filled) is) (IsPermutation-map (λ p. p.now) (filter (λ p. is_filled p.now) all) sorted perm))
+    rise
+  where
+    rise : (i j : ℕ) (p q : Piece) → i < j → slice_get (seen sorted) i ≡ Some p → slice_get (seen sorted) j ≡ Some q → piece_offset p ≤ piece_offset q
+    rise i j p q l e f =
+        let b = from_seen sorted i p e in
+        let d = from_seen sorted j q f in
+        let up = rises i j b.0 (omega arith) (slice_get_within sorted j d.0 d.1) in
+        let first = get_or_from_slice_get sorted i b.0 b.0 b.1 in
+        let second = get_or_from_slice_get sorted j d.0 b.0 d.1 in
+        let low : piece_offset (slice_index_or sorted i b.0).now ≡ piece_offset p = ap (λ (r : Bor Piece). piece_offset r.now) first ∙ ap piece_offset b.2 in
+        let high : piece_offset (slice_index_or sorted j b.0).now ≡ piece_offset q = ap (λ (r : Bor Piece). piece_offset r.now) second ∙ ap piece_offset d.2 in
+        omega (arith, up, low, high)
+
+-- what the chosen pieces tell of all
+pub inside_those : (P : ℕ → Type 0) (size : ℕ) (pieces chosen : List Piece) → AreThose P pieces chosen → AreInside size pieces → AreInside size chosen
+inside_those P size pieces chosen those inside i p e = (let o = those.among i p e in inside o.0 p o.1)
+
+pub those_of : (P Q : ℕ → Type 0) (pieces chosen : List Piece) → ((x : ℕ) → Q x → P x) → AreThose P pieces chosen → AreThose Q pieces chosen
+those_of P Q pieces chosen h those = record { among = those.among; all = λ i p x e held q. those.all i p x e held (h x q) }
+
+differs_back : (byte : ℕ → Option ℕ) (P : ℕ → Type 0) (pieces chosen : List Piece) → AreThose P pieces chosen → (x : ℕ) → DiffersInOneOf byte chosen (length chosen) x → DiffersInOneOf byte pieces (length pieces) x
+differs_back byte P pieces chosen those x d = (let o = those.among d.0 d.1 d.3 in (o.0, d.1, slice_get_within pieces o.0 d.1 o.1, o.1, d.4))
+
+differs_there : (byte : ℕ → Option ℕ) (P : ℕ → Type 0) (pieces chosen : List Piece) → AreThose P pieces chosen → (x : ℕ) → P x → DiffersInOneOf byte pieces (length pieces) x → DiffersInOneOf byte chosen (length chosen) x
+differs_there byte P pieces chosen those x q d = (let o = those.all d.0 d.1 x d.3 d.4.0 q in (o.0, d.1, slice_get_within chosen o.0 d.1 o.1, o.1, d.4))
+
+pub least_those : (byte : ℕ → Option ℕ) (part : Part) (pieces chosen : List Piece) (o : Option ℕ) → AreThose (λ x. IsTrue (is_in part.offset part.length x)) pieces chosen
+    → IsLeast (DiffersInOneWithin byte chosen (length chosen) part) o → IsLeast (DiffersInOneWithin byte pieces (length pieces) part) o
+least_those byte part pieces chosen o those h =
+    least_as (DiffersInOneWithin byte chosen (length chosen) part) (DiffersInOneWithin byte pieces (length pieces) part) o
+    (λ x d. (differs_back byte (λ y. IsTrue (is_in part.offset part.length y)) pieces chosen those x d.0, d.1))
+    (λ x d. (differs_there byte (λ y. IsTrue (is_in part.offset part.length y)) pieces chosen those x d.1 d.0, d.1))
+    h
+
+pub least_sorted : (byte : ℕ → Option ℕ) (pieces sorted : List Piece) (o : Option ℕ) → AreSorted pieces sorted
+    → IsLeast (DiffersInOneOf byte sorted (length sorted)) o → IsLeast (DiffersInOneOf byte pieces (length pieces)) o
+least_sorted byte pieces sorted o s h =
+    least_as (DiffersInOneOf byte sorted (length sorted)) (DiffersInOneOf byte pieces (length pieces)) o
+    (λ x d. differs_back byte (λ y. Unit {0}) pieces sorted s.those x d) (λ x d. differs_there byte (λ y. Unit {0}) pieces sorted s.those x tt d) h
+
+-- of references, as a comparison in a part ends
+pub least_references : (byte : ℕ → Option ℕ) (part : Part) (pieces : List Piece) (chosen : List (Bor Piece)) (n : ℕ) (o : Option ℕ) → AreThose (λ x. IsTrue (is_in part.offset part.length x)) pieces (seen chosen)
+    → n ≡ length chosen → IsLeast (DiffersInOneWithin byte (seen chosen) n part) o → IsLeast (DiffersInOneWithin byte pieces (length pieces) part) o
+least_references byte part pieces chosen n o those len h =
+    least_those byte part pieces (seen chosen) o those (subst (λ m. IsLeast (DiffersInOneWithin byte (seen chosen) m part) o) (len ∙ sym (length-map chosen (λ p. p.now))) h)
+
+pub least_in_part : (byte : ℕ → Option ℕ) (part : Part) (pieces : List Piece) (sorted : List (Bor Piece)) (o : Option ℕ) → AreSorted pieces (seen sorted)
+    → IsLeast (DiffersInOneWithin byte (seen sorted) (length sorted) part) o → IsLeast (DiffersInOneWithin byte pieces (length pieces) part) o
+least_in_part byte part pieces sorted o s h =
+    least_references byte part pieces sorted (length sorted) o (those_of (λ x. Unit {0}) (λ x. IsTrue (is_in part.offset part.length x)) pieces (seen sorted) (λ x q. tt) s.those) refl h
+
+-- the pieces that are kept of requests stay those of these requests
+pub kept_sorted : {A : Type 0} (old new : BTreeMap ℕ (Vec (Bor Piece) A)) (asked : List Asked) (k : ℕ) (one : Asked) → asked_at k asked ≡ Some one → AddsSorted old new k one.pieces
+    → ((j : ℕ) (a : Asked) → asked_at j asked ≡ Some a → IsSortedAt old j a.pieces) → (j : ℕ) (a : Asked) → asked_at j asked ≡ Some a → IsSortedAt new j a.pieces
+kept_sorted {A} old new asked k one told adds kept j a at v e = elim (adds j v e) [
+  | inl before ↦ kept j a at v before
+  | inr here ↦ (let same : Some one ≡ Some a = sym told ∙ ap (λ n. asked_at n asked) (sym here.0) ∙ at in let is : one ≡ a = cc in
+      subst (λ (b : Asked). AreSorted b.pieces (seen v.items)) is here.1)
+]

@@ -1,0 +1,51 @@
+//! The pieces of READs in the order of their offsets.
+
+ghost use Rattle.std.specs.Prelude.{◌≡◌, ◌+◌, ◌-◌, IfOk, IsTrue, map, nat_le, nat_lt};
+ghost use Rattle.nbd_wire.specs.protocol.Pieces.{is_in, piece_offset, piece_size};
+ghost use Rattle.nbd_judge.specs.internal.Pieces.{AreApart, AreInOrder, AreSorted, AreThose};
+
+use nbd_state::{Span, ends_by};
+use nbd_wire::{Part, Piece};
+use std::alloc::{AllocError, Global};
+use std::collections::BTreeMap;
+
+/// The pieces of READs of which parts are served, in the order of their offsets, by the numbers of the requests.
+pub type SortedReads<'a> = BTreeMap<u64, Vec<&'a Piece>>;
+
+/// The pieces that hold an offset, in the order of their offsets.
+pub fn by_offset(alloc: Global, pieces: &[Piece]) -> Result<Vec<&Piece>, AllocError>
+    requires { AreApart pieces.now }
+    ensures { IfOk result (λ sorted. AreSorted pieces.now (map (λ p. p.now) sorted.items)) }
+{
+    let mut sorted: Vec<&Piece> = pieces.iter().collect(alloc)?;
+    sorted.retain(|piece| Span::of(piece).size > 0);
+    sorted.sort_by_key(|piece| Span::of(piece).offset)?;
+    Ok(sorted)
+}
+
+/// Those of the pieces that meet a part. The cost is the logarithm of their number.
+pub fn meeting<'p, 'a>(pieces: &'p [&'a Piece], part: Part) -> &'p [&'a Piece]
+    requires { AreInOrder (map (λ p. p.now) pieces.now) }
+    ensures { AreThose (λ x. IsTrue (is_in part.offset part.length x)) (map (λ p. p.now) pieces.now)
+        (map (λ p. p.now) result.now) }
+{
+    let before = pieces.partition_point(|piece| ends_before(piece, part));
+    let rest = &pieces[before..];
+    let count = rest.partition_point(|piece| begins_before_end(piece, part));
+    &rest[..count]
+}
+
+// Whether a piece ends where a part begins, or before.
+fn ends_before(piece: &Piece, part: Part) -> bool
+    ensures { result ≡ nat_le (piece_offset piece.now + piece_size piece.now) part.offset }
+{
+    let span = Span::of(piece);
+    ends_by(span.offset, span.size, part.offset)
+}
+
+// Whether a piece begins before a part ends.
+fn begins_before_end(piece: &Piece, part: Part) -> bool
+    ensures { result ≡ nat_lt (piece_offset piece.now - part.offset) part.length }
+{
+    Span::of(piece).offset.saturating_sub(part.offset) < part.length
+}
