@@ -1,5 +1,7 @@
 //! Whole sessions, message by message, and their verdicts.
 
+mod cases;
 mod countable;
+mod parts;
 mod recordings;
 mod verdicts;

@@ -1,98 +1,14 @@
-//! Sessions on an export of 8 bytes that holds zeroes at first, orders of service, and the verdicts.
+//! Sessions that are explained, and sessions that are not.
 
-use super::countable::are_countable;
+use super::cases::{Case, ONE, THREE, TWO, answer, content, order, plain, run, yes};
 use super::recordings::Sent::{Ask, Bad, Data, Done, Good, Hole, Write};
-use super::recordings::{Sent, one_by_one, recorded};
-use crate::{OrderFault, Verdict, check, judge};
+use super::recordings::{Sent, recorded};
+use crate::{OrderFault, Verdict, judge};
 use nbd_export::{Flat, Start};
 use nbd_session::{Session, WireFault};
 use nbd_wire::commands::{READ, TRIM, WRITE_ZEROES};
-use nbd_wire::{Entry, Side};
 use std::alloc::Global;
-use std::process::Abort;
 use std::test::Fail;
-
-/// A session, an order, and the verdict that is wanted.
-#[derive(Drop)]
-struct Case {
-    name: &'static str,
-    structured: bool,
-    sent: &'static [Sent],
-    order: &'static [Entry],
-    want: Verdict,
-}
-
-/// A session with simple replies.
-const fn plain(
-    name: &'static str,
-    sent: &'static [Sent],
-    order: &'static [Entry],
-    want: Verdict,
-) -> Case {
-    Case {
-        name,
-        structured: false,
-        sent,
-        order,
-        want,
-    }
-}
-
-// Entries that serve a request at once.
-const ONE: Entry = Entry {
-    request: 1,
-    part: None,
-};
-
-const TWO: Entry = Entry {
-    request: 2,
-    part: None,
-};
-
-const THREE: Entry = Entry {
-    request: 3,
-    part: None,
-};
-
-const fn yes(requests: u64, answered: u64, improper: u64) -> Verdict {
-    Verdict::Yes {
-        requests,
-        answered,
-        improper,
-    }
-}
-
-const fn order(entry: u64, fault: OrderFault) -> Verdict {
-    Verdict::Order { entry, fault }
-}
-
-const fn content(request: u64, offset: u64) -> Verdict {
-    Verdict::Content { request, offset }
-}
-
-fn answer<R: Abort + AllocGlobal>(
-    rt: &R,
-    chunks: &[(Side, Vec<u8>)],
-    order: &[Entry],
-    start: Start,
-) -> Result<Verdict, Fail> {
-    assert!(rt; are_countable(chunks));
-    Ok(check(rt.alloc(), chunks, order, start)?)
-}
-
-/// Each case with one message a chunk, and with one byte a chunk.
-fn run<R: Abort + AllocGlobal>(rt: &R, cases: &[Case]) -> Result<(), Fail> {
-    for case in cases {
-        let name = case.name;
-        let chunks = recorded(rt, case.structured, case.sent)?;
-        let whole = answer(rt, &chunks, case.order, Start::Zeroes)?;
-        assert_eq!(rt; whole, case.want, "{name}");
-        let single = one_by_one(rt.alloc(), &chunks)?;
-        let cut = answer(rt, &single, case.order, Start::Zeroes)?;
-        assert_eq!(rt; cut, case.want, "{name}, byte by byte");
-    }
-    Ok(())
-}
 
 #[test]
 fn reads_give_what_was_written(rt: HostRuntime) -> Result<(), Fail> {
