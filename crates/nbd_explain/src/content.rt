@@ -1,0 +1,187 @@
+//! Which byte of a READ was wrong, and which was right.
+
+use crate::brief::Brief;
+use crate::explanation::{Sources, add_rule};
+use crate::story::{Outcome, Request, Told};
+use crate::window::add_window;
+use nbd_export::Start;
+use nbd_names::CONTENT_RULE;
+use nbd_wire::{Content, Side, commands, content_of, head_lengths};
+use std::alloc::AllocError;
+
+/// A byte that a READ got.
+#[derive(Clone, Copy)]
+struct Came {
+    byte: u8,
+    /// Its place in the capture; of a byte of a hole the last byte of the chunk that told the hole.
+    place: u64,
+    reply: Told,
+}
+
+/// Adds which byte the READ with this number got for this offset of the export, and which it should have got.
+pub fn add_content(
+    text: &mut String,
+    number: u64,
+    offset: u64,
+    sources: Sources<'_>,
+) -> Result<(), AllocError> {
+    add_rule(
+        text,
+        &CONTENT_RULE,
+        "the server, if it served in this order",
+    )?;
+    let Some(request) = sources.story.request(number) else {
+        return Ok(());
+    };
+    add_told(text, "message", &request.asked)?;
+    let came = found_byte(request, offset, sources);
+    if let Some(came) = came {
+        let (byte, place) = (came.byte, came.place);
+        add_told(text, "reply", &came.reply)?;
+        writeln!(
+            text,
+            "came: {byte:02x} for offset {offset}, at byte {place}"
+        )?;
+    }
+    add_expected(text, number, offset, sources)?;
+    match came {
+        Some(came) => add_window(text, sources.recording, came.place),
+        None => Ok(()),
+    }
+}
+
+// A message with its places.
+fn add_told(text: &mut String, label: &str, told: &Told) -> Result<(), AllocError> {
+    let (words, first, last) = (told.words, told.first, told.last);
+    writeln!(text, "{label}: {words}; bytes {first} to {last}")
+}
+
+// The byte that a request got for an offset.
+fn found_byte(request: &Request, offset: u64, sources: Sources<'_>) -> Option<Came> {
+    for told in &sources.story.told {
+        if told.side == Side::Server && answers(told, request) {
+            if let Some(came) = found_in(told, request, offset, sources) {
+                return Some(came);
+            }
+        }
+    }
+    None
+}
+
+fn answers(told: &Told, request: &Request) -> bool {
+    match told.words.request {
+        Some(numbered) => numbered.number == request.numbered.number,
+        None => false,
+    }
+}
+
+// The byte for an offset in one message of a reply.
+fn found_in(told: &Told, request: &Request, offset: u64, sources: Sources<'_>) -> Option<Came> {
+    match told.words.brief {
+        Brief::Simple(_) => {
+            let index = offset.checked_sub(request.head.offset)?;
+            found_at(told, head_lengths::SIMPLE as u64, index, sources)
+        }
+        Brief::Chunk { kind, length, .. } => {
+            let from = told.before.checked_add(head_lengths::CHUNK as u64)?;
+            let payload = sources.recording.bytes_at(Side::Server, from, length)?;
+            match content_of(kind, payload)? {
+                Content::Bytes {
+                    offset: begin,
+                    bytes,
+                } => {
+                    let index = offset.checked_sub(begin)?;
+                    let data = payload.len().checked_sub(bytes.len())?;
+                    let skipped = (head_lengths::CHUNK + data) as u64;
+                    found_at(told, skipped, index, sources)
+                }
+                Content::Hole {
+                    offset: begin,
+                    size,
+                } => {
+                    if offset.checked_sub(begin)? < u64::from(size) {
+                        Some(Came {
+                            byte: 0,
+                            place: told.last,
+                            reply: *told,
+                        })
+                    } else {
+                        None
+                    }
+                }
+            }
+        }
+        _ => None,
+    }
+}
+
+// The byte of a message that has so many of its content before it, behind the bytes that are skipped.
+fn found_at(told: &Told, skipped: u64, index: u64, sources: Sources<'_>) -> Option<Came> {
+    let from = told.before.checked_add(skipped)?.checked_add(index)?;
+    let place = sources.recording.place(Side::Server, from);
+    if place > told.last {
+        return None;
+    }
+    let bytes = sources.recording.bytes_at(Side::Server, from, 1)?;
+    Some(Came {
+        byte: *bytes.first()?,
+        place,
+        reply: *told,
+    })
+}
+
+// The byte that the export held at an offset when the request was served, and whose change that was.
+fn add_expected(
+    text: &mut String,
+    number: u64,
+    offset: u64,
+    sources: Sources<'_>,
+) -> Result<(), AllocError> {
+    let order = sources.order;
+    let served = order.iter().position(|entry| *entry == number).unwrap_or(0);
+    for entry in order.get(..served).unwrap_or(&[]).iter().rev() {
+        if let Some(change) = sources.story.request(*entry) {
+            if let Some(byte) = byte_by(change, offset, sources) {
+                let (words, first, last) = (
+                    change.asked.words,
+                    change.asked.first,
+                    change.asked.last,
+                );
+                return writeln!(
+                    text,
+                    "expected: {byte:02x}, by {words}; bytes {first} to {last}"
+                );
+            }
+        }
+    }
+    match sources.start {
+        Start::Unknown => Ok(()),
+        Start::Zeroes => writeln!(text, "expected: 00, since the export began with zeroes"),
+        Start::Image(image) => match image.get(offset as usize) {
+            Some(byte) => writeln!(text, "expected: {byte:02x}, of the image"),
+            None => Ok(()),
+        },
+    }
+}
+
+// The byte that a request left at an offset.
+fn byte_by(change: &Request, offset: u64, sources: Sources<'_>) -> Option<u8> {
+    let index = offset.checked_sub(change.head.offset)?;
+    if index >= u64::from(change.head.length) {
+        return None;
+    }
+    match (change.head.command, change.outcome()) {
+        (commands::WRITE, Outcome::Success) => {
+            let from = change
+                .asked
+                .before
+                .checked_add(head_lengths::REQUEST as u64)?;
+            let bytes = sources
+                .recording
+                .bytes_at(Side::Client, from.checked_add(index)?, 1)?;
+            bytes.first().copied()
+        }
+        (commands::WRITE_ZEROES, Outcome::Success) => Some(0),
+        _ => None,
+    }
+}
