@@ -1,12 +1,14 @@
 //! Which byte of a READ was wrong, and which was right.
 
 use crate::brief::Brief;
-use crate::explanation::{Sources, add_rule};
-use crate::story::{Outcome, Request, Told};
+use crate::entries::serves;
+use crate::explanation::{Sources, add_rule, add_told};
+use crate::story::{Outcome, Request, Story, Told};
 use crate::window::add_window;
+use crate::words::Range;
 use nbd_export::Start;
 use nbd_names::CONTENT_RULE;
-use nbd_wire::{Content, Side, commands, content_of, head_lengths};
+use nbd_wire::{Content, Entry, Side, commands, content_of, head_lengths};
 use std::alloc::AllocError;
 
 /// A byte that a READ got.
@@ -30,30 +32,45 @@ pub fn add_content(
         &CONTENT_RULE,
         "the server, if it served in this order",
     )?;
-    let Some(request) = sources.story.request(number) else {
+    let served = sources
+        .order
+        .iter()
+        .enumerate()
+        .find(|(_, entry)| entry.request == number && serves(**entry, offset));
+    let (Some((place, entry)), Some(request)) = (served, sources.story.request(number)) else {
         return Ok(());
     };
-    add_told(text, "message", &request.asked)?;
+    write!(text, "message: ")?;
+    add_served(text, request, place, *entry)?;
     let came = found_byte(request, offset, sources);
     if let Some(came) = came {
         let (byte, place) = (came.byte, came.place);
         add_told(text, "reply", &came.reply)?;
-        writeln!(
-            text,
-            "came: {byte:02x} for offset {offset}, at byte {place}"
-        )?;
+        writeln!(text, "came: {byte:02x} for offset {offset}, at byte {place}")?;
     }
-    add_expected(text, number, offset, sources)?;
+    add_expected(text, place, offset, sources)?;
     match came {
         Some(came) => add_window(text, sources.recording, came.place),
         None => Ok(()),
     }
 }
 
-// A message with its places.
-fn add_told(text: &mut String, label: &str, told: &Told) -> Result<(), AllocError> {
-    let (words, first, last) = (told.words, told.first, told.last);
-    writeln!(text, "{label}: {words}; bytes {first} to {last}")
+// A request with its places, and the entry that serves it or a part of it.
+fn add_served(
+    text: &mut String,
+    request: &Request,
+    place: usize,
+    entry: Entry,
+) -> Result<(), AllocError> {
+    let (words, places) = (request.asked.words, request.asked.places());
+    let number = place.saturating_add(1);
+    match entry.part {
+        Some(part) => {
+            let range = Range::from(part);
+            writeln!(text, "{words}; {places}; {range} served by entry {number}")
+        }
+        None => writeln!(text, "{words}; {places}; served by entry {number}"),
+    }
 }
 
 // The byte that a request got for an offset.
@@ -130,28 +147,21 @@ fn found_at(told: &Told, skipped: u64, index: u64, sources: Sources<'_>) -> Opti
     })
 }
 
-// The byte that the export held at an offset when the request was served, and whose change that was.
+// The byte that the export held at an offset when the entry was reached, and whose change that was.
 fn add_expected(
     text: &mut String,
-    number: u64,
+    place: usize,
     offset: u64,
     sources: Sources<'_>,
 ) -> Result<(), AllocError> {
-    let order = sources.order;
-    let served = order.iter().position(|entry| *entry == number).unwrap_or(0);
-    for entry in order.get(..served).unwrap_or(&[]).iter().rev() {
-        if let Some(change) = sources.story.request(*entry) {
-            if let Some(byte) = byte_by(change, offset, sources) {
-                let (words, first, last) = (
-                    change.asked.words,
-                    change.asked.first,
-                    change.asked.last,
-                );
-                return writeln!(
-                    text,
-                    "expected: {byte:02x}, by {words}; bytes {first} to {last}"
-                );
-            }
+    let before = sources.order.get(..place).unwrap_or(&[]);
+    for (at, entry) in before.iter().enumerate().rev() {
+        if let Some(change) = touching(*entry, offset, sources.story) {
+            let Some(byte) = byte_by(change, offset, sources) else {
+                return Ok(());
+            };
+            write!(text, "expected: {byte:02x}, by ")?;
+            return add_served(text, change, at, *entry);
         }
     }
     match sources.start {
@@ -164,18 +174,29 @@ fn add_expected(
     }
 }
 
-// The byte that a request left at an offset.
-fn byte_by(change: &Request, offset: u64, sources: Sources<'_>) -> Option<u8> {
-    let index = offset.checked_sub(change.head.offset)?;
-    if index >= u64::from(change.head.length) {
-        return None;
+// The request of an entry that changes the export at an offset.
+fn touching(entry: Entry, offset: u64, story: &Story) -> Option<&Request> {
+    let request = story.request(entry.request)?;
+    let is_change = matches!(
+        request.head.command,
+        commands::WRITE | commands::TRIM | commands::WRITE_ZEROES
+    );
+    if is_change && request.asks(offset) && serves(entry, offset) {
+        Some(request)
+    } else {
+        None
     }
+}
+
+// The byte that a change left at an offset.
+fn byte_by(change: &Request, offset: u64, sources: Sources<'_>) -> Option<u8> {
     match (change.head.command, change.outcome()) {
         (commands::WRITE, Outcome::Success) => {
             let from = change
                 .asked
                 .before
                 .checked_add(head_lengths::REQUEST as u64)?;
+            let index = offset.checked_sub(change.head.offset)?;
             let bytes = sources
                 .recording
                 .bytes_at(Side::Client, from.checked_add(index)?, 1)?;

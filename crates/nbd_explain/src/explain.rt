@@ -23,6 +23,7 @@ use nbd_export::Start;
 use nbd_judge::{Verdict, conclude};
 use nbd_session::{Session, SessionFault};
 use nbd_tool::{Line, RunFault, StartFrom, is_yes, read_order, read_start, write_end};
+use nbd_wire::Entry;
 use std::alloc::{AllocError, Global};
 use std::io::{BufRead, Read, Write};
 
@@ -71,12 +72,12 @@ fn explain_verdict<O: Read + Drop, I: Read + Drop, W: Write>(
     let order = read_order(alloc, &mut order)?;
     let start = read_start(alloc, start)?;
     let kept = copy_of(alloc, &start)?;
-    let numbers = order.as_slice();
-    let verdict = verdict_on(alloc, session, numbers, start)?;
+    let entries = order.as_slice();
+    let verdict = verdict_on(alloc, session, entries, start)?;
     let sources = Sources {
         story,
         recording,
-        order: numbers,
+        order: entries,
         start: &kept,
     };
     write_explained(alloc, verdict, sources, out)
@@ -86,7 +87,7 @@ fn explain_verdict<O: Read + Drop, I: Read + Drop, W: Write>(
 fn verdict_on(
     alloc: Global,
     session: Session,
-    order: &[u64],
+    order: &[Entry],
     start: Start,
 ) -> Result<Verdict, AllocError>
     ensures { IfOk result (λ verdict. (capture : List Pair) → IsOver capture session →

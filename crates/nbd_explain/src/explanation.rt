@@ -3,12 +3,13 @@
 use crate::content::add_content;
 use crate::order::add_order;
 use crate::recording::Recording;
-use crate::story::Story;
+use crate::story::{Story, Told};
 use crate::wire::add_wire;
+use crate::words::bytes;
 use nbd_export::Start;
 use nbd_judge::Verdict;
 use nbd_names::{Breaker, IMAGE_RULE, Rule};
-use nbd_wire::Side;
+use nbd_wire::{Entry, Side};
 use std::alloc::{AllocError, Global};
 
 /// What an explanation looks at.
@@ -16,7 +17,7 @@ use std::alloc::{AllocError, Global};
 pub struct Sources<'a> {
     pub story: &'a Story,
     pub recording: &'a Recording,
-    pub order: &'a [u64],
+    pub order: &'a [Entry],
     pub start: &'a Start,
 }
 
@@ -38,13 +39,11 @@ pub fn explanation_of(
                 &IMAGE_RULE,
                 breaker_name(IMAGE_RULE.breaker, None),
             )?;
-            writeln!(
-                &mut text,
-                "sizes: the image has {image} bytes, the export {size}"
-            )?;
+            let (image, size) = (bytes(*image), bytes(*size));
+            writeln!(&mut text, "sizes: the image has {image}, the export {size}")?;
         }
         Verdict::Order { entry, fault } => {
-            add_order(&mut text, *entry, *fault, sources)?;
+            add_order(alloc, &mut text, *entry, *fault, sources)?;
         }
         Verdict::Content { request, offset } => {
             add_content(&mut text, *request, *offset, sources)?;
@@ -59,6 +58,12 @@ pub fn add_rule(text: &mut String, rule: &Rule, breaker: &str) -> Result<(), All
     writeln!(text, "rule: {sentence}")?;
     writeln!(text, "broken by: {breaker}")?;
     writeln!(text, "section: {section}")
+}
+
+/// Adds a message with its places.
+pub fn add_told(text: &mut String, label: &str, told: &Told) -> Result<(), AllocError> {
+    let (words, places) = (told.words, told.places());
+    writeln!(text, "{label}: {words}; {places}")
 }
 
 /// Who broke a rule; `sender` sent the byte at which that was seen.

@@ -4,6 +4,7 @@
 mod arrival;
 mod brief;
 mod content;
+mod entries;
 mod explain;
 mod explanation;
 mod listing;

@@ -2,12 +2,12 @@
 
 use crate::brief::{Brief, length_of};
 use crate::recording::Recording;
-use crate::words::{Numbered, Words};
+use crate::words::{Numbered, Places, Words};
 use nbd_wire::flags::{has, has_wide};
 use nbd_wire::{
-    Message, RequestHead, Side, answer_head, answers, choice_head, chunk_head, chunks,
+    Info, Message, RequestHead, Side, answer_head, answers, choice_head, chunk_head, chunks,
     client_flags_head, commands, export_head, failure_of, greeting_head, handshake, head_lengths,
-    options, request_head, side_of, simple_head,
+    info_of, options, request_head, side_of, simple_head,
 };
 use std::alloc::{AllocError, Global};
 use std::collections::BTreeMap;
@@ -23,6 +23,16 @@ pub struct Told {
     pub first: u64,
     /// The place of its last one.
     pub last: u64,
+}
+
+impl Told {
+    /// Its places.
+    pub fn places(&self) -> Places {
+        Places {
+            first: self.first,
+            last: self.last,
+        }
+    }
 }
 
 /// What became of a request.
@@ -50,6 +60,13 @@ pub struct Request {
 }
 
 impl Request {
+    /// Whether an offset of the export lies in its range.
+    pub fn asks(&self, offset: u64) -> bool {
+        offset
+            .checked_sub(self.head.offset)
+            .is_some_and(|index| index < u64::from(self.head.length))
+    }
+
     /// What became of it.
     pub fn outcome(&self) -> Outcome {
         match (self.finished, self.error) {
@@ -58,6 +75,13 @@ impl Request {
             (Some(_), Some(error)) => Outcome::Failure(error),
         }
     }
+}
+
+/// The size and the flags of an export.
+#[derive(Clone, Copy)]
+pub struct Export {
+    pub size: u64,
+    pub flags: u16,
 }
 
 /// The messages of a session, and its requests.
@@ -72,6 +96,8 @@ pub struct Story {
     pub client: u64,
     /// How many the server's have.
     pub server: u64,
+    /// What the server said last of an export.
+    pub export: Option<Export>,
     is_transmission: bool,
 }
 
@@ -88,6 +114,7 @@ impl Story {
             outstanding: BTreeMap::new(alloc),
             client: 0,
             server: 0,
+            export: None,
             is_transmission: false,
         };
         for message in messages {
@@ -128,6 +155,11 @@ impl Story {
         }
     }
 
+    /// The size of the export; 0 before it is known.
+    pub fn size(&self) -> u64 {
+        self.export.map_or(0, |export| export.size)
+    }
+
     /// The request with this number, from 1.
     pub fn request(&self, number: u64) -> Option<&Request> {
         self.requests.get(number.checked_sub(1)? as usize)
@@ -154,8 +186,15 @@ impl Story {
     // What a message changes: the phase, and what is known of a request.
     fn note(&mut self, message: &Message, told: &Told) -> Result<(), AllocError> {
         match (&told.words.brief, told.words.request) {
-            (Brief::Exported { .. }, _) => self.is_transmission = true,
+            (Brief::Exported { size, flags }, _) => {
+                self.export = Some(Export {
+                    size: *size,
+                    flags: *flags,
+                });
+                self.is_transmission = true;
+            }
             (Brief::Answer { option, kind, .. }, _) => {
+                self.export = export_in(message).or(self.export);
                 if *option == options::GO && *kind == answers::ACK {
                     self.is_transmission = true;
                 }
@@ -306,6 +345,19 @@ fn begun_reply(bytes: &[u8]) -> Option<Brief> {
     }
     let head = chunk_head(bytes.get(..head_lengths::CHUNK)?)?;
     Some(Brief::from(head))
+}
+
+// The export that an option reply states, if it states one.
+fn export_in(message: &Message) -> Option<Export> {
+    match message {
+        Message::Answer { kind, payload, .. } if *kind == answers::INFO => {
+            match info_of(payload.as_slice())? {
+                Info::Export { size, flags } => Some(Export { size, flags }),
+                _ => None,
+            }
+        }
+        _ => None,
+    }
 }
 
 // The error that a chunk tells, if it tells one.

@@ -1,6 +1,7 @@
 //! The bytes round a place of a capture.
 
 use crate::recording::Recording;
+use crate::words::Places;
 use nbd_wire::Side;
 use std::alloc::AllocError;
 
@@ -11,7 +12,8 @@ const AROUND: u64 = 16;
 pub fn add_window(text: &mut String, recording: &Recording, place: u64) -> Result<(), AllocError> {
     let first = place.saturating_sub(AROUND).max(1);
     let last = place.saturating_add(AROUND).min(recording.len());
-    write!(text, "bytes {first} to {last}:")?;
+    let places = Places { first, last };
+    write!(text, "{places}:")?;
     let mut line = None;
     for at in first..last.saturating_add(1) {
         if let Some((side, byte)) = recording.byte(at) {

@@ -1,10 +1,10 @@
 //! Why a session was refused while its bytes were read.
 
-use crate::explanation::{add_rule, breaker_name};
+use crate::explanation::{add_rule, add_told, breaker_name};
 use crate::recording::Recording;
 use crate::story::Story;
 use crate::window::add_window;
-use crate::words::{ByteCount, Numbered, Words};
+use crate::words::{Numbered, Places, Words, bytes};
 use nbd_names::wire_rule;
 use nbd_wire::{Side, WireFault};
 use std::alloc::AllocError;
@@ -36,8 +36,7 @@ pub fn add_wire(
         }
     }
     if let Some(told) = story.told.last() {
-        let (words, first, last) = (told.words, told.first, told.last);
-        writeln!(text, "before it: {words}; bytes {first} to {last}")?;
+        add_told(text, "before it", told)?;
     }
     add_window(text, recording, at)
 }
@@ -59,18 +58,20 @@ fn add_open(
     let first = recording.place(side, before);
     let rest = recording.bytes_up_to(side, before, recording.len());
     let Some(words) = story.begun(side, rest) else {
-        let (sender, count) = (name_of(side), ByteCount { count: taken });
+        let (sender, count) = (name_of(side), bytes(taken));
         let last = recording.place(side, before.saturating_add(taken).saturating_sub(1));
+        let places = Places { first, last };
         return writeln!(
             text,
-            "message: {count} of the {sender}, no whole head of a message; bytes {first} to {last}"
+            "message: {count} of the {sender}, no whole head of a message; {places}"
         );
     };
     let length = story.length_of(&words);
     let there = rest.len() as u64;
     if length <= there {
         let last = recording.place(side, before.saturating_add(length).saturating_sub(1));
-        writeln!(text, "message: {words}; bytes {first} to {last}")?;
+        let places = Places { first, last };
+        writeln!(text, "message: {words}; {places}")?;
     } else {
         writeln!(
             text,
@@ -119,14 +120,7 @@ fn add_request(
     story: &Story,
 ) -> Result<(), AllocError> {
     match story.request(numbered.number) {
-        Some(request) => {
-            let (words, first, last) = (
-                request.asked.words,
-                request.asked.first,
-                request.asked.last,
-            );
-            writeln!(text, "{label}: {words}; bytes {first} to {last}")
-        }
+        Some(request) => add_told(text, label, &request.asked),
         None => Ok(()),
     }
 }

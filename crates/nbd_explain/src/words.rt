@@ -3,7 +3,7 @@
 use crate::brief::Brief;
 use nbd_names::names::{CHUNKS, COMMANDS, ERRORS, OPTIONS, REPLIES};
 use nbd_names::{Flags, Named, flags, name_in};
-use nbd_wire::{RequestHead, commands};
+use nbd_wire::{Part, RequestHead, commands};
 use std::fmt;
 
 /// A numbered request by its type and its number: `READ #3`.
@@ -42,7 +42,7 @@ impl fmt::Display for Words {
                 write!(f, "client flags, {flags}")
             }
             Brief::Choice { id, length } => {
-                let (option, length) = (option_of(id), ByteCount { count: length });
+                let (option, length) = (option_of(id), bytes(length));
                 write!(f, "{option}, {length} of data")
             }
             Brief::Answer {
@@ -51,12 +51,12 @@ impl fmt::Display for Words {
                 length,
             } => {
                 let (option, kind) = (option_of(option), kind_of(kind));
-                let length = ByteCount { count: length };
+                let length = bytes(length);
                 write!(f, "reply to {option}: {kind}, {length} of data")
             }
             Brief::Exported { size, flags } => {
                 let flags = flags_of(flags::TRANSMISSION, u32::from(flags));
-                let size = ByteCount { count: size };
+                let size = bytes(size);
                 write!(f, "export of {size}, {flags}")
             }
             Brief::Request(head) => write_request(f, &head, self.request),
@@ -82,19 +82,77 @@ impl fmt::Display for Words {
     }
 }
 
-/// So many bytes: `1 byte`, `4 bytes`.
+/// So many of a thing: `1 byte`, `4 bytes`.
 #[derive(Clone, Copy, Drop)]
-pub struct ByteCount {
-    pub count: u64,
+pub struct Count {
+    count: u64,
+    noun: &'static str,
 }
 
-impl fmt::Display for ByteCount {
+impl fmt::Display for Count {
     fn fmt<W: fmt::Write>(&self, f: &mut fmt::Formatter<W>) -> fmt::Result {
-        let count = self.count;
+        let (count, noun) = (self.count, self.noun);
         if count == 1 {
-            write!(f, "1 byte")
+            write!(f, "1 {noun}")
         } else {
-            write!(f, "{count} bytes")
+            write!(f, "{count} {noun}s")
+        }
+    }
+}
+
+/// So many bytes.
+pub fn bytes(count: u64) -> Count {
+    Count {
+        count,
+        noun: "byte",
+    }
+}
+
+/// So many requests.
+pub fn requests(count: u64) -> Count {
+    Count {
+        count,
+        noun: "request",
+    }
+}
+
+/// So many bytes of an export from an offset on: `4 bytes at 8`.
+#[derive(Clone, Copy, Drop)]
+pub struct Range {
+    pub offset: u64,
+    pub length: u64,
+}
+
+impl From<Part> for Range {
+    fn from(part: Part) -> Range {
+        Range {
+            offset: part.offset,
+            length: part.length,
+        }
+    }
+}
+
+impl fmt::Display for Range {
+    fn fmt<W: fmt::Write>(&self, f: &mut fmt::Formatter<W>) -> fmt::Result {
+        let (offset, length) = (self.offset, bytes(self.length));
+        write!(f, "{length} at {offset}")
+    }
+}
+
+/// Places of a capture, counted from 1, from the first to the last: `byte 1`, `bytes 1 to 4`.
+#[derive(Clone, Copy, Drop)]
+pub struct Places {
+    pub first: u64,
+    pub last: u64,
+}
+
+impl fmt::Display for Places {
+    fn fmt<W: fmt::Write>(&self, f: &mut fmt::Formatter<W>) -> fmt::Result {
+        let (first, last) = (self.first, self.last);
+        if first == last {
+            write!(f, "byte {first}")
+        } else {
+            write!(f, "bytes {first} to {last}")
         }
     }
 }
@@ -135,10 +193,11 @@ fn write_request<W: fmt::Write>(
         write!(f, ", cookie {cookie:#x}")?;
     }
     if length != 0 || offset != 0 {
-        let length = ByteCount {
-            count: u64::from(length),
+        let range = Range {
+            offset,
+            length: u64::from(length),
         };
-        write!(f, ", {length} at {offset}")?;
+        write!(f, ", {range}")?;
     }
     if head.flags != 0 {
         let flags = flags_of(flags::COMMAND, u32::from(head.flags));
@@ -182,7 +241,7 @@ fn write_chunk<W: fmt::Write>(
         noun: "type",
         number: u32::from(kind),
     };
-    let length = ByteCount { count: length };
+    let length = bytes(length);
     write!(f, ": {kind}, {length} of payload")?;
     if flags != 0 {
         let flags = flags_of(flags::CHUNK, u32::from(flags));
