@@ -8,7 +8,7 @@ from collections import namedtuple
 from pathlib import Path
 
 from built import TOP, Ended, Room, Tally
-from messages import (DISC, FLUSH, SERVER, WRITE_ZEROES, answer, begun, chunk, client_flags, content, cut, done, export_info,
+from messages import (DISC, FLUSH, READ, SERVER, WRITE_ZEROES, answer, begun, chunk, client_flags, content, cut, done, export_info,
                       front, greeting, hole, option, read, request, simple, text, write)
 from test_cuts import SESSIONS
 
@@ -40,6 +40,7 @@ WIRE = {
     "export-too-large": Session(begun(size=2**63)),
     "cookie-in-use": Session([*ASKED, read(1, 4, 4)]),
     "unknown-cookie": Session([*ASKED, simple(2, bytes(4))]),
+    "unknown-cookie-of-an-answered-request": Session([*ASKED, simple(1, bytes(4)), simple(1, bytes(4))]),
     "unknown-cookie-of-a-request-under-way": Session(
         [*begun(), cut(write(1, 0, b"\xab\xcd"), 29)[0], cut(simple(1), 1)[0], cut(write(1, 0, b"\xab\xcd"), 29)[1],
          cut(simple(1), 1)[1]]),
@@ -47,7 +48,11 @@ WIRE = {
     "chunk-forbidden": Session([*ASKED, done(1)]),
     "bad-chunk": Session([*CHUNKED, hole(1, 0, 0)]),
     "bad-content": Session([*CHUNKED, content(1, 0, b"\1\2\3"), content(1, 2, b"\4\5")]),
+    "bad-content-twice-under-df": Session(
+        [*begun(structured=True, flags=0xED), request(READ, 1, 0, 4, flags=4), content(1, 0, b"\1\2"), content(1, 2, b"\3\4")]),
+    "bad-content-of-an-error": Session([*CHUNKED, chunk(1, 0x8002, b"\0\0\0\x05\0\0\0\0\0\0\0\0\0\4", flags=1)]),
     "incomplete-read": Session([*CHUNKED, content(1, 0, b"\1\2\3"), done(1)]),
+    "incomplete-read-between-chunks": Session([*CHUNKED, hole(1, 3, 1), chunk(1, 1, bytes(8) + b"\1", flags=1)]),
     "success-of-improper": Session([*begun(), read(1, 8, 4), simple(1, bytes(4))]),
     "bad-disconnect": Session([*begun(), request(DISC, 0, 0, 1)]),
     "unfinished": Session([*ASKED, cut(simple(1, bytes(4)), 19)[0]]),
@@ -55,13 +60,34 @@ WIRE = {
 }
 TIMED = [*begun(), read(1, 0, 4), simple(1, bytes(4)), write(2, 0, b"\xab"), simple(2)]
 FOUND = [*begun(), read(1, 3, 2), simple(1, b"\0\x07")]
+# A READ that leaves an export of 8 bytes.
+BEYOND = [*begun(), read(1, 6, 4), simple(1, error=22)]
+# Two WRITEs and a READ that are outstanding together: ab cd and 11 22 at 0, and 11 22 00 00 came.
+OVERLAPPED = [*begun(), write(1, 0, b"\xab\xcd"), write(2, 0, b"\x11\x22"), read(3, 0, 4), simple(1), simple(2),
+              simple(3, b"\x11\x22\0\0")]
 JUDGED = {
     "yes": Session(WRITTEN, "1\n2\n"),
     "no-such-request": Session(WRITTEN, "1\n3\n"),
     "twice": Session(WRITTEN, "1\n2\n1\n"),
     "late": Session(TIMED, "2\n1\n"),
     "missing": Session(WRITTEN, "1\n"),
+    "twice-at-once-after-a-part": Session(WRITTEN, "1 0 1\n2\n1\n"),
+    "twice-in-part-after-at-once": Session(WRITTEN, "1\n1 0 1\n2\n"),
+    "no-such-request-in-part": Session([*begun(), read(1, 0, 1)], "2 0 1\n"),
+    "late-in-parts": Session(TIMED, "2 0 1\n1 0 2\n1 2 2\n"),
+    "bad-part-empty": Session(WRITTEN, "1 1 0\n"),
+    "bad-part-outside-the-range": Session(WRITTEN, "1 1 2\n"),
+    "bad-part-before-the-range": Session(FOUND, "1 1 3\n"),
+    "bad-part-beyond-the-export": Session(BEYOND, "1 6 4\n"),
+    "bad-part-all-beyond-the-export": Session([*begun(), read(1, 8, 4), simple(1, error=22)], "1 8 4\n"),
+    "bad-part-shared": Session(WRITTEN, "1\n2 3 1\n2 1 1\n2 0 4\n"),
+    "bad-part-shared-and-outside": Session(WRITTEN, "1 0 1\n1 0 3\n"),
+    "bad-part-of-a-flush": Session([*begun(), request(FLUSH, 1, 0, 0)], "1 0 1\n"),
+    "not-covered": Session(WRITTEN, "1 1 1\n2 1 1\n2 3 1\n1 0 1\n"),
+    "not-covered-at-its-beginning": Session(WRITTEN, "1 1 1\n2\n"),
+    "not-covered-in-the-export": Session(BEYOND, "1 6 1\n"),
     "image": Session(WRITTEN, "1\n2\n", "image:9"),
+    "image-of-one-byte": Session(WRITTEN, "1\n2\n", "image:1"),
     "content": Session(MISREAD, "1\n2\n"),
     "content-of-zeroes": Session(FOUND, "1\n"),
     "content-of-an-image": Session(FOUND, "1\n", "image:8"),
@@ -71,6 +97,9 @@ JUDGED = {
     "content-in-a-hole": Session(
         [*begun(structured=True), write(1, 1, b"\7"), simple(1), read(2, 0, 4), content(2, 2, b"\0\0"), hole(2, 0, 2), done(2)],
         "1\n2\n"),
+    "content-in-parts": Session(OVERLAPPED, "1 0 1\n2\n1 1 1\n3 0 2\n3 2 2\n"),
+    "content-of-another-part": Session(OVERLAPPED, "1 1 1\n3 3 1\n2 1 1\n1 0 1\n3 0 3\n2 0 1\n"),
+    "content-of-the-start-in-parts": Session(OVERLAPPED, "1 0 1\n3 1 1\n2\n1 1 1\n3 0 1\n3 2 2\n"),
 }
 
 # Every kind of message; a READ that failed, one that is pending, requests and options that proto.md has no name for.
@@ -88,7 +117,8 @@ S reply to NBD_OPT_STRUCTURED_REPLY (8): NBD_REP_ACK (1), 0 bytes of data
 C option 99, 0 bytes of data
 S reply to option 99: NBD_REP_ERR_UNSUP (2147483649), 5 bytes of data
 C NBD_OPT_GO (7), 6 bytes of data
-S reply to NBD_OPT_GO (7): NBD_REP_INFO (3), 12 bytes of data
+S reply to NBD_OPT_GO (7): NBD_REP_INFO (3), 12 bytes of data, NBD_INFO_EXPORT (0): 8 bytes, \
+HAS_FLAGS SEND_FLUSH SEND_FUA SEND_TRIM SEND_WRITE_ZEROES (0x6d)
 S reply to NBD_OPT_GO (7): NBD_REP_ACK (1), 0 bytes of data
 C WRITE #1, cookie 0x1, 2 bytes at 0: success
 S simple reply to WRITE #1, cookie 0x1: success

@@ -3,6 +3,7 @@ use Rattle.std.proofs.Common.{◌≡◌, ◌↔◌, ℕ, List, ◌++◌, Bool, t
 use Rattle.std.specs.Fmt.{decimal}
 use Rattle.std.specs.declared.alloc.AllocError.{AllocError}
 use Rattle.std.specs.Io.KnownBytes.{Appends, Keeps}
+use Rattle.nbd_wire.specs.declared.entry.Entry.{Entry}
 use Rattle.nbd_wire.specs.declared.fault.WireFault.{WireFault}
 use Rattle.nbd_wire.specs.protocol.Captures.{Pair}
 use Rattle.nbd_wire.specs.protocol.Explains.{Start}
@@ -31,7 +32,7 @@ use Rattle.nbd_explain.specs.Explained.{BeginsWithLine, Explains, IsExplainCause
 use Rattle.nbd_explain.specs.Settled.{Settles}
 
 -- the conclusion from a session, if memory suffices
-pub checked_if : (r : SessionView) (order : List ℕ) (initial : Start) (finished : Result Report SessionFault) (o : Result Verdict AllocError) →
+pub checked_if : (r : SessionView) (order : List Entry) (initial : Start) (finished : Result Report SessionFault) (o : Result Verdict AllocError) →
     fault_of finished ≡ fault_at_end r → IfOk finished (IsReported r) → IfErr finished (EndsIn r) → IfOk o (IsConclusion finished order initial) →
     IfOk o (λ v. (items : List Item) → IsRun items → IsReportOf items finished → Answers (pairs items) order initial v) →
     IfOk o (λ v. (capture : List Pair) → IsOver capture r → IsChecked capture order initial v)

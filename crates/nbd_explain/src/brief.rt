@@ -1,6 +1,9 @@
 //! Messages without their payloads.
 
-use nbd_wire::{AnswerHead, ChoiceHead, ChunkHead, Message, RequestHead, SimpleHead, head_lengths};
+use nbd_wire::{
+    AnswerHead, ChoiceHead, ChunkHead, Info, Message, RequestHead, SimpleHead, answers,
+    head_lengths, info_of,
+};
 
 /// A message without its payload, and of some messages the payload's length.
 #[derive(Clone, Copy)]
@@ -19,6 +22,8 @@ pub enum Brief {
         option: u32,
         kind: u32,
         length: u64,
+        /// What an INFO states.
+        info: Option<Info>,
     },
     Exported {
         size: u64,
@@ -49,6 +54,7 @@ impl From<AnswerHead> for Brief {
             option: head.option,
             kind: head.kind,
             length: u64::from(head.length),
+            info: None,
         }
     }
 }
@@ -82,6 +88,7 @@ impl Brief {
                 option: *option,
                 kind: *kind,
                 length: payload.as_slice().len() as u64,
+                info: info_in(*kind, payload.as_slice()),
             },
             Message::Exported { size, flags, .. } => Brief::Exported {
                 size: *size,
@@ -127,6 +134,15 @@ impl Brief {
             Brief::Chunk { cookie, .. } => Some(*cookie),
             _ => None,
         }
+    }
+}
+
+// What an option reply of this kind states, if it is an INFO.
+fn info_in(kind: u32, payload: &[u8]) -> Option<Info> {
+    if kind == answers::INFO {
+        info_of(payload)
+    } else {
+        None
     }
 }
 

@@ -3,6 +3,7 @@
 use crate::brief::Brief;
 use crate::entries::serves;
 use crate::explanation::{Sources, add_rule, add_told};
+use crate::recording::Recording;
 use crate::story::{Outcome, Request, Story, Told};
 use crate::window::add_window;
 use crate::words::Range;
@@ -32,11 +33,8 @@ pub fn add_content(
         &CONTENT_RULE,
         "the server, if it served in this order",
     )?;
-    let served = sources
-        .order
-        .iter()
-        .enumerate()
-        .find(|(_, entry)| entry.request == number && serves(**entry, offset));
+    let served = sources.order.iter().enumerate().find(|(_, entry)| entry.request == number
+        && serves(**entry, offset));
     let (Some((place, entry)), Some(request)) = (served, sources.story.request(number)) else {
         return Ok(());
     };
@@ -46,7 +44,10 @@ pub fn add_content(
     if let Some(came) = came {
         let (byte, place) = (came.byte, came.place);
         add_told(text, "reply", &came.reply)?;
-        writeln!(text, "came: {byte:02x} for offset {offset}, at byte {place}")?;
+        writeln!(
+            text,
+            "came: {byte:02x} for offset {offset}, at byte {place}"
+        )?;
     }
     add_expected(text, place, offset, sources)?;
     match came {
@@ -76,20 +77,13 @@ fn add_served(
 // The byte that a request got for an offset.
 fn found_byte(request: &Request, offset: u64, sources: Sources<'_>) -> Option<Came> {
     for told in &sources.story.told {
-        if told.side == Side::Server && answers(told, request) {
+        if told.answers(request) {
             if let Some(came) = found_in(told, request, offset, sources) {
                 return Some(came);
             }
         }
     }
     None
-}
-
-fn answers(told: &Told, request: &Request) -> bool {
-    match told.words.request {
-        Some(numbered) => numbered.number == request.numbered.number,
-        None => false,
-    }
 }
 
 // The byte for an offset in one message of a reply.
@@ -99,9 +93,8 @@ fn found_in(told: &Told, request: &Request, offset: u64, sources: Sources<'_>) -
             let index = offset.checked_sub(request.head.offset)?;
             found_at(told, head_lengths::SIMPLE as u64, index, sources)
         }
-        Brief::Chunk { kind, length, .. } => {
-            let from = told.before.checked_add(head_lengths::CHUNK as u64)?;
-            let payload = sources.recording.bytes_at(Side::Server, from, length)?;
+        Brief::Chunk { .. } => {
+            let (kind, payload) = payload_of(&told.words.brief, told.before, sources.recording)?;
             match content_of(kind, payload)? {
                 Content::Bytes {
                     offset: begin,
@@ -127,6 +120,21 @@ fn found_in(told: &Told, request: &Request, offset: u64, sources: Sources<'_>) -
                     }
                 }
             }
+        }
+        _ => None,
+    }
+}
+
+/// The type and the payload of a chunk that has so many of the server's bytes before it.
+pub fn payload_of<'a>(
+    brief: &Brief,
+    before: u64,
+    recording: &'a Recording,
+) -> Option<(u16, &'a [u8])> {
+    match brief {
+        Brief::Chunk { kind, length, .. } => {
+            let from = before.checked_add(head_lengths::CHUNK as u64)?;
+            Some((*kind, recording.bytes_at(Side::Server, from, *length)?))
         }
         _ => None,
     }

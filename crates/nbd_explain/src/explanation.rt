@@ -31,7 +31,7 @@ pub fn explanation_of(
     match verdict {
         Verdict::Yes { .. } => {}
         Verdict::Wire { at, fault } => {
-            add_wire(&mut text, *at, *fault, sources.story, sources.recording)?;
+            add_wire(alloc, &mut text, *at, *fault, sources)?;
         }
         Verdict::Image { image, size } => {
             add_rule(

@@ -9,8 +9,10 @@ mod explain;
 mod explanation;
 mod listing;
 mod order;
+mod parts;
 mod reading;
 mod recording;
+mod related;
 mod story;
 #[cfg(test)]
 mod tests;

@@ -1,7 +1,8 @@
 //! Why no session with these bytes is served in an order.
 
-use crate::entries::{add_entry, first_gap, first_outside, first_shared, inside};
+use crate::entries::{add_entry, first_shared, inside, parts_of};
 use crate::explanation::{Sources, add_rule, breaker_name};
+use crate::parts::{first_gap, first_outside};
 use crate::story::{Request, Story};
 use crate::words::{Range, bytes, requests};
 use nbd_judge::OrderFault;
@@ -146,13 +147,19 @@ fn add_range(text: &mut String, request: &Request, story: &Story) -> Result<(), 
     if inside.size == length {
         writeln!(text, "range: {range}, in an export of {size}")
     } else if inside.size == 0 {
-        writeln!(text, "range: {range}, beyond the end of an export of {size}")
+        writeln!(
+            text,
+            "range: {range}, beyond the end of an export of {size}"
+        )
     } else {
         let inside = Range {
             offset: inside.offset,
             length: inside.size,
         };
-        writeln!(text, "range: {range}, of which {inside} lie in an export of {size}")
+        writeln!(
+            text,
+            "range: {range}, of which {inside} lie in an export of {size}"
+        )
     }
 }
 
@@ -171,12 +178,12 @@ fn add_part(
         writeln!(text, "wrong: the part is empty")?;
     }
     if let Some(offset) = first_outside(part, inside(request, sources.story)) {
-        let where_to = if has_range(request.head.command) && request.asks(offset) {
+        let side = if has_range(request.head.command) && request.asks(offset) {
             "beyond the end of the export"
         } else {
             "outside the request's range"
         };
-        writeln!(text, "wrong: offset {offset} of the part lies {where_to}")?;
+        writeln!(text, "wrong: offset {offset} of the part lies {side}")?;
     }
     let before = sources.order.get(..place).unwrap_or(&[]);
     if let Some((offset, at)) = first_shared(before, entry.request, part) {
@@ -197,9 +204,12 @@ fn add_gap(
 ) -> Result<(), AllocError> {
     add_moments(text, "request", request)?;
     add_range(text, request, sources.story)?;
-    let within = inside(request, sources.story);
-    match first_gap(alloc, sources.order, request.numbered.number, within)? {
-        Some(gap) => writeln!(text, "first gap: {gap}, which no part serves"),
+    let parts = parts_of(alloc, sources.order, request.numbered.number)?;
+    match first_gap(parts, inside(request, sources.story))? {
+        Some(gap) => {
+            let range = Range::from(gap);
+            writeln!(text, "first gap: {range}, which no part serves")
+        }
         None => Ok(()),
     }
 }

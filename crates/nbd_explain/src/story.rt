@@ -2,12 +2,12 @@
 
 use crate::brief::{Brief, length_of};
 use crate::recording::Recording;
-use crate::words::{Numbered, Places, Words};
+use crate::words::{Export, Numbered, Places, Words};
 use nbd_wire::flags::{has, has_wide};
 use nbd_wire::{
     Info, Message, RequestHead, Side, answer_head, answers, choice_head, chunk_head, chunks,
     client_flags_head, commands, export_head, failure_of, greeting_head, handshake, head_lengths,
-    info_of, options, request_head, side_of, simple_head,
+    options, request_head, side_of, simple_head,
 };
 use std::alloc::{AllocError, Global};
 use std::collections::BTreeMap;
@@ -32,6 +32,15 @@ impl Told {
             first: self.first,
             last: self.last,
         }
+    }
+
+    /// Whether it answers this request.
+    pub fn answers(&self, request: &Request) -> bool {
+        self.side == Side::Server
+            && self
+                .words
+                .request
+                .is_some_and(|numbered| numbered.number == request.numbered.number)
     }
 }
 
@@ -77,13 +86,6 @@ impl Request {
     }
 }
 
-/// The size and the flags of an export.
-#[derive(Clone, Copy)]
-pub struct Export {
-    pub size: u64,
-    pub flags: u16,
-}
-
 /// The messages of a session, and its requests.
 #[derive(Drop)]
 pub struct Story {
@@ -98,7 +100,8 @@ pub struct Story {
     pub server: u64,
     /// What the server said last of an export.
     pub export: Option<Export>,
-    is_transmission: bool,
+    /// Whether the negotiation is over.
+    pub is_transmission: bool,
 }
 
 impl Story {
@@ -193,8 +196,16 @@ impl Story {
                 });
                 self.is_transmission = true;
             }
-            (Brief::Answer { option, kind, .. }, _) => {
-                self.export = export_in(message).or(self.export);
+            (
+                Brief::Answer {
+                    option,
+                    kind,
+                    info,
+                    ..
+                },
+                _,
+            ) => {
+                self.export = export_in(*info).or(self.export);
                 if *option == options::GO && *kind == answers::ACK {
                     self.is_transmission = true;
                 }
@@ -347,16 +358,11 @@ fn begun_reply(bytes: &[u8]) -> Option<Brief> {
     Some(Brief::from(head))
 }
 
-// The export that an option reply states, if it states one.
-fn export_in(message: &Message) -> Option<Export> {
-    match message {
-        Message::Answer { kind, payload, .. } if *kind == answers::INFO => {
-            match info_of(payload.as_slice())? {
-                Info::Export { size, flags } => Some(Export { size, flags }),
-                _ => None,
-            }
-        }
-        _ => None,
+// The export that an info states, if it is one on the export.
+fn export_in(info: Option<Info>) -> Option<Export> {
+    match info? {
+        Info::Export { size, flags } => Some(Export { size, flags }),
+        Info::BlockSize { .. } | Info::Other { .. } => None,
     }
 }
 

@@ -27,10 +27,10 @@ no content request 2 offset 1
 rule: Each byte of a READ that succeeded is the byte that the export held when the READ was served.
 broken by: the server, if it served in this order
 section: proto.md, \"Request types\"
-message: READ #2, cookie 0x2, 4 bytes at 0; bytes 143 to 170
+message: READ #2, cookie 0x2, 4 bytes at 0; bytes 143 to 170; served by entry 2
 reply: simple reply to READ #2, cookie 0x2: success; bytes 171 to 190
 came: ce for offset 1, at byte 188
-expected: cd, by WRITE #1, cookie 0x1, 2 bytes at 0; bytes 97 to 126
+expected: cd, by WRITE #1, cookie 0x1, 2 bytes at 0; bytes 97 to 126; served by entry 1
 bytes 172 to 190:
   S 44 66 98 00 00 00 00 00 00 00 00 00 00 00 02 ab [ce] 00 00
 1";

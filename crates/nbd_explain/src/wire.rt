@@ -1,25 +1,23 @@
 //! Why a session was refused while its bytes were read.
 
-use crate::explanation::{add_rule, add_told, breaker_name};
-use crate::recording::Recording;
+use crate::explanation::{Sources, add_rule, add_told, breaker_name};
+use crate::related::add_related;
 use crate::story::Story;
 use crate::window::add_window;
-use crate::words::{Numbered, Places, Words, bytes};
+use crate::words::{Places, bytes};
 use nbd_names::wire_rule;
 use nbd_wire::{Side, WireFault};
-use std::alloc::AllocError;
-
-/// How many outstanding requests are listed.
-const LISTED: usize = 8;
+use std::alloc::{AllocError, Global};
 
 /// Adds why the byte at this place was refused.
 pub fn add_wire(
+    alloc: Global,
     text: &mut String,
     at: u64,
     fault: WireFault,
-    story: &Story,
-    recording: &Recording,
+    sources: Sources<'_>,
 ) -> Result<(), AllocError> {
+    let (story, recording) = (sources.story, sources.recording);
     let rule = wire_rule(fault);
     let sender = recording.byte(at).map(|(side, _)| side);
     match fault {
@@ -32,7 +30,7 @@ pub fn add_wire(
     }
     for side in [Side::Client, Side::Server] {
         if fault == WireFault::Unfinished || sender == Some(side) {
-            add_open(text, side, at, fault, story, recording)?;
+            add_open(alloc, text, side, at, fault, sources)?;
         }
     }
     if let Some(told) = story.told.last() {
@@ -43,13 +41,14 @@ pub fn add_wire(
 
 // The message of a side that was not complete, where there is one.
 fn add_open(
+    alloc: Global,
     text: &mut String,
     side: Side,
     at: u64,
     fault: WireFault,
-    story: &Story,
-    recording: &Recording,
+    sources: Sources<'_>,
 ) -> Result<(), AllocError> {
+    let (story, recording) = (sources.story, sources.recording);
     let before = story.count(side);
     let taken = recording.bytes_up_to(side, before, at).len() as u64;
     if taken == 0 {
@@ -61,6 +60,14 @@ fn add_open(
         let (sender, count) = (name_of(side), bytes(taken));
         let last = recording.place(side, before.saturating_add(taken).saturating_sub(1));
         let places = Places { first, last };
+        if fault == WireFault::BadMagic {
+            writeln!(
+                text,
+                "message: {count} of the {sender}, the beginning of none; {places}"
+            )?;
+            let wanted = magics_of(side, story);
+            return writeln!(text, "expected: {wanted}");
+        }
         return writeln!(
             text,
             "message: {count} of the {sender}, no whole head of a message; {places}"
@@ -78,31 +85,7 @@ fn add_open(
             "message: {words}; from byte {first} on, {there} of its {length} bytes"
         )?;
     }
-    add_related(text, side, fault, &words, story)
-}
-
-// The requests that a refused message is to be compared with.
-fn add_related(
-    text: &mut String,
-    side: Side,
-    fault: WireFault,
-    words: &Words,
-    story: &Story,
-) -> Result<(), AllocError> {
-    let holder = words
-        .brief
-        .cookie()
-        .and_then(|cookie| story.answered(cookie));
-    match (fault, holder) {
-        (WireFault::UnknownCookie, _) => add_outstanding(text, story),
-        (WireFault::CookieInUse, Some(numbered)) => {
-            add_request(text, "outstanding", numbered, story)
-        }
-        (_, Some(numbered)) if side == Side::Server => {
-            add_request(text, "request", numbered, story)
-        }
-        _ => Ok(()),
-    }
+    add_related(alloc, text, side, fault, &words, sources)
 }
 
 fn name_of(side: Side) -> &'static str {
@@ -112,35 +95,14 @@ fn name_of(side: Side) -> &'static str {
     }
 }
 
-// A request in words, with its places.
-fn add_request(
-    text: &mut String,
-    label: &str,
-    numbered: Numbered,
-    story: &Story,
-) -> Result<(), AllocError> {
-    match story.request(numbered.number) {
-        Some(request) => add_told(text, label, &request.asked),
-        None => Ok(()),
-    }
-}
-
-// The first outstanding requests, and how many more there are.
-fn add_outstanding(text: &mut String, story: &Story) -> Result<(), AllocError> {
-    let mut listed = 0;
-    for request in &story.requests {
-        if request.finished.is_none() && listed < LISTED {
-            add_request(text, "outstanding", request.numbered, story)?;
-            listed += 1;
-        }
-    }
-    let count = story.outstanding.len();
-    if count == 0 {
-        writeln!(text, "outstanding: no request")
-    } else if count > listed {
-        let more = count - listed;
-        writeln!(text, "outstanding: {more} more")
-    } else {
-        Ok(())
+// The magic numbers with which a side's next message can begin.
+fn magics_of(side: Side, story: &Story) -> &'static str {
+    match (side, story.is_transmission) {
+        (Side::Client, false) => "49484156454f5054, of an option",
+        (Side::Client, true) => "25609513, of a request",
+        (Side::Server, false) if story.server == 0 =>
+            "4e42444d4147494349484156454f5054, of a greeting",
+        (Side::Server, false) => "0003e889045565a9, of an option reply",
+        (Side::Server, true) => "67446698, of a simple reply, or 668e33ef, of a chunk",
     }
 }

@@ -1,9 +1,9 @@
 //! Messages in words.
 
 use crate::brief::Brief;
-use nbd_names::names::{CHUNKS, COMMANDS, ERRORS, OPTIONS, REPLIES};
+use nbd_names::names::{CHUNKS, COMMANDS, ERRORS, INFOS, OPTIONS, REPLIES};
 use nbd_names::{Flags, Named, flags, name_in};
-use nbd_wire::{Part, RequestHead, commands};
+use nbd_wire::{Info, Part, RequestHead, commands, infos};
 use std::fmt;
 
 /// A numbered request by its type and its number: `READ #3`.
@@ -49,15 +49,19 @@ impl fmt::Display for Words {
                 option,
                 kind,
                 length,
+                info,
             } => {
                 let (option, kind) = (option_of(option), kind_of(kind));
                 let length = bytes(length);
-                write!(f, "reply to {option}: {kind}, {length} of data")
+                write!(f, "reply to {option}: {kind}, {length} of data")?;
+                match info {
+                    Some(info) => write_info(f, info),
+                    None => Ok(()),
+                }
             }
             Brief::Exported { size, flags } => {
-                let flags = flags_of(flags::TRANSMISSION, u32::from(flags));
-                let size = bytes(size);
-                write!(f, "export of {size}, {flags}")
+                let export = Export { size, flags };
+                write!(f, "export of {export}")
             }
             Brief::Request(head) => write_request(f, &head, self.request),
             Brief::Simple(head) => {
@@ -79,6 +83,23 @@ impl fmt::Display for Words {
                 write_chunk(f, kind, length, flags)
             }
         }
+    }
+}
+
+/// The size and the flags of an export: `8 bytes, HAS_FLAGS (0x1)`.
+#[derive(Clone, Copy, Drop)]
+pub struct Export {
+    pub size: u64,
+    pub flags: u16,
+}
+
+impl fmt::Display for Export {
+    fn fmt<W: fmt::Write>(&self, f: &mut fmt::Formatter<W>) -> fmt::Result {
+        let (size, flags) = (
+            bytes(self.size),
+            flags_of(flags::TRANSMISSION, u32::from(self.flags)),
+        );
+        write!(f, "{size}, {flags}")
     }
 }
 
@@ -170,6 +191,39 @@ fn kind_of(number: u32) -> Named {
         table: REPLIES,
         noun: "kind",
         number,
+    }
+}
+
+fn info_kind(number: u16) -> Named {
+    Named {
+        table: INFOS,
+        noun: "info",
+        number: u32::from(number),
+    }
+}
+
+// What an INFO states, behind a comma.
+fn write_info<W: fmt::Write>(f: &mut fmt::Formatter<W>, info: Info) -> fmt::Result {
+    match info {
+        Info::Export { size, flags } => {
+            let (kind, export) = (info_kind(infos::EXPORT), Export { size, flags });
+            write!(f, ", {kind}: {export}")
+        }
+        Info::BlockSize {
+            least,
+            preferred,
+            most,
+        } => {
+            let kind = info_kind(infos::BLOCK_SIZE);
+            write!(
+                f,
+                ", {kind}: at least {least}, preferred {preferred}, at most {most}"
+            )
+        }
+        Info::Other { kind } => {
+            let kind = info_kind(kind);
+            write!(f, ", {kind}")
+        }
     }
 }
 

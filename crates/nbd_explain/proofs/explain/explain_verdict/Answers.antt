@@ -13,5 +13,5 @@ returns-clause-written g c =
     c.in_ok-verdict.verdict c.write_explained.result c.write_explained.ensures.answer c.write_explained.ensures.written
     (λ known over. verdict_on known (g.O.Read.remaining c.args.order) (initial_from g.I.Read.remaining c.args.start) over.chunks c.in_ok-order.order.items (initial_of c.in_ok-start.start)
     c.in_ok-verdict.verdict over.is_text c.in_ok-order.ensures.text c.in_ok-start.ensures.read
-    (subst (λ order. IsChecked (flat_of over.chunks) order (initial_of c.in_ok-start.start) c.in_ok-verdict.verdict) c.as_slice-numbers.ensures.value
+    (subst (λ order. IsChecked (flat_of over.chunks) order (initial_of c.in_ok-start.start) c.in_ok-verdict.verdict) c.as_slice-entries.ensures.value
     (c.in_ok-verdict.ensures (flat_of over.chunks) over.over)))
