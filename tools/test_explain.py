@@ -83,7 +83,7 @@ JUDGED = {
     "bad-part-shared": Session(WRITTEN, "1\n2 3 1\n2 1 1\n2 0 4\n"),
     "bad-part-shared-and-outside": Session(WRITTEN, "1 0 1\n1 0 3\n"),
     "bad-part-of-a-flush": Session([*begun(), request(FLUSH, 1, 0, 0)], "1 0 1\n"),
-    "not-covered": Session(WRITTEN, "1 1 1\n2 1 1\n2 3 1\n1 0 1\n"),
+    "not-covered": Session(OVERLAPPED, "3 3 1\n1\n2\n3 0 1\n"),
     "not-covered-at-its-beginning": Session(WRITTEN, "1 1 1\n2\n"),
     "not-covered-in-the-export": Session(BEYOND, "1 6 1\n"),
     "image": Session(WRITTEN, "1\n2\n", "image:9"),

@@ -1,8 +1,8 @@
 //! Messages without their payloads.
 
 use nbd_wire::{
-    AnswerHead, ChoiceHead, ChunkHead, Info, Message, RequestHead, SimpleHead, answers,
-    head_lengths, info_of,
+    AnswerHead, ChoiceHead, ChunkHead, Content, Failure, Info, Message, Part, RequestHead,
+    SimpleHead, answers, content_of, failure_of, head_lengths, info_of,
 };
 
 /// A message without its payload, and of some messages the payload's length.
@@ -36,7 +36,16 @@ pub enum Brief {
         kind: u16,
         cookie: u64,
         length: u64,
+        brought: Option<Brought>,
     },
+}
+
+/// What a chunk brings.
+#[derive(Clone, Copy)]
+pub enum Brought {
+    /// Content that lies there.
+    Content(Part),
+    Failure(Failure),
 }
 
 impl From<ChoiceHead> for Brief {
@@ -48,29 +57,30 @@ impl From<ChoiceHead> for Brief {
     }
 }
 
-impl From<AnswerHead> for Brief {
-    fn from(head: AnswerHead) -> Brief {
+impl Brief {
+    /// An option reply with this head, and what it states, where the bytes behind the head have its data.
+    pub fn of_answer(head: AnswerHead, rest: &[u8]) -> Brief {
+        let payload = rest.get(..head.length as usize);
         Brief::Answer {
             option: head.option,
             kind: head.kind,
             length: u64::from(head.length),
-            info: None,
+            info: payload.and_then(|payload| info_in(head.kind, payload)),
         }
     }
-}
 
-impl From<ChunkHead> for Brief {
-    fn from(head: ChunkHead) -> Brief {
+    /// A chunk with this head, and what it brings, where the bytes behind the head have its payload.
+    pub fn of_chunk(head: ChunkHead, rest: &[u8]) -> Brief {
+        let payload = rest.get(..head.length as usize);
         Brief::Chunk {
             flags: head.flags,
             kind: head.kind,
             cookie: head.cookie,
             length: u64::from(head.length),
+            brought: payload.and_then(|payload| brought_in(head.kind, payload)),
         }
     }
-}
 
-impl Brief {
     /// A message without its payload.
     pub fn of(message: &Message) -> Brief {
         match message {
@@ -122,6 +132,7 @@ impl Brief {
                 kind: *kind,
                 cookie: *cookie,
                 length: payload.as_slice().len() as u64,
+                brought: brought_in(*kind, payload.as_slice()),
             },
         }
     }
@@ -143,6 +154,21 @@ fn info_in(kind: u32, payload: &[u8]) -> Option<Info> {
         info_of(payload)
     } else {
         None
+    }
+}
+
+// What a chunk of this type brings.
+fn brought_in(kind: u16, payload: &[u8]) -> Option<Brought> {
+    match content_of(kind, payload) {
+        Some(Content::Bytes { offset, bytes }) => Some(Brought::Content(Part {
+            offset,
+            length: bytes.len() as u64,
+        })),
+        Some(Content::Hole { offset, size }) => Some(Brought::Content(Part {
+            offset,
+            length: u64::from(size),
+        })),
+        None => Some(Brought::Failure(failure_of(kind, payload)?)),
     }
 }
 

@@ -94,7 +94,7 @@ fn found_in(told: &Told, request: &Request, offset: u64, sources: Sources<'_>) -
             found_at(told, head_lengths::SIMPLE as u64, index, sources)
         }
         Brief::Chunk { .. } => {
-            let (kind, payload) = payload_of(&told.words.brief, told.before, sources.recording)?;
+            let (kind, payload) = payload_of(told, sources.recording)?;
             match content_of(kind, payload)? {
                 Content::Bytes {
                     offset: begin,
@@ -125,16 +125,12 @@ fn found_in(told: &Told, request: &Request, offset: u64, sources: Sources<'_>) -
     }
 }
 
-/// The type and the payload of a chunk that has so many of the server's bytes before it.
-pub fn payload_of<'a>(
-    brief: &Brief,
-    before: u64,
-    recording: &'a Recording,
-) -> Option<(u16, &'a [u8])> {
-    match brief {
+// The type and the payload of a chunk.
+fn payload_of<'a>(told: &Told, recording: &'a Recording) -> Option<(u16, &'a [u8])> {
+    match told.words.brief {
         Brief::Chunk { kind, length, .. } => {
-            let from = before.checked_add(head_lengths::CHUNK as u64)?;
-            Some((*kind, recording.bytes_at(Side::Server, from, *length)?))
+            let from = told.before.checked_add(head_lengths::CHUNK as u64)?;
+            Some((kind, recording.bytes_at(Side::Server, from, length)?))
         }
         _ => None,
     }

@@ -145,11 +145,11 @@ fn add_range(text: &mut String, request: &Request, story: &Story) -> Result<(), 
     let range = Range { offset, length };
     let size = bytes(story.size());
     if inside.size == length {
-        writeln!(text, "range: {range}, in an export of {size}")
+        writeln!(text, "range: {range}, in the export of {size}")
     } else if inside.size == 0 {
         writeln!(
             text,
-            "range: {range}, beyond the end of an export of {size}"
+            "range: {range}, beyond the end of the export of {size}"
         )
     } else {
         let inside = Range {
@@ -158,7 +158,7 @@ fn add_range(text: &mut String, request: &Request, story: &Story) -> Result<(), 
         };
         writeln!(
             text,
-            "range: {range}, of which {inside} lie in an export of {size}"
+            "range: {range}, in the export of {size} only {inside}"
         )
     }
 }
@@ -178,21 +178,34 @@ fn add_part(
         writeln!(text, "wrong: the part is empty")?;
     }
     if let Some(offset) = first_outside(part, inside(request, sources.story)) {
-        let side = if has_range(request.head.command) && request.asks(offset) {
-            "beyond the end of the export"
-        } else {
-            "outside the request's range"
-        };
-        writeln!(text, "wrong: offset {offset} of the part lies {side}")?;
+        let side = side_of_range(request, offset);
+        writeln!(
+            text,
+            "wrong: the part has offset {offset}, which lies {side}"
+        )?;
     }
     let before = sources.order.get(..place).unwrap_or(&[]);
-    if let Some((offset, at)) = first_shared(before, entry.request, part) {
-        writeln!(text, "wrong: offset {offset} of the part is served before")?;
-        if let Some(other) = sources.order.get(at) {
-            return add_entry_moments(text, at, *other, request);
-        }
+    let Some((offset, at)) = first_shared(before, entry.request, part) else {
+        return Ok(());
+    };
+    let number = at.saturating_add(1);
+    writeln!(
+        text,
+        "wrong: the part has offset {offset}, which entry {number} serves already"
+    )?;
+    match before.get(at) {
+        Some(other) => add_entry_moments(text, at, *other, request),
+        None => Ok(()),
     }
-    Ok(())
+}
+
+// Where an offset lies that is not inside a request.
+fn side_of_range(request: &Request, offset: u64) -> &'static str {
+    if has_range(request.head.command) && request.asks(offset) {
+        "beyond the end of the export"
+    } else {
+        "outside the request's range"
+    }
 }
 
 // A request that its parts do not cover, and the first bytes that no part serves.

@@ -1,14 +1,13 @@
 //! What a refused message is to be compared with.
 
-use crate::brief::Brief;
-use crate::content::payload_of;
-use crate::explanation::{Sources, add_told};
+use crate::brief::{Brief, Brought};
+use crate::explanation::add_told;
 use crate::parts::{first_gap, shared};
 use crate::story::{Request, Story, Told};
-use crate::words::{Range, Words, error_of};
+use crate::words::{Range, Words};
 use nbd_state::Span;
 use nbd_wire::flags::has;
-use nbd_wire::{Content, Failure, Part, Side, WireFault, command_flags, content_of, failure_of};
+use nbd_wire::{Part, Side, WireFault, command_flags};
 use std::alloc::{AllocError, Global};
 
 /// How many outstanding requests are listed.
@@ -21,9 +20,8 @@ pub fn add_related(
     side: Side,
     fault: WireFault,
     words: &Words,
-    sources: Sources<'_>,
+    story: &Story,
 ) -> Result<(), AllocError> {
-    let story = sources.story;
     let Some(cookie) = words.brief.cookie() else {
         return Ok(());
     };
@@ -38,7 +36,7 @@ pub fn add_related(
         (WireFault::CookieInUse, Some(request)) => add_told(text, "outstanding", &request.asked),
         (_, Some(request)) if side == Side::Server => {
             add_told(text, "request", &request.asked)?;
-            add_reason(alloc, text, fault, words, request, sources)
+            add_reason(alloc, text, fault, words, request, story)
         }
         _ => Ok(()),
     }
@@ -51,12 +49,12 @@ fn add_reason(
     fault: WireFault,
     words: &Words,
     request: &Request,
-    sources: Sources<'_>,
+    story: &Story,
 ) -> Result<(), AllocError> {
-    match (fault, sources.story.export) {
+    match (fault, story.export) {
         (WireFault::SuccessOfImproper, Some(export)) => writeln!(text, "export: {export}"),
-        (WireFault::BadContent, _) => add_content_of(text, words, request, sources),
-        (WireFault::IncompleteRead, _) => add_missing(alloc, text, words, request, sources),
+        (WireFault::BadContent, _) => add_rival(text, words, request, story),
+        (WireFault::IncompleteRead, _) => add_missing(alloc, text, words, request, story),
         _ => Ok(()),
     }
 }
@@ -95,48 +93,21 @@ fn add_outstanding(text: &mut String, story: &Story) -> Result<(), AllocError> {
     }
 }
 
-// What a refused chunk brings, and the content before it that stands against it.
-fn add_content_of(
+// The first content to a request that shares an offset with that of a refused chunk, or with DF the first content.
+fn add_rival(
     text: &mut String,
     words: &Words,
     request: &Request,
-    sources: Sources<'_>,
+    story: &Story,
 ) -> Result<(), AllocError> {
-    let before = sources.story.count(Side::Server);
-    match brought_by(&words.brief, before, sources) {
-        Some(Brought::Content(part)) => {
-            let range = Range::from(part);
-            writeln!(text, "content: {range}")?;
-            add_rival(text, part, request, sources)
-        }
-        Some(
-            Brought::Failure(
-                Failure {
-                    error,
-                    offset: Some(offset),
-                },
-            ),
-        ) => {
-            let error = error_of(error);
-            writeln!(text, "error: {error} at {offset}")
-        }
-        _ => Ok(()),
-    }
-}
-
-// The first content to a request that shares an offset with a part, or with DF the first content.
-fn add_rival(
-    text: &mut String,
-    part: Part,
-    request: &Request,
-    sources: Sources<'_>,
-) -> Result<(), AllocError> {
+    let Some(part) = content_in(&words.brief) else {
+        return Ok(());
+    };
     let wants_one = has(request.head.flags, command_flags::DF);
-    for told in &sources.story.told {
-        if let Some(other) = content_to(told, request, sources) {
+    for told in &story.told {
+        if let Some(other) = content_to(told, request) {
             if wants_one || shared(part, other).is_some() {
-                let (range, words, places) = (Range::from(other), told.words, told.places());
-                return writeln!(text, "content before it: {range}; {words}; {places}");
+                return add_told(text, "content before", told);
             }
         }
     }
@@ -149,16 +120,15 @@ fn add_missing(
     text: &mut String,
     words: &Words,
     request: &Request,
-    sources: Sources<'_>,
+    story: &Story,
 ) -> Result<(), AllocError> {
     let mut parts = Vec::new(alloc);
-    for told in &sources.story.told {
-        if let Some(part) = content_to(told, request, sources) {
+    for told in &story.told {
+        if let Some(part) = content_to(told, request) {
             parts.push(part)?;
         }
     }
-    let before = sources.story.count(Side::Server);
-    if let Some(Brought::Content(part)) = brought_by(&words.brief, before, sources) {
+    if let Some(part) = content_in(&words.brief) {
         parts.push(part)?;
     }
     let range = Span {
@@ -175,35 +145,21 @@ fn add_missing(
 }
 
 // Where the content lies that a message brings to a request.
-fn content_to(told: &Told, request: &Request, sources: Sources<'_>) -> Option<Part> {
-    if !told.answers(request) {
-        return None;
-    }
-    match brought_by(&told.words.brief, told.before, sources)? {
-        Brought::Content(part) => Some(part),
-        Brought::Failure(_) => None,
+fn content_to(told: &Told, request: &Request) -> Option<Part> {
+    if told.answers(request) {
+        content_in(&told.words.brief)
+    } else {
+        None
     }
 }
 
-/// What a chunk brings.
-#[derive(Clone, Copy)]
-enum Brought {
-    Content(Part),
-    Failure(Failure),
-}
-
-// What a chunk brings that has so many of the server's bytes before it.
-fn brought_by(brief: &Brief, before: u64, sources: Sources<'_>) -> Option<Brought> {
-    let (kind, payload) = payload_of(brief, before, sources.recording)?;
-    match content_of(kind, payload) {
-        Some(Content::Bytes { offset, bytes }) => Some(Brought::Content(Part {
-            offset,
-            length: bytes.len() as u64,
-        })),
-        Some(Content::Hole { offset, size }) => Some(Brought::Content(Part {
-            offset,
-            length: u64::from(size),
-        })),
-        None => Some(Brought::Failure(failure_of(kind, payload)?)),
+// Where the content of a chunk lies.
+fn content_in(brief: &Brief) -> Option<Part> {
+    match brief {
+        Brief::Chunk {
+            brought: Some(Brought::Content(part)),
+            ..
+        } => Some(*part),
+        _ => None,
     }
 }

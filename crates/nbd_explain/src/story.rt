@@ -1,13 +1,13 @@
 //! The messages of a session with their places, and what became of its requests.
 
-use crate::brief::{Brief, length_of};
+use crate::brief::{Brief, Brought, length_of};
 use crate::recording::Recording;
 use crate::words::{Export, Numbered, Places, Words};
 use nbd_wire::flags::{has, has_wide};
 use nbd_wire::{
     Info, Message, RequestHead, Side, answer_head, answers, choice_head, chunk_head, chunks,
-    client_flags_head, commands, export_head, failure_of, greeting_head, handshake, head_lengths,
-    options, request_head, side_of, simple_head,
+    client_flags_head, commands, export_head, greeting_head, handshake, head_lengths, options,
+    request_head, side_of, simple_head,
 };
 use std::alloc::{AllocError, Global};
 use std::collections::BTreeMap;
@@ -145,7 +145,7 @@ impl Story {
             Side::Client => self.client = end,
             Side::Server => self.server = end,
         }
-        self.note(message, &told)?;
+        self.note(&told)?;
         self.told.push(told)?;
         Ok(())
     }
@@ -187,7 +187,7 @@ impl Story {
     }
 
     // What a message changes: the phase, and what is known of a request.
-    fn note(&mut self, message: &Message, told: &Told) -> Result<(), AllocError> {
+    fn note(&mut self, told: &Told) -> Result<(), AllocError> {
         match (&told.words.brief, told.words.request) {
             (Brief::Exported { size, flags }, _) => {
                 self.export = Some(Export {
@@ -230,9 +230,17 @@ impl Story {
                 self.reply(numbered, told, error, true);
                 self.outstanding.remove(&head.cookie);
             }
-            (Brief::Chunk { flags, cookie, .. }, Some(numbered)) => {
+            (
+                Brief::Chunk {
+                    flags,
+                    cookie,
+                    brought,
+                    ..
+                },
+                Some(numbered),
+            ) => {
                 let is_last = has(*flags, chunks::DONE);
-                self.reply(numbered, told, error_in(message), is_last);
+                self.reply(numbered, told, error_in(*brought), is_last);
                 if is_last {
                     self.outstanding.remove(cookie);
                 }
@@ -337,7 +345,7 @@ impl Story {
             }
             _ => {
                 let head = answer_head(bytes.get(..head_lengths::ANSWER)?)?;
-                Some(Brief::from(head))
+                Some(Brief::of_answer(head, bytes.get(head_lengths::ANSWER..)?))
             }
         }
     }
@@ -355,7 +363,7 @@ fn begun_reply(bytes: &[u8]) -> Option<Brief> {
         return Some(Brief::Simple(head));
     }
     let head = chunk_head(bytes.get(..head_lengths::CHUNK)?)?;
-    Some(Brief::from(head))
+    Some(Brief::of_chunk(head, bytes.get(head_lengths::CHUNK..)?))
 }
 
 // The export that an info states, if it is one on the export.
@@ -367,12 +375,9 @@ fn export_in(info: Option<Info>) -> Option<Export> {
 }
 
 // The error that a chunk tells, if it tells one.
-fn error_in(message: &Message) -> Option<u32> {
-    match message {
-        Message::Chunk { kind, payload, .. } => {
-            let failure = failure_of(*kind, payload.as_slice())?;
-            Some(failure.error)
-        }
-        _ => None,
+fn error_in(brought: Option<Brought>) -> Option<u32> {
+    match brought? {
+        Brought::Failure(failure) => Some(failure.error),
+        Brought::Content(_) => None,
     }
 }

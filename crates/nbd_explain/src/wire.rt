@@ -63,7 +63,7 @@ fn add_open(
         if fault == WireFault::BadMagic {
             writeln!(
                 text,
-                "message: {count} of the {sender}, the beginning of none; {places}"
+                "message: {count} of the {sender}, which begin no message; {places}"
             )?;
             let wanted = magics_of(side, story);
             return writeln!(text, "expected: {wanted}");
@@ -85,7 +85,7 @@ fn add_open(
             "message: {words}; from byte {first} on, {there} of its {length} bytes"
         )?;
     }
-    add_related(alloc, text, side, fault, &words, sources)
+    add_related(alloc, text, side, fault, &words, story)
 }
 
 fn name_of(side: Side) -> &'static str {

@@ -1,6 +1,6 @@
 //! Messages in words.
 
-use crate::brief::Brief;
+use crate::brief::{Brief, Brought};
 use nbd_names::names::{CHUNKS, COMMANDS, ERRORS, INFOS, OPTIONS, REPLIES};
 use nbd_names::{Flags, Named, flags, name_in};
 use nbd_wire::{Info, Part, RequestHead, commands, infos};
@@ -78,9 +78,12 @@ impl fmt::Display for Words {
                 kind,
                 cookie,
                 length,
+                brought,
             } => {
                 write_answered(f, "chunk", self.request, cookie)?;
-                write_chunk(f, kind, length, flags)
+                write_chunk(f, kind, length)?;
+                write_brought(f, brought)?;
+                write_chunk_flags(f, flags)
             }
         }
     }
@@ -283,23 +286,42 @@ pub fn error_of(number: u32) -> Named {
     }
 }
 
-// What a chunk brings, and its flags.
-fn write_chunk<W: fmt::Write>(
-    f: &mut fmt::Formatter<W>,
-    kind: u16,
-    length: u64,
-    flags: u16,
-) -> fmt::Result {
+// The type of a chunk, and how much it brings.
+fn write_chunk<W: fmt::Write>(f: &mut fmt::Formatter<W>, kind: u16, length: u64) -> fmt::Result {
     let kind = Named {
         table: CHUNKS,
         noun: "type",
         number: u32::from(kind),
     };
     let length = bytes(length);
-    write!(f, ": {kind}, {length} of payload")?;
-    if flags != 0 {
-        let flags = flags_of(flags::CHUNK, u32::from(flags));
-        write!(f, ", {flags}")?;
+    write!(f, ": {kind}, {length} of payload")
+}
+
+// What a chunk brings, behind a comma: where its content lies, or its error.
+fn write_brought<W: fmt::Write>(
+    f: &mut fmt::Formatter<W>,
+    brought: Option<Brought>,
+) -> fmt::Result {
+    match brought {
+        Some(Brought::Content(part)) => {
+            let range = Range::from(part);
+            write!(f, ", {range}")
+        }
+        Some(Brought::Failure(failure)) => {
+            let error = error_of(failure.error);
+            match failure.offset {
+                Some(offset) => write!(f, ", {error} at {offset}"),
+                None => write!(f, ", {error}"),
+            }
+        }
+        None => Ok(()),
     }
-    Ok(())
+}
+
+fn write_chunk_flags<W: fmt::Write>(f: &mut fmt::Formatter<W>, flags: u16) -> fmt::Result {
+    if flags == 0 {
+        return Ok(());
+    }
+    let flags = flags_of(flags::CHUNK, u32::from(flags));
+    write!(f, ", {flags}")
 }

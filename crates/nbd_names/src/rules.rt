@@ -152,7 +152,7 @@ pub fn order_rule(fault: OrderFault) -> Rule
     let breaker = Breaker::Order;
     let sentence = match fault {
         OrderFault::NoSuchRequest =>
-            "Each entry of an order is the number of a request, counted from 1.",
+            "Each entry of an order names a request by its number, counted from 1.",
         OrderFault::Twice =>
             "A request is served either at once, by one entry, or in parts, each by an entry of its own.",
         OrderFault::Late =>
