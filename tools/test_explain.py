@@ -125,11 +125,11 @@ S simple reply to WRITE #1, cookie 0x1: success
 C FLUSH #2, cookie 0x2: success
 S simple reply to FLUSH #2, cookie 0x2: success
 C READ #3, cookie 0x3, 4 bytes at 0: success
-S chunk to READ #3, cookie 0x3: NBD_REPLY_TYPE_OFFSET_DATA (1), 10 bytes of payload
-S chunk to READ #3, cookie 0x3: NBD_REPLY_TYPE_OFFSET_HOLE (2), 12 bytes of payload
+S chunk to READ #3, cookie 0x3: NBD_REPLY_TYPE_OFFSET_DATA (1), 10 bytes of payload, 2 bytes at 0
+S chunk to READ #3, cookie 0x3: NBD_REPLY_TYPE_OFFSET_HOLE (2), 12 bytes of payload, 2 bytes at 2
 S chunk to READ #3, cookie 0x3: NBD_REPLY_TYPE_NONE (0), 0 bytes of payload, DONE (0x1)
 C READ #4, cookie 0x4, 1 byte at 8: failure, EINVAL (22)
-S chunk to READ #4, cookie 0x4: NBD_REPLY_TYPE_ERROR (32769), 6 bytes of payload, DONE (0x1)
+S chunk to READ #4, cookie 0x4: NBD_REPLY_TYPE_ERROR (32769), 6 bytes of payload, EINVAL (22), DONE (0x1)
 C command 9 #5, cookie 0x5, FUA (0x1): failure, EOVERFLOW (75)
 S simple reply to command 9 #5, cookie 0x5: EOVERFLOW (75)
 C READ #6, cookie 0x2a, 4 bytes at 4: pending

@@ -9,7 +9,7 @@ import sys
 from built import TOP, Tally
 
 TEXT = r'"((?:[^"\\]|\\.)*)"'
-RULE = re.compile(rf"(?:Wire|Order)Fault::(\w+) => \(?\s*{TEXT},?\s*(?:(CHOICE)|{TEXT})?")
+RULE = re.compile(rf"(?:Wire|Order)Fault::(\w+) =>\s*\(?\s*{TEXT},?\s*(?:(CHOICE)|{TEXT})?")
 BREAKERS = {"Client": "the client", "Server": "the server", "Sender": "the sender", "Nobody": "nobody"}
 
 
@@ -75,6 +75,9 @@ def run(tally):
     tally.holds("the manual page has the rules", manual() in page, "python3 tools/test_names.py manual prints them")
     declared = re.findall(r"^    (\w+),$", (TOP / "crates/nbd_wire/src/fault.rt").read_text(), re.MULTILINE)
     tally.want("each fault has a rule", [rule[0] for rule in rules()], declared)
+    verdicts = (TOP / "crates/nbd_judge/src/verdict.rt").read_text()
+    of_orders = re.findall(r"^    (\w+),$", verdicts.split("pub enum OrderFault")[1].split("\n}\n")[0], re.MULTILINE)
+    tally.want("each fault of an order has a rule", [rule[0] for rule in order_rules()], of_orders)
     profile = rows()
     tally.want("the faults of docs/PROFILE.md", list(profile), declared)
     for fault, breaker, _, section in rules():

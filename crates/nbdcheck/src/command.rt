@@ -33,8 +33,8 @@ Example:
   nbdcheck check session.cap session.ord --start zero
 
 CAPTURE has a line for each recorded piece, 'C' or 'S' for its sender, a space and hexadecimal
-digits. ORDER has the numbers of the requests, one a line, in the order in which they were served;
-a line '1 0 512' serves of request 1 the 512 bytes from offset 0 of the export on.
+digits. ORDER has a line for each service, in their order: 'k' where request k was served at once,
+'k offset length' where a part of it was, which has so many bytes from this offset of the export on.
 START is what the export held at first: unknown bytes, zeroes, or the bytes of a file.
 
 Exit status:
@@ -53,7 +53,8 @@ Example:
 Prints the line of 'nbdcheck check', or without ORDER that with which 'nbdcheck show' ends, and after
 a no what an author needs to mend the program: the rule, who broke it and where it stands; the message
 with its first and last byte, counted from 1 over both sides; of a wrong byte which one was expected,
-and by which request; and the bytes round the place, which stands in brackets.
+and which entry of ORDER wrote it; of an order its entries, and what is wrong with a part; and the bytes
+round the place, which stands in brackets.
 
 Exit status: that of 'nbdcheck check'.";
 
@@ -64,7 +65,8 @@ Example:
   nbdcheck order session.cap --arrival > session.ord
 
 Prints the numbers of the capture's requests in the order in which they came, a line each. This is the
-order of service of a server that takes one request after the other.
+order of service of a server that takes one request after the other. Where it served request k in parts,
+put a line 'k offset length' for each part in place of 'k'.
 
 Exit status:
   0  the whole order was written
