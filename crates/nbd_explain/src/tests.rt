@@ -35,6 +35,12 @@ bytes 172 to 190:
   S 44 66 98 00 00 00 00 00 00 00 00 00 00 00 02 ab [ce] 00 00
 1";
 
+const WRITTEN_BY_A_PART: &str = "
+expected: cd, by WRITE #1, cookie 0x1, 2 bytes at 0; bytes 97 to 126; 1 byte at 1 served by entry 1
+bytes 172 to 190:
+  S 44 66 98 00 00 00 00 00 00 00 00 00 00 00 02 ab [ce] 00 00
+1";
+
 /// What was written, and behind it the exit status.
 fn ended(alloc: Global, out: Vec<u8>, answer: Result<bool, RunFault>) -> Result<String, Fail> {
     let text = String::from_utf8(out).map_err(|_| "not text")?;
@@ -57,6 +63,25 @@ fn explains_a_wrong_byte(rt: HostRuntime) -> Result<(), Fail> {
     let order: &[u8] = b"1\n2\n";
     let found = explained(rt.alloc(), MISREAD, Some(order))?;
     assert_eq!(rt; found.as_str(), EXPLAINED);
+    Ok(())
+}
+
+#[test]
+fn explains_orders_in_parts(rt: HostRuntime) -> Result<(), Fail> {
+    for (order, end) in [
+        ("1 1 1\n1 0 1\n2\n", WRITTEN_BY_A_PART),
+        (
+            "1 1 2\n",
+            "\nwrong: the part has offset 2, which lies outside the request's range\n1",
+        ),
+        (
+            "1 1 1\n2\n",
+            "\nfirst gap: 1 byte at 0, which no part serves\n1",
+        ),
+    ] {
+        let found = explained(rt.alloc(), MISREAD, Some(order.as_bytes()))?;
+        assert!(rt; found.as_str().ends_with(end), "{order}: {found}");
+    }
     Ok(())
 }
 
