@@ -66,10 +66,10 @@ def done(cookie):
     return chunk(cookie, NONE, flags=DONE)
 
 
-def begun(structured=False, size=8):
+def begun(structured=False, size=8, flags=0x6D):
     """A negotiation with GO: 96 bytes, or 132 with structured replies."""
     asked = [option(8), answer(8, 1)] if structured else []
-    go = [option(7, bytes(6)), answer(7, 3, export_info(size)), answer(7, 1)]
+    go = [option(7, bytes(6)), answer(7, 3, export_info(size, flags)), answer(7, 1)]
     return [greeting(), client_flags(), *asked, *go]
 
 

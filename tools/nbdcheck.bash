@@ -4,7 +4,9 @@ _nbdcheck() {
     # The commands, each with its options; every other word is the name of a file.
     local -A options=(
         [check]="--start --help"
-        [show]="--help"
+        [explain]="--start --help"
+        [order]="--arrival --help"
+        [show]="--names --help"
         [make]="--help"
         [help]=""
     )

@@ -1,5 +1,9 @@
 """The commands of the built program: their lines, faults and exit statuses, and which file is opened when."""
 
+import os
+import pty
+import subprocess
+
 from built import PROGRAM, TOP, Ended, Room, Tally
 from messages import begun, read, simple, text, write
 
@@ -42,10 +46,13 @@ def examples(tally, room):
 
 def words(tally, room):
     """Help, the version, and words that have no form."""
-    for asked in (["--help"], ["--version"], *([name, "--help"] for name in ("check", "show", "make"))):
+    for asked in (["--help"], ["--version"], *([name, "--help"] for name in ("check", "explain", "order", "show", "make"))):
         found = room.run(*asked)
         tally.want(f"{asked}", (found.status, found.err), (0, b""))
         tally.holds(f"{asked}", b"nbdcheck" in found.out, found.out)
+        if len(asked) == 2:
+            example = b"Example:\n  nbdcheck " + asked[0].encode()
+            tally.holds(f"{asked} has an example", example in found.out, found.out)
     for asked in ([], ["judge"], ["check"], ["check", "c"], ["show"], ["make"], ["show", "c", "d"],
                   ["make", "c", "d"], ["check", "c", "o", "--begin", "zero"], ["check", "c", "o", "--start"]):
         found = room.run(*asked)
@@ -140,6 +147,47 @@ def outputs(tally, room):
         tally.want(f"{name} to a full device", found, full)
 
 
+def on_a_terminal(room, *words):
+    """The exit status of a run whose standard error is a terminal, its output, and what the terminal shows."""
+    shown, terminal = pty.openpty()
+    done = subprocess.run([PROGRAM, *words], stdin=subprocess.DEVNULL, stdout=subprocess.PIPE, stderr=terminal, env={},
+                          timeout=60)
+    os.close(terminal)
+    told = b""
+    try:
+        while part := os.read(shown, 4096):
+            told += part
+    except OSError:
+        # The terminal's other end is closed.
+        pass
+    os.close(shown)
+    return Ended(done.returncode, done.stdout, told.replace(b"\r\n", b"\n"))
+
+
+def terminals(tally, room):
+    """A second line for a person: which file could not be opened and why, and behind a no how to learn more."""
+    good, order, none = room.put("good", CAPTURE), room.put("order", b"1\n"), room.path("none")
+    why = f"{none}: No such file or directory (os error 2)\n".encode()
+    for what, words in (
+        ("capture", ["check", none, order]),
+        ("order", ["check", good, none]),
+        ("image", ["check", good, order, "--start", f"image:{none}"]),
+        ("order", ["explain", good, none]),
+        ("capture", ["explain", none]),
+        ("capture", ["order", none, "--arrival"]),
+        ("capture", ["show", none]),
+        ("script", ["make", none]),
+    ):
+        wanted = Ended(3, b"", f"fault {what} read\n".encode() + why)
+        tally.want(f"{words} on a terminal", on_a_terminal(room, *words), wanted)
+    words = ["check", room.put("bad", b"C 0\n"), order]
+    tally.want("a bad line on a terminal", on_a_terminal(room, *words), fault("capture line 1"))
+    tally.want("a yes on a terminal", on_a_terminal(room, "check", good, order), Ended(0, YES, b""))
+    found = on_a_terminal(room, "check", room.put("found", FOUND), order, "--start", "zero")
+    hint = b"'nbdcheck explain' with the same words says why\n"
+    tally.want("a no on a terminal", found, Ended(1, b"no content request 1 offset 0\n", hint))
+
+
 def memory(tally, room):
     """Too little memory for an input of 32 MiB."""
     capture, order, script = room.put("capture", LONG), room.put("order", b""), room.put("script", LONG_SCRIPT)
@@ -151,7 +199,7 @@ def memory(tally, room):
 
 def run(tally):
     with Room() as room:
-        for part in (examples, words, starts, lines, files, outputs, memory):
+        for part in (examples, words, starts, lines, files, outputs, terminals, memory):
             part(tally, room)
 
 

@@ -3,7 +3,7 @@
 scripts round it: the build, the installation, the conversions of recordings.
 
 The last line is `N passed, M failed`. With names as words, runs these parts alone: build, commands, conversions, cuts,
-install, refusals, sizes.
+explain, install, names, readme, refusals, sizes.
 """
 
 import sys
@@ -13,7 +13,10 @@ import test_build
 import test_commands
 import test_conversions
 import test_cuts
+import test_explain
 import test_install
+import test_names
+import test_readme
 import test_refusals
 import test_sizes
 from built import Tally, build
@@ -23,7 +26,10 @@ PARTS = {
     "commands": test_commands,
     "conversions": test_conversions,
     "cuts": test_cuts,
+    "explain": test_explain,
     "install": test_install,
+    "names": test_names,
+    "readme": test_readme,
     "refusals": test_refusals,
     "sizes": test_sizes,
 }

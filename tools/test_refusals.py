@@ -23,8 +23,17 @@ LIBRARY = {
 }
 
 
+# The inputs of each command.
+FAULTS = {
+    "check": ("capture", "order", "image"),
+    "explain": ("capture", "order", "image"),
+    "order": ("capture",),
+    "show": ("capture",),
+    "make": ("script",),
+}
+
 # Runs in which the pieces of a READ are sorted.
-SORTED = ("check chunks", "check over an image")
+SORTED = ("check chunks", "check over an image", "explain over an image")
 
 
 class Refusing(Room):
@@ -81,6 +90,16 @@ def runs(room):
         words = ["show", room.put(f"{name}.cap", capture)]
         shown = room.run(*words)
         yield f"show {name}", words, shown, len(shown.out.removesuffix(b"ok\n"))
+    captures = [room.path(f"{name}.cap") for name in ("chunks", "a recorded session")]
+    for capture in captures:
+        for words in (["show", "--names", capture], ["order", "--arrival", capture]):
+            told = room.run(*words)
+            yield " ".join(words), words, told, len(told.out.removesuffix(b"ok\n"))
+    misread = room.put("misread.cap", (TOP / "examples/write-read-wrong-byte.cap").read_bytes())
+    words = ["explain", misread, room.put("misread.ord", b"1\n2\n"), "--start", "zero"]
+    yield "explain a wrong byte", words, room.run(*words), 0
+    words = ["explain", room.path("chunks.cap"), room.path("chunks.ord"), "--start", f"image:{image}"]
+    yield "explain over an image", words, room.run(*words), 0
     scripts = (("two messages", b"S greeting flags=3\nC client-flags flags=3\n"), ("a recorded session", shown.out))
     for name, script in scripts:
         words = ["make", room.put(f"{name}.script", script)]
@@ -110,7 +129,7 @@ def growths(tally, room, name, words, whole, most):
 
 
 def reads(tally, room, name, words, whole):
-    faults = {"check": ("capture", "order", "image"), "show": ("capture",), "make": ("script",)}[words[0]]
+    faults = FAULTS[words[0]]
     wanted = [f"fault {what} read\n".encode() for what in faults]
     if "zero" in words:
         wanted.remove(b"fault image read\n")
@@ -166,7 +185,7 @@ def library(tally, room):
 def run(tally):
     with Refusing() as room:
         for name, words, whole, most in runs(room):
-            tally.want(name, (whole.status, whole.err), (0, b""))
+            tally.want(name, (whole.status, whole.err), (int("wrong" in name), b""))
             growths(tally, room, name, words, whole, most)
             reads(tally, room, name, words, whole)
             writes(tally, room, name, words, whole)

@@ -2,7 +2,7 @@
 
 ghost use Rattle.std.specs.Prelude.{◌≡◌};
 ghost use Rattle.nbd_names.specs.Breakers.{breaker_of};
-ghost use Rattle.nbd_names.specs.declared.rules.Breaker.TheVariants.{Input};
+ghost use Rattle.nbd_names.specs.declared.rules.Breaker.TheVariants.{Order};
 
 use nbd_judge::OrderFault;
 use nbd_wire::WireFault;
@@ -16,8 +16,10 @@ pub enum Breaker {
     Sender,
     /// Nobody: the session is not judged, or its recording ended.
     Nobody,
-    /// What was given beside the capture: the order, or the image.
-    Input,
+    /// The order that was given.
+    Order,
+    /// The image that was given.
+    Image,
 }
 
 /// A rule, as it should be kept.
@@ -30,7 +32,7 @@ pub struct Rule {
 }
 
 /// The section of a rule that proto.md leaves open.
-const CHOICE: &str = "this project's choice";
+const CHOICE: &str = "this project's choice, docs/PROFILE.md";
 
 /// The rule that a wire fault broke.
 pub fn wire_rule(fault: WireFault) -> Rule
@@ -39,27 +41,27 @@ pub fn wire_rule(fault: WireFault) -> Rule
     let (sentence, section) = match fault {
         WireFault::BadMagic => (
             "A message begins with the magic number of its kind.",
-            "Newstyle negotiation, Transmission",
+            "proto.md, \"Newstyle negotiation\", \"Transmission\"",
         ),
         WireFault::NotFixedNewstyle => (
             "The greeting and the client's flags say that their senders speak fixed newstyle.",
-            "Handshake flags, Client flags",
+            "proto.md, \"Handshake flags\", \"Client flags\"",
         ),
         WireFault::BadClientFlags => (
             "The client sets only flags that are known and that the server offered.",
-            "Client flags",
+            "proto.md, \"Client flags\"",
         ),
         WireFault::OutOfTurn => (
             "In the negotiation each side waits for its turn; after an answered ABORT nobody sends, and after DISC the client does not.",
-            "Fixed newstyle negotiation, Terminating the transmission phase",
+            "proto.md, \"Fixed newstyle negotiation\", \"Terminating the transmission phase\"",
         ),
         WireFault::WrongOption => (
             "An option reply repeats the number of the option that the client chose.",
-            "Fixed newstyle negotiation",
+            "proto.md, \"Fixed newstyle negotiation\"",
         ),
         WireFault::BadReplyKind => (
             "An option is answered only by the kinds of reply that it takes.",
-            "Option types",
+            "proto.md, \"Option types\"",
         ),
         WireFault::OutOfProfile => (
             "The server granted an option that nbdcheck does not follow.",
@@ -67,15 +69,15 @@ pub fn wire_rule(fault: WireFault) -> Rule
         ),
         WireFault::BadReplyPayload => (
             "The data of an option reply has the form of its kind, and an info on the export has HAS_FLAGS.",
-            "Option reply types, Transmission flags",
+            "proto.md, \"Option reply types\", \"Transmission flags\"",
         ),
         WireFault::MissingExportInfo => (
             "INFO and GO are acknowledged only after an info on the export.",
-            "Option types",
+            "proto.md, \"Option types\"",
         ),
         WireFault::BadExport => (
             "The answer to EXPORT_NAME has HAS_FLAGS, and its padding is 124 zeroes.",
-            "Transmission flags, Newstyle negotiation",
+            "proto.md, \"Transmission flags\", \"Newstyle negotiation\"",
         ),
         WireFault::ExportTooLarge => (
             "The export has more than 9223372036854775807 bytes (2^63 - 1), the most that nbdcheck follows.",
@@ -83,37 +85,40 @@ pub fn wire_rule(fault: WireFault) -> Rule
         ),
         WireFault::CookieInUse => (
             "A request has the cookie of no request that is outstanding.",
-            "Request message",
+            "proto.md, \"Request message\"",
         ),
         WireFault::UnknownCookie => (
             "A reply has the cookie of an outstanding request, all of whose bytes had come before the reply began.",
-            "Transmission",
+            "proto.md, \"Transmission\"",
         ),
         WireFault::SimpleForbidden => (
             "With structured replies a READ is answered by chunks; so is a request that has received one.",
-            "Simple reply message",
+            "proto.md, \"Simple reply message\"",
         ),
         WireFault::ChunkForbidden => (
             "A chunk is sent only where structured replies were negotiated.",
-            "Structured reply chunk message",
+            "proto.md, \"Structured reply chunk message\"",
         ),
         WireFault::BadChunk => (
             "A chunk is of a known type, and its payload has the form of this type; one of type NONE has DONE.",
-            "Structured reply types",
+            "proto.md, \"Structured reply types\"",
         ),
         WireFault::BadContent => (
             "Content answers a READ, lies in its range and shares no byte with content before it, and a READ with DF gets one piece; an error's offset lies in the range.",
-            "Structured reply types, Request types",
+            "proto.md, \"Structured reply types\", \"Request types\"",
         ),
         WireFault::IncompleteRead => (
             "The reply to a READ that succeeds has every byte of its range.",
-            "Request types",
+            "proto.md, \"Request types\"",
         ),
         WireFault::SuccessOfImproper => (
             "An option or a request that the client should not have sent is answered by an error.",
             CHOICE,
         ),
-        WireFault::BadDisconnect => ("DISC has neither an offset nor a length.", "Request types"),
+        WireFault::BadDisconnect => (
+            "DISC has neither an offset nor a length.",
+            "proto.md, \"Request types\"",
+        ),
         WireFault::Unfinished => (
             "The capture has each message that began to its last byte.",
             CHOICE,
@@ -142,12 +147,12 @@ fn breaker_of(fault: WireFault) -> Breaker
 
 /// The rule that an order with this fault does not keep.
 pub fn order_rule(fault: OrderFault) -> Rule
-    ensures { result.breaker ≡ Input }
+    ensures { result.breaker ≡ Order }
 {
-    let breaker = Breaker::Input;
+    let breaker = Breaker::Order;
     let sentence = match fault {
         OrderFault::NoSuchRequest =>
-            "Each entry of an order is the number of a request, counted from 1.",
+            "Each entry of an order names a request by its number, counted from 1.",
         OrderFault::Twice =>
             "A request is served either at once, by one entry, or in parts, each by an entry of its own.",
         OrderFault::Late =>
@@ -167,7 +172,7 @@ pub fn order_rule(fault: OrderFault) -> Rule
 
 /// An image that is no start of the export.
 pub const IMAGE_RULE: Rule = Rule {
-    breaker: Breaker::Input,
+    breaker: Breaker::Image,
     sentence: "An image has as many bytes as the export.",
     section: CHOICE,
 };
@@ -176,5 +181,5 @@ pub const IMAGE_RULE: Rule = Rule {
 pub const CONTENT_RULE: Rule = Rule {
     breaker: Breaker::Server,
     sentence: "Each byte of a READ that succeeded is the byte that the export held when the READ was served.",
-    section: "Request types",
+    section: "proto.md, \"Request types\"",
 };

@@ -72,13 +72,13 @@ fn names_alone(rt: HostRuntime) {
 fn rules_with_who_broke_them(rt: HostRuntime) {
     assert_eq!(rt;
         wire_rule(WireFault::CookieInUse).section,
-        "Request message"
+        "proto.md, \"Request message\""
     );
     assert_eq!(rt; wire_rule(WireFault::OutOfProfile).breaker, Breaker::Nobody);
     assert_eq!(rt;
         order_rule(OrderFault::Twice).sentence,
-        "A request is served at most once."
+        "A request is served either at once, by one entry, or in parts, each by an entry of its own."
     );
     assert_eq!(rt; CONTENT_RULE.breaker, Breaker::Server);
-    assert_eq!(rt; IMAGE_RULE.breaker, Breaker::Input);
+    assert_eq!(rt; IMAGE_RULE.breaker, Breaker::Image);
 }

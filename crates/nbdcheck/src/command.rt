@@ -4,15 +4,16 @@ ghost use Rattle.std.specs.Prelude.{◌≡◌};
 ghost use Rattle.nbd_tool.specs.CommandLine.{exit_status};
 
 use clap::error::ErrorKind;
-use clap::{Arg, ArgMatches, Command, Error};
+use clap::{Arg, ArgAction, ArgMatches, Command, Error};
+use nbd_explain::{run_arrival, run_explain, run_names};
 use nbd_tool::{
-    FinalWriter, Opener, RunFault, StartWord, exit_status, open_inputs, run_check, run_make,
-    run_show, start_of,
+    FinalWriter, Opener, RunFault, StartFrom, StartWord, exit_status, open_inputs, run_check,
+    run_make, run_show, start_of,
 };
 use std::alloc::{AllocError, Global};
 use std::fmt::Display;
 use std::fs::File;
-use std::io::{BufReader, BufWriter, Write};
+use std::io::{BufReader, BufWriter, IsTerminal, Write};
 use std::{env, io};
 
 /// The exit status of help and of the version.
@@ -32,8 +33,8 @@ Example:
   nbdcheck check session.cap session.ord --start zero
 
 CAPTURE has a line for each recorded piece, 'C' or 'S' for its sender, a space and hexadecimal
-digits. ORDER has the numbers of the requests, one a line, in the order in which they were served;
-a line '1 0 512' serves of request 1 the 512 bytes from offset 0 of the export on.
+digits. ORDER has a line for each service, in their order: 'k' where request k was served at once,
+'k offset length' where a part of it was, which has so many bytes from this offset of the export on.
 START is what the export held at first: unknown bytes, zeroes, or the bytes of a file.
 
 Exit status:
@@ -41,6 +42,37 @@ Exit status:
   1  no: the line says where and why
   2  the command line has no form
   3  an input could not be read or is not well formed, or the output could not be written
+  4  out of memory";
+
+const EXPLAIN_ABOUT: &str = "Why is the answer no?";
+
+const EXPLAIN_HELP: &str = "\
+Example:
+  nbdcheck explain session.cap session.ord --start zero
+
+Prints the line of 'nbdcheck check', or without ORDER that with which 'nbdcheck show' ends, and after
+a no what an author needs to mend the program: the rule, who broke it and where it stands; the message
+with its first and last byte, counted from 1 over both sides; of a wrong byte which one was expected,
+and which entry of ORDER wrote it; of an order its entries, and what is wrong with a part; and the bytes
+round the place, which stands in brackets.
+
+Exit status: that of 'nbdcheck check'.";
+
+const ORDER_ABOUT: &str = "An order of service for a capture";
+
+const ORDER_HELP: &str = "\
+Example:
+  nbdcheck order session.cap --arrival > session.ord
+
+Prints the numbers of the capture's requests in the order in which they came, a line each. This is the
+order of service of a server that takes one request after the other. Where it served request k in parts,
+put a line 'k offset length' for each part in place of 'k'.
+
+Exit status:
+  0  the whole order was written
+  1  the session was refused, and nothing was written: 'nbdcheck explain' says why
+  2  the command line has no form
+  3  the capture could not be read or is not well formed, or the output could not be written
   4  out of memory";
 
 const SHOW_ABOUT: &str = "Which messages does a capture hold?";
@@ -53,6 +85,8 @@ Prints a line for each message, in the order in which they were complete:
   C request flags=0 command=0 cookie=1 offset=0 length=4 payload=
 Then comes 'ok', or 'no at byte' with the place and the name of the rule that was broken there.
 The message lines are a script for 'nbdcheck make', with or without the 'ok'.
+With --names each message is told in words, and each request with what became of it:
+  C READ #1, cookie 0x1, 4 bytes at 0: success
 
 Exit status:
   0  ok
@@ -85,32 +119,53 @@ fn command<'a>(alloc: Global) -> Result<Command<'a>, AllocError> {
         .version("0.1.0")
         .subcommand_required(true)
         .subcommand(check_command(alloc)?)?
+        .subcommand(explain_command(alloc)?)?
+        .subcommand(order_command(alloc)?)?
         .subcommand(show_command(alloc)?)?
         .subcommand(make_command(alloc)?)
 }
 
 fn check_command<'a>(alloc: Global) -> Result<Command<'a>, AllocError> {
-    let order = Arg::new(alloc, "ORDER")
-        .required(true)
-        .help("The file of the order text");
-    let start = Arg::new(alloc, "start")
-        .long("start")
-        .value_name("START")
-        .default_value("unknown")
-        .help("What the export held at first: unknown, zero or image:PATH");
     Command::new(alloc, "check")
         .about(CHECK_ABOUT)
         .after_help(CHECK_HELP)
         .arg(capture_word(alloc))?
-        .arg(order)?
-        .arg(start)
+        .arg(order_word(alloc).required(true))?
+        .arg(start_word(alloc))
+}
+
+fn explain_command<'a>(alloc: Global) -> Result<Command<'a>, AllocError> {
+    Command::new(alloc, "explain")
+        .about(EXPLAIN_ABOUT)
+        .after_help(EXPLAIN_HELP)
+        .arg(capture_word(alloc))?
+        .arg(order_word(alloc))?
+        .arg(start_word(alloc))
+}
+
+fn order_command<'a>(alloc: Global) -> Result<Command<'a>, AllocError> {
+    let arrival = Arg::new(alloc, "arrival")
+        .long("arrival")
+        .action(ArgAction::SetTrue)
+        .required(true)
+        .help("The order in which the requests came");
+    Command::new(alloc, "order")
+        .about(ORDER_ABOUT)
+        .after_help(ORDER_HELP)
+        .arg(capture_word(alloc))?
+        .arg(arrival)
 }
 
 fn show_command<'a>(alloc: Global) -> Result<Command<'a>, AllocError> {
+    let names = Arg::new(alloc, "names")
+        .long("names")
+        .action(ArgAction::SetTrue)
+        .help("Tells the messages in words");
     Command::new(alloc, "show")
         .about(SHOW_ABOUT)
         .after_help(SHOW_HELP)
-        .arg(capture_word(alloc))
+        .arg(capture_word(alloc))?
+        .arg(names)
 }
 
 fn make_command<'a>(alloc: Global) -> Result<Command<'a>, AllocError> {
@@ -127,6 +182,18 @@ fn capture_word<'a>(alloc: Global) -> Arg<'a> {
     Arg::new(alloc, "CAPTURE")
         .required(true)
         .help("The file of the capture text")
+}
+
+fn order_word<'a>(alloc: Global) -> Arg<'a> {
+    Arg::new(alloc, "ORDER").help("The file of the order text")
+}
+
+fn start_word<'a>(alloc: Global) -> Arg<'a> {
+    Arg::new(alloc, "start")
+        .long("start")
+        .value_name("START")
+        .default_value("unknown")
+        .help("What the export held at first: unknown, zero or image:PATH")
 }
 
 /// Runs the program on the words that it was called with, and answers its exit status.
@@ -151,68 +218,140 @@ fn words(rt: &HostRuntime) -> io::Result<Vec<String>> {
 fn run_matched(rt: &HostRuntime, matches: &ArgMatches<'_>) -> u8 {
     match matches.subcommand() {
         Some(("check", words)) => check(rt, words),
+        Some(("explain", words)) => explain(rt, words),
+        Some(("order", words)) => order(rt, words),
         Some(("show", words)) => show(rt, words),
         Some(("make", words)) => make(rt, words),
         _ => USAGE,
     }
 }
 
+/// The start that the words name.
+fn start_in<'a>(words: &ArgMatches<'a>) -> Option<StartWord<'a>> {
+    words.get_str("start").and_then(start_of)
+}
+
 /// `nbdcheck check CAPTURE ORDER --start START`.
 fn check(rt: &HostRuntime, words: &ArgMatches<'_>) -> u8 {
-    let Some(start) = words.get_str("start").and_then(start_of) else {
+    let Some(start) = start_in(words) else {
         return complain(rt, "fault start", USAGE);
     };
     let capture = words.get_str("CAPTURE").unwrap_or("");
     let order = words.get_str("ORDER").unwrap_or("");
-    report(rt, check_files(rt, capture, order, start))
+    let mut files = Files::new(rt);
+    let answer = check_files(&mut files, capture, order, start);
+    let is_no = matches!(answer, Ok(false));
+    let status = files.report(answer);
+    if is_no {
+        hint(rt, "'nbdcheck explain' with the same words says why");
+    }
+    status
 }
 
-/// `nbdcheck show CAPTURE`.
+/// `nbdcheck explain CAPTURE [ORDER] --start START`.
+fn explain(rt: &HostRuntime, words: &ArgMatches<'_>) -> u8 {
+    let Some(start) = start_in(words) else {
+        return complain(rt, "fault start", USAGE);
+    };
+    let capture = words.get_str("CAPTURE").unwrap_or("");
+    let mut files = Files::new(rt);
+    let answer = match words.get_str("ORDER") {
+        Some(order) => explain_files(&mut files, capture, order, start),
+        None => explain_file(&mut files, capture),
+    };
+    files.report(answer)
+}
+
+/// `nbdcheck order CAPTURE --arrival`.
+fn order(rt: &HostRuntime, words: &ArgMatches<'_>) -> u8 {
+    let capture = words.get_str("CAPTURE").unwrap_or("");
+    let mut files = Files::new(rt);
+    let answer = order_file(&mut files, capture);
+    if let Ok(false) = answer {
+        return complain(
+            rt,
+            "no order: the session was refused",
+            exit_status(&answer),
+        );
+    }
+    files.report(answer)
+}
+
+/// `nbdcheck show CAPTURE [--names]`.
 fn show(rt: &HostRuntime, words: &ArgMatches<'_>) -> u8 {
     let capture = words.get_str("CAPTURE").unwrap_or("");
-    report(rt, show_file(rt, capture))
+    let mut files = Files::new(rt);
+    let answer = show_file(&mut files, capture, words.get_flag("names"));
+    files.report(answer)
 }
 
 /// `nbdcheck make SCRIPT`.
 fn make(rt: &HostRuntime, words: &ArgMatches<'_>) -> u8 {
     let script = words.get_str("SCRIPT").unwrap_or("");
-    report(rt, make_file(rt, script).map(|()| true))
-}
-
-/// The exit status of an answer. A fault is printed.
-fn report(rt: &HostRuntime, answer: Result<bool, RunFault>) -> u8
-    ensures { result ≡ exit_status answer }
-{
-    let status = exit_status(&answer);
-    match answer {
-        Ok(_) => status,
-        Err(fault) => complain(rt, &fault, status),
-    }
+    let mut files = Files::new(rt);
+    let answer = make_file(&mut files, script).map(|()| true);
+    files.report(answer)
 }
 
 /// The files of the system.
 #[derive(Drop)]
 struct Files<'a> {
     rt: &'a HostRuntime,
+    /// Which file could not be opened, and why.
+    refused: Option<String>,
+}
+
+impl<'a> Files<'a> {
+    fn new(rt: &'a HostRuntime) -> Files<'a> {
+        Files { rt, refused: None }
+    }
+
+    /// Opens a file for a buffered reader.
+    fn open_buffered(&mut self, path: &str, fault: RunFault) -> Result<BufReader<File>, RunFault> {
+        let Ok(file) = self.open(path) else {
+            return Err(fault);
+        };
+        BufReader::new(self.rt.alloc(), file).map_err(|_| RunFault::Memory)
+    }
+
+    /// The exit status of an answer. A fault is printed, and on a terminal which file could not be opened, and why.
+    fn report(&self, answer: Result<bool, RunFault>) -> u8
+        ensures { result ≡ exit_status answer }
+    {
+        let status = exit_status(&answer);
+        if let Err(fault) = answer {
+            complain(self.rt, &fault, status);
+            if let Some(refused) = &self.refused {
+                hint(self.rt, refused);
+            }
+        }
+        status
+    }
 }
 
 impl Opener for Files<'_> {
     type Input = File;
 
     fn open(&mut self, path: &str) -> io::Result<File> {
-        File::open(self.rt, path)
+        match File::open(self.rt, path) {
+            Ok(file) => Ok(file),
+            Err(error) => {
+                self.refused = format!(in self.rt.alloc(); "{path}: {error}").ok();
+                Err(error)
+            }
+        }
     }
 }
 
 /// Opens the files in the order capture, order, image, and then checks.
 fn check_files(
-    rt: &HostRuntime,
+    files: &mut Files<'_>,
     capture: &str,
     order: &str,
     start: StartWord<'_>,
 ) -> Result<bool, RunFault> {
-    let alloc = rt.alloc();
-    let inputs = open_inputs(&mut Files { rt }, capture, order, start)?;
+    let (rt, alloc) = (files.rt, files.rt.alloc());
+    let inputs = open_inputs(files, capture, order, start)?;
     let capture = BufReader::new(alloc, inputs.capture).map_err(|_| RunFault::Memory)?;
     run_check(
         alloc,
@@ -223,21 +362,59 @@ fn check_files(
     )
 }
 
-fn show_file(rt: &HostRuntime, capture: &str) -> Result<bool, RunFault> {
-    let alloc = rt.alloc();
-    let capture = File::open(rt, capture).map_err(|_| RunFault::CaptureRead)?;
-    let capture = BufReader::new(alloc, capture).map_err(|_| RunFault::Memory)?;
+/// Opens the files as `check` does, and then explains.
+fn explain_files(
+    files: &mut Files<'_>,
+    capture: &str,
+    order: &str,
+    start: StartWord<'_>,
+) -> Result<bool, RunFault> {
+    let (rt, alloc) = (files.rt, files.rt.alloc());
+    let inputs = open_inputs(files, capture, order, start)?;
+    let capture = BufReader::new(alloc, inputs.capture).map_err(|_| RunFault::Memory)?;
+    run_explain(
+        alloc,
+        capture,
+        Some(inputs.order),
+        inputs.start,
+        &mut io::writer(rt),
+    )
+}
+
+fn explain_file(files: &mut Files<'_>, capture: &str) -> Result<bool, RunFault> {
+    let (rt, alloc) = (files.rt, files.rt.alloc());
+    let capture = files.open_buffered(capture, RunFault::CaptureRead)?;
+    let (order, start): (Option<File>, StartFrom<File>) = (None, StartFrom::Unknown);
+    run_explain(alloc, capture, order, start, &mut io::writer(rt))
+}
+
+fn order_file(files: &mut Files<'_>, capture: &str) -> Result<bool, RunFault> {
+    let (rt, alloc) = (files.rt, files.rt.alloc());
+    let capture = files.open_buffered(capture, RunFault::CaptureRead)?;
     let out = FinalWriter::new(io::writer(rt));
     let mut out = BufWriter::new(alloc, out).map_err(|_| RunFault::Memory)?;
-    let is_accepted = run_show(alloc, capture, &mut out)?;
+    let is_accepted = run_arrival(alloc, capture, &mut out)?;
     out.flush().map_err(|_| RunFault::Write)?;
     Ok(is_accepted)
 }
 
-fn make_file(rt: &HostRuntime, script: &str) -> Result<(), RunFault> {
-    let alloc = rt.alloc();
-    let script = File::open(rt, script).map_err(|_| RunFault::ScriptRead)?;
-    let script = BufReader::new(alloc, script).map_err(|_| RunFault::Memory)?;
+fn show_file(files: &mut Files<'_>, capture: &str, by_names: bool) -> Result<bool, RunFault> {
+    let (rt, alloc) = (files.rt, files.rt.alloc());
+    let capture = files.open_buffered(capture, RunFault::CaptureRead)?;
+    let out = FinalWriter::new(io::writer(rt));
+    let mut out = BufWriter::new(alloc, out).map_err(|_| RunFault::Memory)?;
+    let is_accepted = if by_names {
+        run_names(alloc, capture, &mut out)?
+    } else {
+        run_show(alloc, capture, &mut out)?
+    };
+    out.flush().map_err(|_| RunFault::Write)?;
+    Ok(is_accepted)
+}
+
+fn make_file(files: &mut Files<'_>, script: &str) -> Result<(), RunFault> {
+    let (rt, alloc) = (files.rt, files.rt.alloc());
+    let script = files.open_buffered(script, RunFault::ScriptRead)?;
     let out = FinalWriter::new(io::writer(rt));
     let mut out = BufWriter::new(alloc, out).map_err(|_| RunFault::Memory)?;
     run_make(alloc, script, &mut out)?;
@@ -263,4 +440,11 @@ fn complain<D: Display + Drop>(rt: &HostRuntime, text: D, status: u8) -> u8
 {
     let _ = rt.eprintln(text);
     status
+}
+
+/// Prints a line for a person on standard error, where that is a terminal.
+fn hint<D: Display + Drop>(rt: &HostRuntime, text: D) {
+    if rt.stderr().is_terminal() {
+        let _ = rt.eprintln(text);
+    }
 }

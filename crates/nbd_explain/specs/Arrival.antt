@@ -1,0 +1,28 @@
+-- What a run of `order --arrival` writes, where the reader and the writer state their bytes.
+use Rattle.std.specs.Prelude.{◌≡◌, ℕ, zero, suc, List, [], ◌++◌, Bool, true, false, Option, IfSome, codes, length}
+use Rattle.std.specs.Fmt.{decimal}
+use Rattle.std.specs.Io.KnownBytes.{Appends, Keeps}
+use Rattle.nbd_wire.specs.protocol.Captures.{Pair}
+use Rattle.nbd_wire.specs.protocol.Marks.{Item, pairs}
+use Rattle.nbd_wire.specs.protocol.Reports.{report}
+use Rattle.nbd_wire.specs.protocol.Rules.{IsRun}
+use Rattle.nbd_wire.specs.protocol.Within.{IsOfNoRun}
+use Rattle.nbd_capture.specs.Capture.{Chunk, IsCaptureText}
+use Rattle.nbd_tool.specs.Runs.{flat_of}
+
+-- the numbers from 1 up to this one, a line each
+abbrev pub number_lines : ℕ → List ℕ
+number_lines zero = []
+number_lines (suc n) = number_lines n ++ (decimal (suc n) ++ codes "\n")
+
+-- some run has these bytes, and the numbers of its requests were written; or no run has them, and nothing was written
+pub data HasArrival (capture : List Pair) (old new : Option (List ℕ)) : Bool → Type 0 where
+  accepted : (items : List Item) → IsRun items → pairs items ≡ capture → Appends old new (number_lines (length (report items).asked))
+      → HasArrival capture old new true
+  refused : IsOfNoRun capture → Keeps old new → HasArrival capture old new false
+
+-- the same of a capture text
+pub record Arrives (known : Option (List ℕ)) (yes : Bool) (old new : Option (List ℕ)) : Type 0 where
+  pub chunks : List Chunk
+  pub is_text : IfSome known (λ text. IsCaptureText text chunks)
+  pub arrival : HasArrival (flat_of chunks) old new yes

@@ -1,0 +1,28 @@
+-- Whether a capture is that of a run, where its reader states its bytes.
+use Rattle.std.specs.Prelude.{◌≡◌, ℕ, List, Bool, true, false, Option, IfSome}
+use Rattle.std.specs.Io.KnownBytes.{Keeps}
+use Rattle.nbd_wire.specs.protocol.Captures.{Pair}
+use Rattle.nbd_wire.specs.protocol.Marks.{Item, pairs}
+use Rattle.nbd_wire.specs.protocol.Rules.{IsRun}
+use Rattle.nbd_wire.specs.protocol.Within.{IsOfNoRun}
+use Rattle.nbd_capture.specs.Capture.{Chunk, IsCaptureText}
+use Rattle.nbd_tool.specs.declared.fault.RunFault.{RunFault}
+use Rattle.nbd_tool.specs.declared.fault.RunFault.TheVariants.{Write, Memory}
+use Rattle.nbd_tool.specs.Runs.{flat_of}
+
+-- true of the bytes of some run, false of those of none
+abbrev pub IsSettled : List Pair → Bool → Type 0
+IsSettled capture true = (items : List Item) × IsRun items × (pairs items ≡ capture)
+IsSettled capture false = IsOfNoRun capture
+
+-- the same of a capture text
+pub record Settles (known : Option (List ℕ)) (yes : Bool) : Type 0 where
+  pub chunks : List Chunk
+  pub is_text : IfSome known (λ text. IsCaptureText text chunks)
+  pub settled : IsSettled (flat_of chunks) yes
+
+-- nothing was written before a fault, but where the writer failed or memory ran out
+abbrev pub KeepsUnread : (old new : Option (List ℕ)) → RunFault → Type 0
+KeepsUnread old new Write = Unit {0}
+KeepsUnread old new Memory = Unit {0}
+KeepsUnread old new _ = Keeps old new

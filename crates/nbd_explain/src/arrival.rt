@@ -1,0 +1,51 @@
+//! The command `order --arrival`, over any reader and writer.
+
+ghost use Rattle.std.specs.Prelude.{◌≡◌, ◌⊎◌, IfErr, IfOk, OnOk};
+ghost use Rattle.std.specs.Io.KnownBytes.{Appends};
+ghost use Rattle.nbd_tool.specs.declared.fault.RunFault.TheVariants.{Memory, Write};
+ghost use Rattle.nbd_tool.specs.Shown.{IsShowCause};
+ghost use Rattle.nbd_tool.specs.Starts.{IsWithinLimit};
+ghost use Rattle.nbd_explain.specs.Arrival.{Arrives, number_lines};
+ghost use Rattle.nbd_explain.specs.Settled.{KeepsUnread};
+
+use nbd_capture::write_whole;
+use nbd_session::SessionFault;
+use nbd_tool::{RunFault, session_over};
+use std::alloc::Global;
+use std::io::{BufRead, Write};
+
+/// Reads a capture text to its end, and writes the numbers of its requests, a line each, in the order in which they came: the
+/// order of service of a server that takes one after the other. Answers false, and writes nothing, where the session was refused.
+pub fn run_arrival<C: BufRead + Drop, W: Write>(
+    alloc: Global,
+    capture: C,
+    out: &mut W,
+) -> Result<bool, RunFault>
+    ensures written { IfOk result
+        (λ yes. Arrives (C.remaining capture) yes (W.contents out.old) (W.contents out.new)) }
+    ensures limited { OnOk result (IsWithinLimit (C.remaining capture)) }
+    ensures cause { IfErr result (IsShowCause (C.remaining capture)) }
+    ensures left { IfErr result (KeepsUnread (W.contents out.old) (W.contents out.new)) }
+{
+    let session = session_over(alloc, capture)?;
+    match session.finish() {
+        Ok(transcript) => {
+            write_numbers(alloc, transcript.count(), out)?;
+            Ok(true)
+        }
+        Err(SessionFault::Wire { .. }) => Ok(false),
+        Err(SessionFault::Memory) => Err(RunFault::Memory),
+    }
+}
+
+// Writes the numbers from 1 up to this one, a line each.
+fn write_numbers<W: Write>(alloc: Global, count: u64, out: &mut W) -> Result<(), RunFault>
+    ensures written { OnOk result (Appends (W.contents out.old) (W.contents out.new) (number_lines count)) }
+    ensures fault { IfErr result (λ fault. (fault ≡ Write) ⊎ (fault ≡ Memory)) }
+{
+    for number in 0..count {
+        let line = format!(in alloc; "{}\n", number + 1)?;
+        write_whole(out, line.as_bytes())?;
+    }
+    Ok(())
+}

@@ -1,0 +1,383 @@
+//! The messages of a session with their places, and what became of its requests.
+
+use crate::brief::{Brief, Brought, length_of};
+use crate::recording::Recording;
+use crate::words::{Export, Numbered, Places, Words};
+use nbd_wire::flags::{has, has_wide};
+use nbd_wire::{
+    Info, Message, RequestHead, Side, answer_head, answers, choice_head, chunk_head, chunks,
+    client_flags_head, commands, export_head, greeting_head, handshake, head_lengths, options,
+    request_head, side_of, simple_head,
+};
+use std::alloc::{AllocError, Global};
+use std::collections::BTreeMap;
+
+/// A message, its places in the capture, and the request that it is or answers.
+#[derive(Clone, Copy)]
+pub struct Told {
+    pub side: Side,
+    pub words: Words,
+    /// How many bytes of its side stand before it.
+    pub before: u64,
+    /// The place of its first byte, from 1.
+    pub first: u64,
+    /// The place of its last one.
+    pub last: u64,
+}
+
+impl Told {
+    /// Its places.
+    pub fn places(&self) -> Places {
+        Places {
+            first: self.first,
+            last: self.last,
+        }
+    }
+
+    /// Whether it answers this request.
+    pub fn answers(&self, request: &Request) -> bool {
+        self.side == Side::Server
+            && self
+                .words
+                .request
+                .is_some_and(|numbered| numbered.number == request.numbered.number)
+    }
+}
+
+/// What became of a request.
+#[derive(Clone, Copy)]
+pub enum Outcome {
+    /// Its reply is not finished.
+    Pending,
+    Success,
+    /// It failed with this error.
+    Failure(u32),
+}
+
+/// A numbered request.
+#[derive(Clone, Copy)]
+pub struct Request {
+    pub numbered: Numbered,
+    pub head: RequestHead,
+    pub asked: Told,
+    /// The place of the first byte of its reply.
+    pub replied: Option<u64>,
+    /// The place of the last byte of its reply.
+    pub finished: Option<u64>,
+    /// The error that its reply told, if it told one.
+    pub error: Option<u32>,
+}
+
+impl Request {
+    /// Whether an offset of the export lies in its range.
+    pub fn asks(&self, offset: u64) -> bool {
+        offset
+            .checked_sub(self.head.offset)
+            .is_some_and(|index| index < u64::from(self.head.length))
+    }
+
+    /// What became of it.
+    pub fn outcome(&self) -> Outcome {
+        match (self.finished, self.error) {
+            (None, _) => Outcome::Pending,
+            (Some(_), None) => Outcome::Success,
+            (Some(_), Some(error)) => Outcome::Failure(error),
+        }
+    }
+}
+
+/// The messages of a session, and its requests.
+#[derive(Drop)]
+pub struct Story {
+    pub told: Vec<Told>,
+    /// By their numbers.
+    pub requests: Vec<Request>,
+    /// The numbers of the outstanding ones, by their cookies.
+    pub outstanding: BTreeMap<u64, u64>,
+    /// How many bytes the client's messages have.
+    pub client: u64,
+    /// How many the server's have.
+    pub server: u64,
+    /// What the server said last of an export.
+    pub export: Option<Export>,
+    /// Whether the negotiation is over.
+    pub is_transmission: bool,
+}
+
+impl Story {
+    /// These messages, of which the recording has the bytes.
+    pub fn of(
+        alloc: Global,
+        messages: &[Message],
+        recording: &Recording,
+    ) -> Result<Story, AllocError> {
+        let mut story = Story {
+            told: Vec::new(alloc),
+            requests: Vec::new(alloc),
+            outstanding: BTreeMap::new(alloc),
+            client: 0,
+            server: 0,
+            export: None,
+            is_transmission: false,
+        };
+        for message in messages {
+            story.tell(message, recording)?;
+        }
+        Ok(story)
+    }
+
+    // Adds the next message.
+    fn tell(&mut self, message: &Message, recording: &Recording) -> Result<(), AllocError> {
+        let (side, brief, length) = (side_of(message), Brief::of(message), length_of(message));
+        let before = self.count(side);
+        let end = before.saturating_add(length);
+        let told = Told {
+            side,
+            words: Words {
+                brief,
+                request: self.request_of(&brief),
+            },
+            before,
+            first: recording.place(side, before),
+            last: recording.place(side, end.saturating_sub(1)),
+        };
+        match side {
+            Side::Client => self.client = end,
+            Side::Server => self.server = end,
+        }
+        self.note(&told)?;
+        self.told.push(told)?;
+        Ok(())
+    }
+
+    /// How many bytes the messages of a side have.
+    pub fn count(&self, side: Side) -> u64 {
+        match side {
+            Side::Client => self.client,
+            Side::Server => self.server,
+        }
+    }
+
+    /// The size of the export; 0 before it is known.
+    pub fn size(&self) -> u64 {
+        self.export.map_or(0, |export| export.size)
+    }
+
+    /// The request with this number, from 1.
+    pub fn request(&self, number: u64) -> Option<&Request> {
+        self.requests.get(number.checked_sub(1)? as usize)
+    }
+
+    // The request that a message asks or answers.
+    fn request_of(&self, brief: &Brief) -> Option<Numbered> {
+        match brief {
+            Brief::Request(head) if head.command != commands::DISC => Some(Numbered {
+                number: (self.requests.len() as u64).saturating_add(1),
+                command: head.command,
+            }),
+            Brief::Simple(_) | Brief::Chunk { .. } => self.answered(brief.cookie()?),
+            _ => None,
+        }
+    }
+
+    /// The outstanding request with this cookie.
+    pub fn answered(&self, cookie: u64) -> Option<Numbered> {
+        let number = self.outstanding.get(&cookie)?;
+        Some(self.request(*number)?.numbered)
+    }
+
+    // What a message changes: the phase, and what is known of a request.
+    fn note(&mut self, told: &Told) -> Result<(), AllocError> {
+        match (&told.words.brief, told.words.request) {
+            (Brief::Exported { size, flags }, _) => {
+                self.export = Some(Export {
+                    size: *size,
+                    flags: *flags,
+                });
+                self.is_transmission = true;
+            }
+            (
+                Brief::Answer {
+                    option,
+                    kind,
+                    info,
+                    ..
+                },
+                _,
+            ) => {
+                self.export = export_in(*info).or(self.export);
+                if *option == options::GO && *kind == answers::ACK {
+                    self.is_transmission = true;
+                }
+            }
+            (Brief::Request(head), Some(numbered)) => {
+                self.requests.push(Request {
+                    numbered,
+                    head: *head,
+                    asked: *told,
+                    replied: None,
+                    finished: None,
+                    error: None,
+                })?;
+                self.outstanding.insert(head.cookie, numbered.number)?;
+            }
+            (Brief::Simple(head), Some(numbered)) => {
+                let error = if head.error == 0 {
+                    None
+                } else {
+                    Some(head.error)
+                };
+                self.reply(numbered, told, error, true);
+                self.outstanding.remove(&head.cookie);
+            }
+            (
+                Brief::Chunk {
+                    flags,
+                    cookie,
+                    brought,
+                    ..
+                },
+                Some(numbered),
+            ) => {
+                let is_last = has(*flags, chunks::DONE);
+                self.reply(numbered, told, error_in(*brought), is_last);
+                if is_last {
+                    self.outstanding.remove(cookie);
+                }
+            }
+            _ => {}
+        }
+        Ok(())
+    }
+
+    // A message of its reply has come.
+    fn reply(&mut self, numbered: Numbered, told: &Told, error: Option<u32>, is_last: bool) {
+        let place = numbered.number.saturating_sub(1) as usize;
+        if let Some(request) = self.requests.get_mut(place) {
+            request.replied = request.replied.or(Some(told.first));
+            request.error = request.error.or(error);
+            if is_last {
+                request.finished = Some(told.last);
+            }
+        }
+    }
+
+    /// How many bytes a message has that comes next.
+    pub fn length_of(&self, words: &Words) -> u64 {
+        let (head, payload) = match words.brief {
+            Brief::Greeting { .. } => (head_lengths::GREETING, 0),
+            Brief::ClientFlags { .. } => (head_lengths::CLIENT_FLAGS, 0),
+            Brief::Choice { length, .. } => (head_lengths::CHOICE, length),
+            Brief::Answer { length, .. } => (head_lengths::ANSWER, length),
+            Brief::Exported { .. } => (head_lengths::EXPORT, self.padding()),
+            Brief::Request(head) if head.command == commands::WRITE => {
+                (head_lengths::REQUEST, u64::from(head.length))
+            }
+            Brief::Request(_) => (head_lengths::REQUEST, 0),
+            Brief::Simple(head) => (
+                head_lengths::SIMPLE,
+                self.read_length(head.error, words.request),
+            ),
+            Brief::Chunk { length, .. } => (head_lengths::CHUNK, length),
+        };
+        payload.saturating_add(head as u64)
+    }
+
+    // How many zeroes the answer to EXPORT_NAME ends with.
+    fn padding(&self) -> u64 {
+        for told in &self.told {
+            if let Brief::ClientFlags { flags } = told.words.brief {
+                if has_wide(flags, handshake::C_NO_ZEROES) {
+                    return 0;
+                }
+            }
+        }
+        head_lengths::PADDING as u64
+    }
+
+    // How many bytes a simple reply with this error brings.
+    fn read_length(&self, error: u32, request: Option<Numbered>) -> u64 {
+        match request.and_then(|numbered| self.request(numbered.number)) {
+            Some(request) if error == 0 && request.head.command == commands::READ => {
+                u64::from(request.head.length)
+            }
+            _ => 0,
+        }
+    }
+
+    /// The message that these bytes of a side begin, behind its messages.
+    pub fn begun(&self, side: Side, bytes: &[u8]) -> Option<Words> {
+        let brief = match side {
+            Side::Client => self.begun_by_client(bytes)?,
+            Side::Server => self.begun_by_server(bytes)?,
+        };
+        Some(Words {
+            brief,
+            request: self.request_of(&brief),
+        })
+    }
+
+    fn begun_by_client(&self, bytes: &[u8]) -> Option<Brief> {
+        if self.is_transmission {
+            let head = request_head(bytes.get(..head_lengths::REQUEST)?)?;
+            Some(Brief::Request(head))
+        } else if self.client == 0 {
+            let flags = client_flags_head(bytes.get(..head_lengths::CLIENT_FLAGS)?)?;
+            Some(Brief::ClientFlags { flags })
+        } else {
+            let head = choice_head(bytes.get(..head_lengths::CHOICE)?)?;
+            Some(Brief::from(head))
+        }
+    }
+
+    fn begun_by_server(&self, bytes: &[u8]) -> Option<Brief> {
+        if self.is_transmission {
+            return begun_reply(bytes);
+        }
+        if self.server == 0 {
+            let flags = greeting_head(bytes.get(..head_lengths::GREETING)?)?;
+            return Some(Brief::Greeting { flags });
+        }
+        match self.told.last() {
+            Some(told) if is_naming(&told.words.brief) => {
+                let (size, flags) = export_head(bytes.get(..head_lengths::EXPORT)?)?;
+                Some(Brief::Exported { size, flags })
+            }
+            _ => {
+                let head = answer_head(bytes.get(..head_lengths::ANSWER)?)?;
+                Some(Brief::of_answer(head, bytes.get(head_lengths::ANSWER..)?))
+            }
+        }
+    }
+}
+
+// The option EXPORT_NAME.
+fn is_naming(brief: &Brief) -> bool {
+    matches!(brief, Brief::Choice { id, .. } if *id == options::EXPORT_NAME)
+}
+
+// The reply that these bytes begin.
+fn begun_reply(bytes: &[u8]) -> Option<Brief> {
+    let simple = bytes.get(..head_lengths::SIMPLE)?;
+    if let Some(head) = simple_head(simple) {
+        return Some(Brief::Simple(head));
+    }
+    let head = chunk_head(bytes.get(..head_lengths::CHUNK)?)?;
+    Some(Brief::of_chunk(head, bytes.get(head_lengths::CHUNK..)?))
+}
+
+// The export that an info states, if it is one on the export.
+fn export_in(info: Option<Info>) -> Option<Export> {
+    match info? {
+        Info::Export { size, flags } => Some(Export { size, flags }),
+        Info::BlockSize { .. } | Info::Other { .. } => None,
+    }
+}
+
+// The error that a chunk tells, if it tells one.
+fn error_in(brought: Option<Brought>) -> Option<u32> {
+    match brought? {
+        Brought::Failure(failure) => Some(failure.error),
+        Brought::Content(_) => None,
+    }
+}

@@ -1,0 +1,128 @@
+//! What the commands write of a small session. tools/test_explain.py has the others.
+
+use crate::{run_arrival, run_explain, run_names};
+use nbd_tool::{RunFault, StartFrom};
+use std::alloc::Global;
+use std::test::Fail;
+
+/// A negotiation by GO of an export of eight bytes, a WRITE of the bytes ab cd at 0, and a READ of four bytes from there,
+/// which got ab ce 00 00: 190 bytes.
+const MISREAD: &str = "\
+S 4e42444d4147494349484156454f50540003
+C 00000003
+C 49484156454f50540000000700000006000000000000
+S 0003e889045565a900000007000000030000000c00000000000000000008006d
+S 0003e889045565a9000000070000000100000000
+C 25609513000000010000000000000001000000000000000000000002abcd
+S 67446698000000000000000000000001
+C 25609513000000000000000000000002000000000000000000000004
+S 67446698000000000000000000000002abce0000
+";
+
+/// Four bytes of the server that begin no reply.
+const REFUSED: &str = "S 00000000\n";
+
+const EXPLAINED: &str = "\
+no content request 2 offset 1
+rule: Each byte of a READ that succeeded is the byte that the export held when the READ was served.
+broken by: the server, if it served in this order
+section: proto.md, \"Request types\"
+message: READ #2, cookie 0x2, 4 bytes at 0; bytes 143 to 170; served by entry 2
+reply: simple reply to READ #2, cookie 0x2: success; bytes 171 to 190
+came: ce for offset 1, at byte 188
+expected: cd, by WRITE #1, cookie 0x1, 2 bytes at 0; bytes 97 to 126; served by entry 1
+bytes 172 to 190:
+  S 44 66 98 00 00 00 00 00 00 00 00 00 00 00 02 ab [ce] 00 00
+1";
+
+const WRITTEN_BY_A_PART: &str = "
+expected: cd, by WRITE #1, cookie 0x1, 2 bytes at 0; bytes 97 to 126; 1 byte at 1 served by entry 1
+bytes 172 to 190:
+  S 44 66 98 00 00 00 00 00 00 00 00 00 00 00 02 ab [ce] 00 00
+1";
+
+/// What was written, and behind it the exit status.
+fn ended(alloc: Global, out: Vec<u8>, answer: Result<bool, RunFault>) -> Result<String, Fail> {
+    let text = String::from_utf8(out).map_err(|_| "not text")?;
+    let status = match answer {
+        Ok(is_yes) => u8::from(!is_yes),
+        Err(fault) => fault.status(),
+    };
+    Ok(format!(in alloc; "{text}{status}")?)
+}
+
+fn explained(alloc: Global, capture: &str, order: Option<&[u8]>) -> Result<String, Fail> {
+    let start: StartFrom<&[u8]> = StartFrom::Zeroes;
+    let mut out = Vec::new(alloc);
+    let answer = run_explain(alloc, capture.as_bytes(), order, start, &mut out);
+    ended(alloc, out, answer)
+}
+
+#[test]
+fn explains_a_wrong_byte(rt: HostRuntime) -> Result<(), Fail> {
+    let order: &[u8] = b"1\n2\n";
+    let found = explained(rt.alloc(), MISREAD, Some(order))?;
+    assert_eq!(rt; found.as_str(), EXPLAINED);
+    Ok(())
+}
+
+#[test]
+fn explains_orders_in_parts(rt: HostRuntime) -> Result<(), Fail> {
+    for (order, end) in [
+        ("1 1 1\n1 0 1\n2\n", WRITTEN_BY_A_PART),
+        (
+            "1 1 2\n",
+            "\nwrong: the part has offset 2, which lies outside the request's range\n1",
+        ),
+        (
+            "1 1 1\n2\n",
+            "\nfirst gap: 1 byte at 0, which no part serves\n1",
+        ),
+    ] {
+        let found = explained(rt.alloc(), MISREAD, Some(order.as_bytes()))?;
+        assert!(rt; found.as_str().ends_with(end), "{order}: {found}");
+    }
+    Ok(())
+}
+
+#[test]
+fn tells_the_end_without_an_order(rt: HostRuntime) -> Result<(), Fail> {
+    let found = explained(rt.alloc(), MISREAD, None)?;
+    assert_eq!(rt; found.as_str(), "ok\n0");
+    Ok(())
+}
+
+#[test]
+fn numbers_the_requests(rt: HostRuntime) -> Result<(), Fail> {
+    let alloc = rt.alloc();
+    let mut out = Vec::new(alloc);
+    let answer = run_arrival(alloc, MISREAD.as_bytes(), &mut out);
+    let found = ended(alloc, out, answer)?;
+    assert_eq!(rt; found.as_str(), "1\n2\n0");
+    Ok(())
+}
+
+#[test]
+fn numbers_nothing_of_a_refused_session(rt: HostRuntime) -> Result<(), Fail> {
+    let alloc = rt.alloc();
+    let capture = format!(in alloc; "{MISREAD}{REFUSED}")?;
+    let mut out = Vec::new(alloc);
+    let answer = run_arrival(alloc, capture.as_bytes(), &mut out);
+    let found = ended(alloc, out, answer)?;
+    assert_eq!(rt; found.as_str(), "1");
+    Ok(())
+}
+
+#[test]
+fn names_the_messages(rt: HostRuntime) -> Result<(), Fail> {
+    let alloc = rt.alloc();
+    let mut out = Vec::new(alloc);
+    let answer = run_names(alloc, MISREAD.as_bytes(), &mut out);
+    let found = ended(alloc, out, answer)?;
+    assert!(rt;
+        found.as_str().ends_with(
+            "\nC READ #2, cookie 0x2, 4 bytes at 0: success\nS simple reply to READ #2, cookie 0x2: success\nok\n0"
+        )
+    );
+    Ok(())
+}

@@ -1,0 +1,94 @@
+"""The table of rules in crates/nbd_names against docs/nbdcheck.1, which prints it, and against docs/PROFILE.md.
+
+`test_names.py manual` prints the manual page's section.
+"""
+
+import re
+import sys
+
+from built import TOP, Tally
+
+TEXT = r'"((?:[^"\\]|\\.)*)"'
+RULE = re.compile(rf"(?:Wire|Order)Fault::(\w+) =>\s*\(?\s*{TEXT},?\s*(?:(CHOICE)|{TEXT})?")
+BREAKERS = {"Client": "the client", "Server": "the server", "Sender": "the sender", "Nobody": "nobody"}
+
+
+def source(name):
+    return (TOP / "crates/nbd_names/src" / name).read_text()
+
+
+def unquoted(text):
+    return text.replace('\\"', '"')
+
+
+def breakers():
+    """Who broke the rule of a wire fault; the server, where the function does not name the fault."""
+    body = source("rules.rt").split("\nfn breaker_of")[1].split("\n}\n")[0]
+    found = {}
+    for faults, breaker in re.findall(r"((?:\|?\s*WireFault::\w+\s*)+)=>\s*(?:\{\s*)?Breaker::(\w+)", body):
+        found.update({fault: BREAKERS[breaker] for fault in re.findall(r"WireFault::(\w+)", faults)})
+    return found
+
+
+def rules():
+    """Each wire fault, who broke its rule, the rule and its section."""
+    choice = unquoted(re.search(rf"const CHOICE: &str = {TEXT}", source("rules.rt"))[1])
+    body = source("rules.rt").split("pub fn wire_rule")[1].split("\nfn breaker_of")[0]
+    broke = breakers()
+    return [
+        (fault, broke.get(fault, "the server"), sentence, choice if is_choice else unquoted(section))
+        for fault, sentence, is_choice, section in RULE.findall(body)
+    ]
+
+
+def order_rules():
+    body = source("rules.rt").split("pub fn order_rule")[1].split("\n}\n")[0]
+    return [(fault, sentence) for fault, sentence, _, _ in RULE.findall(body)]
+
+
+def manual():
+    """The section of the manual page."""
+    lines = [".SH FAULTS", "Each fault, who broke the rule, the rule, and where it stands."]
+    for fault, breaker, sentence, section in rules():
+        lines += [".TP", f'.BR {fault} " (' + breaker + ')"', sentence, ".br", section]
+    lines.append(".PP")
+    lines.append("Of an order:")
+    for fault, sentence in order_rules():
+        lines += [".TP", f".B {fault}", sentence]
+    return "\n".join(lines) + "\n"
+
+
+def rows():
+    """The rows of docs/PROFILE.md's table of faults: a fault's name, who broke the rule, and the sections."""
+    page = (TOP / "docs/PROFILE.md").read_text().split("| Fault | Who broke the rule |")[1].split("\n\n")[0]
+    found = {}
+    for line in page.splitlines()[2:]:
+        cells = [cell.strip() for cell in line.strip("|").split("|")]
+        name = cells[0] or name
+        who, sections = found.setdefault(name, (cells[1], set()))
+        sections.update(re.findall(r'"([^"]+)"', cells[5]))
+    return found
+
+
+def run(tally):
+    page = (TOP / "docs/nbdcheck.1").read_text()
+    tally.holds("the manual page has the rules", manual() in page, "python3 tools/test_names.py manual prints them")
+    declared = re.findall(r"^    (\w+),$", (TOP / "crates/nbd_wire/src/fault.rt").read_text(), re.MULTILINE)
+    tally.want("each fault has a rule", [rule[0] for rule in rules()], declared)
+    verdicts = (TOP / "crates/nbd_judge/src/verdict.rt").read_text()
+    of_orders = re.findall(r"^    (\w+),$", verdicts.split("pub enum OrderFault")[1].split("\n}\n")[0], re.MULTILINE)
+    tally.want("each fault of an order has a rule", [rule[0] for rule in order_rules()], of_orders)
+    profile = rows()
+    tally.want("the faults of docs/PROFILE.md", list(profile), declared)
+    for fault, breaker, _, section in rules():
+        who, sections = profile[fault]
+        tally.want(f"who broke {fault}", who.split(",")[0].removeprefix("the "), breaker.removeprefix("the "))
+        tally.holds(f"sections of {fault}", sections <= set(re.findall(r'"([^"]+)"', section)), (sections, section))
+
+
+if __name__ == "__main__":
+    if sys.argv[1:] == ["manual"]:
+        sys.exit(print(manual(), end=""))
+    told = Tally()
+    run(told)
+    print(f"{told.passed} passed, {told.failed} failed")
