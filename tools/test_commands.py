@@ -195,6 +195,13 @@ def memory(tally, room):
         limited = ["-c", 'ulimit -v 24576; exec "$@"', "sh", PROGRAM, *asked]
         found = room.run(*limited, program="/bin/sh")
         tally.want(f"{asked[0]} in 24 MiB", found, fault("memory", 4))
+    image, size = room.path("large"), 1 << 28
+    small, one = room.put("small", CAPTURE), room.put("one", b"1\n")
+    with open(image, "wb") as file:
+        file.truncate(size)
+    asked = ["check", small, one, "--start", f"image:{image}"]
+    found = room.run("-c", 'ulimit -v 24576; exec "$@"', "sh", PROGRAM, *asked, program="/bin/sh")
+    tally.want("an image of 256 MiB in 24 MiB", found, Ended(1, f"no image {size} size 8\n".encode(), b""))
 
 
 def run(tally):

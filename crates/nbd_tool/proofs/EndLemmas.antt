@@ -1,9 +1,19 @@
 -- A reader's bytes, read to their end.
-use Rattle.std.proofs.Common.{◌≡◌, ℕ, List, [], ◌++◌, None, Some, IfSome, ap, sym, subst, ◌∙◌, append-nil, length, take, ◌≤◌, ◌^◌}
+use Rattle.std.proofs.Common.{◌≡◌, ℕ, List, [], ◌++◌, None, Some, IfSome, refl, ap, sym, subst, ◌∙◌, append-nil, length, length-append, replicate, take, ◌+◌, ◌<◌, ◌≤◌, ◌^◌, arith}
+use Rattle.std.proofs.KnownBytes.{Consumes-nil, Consumes-trans}
+use Rattle.std.proofs.lemmas.List.{length-replicate}
+use Rattle.std.specs.declared.alloc.Global.{Global}
+use Rattle.std.specs.declared.vec.Vec.{Vec}
 use Rattle.std.proofs.Math.Seq.{take-append_seam}
 use Rattle.std.specs.Io.KnownBytes.{Consumes, IsAtEnd}
 use Rattle.std.specs.Prelude.{Option}
-use Rattle.nbd_tool.specs.Starts.{IsWithinLimit}
+use Rattle.nbd_wire.specs.protocol.Explains.{Image}
+use Rattle.nbd_tool.specs.Beginnings.{IsBeginningOf}
+use Rattle.nbd_tool.specs.Starts.{IsWithinLimit, image_of}
+use Rattle.nbd_tool.specs.declared.start.Beginning.TheVariants as Beginning
+use Rattle.nbd_tool.specs.declared.input.Text.{Text}
+use Rattle.nbd_tool.specs.declared.input.Text.TheVariants.{Longer, Whole}
+use Rattle.nbd_tool.specs.internal.Texts.{IsText}
 
 -- what was read before a last read that gave nothing, at the end, is all
 pub all_read : (old mid new : Option (List ℕ)) (text last : List ℕ)
@@ -23,3 +33,53 @@ take_of_prefix n bytes behind e = subst (λ n. take n (bytes ++ behind) ≡ byte
 pub limited_by : (known : Option (List ℕ)) (text : List ℕ) → IfSome known (λ bytes. text ≡ bytes) → length text ≤ 2 ^ 40 → IsWithinLimit known
 limited_by None text whole few = tt
 limited_by (Some bytes) text whole few = subst (λ l. length l ≤ 2 ^ 40) whole few
+
+-- so many bytes were read; where there is room for them, they are the text
+pub record HasRead (old now : Option (List ℕ)) (count room : ℕ) (text : List ℕ) : Type 0 where
+  pub bytes : List ℕ
+  pub consumed : Consumes old now bytes
+  pub counted : length bytes ≡ count
+  pub kept : count ≤ room → text ≡ bytes
+
+pub read_nothing : (known : Option (List ℕ)) (room : ℕ) (text : List ℕ) → text ≡ [] → HasRead known known 0 room text
+read_nothing known room text none = record { bytes = []; consumed = Consumes-nil known; counted = refl; kept = λ l. none }
+
+pub read_more : (old mid new : Option (List ℕ)) (count n room : ℕ) (text more text' : List ℕ) → HasRead old mid count room text → Consumes mid new more → length more ≡ n
+    → (count + n ≤ room → text' ≡ text ++ more) → HasRead old new (count + n) room text'
+read_more old mid new count n room text more text' h given len then_kept = record {
+  bytes = h.bytes ++ more;
+  consumed = Consumes-trans old mid new h.bytes more h.consumed given;
+  counted = length-append h.bytes more ∙ ap (λ k. k + length more) h.counted ∙ ap (λ k. count + k) len;
+  kept = λ l. then_kept l ∙ ap (λ t. t ++ more) (h.kept (omega arith));
+}
+
+-- a read that gave nothing, at the end: what was read is all
+pub has_all : (old mid new : Option (List ℕ)) (count room : ℕ) (text last : List ℕ) (h : HasRead old mid count room text) → Consumes mid new last → last ≡ [] → IsAtEnd new
+    → IfSome old (λ bytes. h.bytes ≡ bytes)
+has_all old mid new count room text last h given none end = all_read old mid new h.bytes last h.consumed given none end
+
+pub all_kept : (old now : Option (List ℕ)) (count room : ℕ) (text : Vec ℕ Global) (o : Text) (h : HasRead old now count room text.items) → IfSome old (λ bytes. h.bytes ≡ bytes) → count ≤ room → o ≡ Whole text
+    → IfSome old (IsText room o)
+all_kept None now count room text o h all l e = tt
+all_kept (Some bytes) now count room text o h all l e = subst (λ t. IsText room t bytes) (sym e) (h.kept l ∙ all)
+
+pub all_counted : (old now : Option (List ℕ)) (count room : ℕ) (text : List ℕ) (o : Text) (h : HasRead old now count room text) → IfSome old (λ bytes. h.bytes ≡ bytes) → room < count → o ≡ Longer count
+    → IfSome old (IsText room o)
+all_counted None now count room text o h all l e = tt
+all_counted (Some bytes) now count room text o h all l e = subst (λ t. IsText room t bytes) (sym e) (sym h.counted ∙ ap length all, l)
+
+pub counted_within : (known : Option (List ℕ)) (bytes : List ℕ) (count : ℕ) → IfSome known (λ all. bytes ≡ all) → length bytes ≡ count → count ≤ 2 ^ 40 → IsWithinLimit known
+counted_within known bytes count all len few = limited_by known bytes all (subst (λ n. n ≤ 2 ^ 40) (sym len) few)
+
+-- an image that was counted
+pub longer_read : (known : Option (List ℕ)) (room n : ℕ) → IfSome known (IsText room (Longer n)) → room < n → IsBeginningOf (image_of known) room (Beginning.Longer n)
+longer_read None room n counted l = record {
+  initial = Image (replicate n 0);
+  is_read = (replicate n 0, refl, sym (length-replicate n 0), l);
+  is_known = tt;
+}
+longer_read (Some bytes) room n counted l = record {
+  initial = Image bytes;
+  is_read = (bytes, refl, counted.0, counted.1);
+  is_known = refl;
+}

@@ -1,3 +1,4 @@
+pub mod Beginnings
 pub mod CommandLine
 pub mod Ends
 pub mod Faults
@@ -8,3 +9,4 @@ pub mod Shown
 pub mod Starts
 pub mod Uniqueness
 pub mod Verdicts
+pub mod internal

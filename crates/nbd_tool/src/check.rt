@@ -5,12 +5,12 @@ ghost use Rattle.nbd_tool.specs.Runs.{IsCapture, IsOrder, IsCause, IsOrderCause,
 ghost use Rattle.nbd_tool.specs.Starts.{IsStartWithinLimit, IsWithinLimit, initial_from};
 
 use crate::capture::session_over;
+use crate::concluding::conclude_from;
 use crate::fault::RunFault;
 use crate::input::{ReadFault, read_whole};
-use crate::start::{StartFrom, read_start};
+use crate::start::{StartFrom, read_start, room_of};
 use crate::verdict::{Line, is_yes};
 use nbd_capture::{parse_order, write_whole};
-use nbd_judge::conclude;
 use nbd_wire::Entry;
 use std::alloc::Global;
 use std::io::{BufRead, Read, Write};
@@ -42,8 +42,9 @@ pub fn run_check<C: BufRead + Drop, O: Read + Drop, I: Read + Drop, W: Write>(
 {
     let session = session_over(alloc, capture)?;
     let order = read_order(alloc, &mut order)?;
-    let start = read_start(alloc, start)?;
-    let verdict = conclude(alloc, session.finish(), order.as_slice(), start)?;
+    let finished = session.finish();
+    let start = read_start(alloc, start, room_of(&finished))?;
+    let verdict = conclude_from(alloc, finished, order.as_slice(), start)?;
     let line = format!(in alloc; "{}\n", Line { verdict })?;
     write_whole(out, line.as_bytes())?;
     Ok(is_yes(&verdict))

@@ -1,6 +1,8 @@
 //! Reading an input whole.
-ghost use Rattle.std.specs.Prelude.{◌≡◌, ◌≤◌, IfOk, IfSome, OnOk, vec_len};
+ghost use Rattle.std.specs.Prelude.{◌≡◌, ◌<◌, ℕ, IfOk, IfSome, Ok, OnOk};
+ghost use Rattle.nbd_tool.specs.declared.input.Text.TheVariants.{Longer};
 ghost use Rattle.nbd_tool.specs.Starts.{IsWithinLimit};
+ghost use Rattle.nbd_tool.specs.internal.Texts.{IsText};
 
 use std::alloc::{AllocError, Global};
 use std::io::Read;
@@ -29,23 +31,57 @@ impl From<AllocError> for ReadFault {
     }
 }
 
+/// What an input has.
+#[derive(Drop)]
+pub(crate) enum Text {
+    /// These bytes.
+    Whole(Vec<u8>),
+    /// So many bytes, which were counted and not kept.
+    Longer(u64),
+}
+
 /// Reads to the end. Every error of the reader is a fault, also an interrupted read: nothing is
 /// tried again.
 pub(crate) fn read_whole<R: Read>(alloc: Global, reader: &mut R) -> Result<Vec<u8>, ReadFault>
     ensures whole { IfOk result (λ text. IfSome (R.remaining reader.old) (λ bytes. text.items ≡ bytes)) }
-    ensures small { IfOk result (λ text. vec_len text ≤ READ_LIMIT) }
     ensures limited { OnOk result (IsWithinLimit (R.remaining reader.old)) }
+{
+    match read_within(alloc, reader, READ_LIMIT as u64)? {
+        Text::Whole(text) => Ok(text),
+        Text::Longer(_) => Err(ReadFault::Read),
+    }
+}
+
+/// Reads to the end, and keeps the bytes where there are no more than `room` of them.
+pub(crate) fn read_within<R: Read>(
+    alloc: Global,
+    reader: &mut R,
+    room: u64,
+) -> Result<Text, ReadFault>
+    ensures read { IfOk result (λ text. IfSome (R.remaining reader.old) (IsText room text)) }
+    ensures limited { OnOk result (IsWithinLimit (R.remaining reader.old)) }
+    ensures longer { (n : ℕ) → result ≡ Ok (Longer n) → room < n }
 {
     let mut text = Vec::new(alloc);
     let mut portion = vec![in alloc; 0u8; PORTION]?;
-    while text.len() <= READ_LIMIT {
-        let Ok(count) = reader.read(portion.as_mut_slice()) else {
+    let mut count = 0;
+    while count <= READ_LIMIT {
+        let Ok(more) = reader.read(portion.as_mut_slice()) else {
             return Err(ReadFault::Read);
         };
-        if count == 0 {
-            return Ok(text);
+        if more == 0 {
+            return Ok(if count as u64 <= room {
+                Text::Whole(text)
+            } else {
+                Text::Longer(count as u64)
+            });
         }
-        text.extend_from_slice(&portion.as_slice()[..count])?;
+        count += more;
+        if count as u64 <= room {
+            text.extend_from_slice(&portion.as_slice()[..more])?;
+        } else {
+            text = Vec::new(alloc);
+        }
     }
     Err(ReadFault::Read)
 }

@@ -1,13 +1,16 @@
 //! What the export held when the session began.
 
-ghost use Rattle.std.specs.Prelude.{◌≡◌, ◌⊎◌, IfErr, IfOk, IfSome, OnOk};
-ghost use Rattle.nbd_judge.specs.Beginnings.{initial_of};
+ghost use Rattle.std.specs.Prelude.{◌≡◌, ◌⊎◌, ◌<◌, ℕ, IfErr, IfOk, IfSome, Ok, OnOk};
 ghost use Rattle.nbd_tool.specs.declared.fault.RunFault.TheVariants.{ImageRead, Memory};
+ghost use Rattle.nbd_tool.specs.declared.input.Text.TheVariants.{Longer};
+ghost use Rattle.nbd_tool.specs.Beginnings.{IsBeginningOf, room_in};
 ghost use Rattle.nbd_tool.specs.Starts.{HasImage, IsStartWithinLimit, IsWithinLimit, initial_from};
+ghost use Rattle.nbd_tool.specs.internal.Texts.{IsText};
 
 use crate::fault::RunFault;
-use crate::input::{ReadFault, read_whole};
+use crate::input::{ReadFault, Text, read_within};
 use nbd_export::Start;
+use nbd_session::{SessionFault, Transcript};
 use std::alloc::Global;
 use std::io::Read;
 
@@ -22,27 +25,57 @@ pub enum StartFrom<I> {
     Image(I),
 }
 
-/// Reads an image whole, if there is one.
-pub fn read_start<I: Read + Drop>(alloc: Global, start: StartFrom<I>) -> Result<Start, RunFault>
-    ensures read { IfOk result (λ read. IfSome (initial_from I.remaining start)
-        (λ initial. initial_of read ≡ initial)) }
+/// What the export held at first, as far as a verdict needs it.
+#[derive(Drop)]
+pub enum Beginning {
+    /// All that was given.
+    Whole(Start),
+    /// An image of so many bytes, for which there was no room: they were counted, and not kept.
+    Longer(u64),
+}
+
+/// How many bytes of an image the verdict on a session needs: as many as the export has, and none where the session was
+/// refused or did not reach transmission.
+pub fn room_of(finished: &Result<Transcript, SessionFault>) -> u64
+    ensures { result ≡ room_in finished.now }
+{
+    match finished {
+        Ok(transcript) => match transcript.export() {
+            Some((size, _)) => size,
+            None => 0,
+        },
+        Err(_) => 0,
+    }
+}
+
+/// Reads an image to its end, if there is one, and keeps it where it has no more than `room` bytes.
+pub fn read_start<I: Read + Drop>(
+    alloc: Global,
+    start: StartFrom<I>,
+    room: u64,
+) -> Result<Beginning, RunFault>
+    ensures read { IfOk result (IsBeginningOf (initial_from I.remaining start) room) }
     ensures limited { OnOk result (IsStartWithinLimit I.remaining start) }
     ensures cause { IfErr result (λ fault. (fault ≡ ImageRead) × HasImage start ⊎ (fault ≡ Memory)) }
 {
     match start {
-        StartFrom::Unknown => Ok(Start::Unknown),
-        StartFrom::Zeroes => Ok(Start::Zeroes),
-        StartFrom::Image(mut image) => Ok(Start::Image(read_image(alloc, &mut image)?)),
+        StartFrom::Unknown => Ok(Beginning::Whole(Start::Unknown)),
+        StartFrom::Zeroes => Ok(Beginning::Whole(Start::Zeroes)),
+        StartFrom::Image(mut image) => match read_image(alloc, &mut image, room)? {
+            Text::Whole(bytes) => Ok(Beginning::Whole(Start::Image(bytes))),
+            Text::Longer(count) => Ok(Beginning::Longer(count)),
+        },
     }
 }
 
-// The bytes of an image.
-fn read_image<I: Read>(alloc: Global, image: &mut I) -> Result<Vec<u8>, RunFault>
-    ensures read { IfOk result (λ bytes. IfSome (I.remaining image.old) (λ known. bytes.items ≡ known)) }
+// The bytes of an image, or how many they are.
+fn read_image<I: Read>(alloc: Global, image: &mut I, room: u64) -> Result<Text, RunFault>
+    ensures read { IfOk result (λ text. IfSome (I.remaining image.old) (IsText room text)) }
+    ensures longer { (n : ℕ) → result ≡ Ok (Longer n) → room < n }
     ensures limited { OnOk result (IsWithinLimit (I.remaining image.old)) }
     ensures cause { IfErr result (λ fault. (fault ≡ ImageRead) ⊎ (fault ≡ Memory)) }
 {
-    read_whole(alloc, image).map_err(|fault| match fault {
+    read_within(alloc, image, room).map_err(|fault| match fault {
         ReadFault::Read => RunFault::ImageRead,
         ReadFault::Memory => RunFault::Memory,
     })

@@ -96,6 +96,41 @@ const READS_OF_AN_IMAGE: &[Case] = &[
         start: Start::Image(b"nbdchecks"),
         want: "1 no image 9 size 8\n",
     },
+    Case {
+        name: "an image that ends before the export does",
+        capture: &[BEGUN],
+        order: "",
+        start: Start::Image(b"nbdchec"),
+        want: "1 no image 7 size 8\n",
+    },
+    Case {
+        name: "an image without bytes",
+        capture: &[BEGUN],
+        order: "",
+        start: Start::Image(b""),
+        want: "1 no image 0 size 8\n",
+    },
+    Case {
+        name: "an image of more bytes than are read at a time",
+        capture: &[BEGUN],
+        order: "",
+        start: Start::Image(&[7; 200_000]),
+        want: "1 no image 200000 size 8\n",
+    },
+    Case {
+        name: "an image of another size, and a reply to no request",
+        capture: &[BEGUN, "S 67446698000000000000000000000001\n"],
+        order: "",
+        start: Start::Image(&[7; 200_000]),
+        want: "1 no at byte 112: UnknownCookie\n",
+    },
+    Case {
+        name: "an image, and a session that does not reach transmission",
+        capture: &[],
+        order: "",
+        start: Start::Image(b"nbdcheck"),
+        want: "0 yes requests 0 answered 0 improper 0\n",
+    },
 ];
 
 #[test]
