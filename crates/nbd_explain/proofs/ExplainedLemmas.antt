@@ -1,43 +1,29 @@
 -- The verdict that is explained, and the lines of an order of arrival.
 use Rattle.std.proofs.Common.{◌≡◌, ◌↔◌, ℕ, List, ◌++◌, Bool, true, false, refl, sym, subst, Option, None, Some, Result, Ok, Err, IfOk, IfErr, OnOk, IsTrue, length, suc, ◌+◌, arith, codes}
 use Rattle.std.specs.Fmt.{decimal}
-use Rattle.std.specs.declared.alloc.AllocError.{AllocError}
 use Rattle.std.specs.Io.KnownBytes.{Appends, Keeps}
-use Rattle.nbd_wire.specs.declared.entry.Entry.{Entry}
 use Rattle.nbd_wire.specs.declared.fault.WireFault.{WireFault}
-use Rattle.nbd_wire.specs.protocol.Captures.{Pair}
 use Rattle.nbd_wire.specs.protocol.Explains.{Start}
-use Rattle.nbd_wire.specs.protocol.Marks.{Item, pairs}
 use Rattle.nbd_wire.specs.protocol.Reports.{Report}
-use Rattle.nbd_wire.specs.protocol.Rules.{IsRun}
 use Rattle.nbd_session.specs.declared.fault.SessionFault.{SessionFault}
 use Rattle.nbd_session.specs.declared.fault.SessionFault.TheVariants.{Wire}
 use Rattle.nbd_session.specs.Refusals.{EndsIn}
 use Rattle.nbd_session.specs.Sessions.{IsReported, SessionView, fault_at_end, fault_of}
 use Rattle.nbd_session.proofs.judge.RefusalLemmas.{no_run_of}
 use Rattle.nbd_judge.specs.declared.verdict.Verdict.{Verdict}
-use Rattle.nbd_judge.specs.Captures.{IsChecked, IsFaultOf}
+use Rattle.nbd_judge.specs.Captures.{IsFaultOf}
 use Rattle.nbd_judge.specs.internal.Captures.{HasReport}
-use Rattle.nbd_judge.specs.Conclusions.{Answers, IsConclusion, IsReportOf}
 use Rattle.nbd_tool.specs.declared.fault.RunFault.{RunFault}
-use Rattle.nbd_tool.specs.Ends.{IsOver, IsOverText}
+use Rattle.nbd_tool.specs.Ends.{IsOverText}
 use Rattle.nbd_tool.specs.declared.start.StartFrom.{StartFrom}
 use Rattle.nbd_tool.specs.Runs.{IsCapture, IsCause, IsVerdictOn, flat_of}
 use Rattle.nbd_tool.specs.Shown.{IsShowCause}
 use Rattle.nbd_tool.specs.Verdicts.{IsYes}
-use Rattle.nbd_tool.proofs.OverLemmas.{checked_over, fault_over, report_over}
+use Rattle.nbd_tool.proofs.OverLemmas.{fault_over, report_over}
 use Rattle.nbd_explain.specs.Arrival.{Arrives, number_lines}
 use Rattle.nbd_explain.specs.Arrival.HasArrival.{accepted, refused}
 use Rattle.nbd_explain.specs.Explained.{BeginsWithLine, Explains, IsExplainCause, IsExplained}
 use Rattle.nbd_explain.specs.Settled.{Settles}
-
--- the conclusion from a session, if memory suffices
-pub checked_if : (r : SessionView) (order : List Entry) (initial : Start) (finished : Result Report SessionFault) (o : Result Verdict AllocError) →
-    fault_of finished ≡ fault_at_end r → IfOk finished (IsReported r) → IfErr finished (EndsIn r) → IfOk o (IsConclusion finished order initial) →
-    IfOk o (λ v. (items : List Item) → IsRun items → IsReportOf items finished → Answers (pairs items) order initial v) →
-    IfOk o (λ v. (capture : List Pair) → IsOver capture r → IsChecked capture order initial v)
-checked_if r order initial finished (Err e) same reported ends concluded answers = tt
-checked_if r order initial finished (Ok v) same reported ends concluded answers = λ capture over. checked_over capture r order initial finished v over same reported ends concluded answers
 
 -- a verdict's line was written, with text behind it
 pub explained_if : (r : SessionView) (order : Option (List ℕ)) (initial : Option Start) (old new : Option (List ℕ)) (v : Verdict) (o : Result Bool RunFault) →

@@ -20,10 +20,12 @@ use crate::recording::Recording;
 use crate::story::Story;
 use nbd_capture::write_whole;
 use nbd_export::Start;
-use nbd_judge::{Verdict, conclude};
+use nbd_judge::Verdict;
 use nbd_session::{Session, SessionFault};
-use nbd_tool::{Line, RunFault, StartFrom, is_yes, read_order, read_start, write_end};
-use nbd_wire::Entry;
+use nbd_tool::{
+    Beginning, Line, RunFault, StartFrom, conclude_from, is_yes, read_order, read_start, room_of,
+    write_end,
+};
 use std::alloc::{AllocError, Global};
 use std::io::{BufRead, Read, Write};
 
@@ -70,10 +72,11 @@ fn explain_verdict<O: Read + Drop, I: Read + Drop, W: Write>(
     ensures left { IfErr result (KeepsUnread (W.contents out.old) (W.contents out.new)) }
 {
     let order = read_order(alloc, &mut order)?;
-    let start = read_start(alloc, start)?;
+    let finished = session.finish();
+    let start = read_start(alloc, start, room_of(&finished))?;
     let kept = copy_of(alloc, &start)?;
     let entries = order.as_slice();
-    let verdict = verdict_on(alloc, session, entries, start)?;
+    let verdict = conclude_from(alloc, finished, entries, start)?;
     let sources = Sources {
         story,
         recording,
@@ -83,25 +86,14 @@ fn explain_verdict<O: Read + Drop, I: Read + Drop, W: Write>(
     write_explained(alloc, verdict, sources, out)
 }
 
-// The verdict on a session.
-fn verdict_on(
-    alloc: Global,
-    session: Session,
-    order: &[Entry],
-    start: Start,
-) -> Result<Verdict, AllocError>
-    ensures { IfOk result (λ verdict. (capture : List Pair) → IsOver capture session →
-        IsChecked capture order.now (initial_of start) verdict) }
-{
-    conclude(alloc, session.finish(), order, start)
-}
-
-// A start once more, since the verdict takes it.
-fn copy_of(alloc: Global, start: &Start) -> Result<Start, AllocError> {
+// A start once more, since the verdict takes it; of an image that was not kept nothing is known.
+fn copy_of(alloc: Global, start: &Beginning) -> Result<Start, AllocError> {
     match start {
-        Start::Unknown => Ok(Start::Unknown),
-        Start::Zeroes => Ok(Start::Zeroes),
-        Start::Image(image) => Ok(Start::Image(Vec::from_slice(alloc, image.as_slice())?)),
+        Beginning::Whole(Start::Unknown) | Beginning::Longer(_) => Ok(Start::Unknown),
+        Beginning::Whole(Start::Zeroes) => Ok(Start::Zeroes),
+        Beginning::Whole(Start::Image(image)) => {
+            Ok(Start::Image(Vec::from_slice(alloc, image.as_slice())?))
+        }
     }
 }
 
