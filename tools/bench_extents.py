@@ -35,13 +35,14 @@ def number(value, length):
 
 class Shape(typing.NamedTuple):
     """The count of its smallest session, and its session of so many: a request and its reply messages, one
-    after the other."""
+    after the other; and the lines of its order, where it is not that of the requests."""
 
     count: int
     session: typing.Callable
     structured: bool = False
     start: str = "zero"
     size: int = SIZE
+    entries: typing.Callable = None
 
 
 def negotiation(size, structured):
@@ -178,7 +179,8 @@ def generate(shape, count, base):
             for answer in answers:
                 capture.write(b"S " + answer.hex().encode() + b"\n")
     with open(base + ".ord", "w") as order:
-        order.writelines(f"{k}\n" for k in range(1, asked + 1))
+        lines = shape.entries(count) if shape.entries else range(1, asked + 1)
+        order.writelines(f"{line}\n" for line in lines)
     with open(base + ".img", "wb") as image:
         image.write(IMAGE)
 

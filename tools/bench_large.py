@@ -99,4 +99,5 @@ SHAPES = {
     },
 }
 
-main(SHAPES, __doc__)
+if __name__ == "__main__":
+    main(SHAPES, __doc__)
