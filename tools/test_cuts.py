@@ -1,7 +1,8 @@
 """Sessions cut off behind each byte, with each byte inverted, and with large numbers.
 
 Each is run as it stands, as records of one byte and as longest one-sided runs; the answers are the same. In long sessions the
-bytes in the middle of a record, which are those of a payload, are tried at every SPARSEth place, unless all are asked for.
+bytes in the middle of a record, which are those of a payload, are tried at every SPARSEth place, or at some MIDDLE places where
+that is fewer, unless all are asked for.
 """
 
 import multiprocessing
@@ -17,7 +18,7 @@ MOST, LENGTH = 2**64 - 1, 2**32 - 1
 # How many places one process tries at a time.
 STEP = 64
 # A session of more bytes is long; of its records this many bytes at both ends are tried, and every so many in the middle.
-LONG, ENDS, SPARSE = 4096, 40, 32
+LONG, ENDS, SPARSE, MIDDLE = 4096, 40, 32, 1250
 
 
 @dataclass
@@ -44,7 +45,8 @@ class Session:
             ends.update(range(at, min(at + ENDS, at + len(data))))
             at += len(data)
             ends.update(range(max(at - ENDS, at - len(data)), at))
-        return [place for place in range(size) if place in ends or place % SPARSE == 0]
+        step = max(SPARSE, size // MIDDLE)
+        return [place for place in range(size) if place in ends or place % step == 0]
 
     def is_open(self, count):
         """Whether a message is open behind so many bytes."""
@@ -136,9 +138,11 @@ LARGE = [
 
 
 def examples():
-    """The sessions of examples/."""
+    """The sessions of examples/, each once: a link to a capture is the same session with another order."""
     folder = TOP / "examples"
     for capture in sorted(folder.glob("*.cap")):
+        if capture.is_symlink():
+            continue
         start = capture.with_suffix(".start").read_text().strip()
         yield Session(
             capture.stem,
