@@ -56,6 +56,7 @@ WIRE = {
     "success-of-improper": Session([*begun(), read(1, 8, 4), simple(1, bytes(4))]),
     "bad-disconnect": Session([*begun(), request(DISC, 0, 0, 1)]),
     "unfinished": Session([*ASKED, cut(simple(1, bytes(4)), 19)[0]]),
+    "unfinished-after-one-byte": Session([*ASKED, cut(simple(1, bytes(4)), 1)[0]]),
     "unfinished-on-both-sides": Session([*ASKED, cut(simple(1, bytes(4)), 3)[0], cut(read(2, 0, 4), 27)[0]]),
 }
 TIMED = [*begun(), read(1, 0, 4), simple(1, bytes(4)), write(2, 0, b"\xab"), simple(2)]

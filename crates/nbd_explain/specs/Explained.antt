@@ -14,7 +14,8 @@ use Rattle.nbd_explain.specs.Settled.{Settles}
 abbrev pub BeginsWithLine : Verdict → (old new : Option (List ℕ)) → Type 0
 BeginsWithLine verdict old new = (explanation : List ℕ) × Appends old new (line verdict ++ explanation)
 
--- the whole line of one verdict was written, and some text behind it; true was answered exactly where the verdict is a yes
+-- the whole line of one verdict was written, and some text behind it; true was answered exactly where the verdict is
+-- a yes
 pub record Explains (capture order : Option (List ℕ)) (initial : Option Start) (answered : Bool) (old new : Option (List ℕ)) : Type 0 where
   pub verdict : Verdict
   pub is_verdict : IsVerdictOn capture order initial verdict

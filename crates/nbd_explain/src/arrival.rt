@@ -14,8 +14,9 @@ use nbd_tool::{RunFault, session_over};
 use std::alloc::Global;
 use std::io::{BufRead, Write};
 
-/// Reads a capture text to its end, and writes the numbers of its requests, a line each, in the order in which they came: the
-/// order of service of a server that takes one after the other. Answers false, and writes nothing, where the session was refused.
+/// Reads a capture text to its end, and writes the numbers of its requests, a line each, in the order in which they came:
+/// the order of service of a server that takes one after the other. Answers false, and writes nothing, where the session
+/// was refused.
 pub fn run_arrival<C: BufRead + Drop, W: Write>(
     alloc: Global,
     capture: C,

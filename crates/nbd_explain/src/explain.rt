@@ -29,8 +29,9 @@ use nbd_tool::{
 use std::alloc::{AllocError, Global};
 use std::io::{BufRead, Read, Write};
 
-/// Reads a capture text to its end, then an order text and an image, if there are such; writes the line that `check` writes, or
-/// without an order that with which `show` ends, and behind it why the answer is no. Answers true where it is yes.
+/// Reads a capture text to its end, then an order text and an image, if there are such; writes the line that `check`
+/// writes, or without an order that with which `show` ends, and behind it why the answer is no. Answers true where it is
+/// yes.
 ///
 /// Nothing is written unless all were read whole and are well formed. After `Write` a prefix stands written.
 pub fn run_explain<C: BufRead + Drop, O: Read + Drop, I: Read + Drop, W: Write>(

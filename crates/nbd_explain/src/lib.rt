@@ -2,6 +2,7 @@
 #![tactic(auto)]
 
 mod arrival;
+mod begun;
 mod brief;
 mod content;
 mod entries;

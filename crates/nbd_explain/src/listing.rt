@@ -16,11 +16,11 @@ use nbd_wire::Side;
 use std::alloc::{AllocError, Global};
 use std::io::{BufRead, Write};
 
-/// Reads a capture text to its end, and writes each message that its session accepts in words, a line each, in the order of their
-/// completion, and then `ok`, or where and why the session was refused. Answers true where it was accepted.
+/// Reads a capture text to its end, and writes each message that its session accepts in words, a line each, in the order
+/// of their completion, and then `ok`, or where and why the session was refused. Answers true where it was accepted.
 ///
-/// Nothing is written unless the capture was read whole and is well formed. After `Write` or `Memory` a prefix of the lines
-/// stands written, possibly nothing.
+/// Nothing is written unless the capture was read whole and is well formed. After `Write` or `Memory` a prefix of the
+/// lines stands written, possibly nothing.
 pub fn run_names<C: BufRead + Drop, W: Write>(
     alloc: Global,
     capture: C,

@@ -5,8 +5,8 @@ use nbd_tool::{RunFault, StartFrom};
 use std::alloc::Global;
 use std::test::Fail;
 
-/// A negotiation by GO of an export of eight bytes, a WRITE of the bytes ab cd at 0, and a READ of four bytes from there,
-/// which got ab ce 00 00: 190 bytes.
+/// A negotiation by GO of an export of eight bytes, a WRITE of the bytes ab cd at 0, and a READ of four bytes from
+/// there, which got ab ce 00 00: 190 bytes.
 const MISREAD: &str = "\
 S 4e42444d4147494349484156454f50540003
 C 00000003
