@@ -96,6 +96,6 @@ pub printed_entries : (entries : List Entry) → AllByRecursion EntryFits entrie
 printed_entries [] fits = empty
 printed_entries (e ∷ es) fits =
     let all = line (entry_text e) (e ∷ []) _ es (unbroken_append (decimal e.request) (part_text e.part) (unbroken_number e.request fits.0.0) (unbroken_part e.part fits.0.1))
-        (printed_line e.request e.part fits.0.0 fits.0.1) (printed_entries es fits.1) in
+    (printed_line e.request e.part fits.0.0 fits.0.1) (printed_entries es fits.1) in
     let joined = append_assoc (entry_text e) (line_feed ∷ []) (flat_map (λ (d : Entry). entry_text d ++ line_feed ∷ []) es) in
     subst (λ t. IsOrderText t (e ∷ es)) (sym joined) all

@@ -9,8 +9,7 @@ mod whole;
 mod writers;
 
 use crate::{CaptureFault, OrderTextFault, parse_order};
-use nbd_wire::{Entry, Part};
-use nbd_wire::Side;
+use nbd_wire::{Entry, Part, Side};
 use parse::parse_capture;
 use std::test::Fail;
 

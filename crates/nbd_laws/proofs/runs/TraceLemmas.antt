@@ -102,9 +102,9 @@ obeys_service : (old new : Core) (g : IsGrown old new) (js : List Entry) (items 
     Obeys (record { core = new; served = serviced old new g js }) items → Obeys (record { core = new; served = js }) (service old new g ++ items)
 obeys_service old new (inl e) js items c h = h
 obeys_service old new (inr e) js items c h = (
-      (omega arith, le_refl (length new.entries), ((λ n. let q : length new.entries ≤ length old.entries = c.only (length new.entries) n in omega arith), λ b. b)),
-      h,
-    )
+  (omega arith, le_refl (length new.entries), ((λ n. let q : length new.entries ≤ length old.entries = c.only (length new.entries) n in omega arith), λ b. b)),
+  h,
+)
 
 walk_service : {P : Type 0} (old new : Core) (g : IsGrown old new) (o : Both Open) (items : List Item) → Walk P o items → Walk P o (service old new g ++ items)
 walk_service old new (inl e) o items w = w

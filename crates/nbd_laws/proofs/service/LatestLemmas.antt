@@ -196,10 +196,10 @@ module _ (κ : ℕ → Option ℕ) (last : Core) where
           let right = λ (j : ℕ) (h : Names c.back j). subst (λ l. Names l j) (sym split) (Names-right ks c.back j h) in
           obeys_serve_all core js ks (Starts Server m ∷ placed core c.back items)
           (AreFine-as (length last.entries) (length core.entries) (inside_at last) (inside_at core) js ks (
-            λ j h p l. (let w : j ≤ length core.entries = elim (Names-push_cases c.prefix c.last j h) [
-                | inl a ↦ in_time_before κ c.prefix (c.last ∷ c.back) k (length core.entries) in_time (inl c.names) known_k j a
-                | inr q ↦ subst (λ x. x ≤ length core.entries) (sym c.names ∙ q) k_in.1
-              ] in (w, sym (same_inside core js₀ js order (Starts Server m ∷ items) ob f j p w)))
+          λ j h p l. (let w : j ≤ length core.entries = elim (Names-push_cases c.prefix c.last j h) [
+            | inl a ↦ in_time_before κ c.prefix (c.last ∷ c.back) k (length core.entries) in_time (inl c.names) known_k j a
+            | inr q ↦ subst (λ x. x ≤ length core.entries) (sym c.names ∙ q) k_in.1
+          ] in (w, sym (same_inside core js₀ js order (Starts Server m ∷ items) ob f j p w)))
           ) (AreFine-left (length last.entries) (inside_at last) js ks c.back fine)) (
             (ob.0.0, ob.0.1, ob.0.2, served_before (js ++ ks) c.back c.none left),
             go_on (js ++ ks) c.back (record {

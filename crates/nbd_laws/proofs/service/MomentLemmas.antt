@@ -25,10 +25,10 @@ export-report items = refl
 
 pub inside-report : (items : List Item) → inside_in (report items) ≡ inside_at (ends_at start items).core
 inside-report items = λ i k. (
-  ap (λ o. inside_asked o (asked_of_report k)) (export-report items)
-  ∙ ap (inside_asked (export_of items)) (asked-report items k)
-  ∙ inside-told (export_of items) (known_count items k) (operation k (operations_of items))
-) i
+    ap (λ o. inside_asked o (asked_of_report k)) (export-report items)
+    ∙ ap (inside_asked (export_of items)) (asked-report items k)
+    ∙ inside-told (export_of items) (known_count items k) (operation k (operations_of items))
+    ) i
   where
     asked_of_report : ℕ → Option Asked
     asked_of_report k = asked_at k (report items).asked

@@ -258,7 +258,7 @@ true_is_fresh within before e h = go e.part h
         let b = both (nat_lt 0 p.length) _ a.1 in
         let some : 0 < p.length = ltb-true 0 p.length b.0 in
         let each = λ (x : ℕ) (i : IsTrue (is_in p.offset p.length x)). (let r = in_range p.offset p.length x i in
-            both (within x) (not (is_served before e.request x)) (all_at p.offset p.length (λ x. within x && not (is_served before e.request x)) b.1 x r.0 r.1)) in (
+        both (within x) (not (is_served before e.request x)) (all_at p.offset p.length (λ x. within x && not (is_served before e.request x)) b.1 x r.0 r.1)) in (
           (λ n. true_is_in_parts before e.request a.0 n),
           elim [
             | inl empty ↦ absurd (omega arith)

@@ -52,7 +52,7 @@ none_wrong_after requests initial before (e ∷ order) h zero x entry at w =
     let a = both (reads_right e.part (byte_after requests initial before) (requests e.request)) _ h in
     let s : e ≡ entry = cc in
     let w' : IsWrongOf requests e (byte_after requests initial before) x =
-        subst (λ l. IsWrongOf requests e (byte_after requests initial l) x) (append-nil before) (subst (λ y. IsWrongOf requests y (byte_after requests initial (before ++ [])) x) (sym s) w) in
+    subst (λ l. IsWrongOf requests e (byte_after requests initial l) x) (append-nil before) (subst (λ y. IsWrongOf requests y (byte_after requests initial (before ++ [])) x) (sym s) w) in
     right e.part (byte_after requests initial before) (requests e.request) w'.0 x a.0 w'.1 w'.2
 none_wrong_after requests initial before (e ∷ order) h (suc i) x entry at w =
     let a = both (reads_right e.part (byte_after requests initial before) (requests e.request)) _ h in
