@@ -1,5 +1,5 @@
 -- Pieces in the order of their offsets, and those that meet a part.
-use Rattle.std.proofs.Common.{◌≡◌, ℕ, zero, suc, ◌+◌, ◌-◌, ◌<◌, ◌≤◌, inl, inr, List, [], ◌∷◌, length, refl, sym, ◌∙◌, ap, subst, Option, Some, None, Bool, true, false, arith, nat_le, nat_lt, cond, slice_get, slice_index_or, IsTrue, map, Bor, take, drop, filter, sum_by}
+use Rattle.std.proofs.Common.{◌≡◌, ℕ, zero, suc, ◌+◌, ◌-◌, ◌<◌, ◌≤◌, inl, inr, List, [], ◌∷◌, length, max, refl, sym, ◌∙◌, ap, subst, Option, Some, None, Bool, true, false, arith, nat_le, nat_lt, cond, slice_get, slice_index_or, IsTrue, map, Bor, take, drop, filter, sum_by}
 use Rattle.std.proofs.lemmas.Bool.{leb-true, leb-false, lt-ltb, ltb-false, ltb-true}
 use Rattle.std.proofs.lemmas.List.{length-map}
 use Rattle.std.proofs.lemmas.List.Sums.{sum_by-cons}
@@ -67,10 +67,10 @@ module _ (ps : List (Bor Piece)) (before count : ℕ) (low : before ≤ length p
   chosen_get : (j : ℕ) → j < count → slice_get (take count rest) j ≡ slice_get ps (before + j)
   chosen_get j l = take_get rest count j l ∙ rest_get j (let r = rest_length in omega (arith, r))
 
-  pub those_between : (part : Part) → IsPartitionPoint (λ (p : Bor Piece). nat_le (piece_offset p.now + piece_size p.now) part.offset ≡ true) (λ (p : Bor Piece). nat_le (piece_offset p.now + piece_size p.now) part.offset ≡ false) ps before
+  pub those_between : (part : Part) → AreInOrder (seen ps) → IsPartitionPoint (λ (p : Bor Piece). nat_le (piece_offset p.now + piece_size p.now) part.offset ≡ true) (λ (p : Bor Piece). nat_le (piece_offset p.now + piece_size p.now) part.offset ≡ false) ps before
       → IsPartitionPoint (λ (p : Bor Piece). nat_lt (piece_offset p.now - part.offset) part.length ≡ true) (λ (p : Bor Piece). nat_lt (piece_offset p.now - part.offset) part.length ≡ false) rest count
       → AreThose (λ x. IsTrue (is_in part.offset part.length x)) (seen ps) (seen (take count rest))
-  those_between part first last = record { among = among; all = all }
+  those_between part ordered first last = record { among = among; only = only; all = all }
     where
       among : (i : ℕ) (p : Piece) → slice_get (seen (take count rest)) i ≡ Some p → IsOneOf (seen ps) p
       among i p e =
@@ -78,6 +78,28 @@ module _ (ps : List (Bor Piece)) (before count : ℕ) (low : before ≤ length p
           let l : i < length (take count rest) = slice_get_within (take count rest) i b.0 b.1 in
           let c : length (take count rest) ≡ count = take_length rest count high in
           (before + i, in_seen ps (before + i) b.0 (sym (chosen_get i (omega (arith, l, c))) ∙ b.1) ∙ ap Some b.2)
+
+      only : (i : ℕ) (p : Piece) → slice_get (seen (take count rest)) i ≡ Some p → (x : ℕ) × IsTrue (holds p x) × IsTrue (is_in part.offset part.length x)
+      only i p e =
+          let b = from_seen (take count rest) i p e in
+          let c : length (take count rest) ≡ count = take_length rest count high in
+          let l : i < length (take count rest) = slice_get_within (take count rest) i b.0 b.1 in
+          let under : i < count = omega (arith, l, c) in
+          let len = rest_length in
+          let inside : before + i < length ps = omega (arith, under, len, high, low) in
+          let whole : slice_get ps (before + i) ≡ Some b.0 = sym (chosen_get i under) ∙ b.1 in
+          let here : slice_get rest i ≡ Some b.0 = sym (take_get rest count i under) ∙ b.1 in
+          let behind : nat_le (piece_offset b.0.now + piece_size b.0.now) part.offset ≡ false =
+          subst (λ (r : Bor Piece). nat_le (piece_offset r.now + piece_size r.now) part.offset ≡ false) (get_or_from_slice_get ps (before + i) b.0 b.0 whole) (first.1 (before + i) b.0 (omega arith) inside) in
+          let front : nat_lt (piece_offset b.0.now - part.offset) part.length ≡ true =
+          subst (λ (r : Bor Piece). nat_lt (piece_offset r.now - part.offset) part.length ≡ true) (get_or_from_slice_get rest i b.0 b.0 here) (last.0 i b.0 (omega arith) under) in
+          let end : part.offset < piece_offset p + piece_size p = leb-false (piece_offset p + piece_size p) part.offset (subst (λ (r : Piece). nat_le (piece_offset r + piece_size r) part.offset ≡ false) b.2 behind) in
+          let begin : piece_offset p - part.offset < part.length = ltb-true (piece_offset p - part.offset) part.length (subst (λ (r : Piece). nat_lt (piece_offset r - part.offset) part.length ≡ true) b.2 front) in
+          let some : 0 < piece_size p = ordered.filled (before + i) p (in_seen ps (before + i) b.0 whole ∙ ap Some b.2) in (
+            max (piece_offset p) part.offset,
+            in_from (piece_offset p) (piece_size p) (max (piece_offset p) part.offset) (omega arith) (omega (arith, end, some)),
+            in_from part.offset part.length (max (piece_offset p) part.offset) (omega arith) (omega (arith, begin)),
+          )
 
       all : (i : ℕ) (p : Piece) (x : ℕ) → slice_get (seen ps) i ≡ Some p → IsTrue (holds p x) → IsTrue (is_in part.offset part.length x) → IsOneOf (seen (take count rest)) p
       all i p x e h m =
@@ -226,6 +248,7 @@ module _ (pieces sorted : List Piece) (apart : AreApart pieces) (perm : IsPermut
   sorted_pieces = record {
     those = record {
       among = λ i p e. (back i p e).0;
+      only = λ i p e. (let size = filled i p e in (piece_offset p, in_from (piece_offset p) (piece_size p) (piece_offset p) (omega arith) (omega (arith, size)), tt));
       all = λ i p x e h u. (let at = from_in (piece_offset p) (piece_size p) x h in let lo : piece_offset p ≤ x = at.0 in let hi : x < piece_offset p + piece_size p = at.1 in
           moved (filter is_filled pieces) sorted p perm (to_filled pieces i p e (lt-ltb 0 (piece_size p) (omega arith))));
     };
@@ -264,22 +287,17 @@ sorted_references pieces all sorted apart is perm rises =
 pub inside_those : (P : ℕ → Type 0) (size : ℕ) (pieces chosen : List Piece) → AreThose P pieces chosen → AreInside size pieces → AreInside size chosen
 inside_those P size pieces chosen those inside i p e = (let o = those.among i p e in inside o.0 p o.1)
 
-pub those_of : (P Q : ℕ → Type 0) (pieces chosen : List Piece) → ((x : ℕ) → Q x → P x) → AreThose P pieces chosen → AreThose Q pieces chosen
-those_of P Q pieces chosen h those = record { among = those.among; all = λ i p x e held q. those.all i p x e held (h x q) }
-
 differs_back : (byte : ℕ → Option ℕ) (P : ℕ → Type 0) (pieces chosen : List Piece) → AreThose P pieces chosen → (x : ℕ) → DiffersInOneOf byte chosen (length chosen) x → DiffersInOneOf byte pieces (length pieces) x
 differs_back byte P pieces chosen those x d = (let o = those.among d.0 d.1 d.3 in (o.0, d.1, slice_get_within pieces o.0 d.1 o.1, o.1, d.4))
 
 differs_there : (byte : ℕ → Option ℕ) (P : ℕ → Type 0) (pieces chosen : List Piece) → AreThose P pieces chosen → (x : ℕ) → P x → DiffersInOneOf byte pieces (length pieces) x → DiffersInOneOf byte chosen (length chosen) x
 differs_there byte P pieces chosen those x q d = (let o = those.all d.0 d.1 x d.3 d.4.0 q in (o.0, d.1, slice_get_within chosen o.0 d.1 o.1, o.1, d.4))
 
-pub least_those : (byte : ℕ → Option ℕ) (part : Part) (pieces chosen : List Piece) (o : Option ℕ) → AreThose (λ x. IsTrue (is_in part.offset part.length x)) pieces chosen
+pub least_those : (byte : ℕ → Option ℕ) (part : Part) (P : ℕ → Type 0) (pieces chosen : List Piece) (o : Option ℕ) → ((x : ℕ) → IsTrue (is_in part.offset part.length x) → P x) → AreThose P pieces chosen
     → IsLeast (DiffersInOneWithin byte chosen (length chosen) part) o → IsLeast (DiffersInOneWithin byte pieces (length pieces) part) o
-least_those byte part pieces chosen o those h =
+least_those byte part P pieces chosen o within those h =
     least_as (DiffersInOneWithin byte chosen (length chosen) part) (DiffersInOneWithin byte pieces (length pieces) part) o
-    (λ x d. (differs_back byte (λ y. IsTrue (is_in part.offset part.length y)) pieces chosen those x d.0, d.1))
-    (λ x d. (differs_there byte (λ y. IsTrue (is_in part.offset part.length y)) pieces chosen those x d.1 d.0, d.1))
-    h
+    (λ x d. (differs_back byte P pieces chosen those x d.0, d.1)) (λ x d. (differs_there byte P pieces chosen those x (within x d.1) d.0, d.1)) h
 
 pub least_sorted : (byte : ℕ → Option ℕ) (pieces sorted : List Piece) (o : Option ℕ) → AreSorted pieces sorted
     → IsLeast (DiffersInOneOf byte sorted (length sorted)) o → IsLeast (DiffersInOneOf byte pieces (length pieces)) o
@@ -288,15 +306,14 @@ least_sorted byte pieces sorted o s h =
     (λ x d. differs_back byte (λ y. Unit {0}) pieces sorted s.those x d) (λ x d. differs_there byte (λ y. Unit {0}) pieces sorted s.those x tt d) h
 
 -- of references, as a comparison in a part ends
-pub least_references : (byte : ℕ → Option ℕ) (part : Part) (pieces : List Piece) (chosen : List (Bor Piece)) (n : ℕ) (o : Option ℕ) → AreThose (λ x. IsTrue (is_in part.offset part.length x)) pieces (seen chosen)
-    → n ≡ length chosen → IsLeast (DiffersInOneWithin byte (seen chosen) n part) o → IsLeast (DiffersInOneWithin byte pieces (length pieces) part) o
-least_references byte part pieces chosen n o those len h =
-    least_those byte part pieces (seen chosen) o those (subst (λ m. IsLeast (DiffersInOneWithin byte (seen chosen) m part) o) (len ∙ sym (length-map chosen (λ p. p.now))) h)
+pub least_references : (byte : ℕ → Option ℕ) (part : Part) (P : ℕ → Type 0) (pieces : List Piece) (chosen : List (Bor Piece)) (n : ℕ) (o : Option ℕ) → ((x : ℕ) → IsTrue (is_in part.offset part.length x) → P x)
+    → AreThose P pieces (seen chosen) → n ≡ length chosen → IsLeast (DiffersInOneWithin byte (seen chosen) n part) o → IsLeast (DiffersInOneWithin byte pieces (length pieces) part) o
+least_references byte part P pieces chosen n o within those len h =
+    least_those byte part P pieces (seen chosen) o within those (subst (λ m. IsLeast (DiffersInOneWithin byte (seen chosen) m part) o) (len ∙ sym (length-map chosen (λ p. p.now))) h)
 
 pub least_in_part : (byte : ℕ → Option ℕ) (part : Part) (pieces : List Piece) (sorted : List (Bor Piece)) (o : Option ℕ) → AreSorted pieces (seen sorted)
     → IsLeast (DiffersInOneWithin byte (seen sorted) (length sorted) part) o → IsLeast (DiffersInOneWithin byte pieces (length pieces) part) o
-least_in_part byte part pieces sorted o s h =
-    least_references byte part pieces sorted (length sorted) o (those_of (λ x. Unit {0}) (λ x. IsTrue (is_in part.offset part.length x)) pieces (seen sorted) (λ x q. tt) s.those) refl h
+least_in_part byte part pieces sorted o s h = least_references byte part (λ x. Unit {0}) pieces sorted (length sorted) o (λ x q. tt) s.those refl h
 
 -- the pieces that are kept of requests stay those of these requests
 pub kept_sorted : {A : Type 0} (old new : BTreeMap ℕ (Vec (Bor Piece) A)) (asked : List Asked) (k : ℕ) (one : Asked) → asked_at k asked ≡ Some one → AddsSorted old new k one.pieces

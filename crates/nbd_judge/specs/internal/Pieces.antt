@@ -38,9 +38,10 @@ AreApart pieces =
 abbrev pub IsOneOf : List Piece → Piece → Type 0
 IsOneOf pieces p = (i : ℕ) × (slice_get pieces i ≡ Some p)
 
--- the chosen ones are among the pieces, and each piece that holds an offset with the property is chosen
+-- the chosen ones are those of the pieces that hold an offset with the property
 pub record AreThose (P : ℕ → Type 0) (pieces chosen : List Piece) : Type 0 where
   pub among : (i : ℕ) (p : Piece) → slice_get chosen i ≡ Some p → IsOneOf pieces p
+  pub only : (i : ℕ) (p : Piece) → slice_get chosen i ≡ Some p → (x : ℕ) × IsTrue (holds p x) × P x
   pub all : (i : ℕ) (p : Piece) (x : ℕ) → slice_get pieces i ≡ Some p → IsTrue (holds p x) → P x → IsOneOf chosen p
 
 -- no piece is empty, and each ends where a later one begins, or before

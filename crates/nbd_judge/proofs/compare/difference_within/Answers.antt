@@ -1,7 +1,8 @@
-use Rattle.std.proofs.Common.{◌≡◌, ◌+◌, ℕ, Option, Bor, List, arith, length, map, subst, sym}
+use Rattle.std.proofs.Common.{◌≡◌, ◌+◌, ℕ, IsTrue, Option, Bor, List, arith, length, map, subst, sym}
 use Rattle.std.proofs.lemmas.List.{length-map}
 use Rattle.nbd_export.specs.Ranges.{IsLeast}
 use Rattle.nbd_wire.specs.declared.payloads.Piece.{Piece}
+use Rattle.nbd_wire.specs.protocol.Pieces.{is_in}
 use Rattle.nbd_judge.specs.internal.Pieces.{DiffersInOneWithin}
 use Rattle.nbd_judge.proofs.contents.CompareLemmas.{at_reference}
 use Rattle.nbd_judge.proofs.contents.RangeLemmas.{one_within}
@@ -27,4 +28,4 @@ returns g c =
     let pieces : List Piece = map (λ (p : Bor Piece). p.now) c.args.pieces.now in
     let end : c.loop-piece.piece-index ≡ length c.meeting-met.result.now = omega arith in
     subst (λ n. IsLeast (DiffersInOneWithin byte pieces n c.args.part) c.loop-piece.found) (length-map c.args.pieces.now (λ p. p.now))
-    (least_references byte c.args.part pieces c.meeting-met.result.now c.loop-piece.piece-index c.loop-piece.found c.meeting-met.ensures end c.loop-piece.invariant)
+    (least_references byte c.args.part (λ x. IsTrue (is_in c.args.part.offset c.args.part.length x)) pieces c.meeting-met.result.now c.loop-piece.piece-index c.loop-piece.found (λ x q. q) c.meeting-met.ensures end c.loop-piece.invariant)

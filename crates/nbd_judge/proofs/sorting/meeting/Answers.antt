@@ -15,4 +15,4 @@ returns c =
     (IsNonDecreasingBy-drop (λ (p : Bor Piece). piece_offset p.now - c.args.part.offset) before ps (begins_rise ps c.args.part.offset c.requires)) in
     let last = IsPartitionPoint-from_clause (λ (p : Bor Piece). nat_lt (piece_offset p.now - c.args.part.offset) c.args.part.length) _ _ c.partition_point-count.ensures.partitioned
     (IsPartitionedBy-ltb (λ (p : Bor Piece). piece_offset p.now - c.args.part.offset) (take (length ps - before) (drop before ps)) c.args.part.length begins) (λ a r q k. search rules) in
-    those_between ps before c.partition_point-count.result c.partition_point-before.ensures.bound c.partition_point-count.ensures.bound c.args.part first last
+    those_between ps before c.partition_point-count.result c.partition_point-before.ensures.bound c.partition_point-count.ensures.bound c.args.part c.requires first last
