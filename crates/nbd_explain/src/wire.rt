@@ -6,6 +6,9 @@ use crate::story::Story;
 use crate::window::add_window;
 use crate::words::{Places, bytes};
 use nbd_names::wire_rule;
+use nbd_wire::magics::{
+    ANSWER_MAGIC, CHUNK_MAGIC, GREETING_MAGIC, OPTION_MAGIC, REQUEST_MAGIC, SIMPLE_MAGIC,
+};
 use nbd_wire::{Side, WireFault};
 use std::alloc::{AllocError, Global};
 
@@ -65,8 +68,7 @@ fn add_open(
                 text,
                 "message: {count} of the {sender}, which begin no message; {places}"
             )?;
-            let wanted = magics_of(side, story);
-            return writeln!(text, "expected: {wanted}");
+            return add_magics(text, side, story);
         }
         return writeln!(
             text,
@@ -95,14 +97,24 @@ fn name_of(side: Side) -> &'static str {
     }
 }
 
-// The magic numbers with which a side's next message can begin.
-fn magics_of(side: Side, story: &Story) -> &'static str {
+// Adds the magic numbers with which a side's next message can begin.
+fn add_magics(text: &mut String, side: Side, story: &Story) -> Result<(), AllocError> {
     match (side, story.is_transmission) {
-        (Side::Client, false) => "49484156454f5054, of an option",
-        (Side::Client, true) => "25609513, of a request",
-        (Side::Server, false) if story.server == 0 =>
-            "4e42444d4147494349484156454f5054, of a greeting",
-        (Side::Server, false) => "0003e889045565a9, of an option reply",
-        (Side::Server, true) => "67446698, of a simple reply, or 668e33ef, of a chunk",
+        (Side::Client, false) => writeln!(text, "expected: {OPTION_MAGIC:016x}, of an option"),
+        (Side::Client, true) => writeln!(text, "expected: {REQUEST_MAGIC:08x}, of a request"),
+        (Side::Server, false) if story.server == 0 => {
+            writeln!(
+                text,
+                "expected: {GREETING_MAGIC:016x}{OPTION_MAGIC:016x}, of a greeting"
+            )
+        }
+        (Side::Server, false) => writeln!(
+            text,
+            "expected: {ANSWER_MAGIC:016x}, of an option reply"
+        ),
+        (Side::Server, true) => writeln!(
+            text,
+            "expected: {SIMPLE_MAGIC:08x}, of a simple reply, or {CHUNK_MAGIC:08x}, of a chunk"
+        ),
     }
 }
