@@ -14,6 +14,10 @@ RT = """#!/usr/bin/env bash
 echo "$(basename "$PWD") $*" >>"$NOTES"
 echo "what rt says"
 [ "$(basename "$PWD")" != "${FAILS:-}" ] || exit 1
+if [ -n "${SLOW:-}" ]; then
+    sleep 0.2
+    echo "$(basename "$PWD") ends" >>"$NOTES"
+fi
 if [ "$1" = run ]; then
     mkdir -p out
     printf '#!/bin/sh\\necho "program $*"\\n' >out/nbdcheck
@@ -87,6 +91,26 @@ def failed_build(tally, tree):
     tally.want("no log left", list(tree.temporary.iterdir()), [])
 
 
+def side_by_side(tally, tree):
+    """No crate is begun before those that it stands on are built, however many are built at once."""
+    needs = {"low": [], "left": ["low"], "right": ["low"], "nbdcheck": ["left", "right"]}
+    for name in needs:
+        (tree.top / "crates" / name).mkdir(exist_ok=True)
+    lines = (tree.top / "crates.txt").read_text()
+    (tree.top / "crates.txt").write_text("".join(f"{name}: {' '.join(below)} other\n" for name, below in needs.items()))
+    tree.touch("crates.txt", 1)
+    (status, out, err), built = tree.run(SLOW="yes")
+    tally.want("four crates", (status, out), (0, "program \n"))
+    tally.want("four crates: begun", sorted(built), sorted(
+        [f"{name} {words}" for name in needs for words in ("run -- --version" if name == "nbdcheck" else "lib", "ends")]))
+    for name, below in needs.items():
+        begins = next(i for i, line in enumerate(built) if line.startswith(name) and not line.endswith("ends"))
+        for other in below:
+            tally.holds(f"{other} is built before {name}", built.index(f"{other} ends") < begins, built)
+    (tree.top / "crates.txt").write_text(lines)
+    tree.touch("crates.txt", -60)
+
+
 def on_a_terminal(tally, tree):
     shown, terminal = pty.openpty()
     (status, out, _), built = tree.run(stderr=terminal)
@@ -107,7 +131,7 @@ def on_a_terminal(tally, tree):
 def run(tally):
     with tempfile.TemporaryDirectory(prefix="nbdcheck-") as folder:
         tree = Tree(folder)
-        for part in (first_build, later_runs, failed_build, on_a_terminal):
+        for part in (first_build, later_runs, failed_build, on_a_terminal, side_by_side):
             part(tally, tree)
 
 
