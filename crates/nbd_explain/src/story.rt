@@ -202,21 +202,9 @@ impl Story {
                 _,
             ) => {
                 self.export = export_in(*info).or(self.export);
-                if *option == options::GO && *kind == answers::ACK {
-                    self.is_transmission = true;
-                }
+                self.is_transmission |= *option == options::GO && *kind == answers::ACK;
             }
-            (Brief::Request(head), Some(numbered)) => {
-                self.requests.push(Request {
-                    numbered,
-                    head: *head,
-                    asked: *told,
-                    replied: None,
-                    finished: None,
-                    error: None,
-                })?;
-                self.outstanding.insert(head.cookie, numbered.number)?;
-            }
+            (Brief::Request(head), Some(numbered)) => self.ask(told, head, numbered)?,
             (Brief::Simple(head), Some(numbered)) => {
                 let error = if head.error == 0 {
                     None
@@ -224,29 +212,40 @@ impl Story {
                     Some(head.error)
                 };
                 self.reply(numbered, told, error, true);
-                self.outstanding.remove(&head.cookie);
             }
-            (
-                Brief::Chunk {
-                    flags,
-                    cookie,
-                    brought,
-                    ..
-                },
-                Some(numbered),
-            ) => {
-                let is_last = has(*flags, chunks::DONE);
-                self.reply(numbered, told, error_in(*brought), is_last);
-                if is_last {
-                    self.outstanding.remove(cookie);
-                }
+            (Brief::Chunk { flags, brought, .. }, Some(numbered)) => {
+                self.reply(
+                    numbered,
+                    told,
+                    error_in(*brought),
+                    has(*flags, chunks::DONE),
+                );
             }
             _ => {}
         }
         Ok(())
     }
 
-    // A message of its reply has come.
+    // A request has come.
+    fn ask(
+        &mut self,
+        told: &Told,
+        head: &RequestHead,
+        numbered: Numbered,
+    ) -> Result<(), AllocError> {
+        self.requests.push(Request {
+            numbered,
+            head: *head,
+            asked: *told,
+            replied: None,
+            finished: None,
+            error: None,
+        })?;
+        self.outstanding.insert(head.cookie, numbered.number)?;
+        Ok(())
+    }
+
+    // A message of its reply has come; after the last one its cookie is free.
     fn reply(&mut self, numbered: Numbered, told: &Told, error: Option<u32>, is_last: bool) {
         let place = numbered.number.saturating_sub(1) as usize;
         if let Some(request) = self.requests.get_mut(place) {
@@ -254,6 +253,7 @@ impl Story {
             request.error = request.error.or(error);
             if is_last {
                 request.finished = Some(told.last);
+                self.outstanding.remove(&request.head.cookie);
             }
         }
     }

@@ -60,20 +60,8 @@ fn add_open(
     let first = recording.place(side, before);
     let rest = recording.bytes_up_to(side, before, recording.len());
     let Some(words) = story.begun(side, rest) else {
-        let (sender, count) = (name_of(side), bytes(taken));
         let last = recording.place(side, before.saturating_add(taken).saturating_sub(1));
-        let places = Places { first, last };
-        if fault == WireFault::BadMagic {
-            writeln!(
-                text,
-                "message: {count} of the {sender}, which begin no message; {places}"
-            )?;
-            return add_magics(text, side, story);
-        }
-        return writeln!(
-            text,
-            "message: {count} of the {sender}, no whole head of a message; {places}"
-        );
+        return add_headless(text, side, fault, taken, Places { first, last }, story);
     };
     let length = story.length_of(&words);
     let there = rest.len() as u64;
@@ -88,6 +76,29 @@ fn add_open(
         )?;
     }
     add_related(alloc, text, side, fault, &words, story)
+}
+
+// Adds the bytes of a side that are no whole head of a message.
+fn add_headless(
+    text: &mut String,
+    side: Side,
+    fault: WireFault,
+    taken: u64,
+    places: Places,
+    story: &Story,
+) -> Result<(), AllocError> {
+    let (sender, count) = (name_of(side), bytes(taken));
+    if fault != WireFault::BadMagic {
+        return writeln!(
+            text,
+            "message: {count} of the {sender}, no whole head of a message; {places}"
+        );
+    }
+    writeln!(
+        text,
+        "message: {count} of the {sender}, which begin no message; {places}"
+    )?;
+    add_magics(text, side, story)
 }
 
 fn name_of(side: Side) -> &'static str {
