@@ -40,8 +40,9 @@ pub fn conclude(
     }
 }
 
-// The verdict on a transcript: the image test, and then the judgement of contents made from the start.
-fn verdict_on(
+/// The verdict on what a finished session says: Image where the start is an image of another size than the export, or
+/// else the judgement from this start. An `Err` is a refusal of memory.
+pub fn verdict_on(
     alloc: Global,
     transcript: &Transcript,
     order: &[Entry],

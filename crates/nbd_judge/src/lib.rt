@@ -19,6 +19,6 @@ mod tests;
 pub mod verdict;
 
 pub use checking::check;
-pub use concluding::conclude;
+pub use concluding::{conclude, verdict_on};
 pub use judging::judge;
 pub use verdict::{OrderFault, Verdict};

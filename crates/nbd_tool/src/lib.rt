@@ -1,4 +1,4 @@
-//! What the commands `check`, `show` and `make` do, over any readers and writer.
+//! What the commands `check`, `order`, `show` and `make` do, over any readers and writer.
 #![tactic(auto)]
 
 pub mod capture;
@@ -11,6 +11,7 @@ mod input;
 pub mod laws;
 mod make;
 pub mod opening;
+pub mod ordering;
 pub mod show;
 pub mod start;
 #[cfg(test)]
@@ -25,7 +26,8 @@ pub use fault::RunFault;
 pub use final_writer::FinalWriter;
 pub use input::READ_LIMIT;
 pub use make::run_make;
-pub use opening::{Inputs, Opener, open_inputs};
+pub use opening::{Inputs, Opener, open_inputs, open_start};
+pub use ordering::{Ordered, order_status, run_order};
 pub use show::{run_show, write_end};
 pub use start::{Beginning, StartFrom, read_start, room_of};
 pub use verdict::{Line, is_yes};

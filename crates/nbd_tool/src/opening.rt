@@ -60,7 +60,7 @@ pub fn open_inputs<O: Opener>(
 }
 
 /// Opens the image, if the start is one.
-fn open_start<O: Opener>(
+pub fn open_start<O: Opener>(
     opener: &mut O,
     start: StartWord<'_>,
 ) -> Result<StartFrom<O::Input>, RunFault>

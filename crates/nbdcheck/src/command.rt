@@ -6,9 +6,10 @@ ghost use Rattle.nbd_tool.specs.CommandLine.{exit_status};
 use clap::error::ErrorKind;
 use clap::{Arg, ArgAction, ArgMatches, Command, Error};
 use nbd_explain::{run_arrival, run_explain, run_names};
+use nbd_segments::Limits;
 use nbd_tool::{
-    FinalWriter, Opener, RunFault, StartFrom, StartWord, exit_status, open_inputs, run_check,
-    run_make, run_show, start_of,
+    FinalWriter, Opener, Ordered, RunFault, StartFrom, StartWord, exit_status, open_inputs,
+    open_start, order_status, run_check, run_make, run_order, run_show, start_of,
 };
 use std::alloc::{AllocError, Global};
 use std::fmt::Display;
@@ -58,22 +59,27 @@ round the place, which stands in brackets.
 
 Exit status: that of 'nbdcheck check'.";
 
-const ORDER_ABOUT: &str = "An order of service for a capture";
+const ORDER_ABOUT: &str = "Finds an order of service that explains a capture";
 
 const ORDER_HELP: &str = "\
 Example:
-  nbdcheck order session.cap --arrival > session.ord
+  nbdcheck order session.cap --start zero > session.ord
 
-Prints the numbers of the capture's requests in the order in which they came, a line each. This is the
-order of service of a server that takes one request after the other. Where it served request k in parts,
-put a line 'k offset length' for each part in place of 'k'.
+Looks for an order in which the server can have carried out the requests so that each read was right,
+and prints it: a line 'k' for request k, or 'k offset length' for a part of it. It is judged as
+'nbdcheck check' judges it before it is printed. It may not be the order that the server took: a wrong
+byte that is an older one may be right in another order. So where the server can log its order, check
+that one.
+With --arrival the numbers of the requests in the order in which they came are printed, unjudged: the
+order of a server that takes one request after the other.
 
 Exit status:
-  0  the whole order was written
-  1  the session was refused, and nothing was written: 'nbdcheck explain' says why
+  0  an order was printed
+  1  no order explains the session: the line says why
   2  the command line has no form
-  3  the capture could not be read or is not well formed, or the output could not be written
-  4  out of memory";
+  3  an input could not be read or is not well formed, or the output could not be written
+  4  out of memory
+  5  the search found no order, which is not proved, or gave up: the line says where";
 
 const SHOW_ABOUT: &str = "Which messages does a capture hold?";
 
@@ -147,13 +153,25 @@ fn order_command<'a>(alloc: Global) -> Result<Command<'a>, AllocError> {
     let arrival = Arg::new(alloc, "arrival")
         .long("arrival")
         .action(ArgAction::SetTrue)
-        .required(true)
         .help("The order in which the requests came");
+    let states = Arg::new(alloc, "states")
+        .long("states")
+        .value_name("NUMBER")
+        .default_value("5000")
+        .help("How many states the search may hold for one range");
+    let steps = Arg::new(alloc, "steps")
+        .long("steps")
+        .value_name("NUMBER")
+        .default_value("50000000")
+        .help("How many steps the search may take");
     Command::new(alloc, "order")
         .about(ORDER_ABOUT)
         .after_help(ORDER_HELP)
         .arg(capture_word(alloc))?
-        .arg(arrival)
+        .arg(start_word(alloc))?
+        .arg(arrival)?
+        .arg(states)?
+        .arg(steps)
 }
 
 fn show_command<'a>(alloc: Global) -> Result<Command<'a>, AllocError> {
@@ -231,6 +249,18 @@ fn start_in<'a>(words: &ArgMatches<'a>) -> Option<StartWord<'a>> {
     words.get_str("start").and_then(start_of)
 }
 
+/// What a search may cost, as the words have it.
+fn limits_in(words: &ArgMatches<'_>) -> Option<Limits> {
+    Some(Limits {
+        states: number_of(words.get_str("states")?)?,
+        steps: number_of(words.get_str("steps")?)?,
+    })
+}
+
+fn number_of(text: &str) -> Option<u64> {
+    text.parse().ok()
+}
+
 /// `nbdcheck check CAPTURE ORDER --start START`.
 fn check(rt: &HostRuntime, words: &ArgMatches<'_>) -> u8 {
     let Some(start) = start_in(words) else {
@@ -262,11 +292,28 @@ fn explain(rt: &HostRuntime, words: &ArgMatches<'_>) -> u8 {
     files.report(answer)
 }
 
-/// `nbdcheck order CAPTURE --arrival`.
+/// `nbdcheck order CAPTURE --start START`, or `nbdcheck order CAPTURE --arrival`.
 fn order(rt: &HostRuntime, words: &ArgMatches<'_>) -> u8 {
+    let Some(start) = start_in(words) else {
+        return complain(rt, "fault start", USAGE);
+    };
+    let Some(limits) = limits_in(words) else {
+        return complain(rt, "fault limit", USAGE);
+    };
     let capture = words.get_str("CAPTURE").unwrap_or("");
     let mut files = Files::new(rt);
-    let answer = order_file(&mut files, capture);
+    if words.get_flag("arrival") {
+        return number(rt, &mut files, capture);
+    }
+    match order_files(&mut files, capture, start, limits) {
+        Ok(ordered) => order_status(&Ok(ordered)),
+        Err(fault) => files.report(Err(fault)),
+    }
+}
+
+/// The numbers of the requests in the order in which they came.
+fn number(rt: &HostRuntime, files: &mut Files<'_>, capture: &str) -> u8 {
+    let answer = number_file(files, capture);
     if let Ok(false) = answer {
         return complain(
             rt,
@@ -388,7 +435,20 @@ fn explain_file(files: &mut Files<'_>, capture: &str) -> Result<bool, RunFault> 
     run_explain(alloc, capture, order, start, &mut io::writer(rt))
 }
 
-fn order_file(files: &mut Files<'_>, capture: &str) -> Result<bool, RunFault> {
+/// Opens the capture and then the image, if there is one, and looks for an order.
+fn order_files(
+    files: &mut Files<'_>,
+    capture: &str,
+    start: StartWord<'_>,
+    limits: Limits,
+) -> Result<Ordered, RunFault> {
+    let (rt, alloc) = (files.rt, files.rt.alloc());
+    let capture = files.open_buffered(capture, RunFault::CaptureRead)?;
+    let start = open_start(files, start)?;
+    run_order(alloc, capture, start, limits, &mut io::writer(rt))
+}
+
+fn number_file(files: &mut Files<'_>, capture: &str) -> Result<bool, RunFault> {
     let (rt, alloc) = (files.rt, files.rt.alloc());
     let capture = files.open_buffered(capture, RunFault::CaptureRead)?;
     let out = FinalWriter::new(io::writer(rt));

@@ -1,0 +1,48 @@
+-- What is found of a report, and of the runs with that report.
+use Rattle.std.proofs.Common.{◌≡◌, ℕ, List, refl, sym, subst, Option, Some, None}
+use Rattle.nbd_wire.specs.declared.entry.Entry.{Entry}
+use Rattle.nbd_wire.specs.protocol.Explains.{FitsImage, Image, Start, Unknown, Zeroes}
+use Rattle.nbd_wire.specs.protocol.Operations.{Exporting}
+use Rattle.nbd_wire.specs.protocol.Reports.{Report, report}
+use Rattle.nbd_wire.specs.protocol.Verdicts.{Passes, answered_count, improper_count, request_count}
+use Rattle.nbd_laws.specs.Explaining.{ExplainedPasses, PassingIsExplained}
+use Rattle.nbd_judge.specs.Images.{IsOtherSize}
+use Rattle.nbd_judge.specs.Uniqueness.{OneVerdict}
+use Rattle.nbd_judge.specs.Verdicts.{IsVerdict}
+use Rattle.nbd_judge.specs.declared.verdict.Verdict.{Verdict}
+use Rattle.nbd_judge.specs.declared.verdict.Verdict.TheVariants.{Yes}
+use Rattle.nbd_wire.specs.protocol.Marks.{Item, pairs}
+use Rattle.nbd_wire.specs.protocol.Rules.{IsRun}
+use Rattle.nbd_order.specs.declared.search.Found.{Found}
+use Rattle.nbd_order.specs.Finding.{FoundIsSo, IsFound, Says}
+use Rattle.nbd_order.specs.Sources.{NoSourceNoOrder}
+use Rattle.nbd_order.specs.declared.search.Found.TheVariants.{GaveUp, Image as FoundImage, NoSource, Order, Refuted}
+
+other_size_fits : (export : Option Exporting) (initial : Start) (image size : ℕ) → IsOtherSize export initial image size → FitsImage export initial → ⊥
+other_size_fits (Some export) (Image bytes) image size o f = o.2 f
+other_size_fits (Some export) Unknown image size o f = o
+other_size_fits (Some export) Zeroes image size o f = o
+other_size_fits None initial image size o f = o
+
+pub found_is_so : PassingIsExplained → ExplainedPasses → NoSourceNoOrder → FoundIsSo
+found_is_so passing only refuted items initial (Order order) is_run found = passing items order.items initial is_run found
+found_is_so passing only refuted items initial (NoSource request offset) is_run found = refuted items initial request offset is_run found
+found_is_so passing only refuted items initial (FoundImage image size) is_run found = λ order explained.
+    other_size_fits (report items).export initial image size found (only items order initial is_run explained).fits_image
+found_is_so passing only refuted items initial (Refuted requests offset) is_run found = tt
+found_is_so passing only refuted items initial (GaveUp request offset reason) is_run found = tt
+
+pub passes : (r : Report) (order : List Entry) (initial : Start) (a b c : ℕ) → IsVerdict r order initial (Yes a b c) → Passes r order initial
+passes r order initial a b c v = record { faultless = v.1.0; fits_image = v.0; reads = v.1.1 }
+
+judged_yes : (r : Report) (order : List Entry) (initial : Start) → Passes r order initial → IsVerdict r order initial (Yes (request_count r) (answered_count r) (improper_count r))
+judged_yes r order initial p = (p.fits_image, (p.faultless, p.reads, refl, refl, refl))
+
+pub does_not_pass : OneVerdict → (r : Report) (order : List Entry) (initial : Start) (v : Verdict) → IsVerdict r order initial v → ((a b c : ℕ) → v ≡ Yes a b c → ⊥) → Passes r order initial → ⊥
+does_not_pass one r order initial v h other p =
+    other (request_count r) (answered_count r) (improper_count r)
+    (one r order initial v (Yes (request_count r) (answered_count r) (improper_count r)) h (judged_yes r order initial p))
+
+-- what is found of a report is so of the bytes of each run with it
+pub says_of : FoundIsSo → (r : Report) (initial : Start) (found : Found) → IsFound r initial found → (items : List Item) → IsRun items → report items ≡ r → Says (pairs items) initial found
+says_of law r initial found f items is_run same = law items initial found is_run (subst (λ q. IsFound q initial found) (sym same) f)

@@ -1,0 +1,4 @@
+pub mod FoundLemmas
+pub mod SearchLemmas
+pub mod SourceLemmas
+pub mod TouchLemmas

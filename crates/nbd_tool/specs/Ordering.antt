@@ -1,0 +1,101 @@
+-- What a run of `order` writes, where the reader and the writer state their bytes.
+use Rattle.std.specs.Prelude.{◌≡◌, ◌⊎◌, ℕ, List, [], ◌∷◌, ◌++◌, Option, Some, None, IfSome, Result, Ok, Err, codes, flat_map}
+use Rattle.std.specs.Io.KnownBytes.{Appends, Keeps}
+use Rattle.nbd_wire.specs.declared.entry.Entry.{Entry}
+use Rattle.nbd_wire.specs.declared.fault.WireFault.{WireFault}
+use Rattle.nbd_wire.specs.declared.message.Message.{Message}
+use Rattle.nbd_wire.specs.protocol.Captures.{Pair}
+use Rattle.nbd_wire.specs.protocol.Explains.{IsExplained, Start, start_byte}
+use Rattle.nbd_wire.specs.protocol.Marks.{Item, pairs}
+use Rattle.nbd_wire.specs.protocol.Reports.{report}
+use Rattle.nbd_wire.specs.protocol.Rules.{IsRun}
+use Rattle.nbd_wire.specs.protocol.Within.{IsOfNoRun}
+use Rattle.nbd_capture.specs.Capture.{Chunk, IsCaptureText}
+use Rattle.nbd_capture.specs.Lines.{line_feed}
+use Rattle.nbd_capture.specs.Order.{entry_text}
+use Rattle.nbd_session.specs.Refusals.{IsWireFault}
+use Rattle.nbd_judge.specs.Images.{IsOtherSize}
+use Rattle.nbd_judge.specs.declared.verdict.Verdict.TheVariants.{Wire}
+use Rattle.nbd_judge.specs.declared.verdict.Verdict.TheVariants as verdict
+use Rattle.nbd_order.specs.Sources.{HasNoSource, IsUnexplained}
+use Rattle.nbd_order.specs.declared.search.Found.{Found}
+use Rattle.nbd_order.specs.declared.search.Found.TheVariants as found
+use Rattle.nbd_tool.specs.declared.fault.RunFault.{RunFault}
+use Rattle.nbd_tool.specs.declared.fault.RunFault.TheVariants.{ImageRead, Memory, Write}
+use Rattle.nbd_tool.specs.declared.ordering.Ordered.{Ordered}
+use Rattle.nbd_tool.specs.declared.ordering.Ordered.TheVariants.{Found as IsFound, Open, Refuted}
+use Rattle.nbd_tool.specs.declared.start.StartFrom.{StartFrom}
+use Rattle.nbd_tool.specs.Faults.{status}
+use Rattle.nbd_tool.specs.Runs.{IsCapture, IsCaptureCause, flat_of}
+use Rattle.nbd_tool.specs.Starts.{HasImage}
+use Rattle.nbd_tool.specs.Verdicts.{line, words}
+
+-- the lines of an order, an entry on each
+abbrev pub entry_lines : List Entry → List ℕ
+entry_lines entries = flat_map (λ (e : Entry). entry_text e ++ line_feed ∷ []) entries
+
+-- the line of a READ's byte that nothing can have left
+abbrev pub no_source_line : (request offset : ℕ) → List ℕ
+no_source_line request offset = words (verdict.Content request offset) ++ codes " in any order\n"
+
+-- the text of what was found; of what is not proved nothing is said
+abbrev pub found_text : Found → List ℕ → Type 0
+found_text (found.Order entries) text = text ≡ entry_lines entries.items
+found_text (found.NoSource request offset) text = text ≡ no_source_line request offset
+found_text (found.Image image size) text = text ≡ line (verdict.Image image size)
+found_text (found.Refuted requests offset) text = Unit {0}
+found_text (found.GaveUp request offset reason) text = Unit {0}
+
+-- what that comes to
+abbrev pub ordered_of : Found → Ordered
+ordered_of (found.Order entries) = IsFound
+ordered_of (found.NoSource request offset) = Refuted
+ordered_of (found.Image image size) = Refuted
+ordered_of (found.Refuted requests offset) = Open
+ordered_of (found.GaveUp request offset reason) = Open
+
+-- the exit status of an answer
+abbrev pub status_of : Result Ordered RunFault → ℕ
+status_of (Ok IsFound) = 0
+status_of (Ok Refuted) = 1
+status_of (Ok Open) = 5
+status_of (Err fault) = status fault
+
+-- what was written of a capture's bytes from a start, and the answer
+pub data IsOrdered (capture : List Pair) (initial : Start) (old new : Option (List ℕ)) : Ordered → Type 0 where
+  -- an order that explains it
+  order : (entries : List Entry) → IsExplained capture entries initial → Appends old new (entry_lines entries) → IsOrdered capture initial old new IsFound
+  -- no run has these bytes: where and why
+  wire : (messages : List Message) (at : ℕ) (fault : WireFault) → IsWireFault capture messages at fault → IsOfNoRun capture
+      → Appends old new (line (Wire at fault)) → IsOrdered capture initial old new Refuted
+  -- the image has another size than the export
+  image : (items : List Item) (image size : ℕ) → IsRun items → pairs items ≡ capture → IsOtherSize (report items).export initial image size
+      → Appends old new (line (verdict.Image image size)) → IsOrdered capture initial old new Refuted
+  -- a READ's byte that nothing can have left
+  no_source : (items : List Item) (request offset : ℕ) → IsRun items → pairs items ≡ capture
+      → HasNoSource (report items) (start_byte initial) request offset → IsUnexplained capture initial
+      → Appends old new (no_source_line request offset) → IsOrdered capture initial old new Refuted
+  -- what is not proved
+  unproved : (text : List ℕ) → Appends old new text → IsOrdered capture initial old new Open
+
+-- the same, where the start is known
+abbrev pub IsOrderedFrom : List Pair → Option Start → (old new : Option (List ℕ)) → Ordered → Type 0
+IsOrderedFrom capture (Some initial) old new ordered = IsOrdered capture initial old new ordered
+IsOrderedFrom capture None old new ordered = Unit {0}
+
+-- the same of a capture text
+pub record Orders (known : Option (List ℕ)) (initial : Option Start) (ordered : Ordered) (old new : Option (List ℕ)) : Type 0 where
+  pub chunks : List Chunk
+  pub is_text : IfSome known (λ text. IsCaptureText text chunks)
+  pub is_ordered : IsOrderedFrom (flat_of chunks) initial old new ordered
+
+-- what a fault says of the capture and of the start
+abbrev pub IsOrderingCause : {I : Type 0} → Option (List ℕ) → StartFrom I → RunFault → Type 0
+IsOrderingCause known start ImageRead = IsCapture known × HasImage start
+IsOrderingCause known start Write = IsCapture known
+IsOrderingCause known start fault = IsCaptureCause known fault
+
+-- nothing was written before a fault, but where the writer failed
+abbrev pub LeavesOrdered : (old new : Option (List ℕ)) → RunFault → Type 0
+LeavesOrdered old new Write = Unit {0}
+LeavesOrdered old new _ = Keeps old new

@@ -1,0 +1,189 @@
+//! The command `order`, over any readers and writer.
+
+ghost use Rattle.std.specs.Prelude.{◌≡◌, List, IfErr, IfOk, OnOk};
+ghost use Rattle.std.specs.Io.KnownBytes.{Appends};
+ghost use Rattle.nbd_wire.specs.protocol.Explains as definitions;
+ghost use Rattle.nbd_wire.specs.protocol.Marks.{Item, pairs};
+ghost use Rattle.nbd_wire.specs.protocol.Reports.{report};
+ghost use Rattle.nbd_wire.specs.protocol.Rules.{IsRun};
+ghost use Rattle.nbd_judge.specs.Servable.{size_of};
+ghost use Rattle.nbd_order.specs.Finding.{IsFound, Says};
+ghost use Rattle.nbd_tool.specs.Beginnings.{IsReadAs};
+ghost use Rattle.nbd_tool.specs.Ordering.{IsOrderingCause, LeavesOrdered, Orders, entry_lines, found_text, ordered_of, status_of};
+ghost use Rattle.nbd_tool.specs.Starts.{IsStartWithinLimit, IsWithinLimit, initial_from};
+
+use crate::capture::session_over;
+use crate::fault::RunFault;
+use crate::start::{Beginning, StartFrom, read_start, room_of};
+use crate::verdict::Line;
+use nbd_capture::write_whole;
+use nbd_export::Start;
+use nbd_judge::Verdict;
+use nbd_order::{Found, find};
+use nbd_segments::{Limits, Reason};
+use nbd_session::{SessionFault, Transcript};
+use nbd_wire::Entry;
+use std::alloc::{AllocError, Global};
+use std::io::{BufRead, Read, Write};
+
+/// What a run of `order` came to.
+#[derive(Clone, Copy, Debug, PartialEq, Eq, Drop)]
+pub enum Ordered {
+    /// An order was written, and it explains the session.
+    Found,
+    /// No order explains the session: the line that was written says why.
+    Refuted,
+    /// The search found none, which is not proved, or was broken off: the line says where.
+    Open,
+}
+
+/// The exit status of an answer: 0 of an order, 1 where there is none, 5 where the search found none or was broken off, and that of
+/// a fault.
+pub fn order_status(answer: &Result<Ordered, RunFault>) -> u8
+    ensures { result ≡ status_of answer.now }
+{
+    match answer {
+        Ok(Ordered::Found) => 0,
+        Ok(Ordered::Refuted) => 1,
+        Ok(Ordered::Open) => 5,
+        Err(fault) => fault.status(),
+    }
+}
+
+/// Reads a capture text to its end, and then an image, if there is one, and writes an order of service that explains the session
+/// from this start, an entry a line; or a line that says why there is none or that none was found.
+///
+/// Nothing is written unless all were read whole and are well formed. After `Write` a prefix stands written.
+pub fn run_order<C: BufRead + Drop, I: Read + Drop, W: Write>(
+    alloc: Global,
+    capture: C,
+    start: StartFrom<I>,
+    limits: Limits,
+    out: &mut W,
+) -> Result<Ordered, RunFault>
+    ensures written { IfOk result (λ ordered. Orders (C.remaining capture) (initial_from I.remaining start) ordered
+        (W.contents out.old) (W.contents out.new)) }
+    ensures limited { OnOk result (IsWithinLimit (C.remaining capture)) }
+    ensures start_limited { OnOk result (IsStartWithinLimit I.remaining start) }
+    ensures cause { IfErr result (IsOrderingCause (C.remaining capture) start) }
+    ensures left { IfErr result (LeavesOrdered (W.contents out.old) (W.contents out.new)) }
+{
+    let session = session_over(alloc, capture)?;
+    let finished = session.finish();
+    let start = read_start(alloc, start, room_of(&finished))?;
+    match finished {
+        Ok(transcript) => {
+            let found = find_from(alloc, &transcript, start, limits)?;
+            let text = text_of(alloc, &found)?;
+            write_whole(out, text.as_bytes())?;
+            Ok(ordered_as(&found))
+        }
+        Err(SessionFault::Wire { at, fault }) => {
+            let verdict = Verdict::Wire { at, fault };
+            let line = format!(in alloc; "{}\n", Line { verdict })?;
+            write_whole(out, line.as_bytes())?;
+            Ok(Ordered::Refuted)
+        }
+        Err(SessionFault::Memory) => Err(RunFault::Memory),
+    }
+}
+
+// Looks for an order from what was read of the start.
+fn find_from(
+    alloc: Global,
+    transcript: &Transcript,
+    beginning: Beginning,
+    limits: Limits,
+) -> Result<Found, AllocError>
+    ensures found { IfOk result (λ f. (initial : definitions.Start) →
+        IsReadAs (size_of transcript.now.export) initial beginning → IsFound transcript.now initial f) }
+    ensures says { IfOk result (λ f. (initial : definitions.Start) (items : List Item) →
+        IsReadAs (size_of transcript.now.export) initial beginning → IsRun items → report items ≡ transcript.now →
+        Says (pairs items) initial f) }
+{
+    nbd_order::laws::found_is_so();
+    match beginning {
+        Beginning::Whole(start) => find(alloc, transcript, &start, limits),
+        Beginning::Longer(image) => match transcript.export() {
+            Some((size, _)) => Ok(Found::Image { image, size }),
+            None => find(alloc, transcript, &Start::Unknown, limits),
+        },
+    }
+}
+
+// Whether an order was found, or why not.
+fn ordered_as(found: &Found) -> Ordered
+    ensures { result ≡ ordered_of found.now }
+{
+    match found {
+        Found::Order(_) => Ordered::Found,
+        Found::NoSource { .. } | Found::Image { .. } => Ordered::Refuted,
+        Found::Refuted { .. } | Found::GaveUp { .. } => Ordered::Open,
+    }
+}
+
+// The lines of an order, or the line that says why there is none.
+fn text_of(alloc: Global, found: &Found) -> Result<String, AllocError>
+    ensures { IfOk result (λ text. found_text found.now text.bytes.items) }
+{
+    match found {
+        Found::Order(entries) => lines_of(alloc, entries),
+        Found::NoSource { request, offset } => {
+            let (request, offset) = (*request, *offset);
+            let verdict = Verdict::Content { request, offset };
+            Ok(format!(in alloc; "{} in any order\n", Line { verdict })?)
+        }
+        Found::Image { image, size } => {
+            let (image, size) = (*image, *size);
+            let verdict = Verdict::Image { image, size };
+            Ok(format!(in alloc; "{}\n", Line { verdict })?)
+        }
+        Found::Refuted { requests, offset } => refuted(alloc, requests, *offset),
+        Found::GaveUp {
+            request,
+            offset,
+            reason,
+        } => {
+            let reason = reason_name(*reason);
+            Ok(format!(in alloc; "gave up: {reason} at request {request} offset {offset}\n")?)
+        }
+    }
+}
+
+// The lines of entries.
+fn lines_of(alloc: Global, entries: &[Entry]) -> Result<String, AllocError>
+    ensures { IfOk result (λ text. text.bytes.items ≡ entry_lines entries.now) }
+{
+    let mut text = String::new(alloc);
+    for entry in entries {
+        match entry.part {
+            None => writeln!(&mut text, "{}", entry.request)?,
+            Some(part) => writeln!(
+                &mut text,
+                "{} {} {}",
+                entry.request, part.offset, part.length
+            )?,
+        }
+    }
+    Ok(text)
+}
+
+// The line of a search that found that there is no order, which is not proved.
+fn refuted(alloc: Global, requests: &[u64], offset: u64) -> Result<String, AllocError> {
+    let mut text = String::new(alloc);
+    write!(&mut text, "no order found: requests")?;
+    for request in requests {
+        write!(&mut text, " {request}")?;
+    }
+    writeln!(&mut text, " at offset {offset} (searched, not proved)")?;
+    Ok(text)
+}
+
+// Why a search was broken off.
+fn reason_name(reason: Reason) -> &'static str {
+    match reason {
+        Reason::States => "too many states",
+        Reason::Steps => "too many steps",
+        Reason::Tables => "a proposal that the judge refused",
+    }
+}
