@@ -1,6 +1,8 @@
 -- What is found of a report, and of the runs with that report.
-use Rattle.std.proofs.Common.{◌≡◌, ℕ, List, refl, sym, subst, Option, Some, None}
+use Rattle.std.proofs.Common.{◌≡◌, ℕ, zero, suc, List, [], ◌∷◌, refl, sym, subst, Option, Some, None}
+use Rattle.std.proofs.lemmas.List.Elements.{All-append, All-cons, All-nil}
 use Rattle.nbd_wire.specs.declared.entry.Entry.{Entry}
+use Rattle.nbd_wire.specs.protocol.Entries.{whole}
 use Rattle.nbd_wire.specs.protocol.Explains.{FitsImage, Image, Start, Unknown, Zeroes}
 use Rattle.nbd_wire.specs.protocol.Operations.{Exporting}
 use Rattle.nbd_wire.specs.protocol.Reports.{Report, report}
@@ -11,11 +13,14 @@ use Rattle.nbd_judge.specs.Uniqueness.{OneVerdict}
 use Rattle.nbd_judge.specs.Verdicts.{IsVerdict}
 use Rattle.nbd_judge.specs.declared.verdict.Verdict.{Verdict}
 use Rattle.nbd_judge.specs.declared.verdict.Verdict.TheVariants.{Yes}
-use Rattle.nbd_wire.specs.protocol.Marks.{Item, pairs}
+use Rattle.nbd_wire.specs.protocol.Marks.{Item}
 use Rattle.nbd_wire.specs.protocol.Rules.{IsRun}
 use Rattle.nbd_order.specs.declared.search.Found.{Found}
-use Rattle.nbd_order.specs.Finding.{FoundIsSo, IsFound, Says}
-use Rattle.nbd_order.specs.Sources.{NoSourceNoOrder}
+use Rattle.nbd_order.specs.declared.search.Wanted.{Wanted}
+use Rattle.nbd_order.specs.declared.search.Wanted.TheVariants.{Any, Whole}
+use Rattle.nbd_order.specs.Finding.{AreWhole, FoundIsSo, IsFound, IsWanted, IsWantedOrder, Says, arrival}
+use Rattle.nbd_order.specs.internal.Proposals.{IsOpen, IsProposed}
+use Rattle.nbd_sources.specs.Sources.{NoSourceNoOrder}
 use Rattle.nbd_order.specs.declared.search.Found.TheVariants.{GaveUp, Image as FoundImage, NoSource, Order, Refuted}
 
 other_size_fits : (export : Option Exporting) (initial : Start) (image size : ℕ) → IsOtherSize export initial image size → FitsImage export initial → ⊥
@@ -29,8 +34,10 @@ found_is_so passing only refuted items initial (Order order) is_run found = pass
 found_is_so passing only refuted items initial (NoSource request offset) is_run found = refuted items initial request offset is_run found
 found_is_so passing only refuted items initial (FoundImage image size) is_run found = λ order explained.
     other_size_fits (report items).export initial image size found (only items order initial is_run explained).fits_image
-found_is_so passing only refuted items initial (Refuted requests offset) is_run found = tt
-found_is_so passing only refuted items initial (GaveUp request offset reason) is_run found = tt
+found_is_so passing only refuted items initial (Refuted among requests offset) is_run found = λ explained.
+    found (only items (arrival (request_count (report items))) initial is_run explained)
+found_is_so passing only refuted items initial (GaveUp request offset reason) is_run found = λ explained.
+    found (only items (arrival (request_count (report items))) initial is_run explained)
 
 pub passes : (r : Report) (order : List Entry) (initial : Start) (a b c : ℕ) → IsVerdict r order initial (Yes a b c) → Passes r order initial
 passes r order initial a b c v = record { faultless = v.1.0; fits_image = v.0; reads = v.1.1 }
@@ -44,5 +51,46 @@ does_not_pass one r order initial v h other p =
     (one r order initial v (Yes (request_count r) (answered_count r) (improper_count r)) h (judged_yes r order initial p))
 
 -- what is found of a report is so of the bytes of each run with it
-pub says_of : FoundIsSo → (r : Report) (initial : Start) (found : Found) → IsFound r initial found → (items : List Item) → IsRun items → report items ≡ r → Says (pairs items) initial found
+pub says_of : FoundIsSo → (r : Report) (initial : Start) (found : Found) → IsFound r initial found → (items : List Item) → IsRun items → report items ≡ r → Says items initial found
 says_of law r initial found f items is_run same = law items initial found is_run (subst (λ q. IsFound q initial found) (sym same) f)
+
+-- what a search answers, where the order of arrival does not explain the report
+pub found_of : (r : Report) (initial : Start) (f : Found) → (Passes r (arrival (request_count r)) initial → ⊥) → IsProposed r initial f → IsFound r initial f
+found_of r initial (Order order) refuted proposed = proposed
+found_of r initial (NoSource request offset) refuted proposed = absurd proposed
+found_of r initial (FoundImage image size) refuted proposed = absurd proposed
+found_of r initial (Refuted among requests offset) refuted proposed = refuted
+found_of r initial (GaveUp request offset reason) refuted proposed = refuted
+
+-- an answer that is not proved is one that a search may give, whatever is wanted
+pub open_proposed : (r : Report) (initial : Start) (f : Found) → IsOpen f → IsProposed r initial f
+open_proposed r initial (Order order) is = absurd is
+open_proposed r initial (NoSource request offset) is = absurd is
+open_proposed r initial (FoundImage image size) is = absurd is
+open_proposed r initial (Refuted among requests offset) is = tt
+open_proposed r initial (GaveUp request offset reason) is = tt
+
+pub open_wanted : (wanted : Wanted) (f : Found) → IsOpen f → IsWanted wanted f
+open_wanted wanted (Order order) is = absurd is
+open_wanted wanted (NoSource request offset) is = absurd is
+open_wanted wanted (FoundImage image size) is = absurd is
+open_wanted wanted (Refuted among requests offset) is = tt
+open_wanted wanted (GaveUp request offset reason) is = tt
+
+whole_wanted : (wanted : Wanted) (order : List Entry) → AreWhole order → IsWantedOrder wanted order
+whole_wanted Whole order are = are
+whole_wanted Any order are = tt
+
+-- what is wanted where orders of whole requests are is wanted where any are
+pub wanted_of : (wanted : Wanted) (f : Found) → IsWanted Whole f → IsWanted wanted f
+wanted_of wanted (Order order) is = whole_wanted wanted order.items is
+wanted_of wanted (NoSource request offset) is = tt
+wanted_of wanted (FoundImage image size) is = tt
+wanted_of wanted (Refuted among requests offset) is = tt
+wanted_of wanted (GaveUp request offset reason) is = tt
+
+-- each entry of the order of arrival is whole
+pub arrival_whole : (n : ℕ) → AreWhole (arrival n)
+arrival_whole zero = All-nil (λ (e : Entry). e.part ≡ None)
+arrival_whole (suc n) = All-append (λ (e : Entry). e.part ≡ None) (arrival n) (whole (suc n) ∷ []) (arrival_whole n)
+    (All-cons (λ (e : Entry). e.part ≡ None) (whole (suc n)) [] refl (All-nil (λ (e : Entry). e.part ≡ None)))

@@ -1,4 +1,1 @@
 pub mod FoundLemmas
-pub mod SearchLemmas
-pub mod SourceLemmas
-pub mod TouchLemmas

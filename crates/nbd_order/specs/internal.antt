@@ -1,2 +1,1 @@
 pub mod Proposals
-pub mod Searching

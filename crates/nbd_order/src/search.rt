@@ -1,27 +1,54 @@
 //! An order that explains a session, or why there is none.
 
-ghost use Rattle.std.specs.Prelude.{◌≡◌, List, IfOk, IfSome, MatchBool, MatchOption};
+ghost use Rattle.std.specs.Prelude.{◌≡◌, List, IfOk, IfSome, MatchOption};
 ghost use Rattle.nbd_judge.specs.Beginnings.{initial_of};
 ghost use Rattle.nbd_judge.specs.Images.{IsOtherSize};
-ghost use Rattle.nbd_wire.specs.protocol.Marks.{Item, pairs};
+ghost use Rattle.nbd_wire.specs.protocol.Explains.{FitsImage};
+ghost use Rattle.nbd_wire.specs.protocol.Marks.{Item};
 ghost use Rattle.nbd_wire.specs.protocol.Reports.{report};
 ghost use Rattle.nbd_wire.specs.protocol.Rules.{IsRun};
-ghost use Rattle.nbd_wire.specs.protocol.Verdicts.{Passes};
-ghost use Rattle.nbd_wire.specs.protocol.Explains.{FitsImage, start_byte};
-ghost use Rattle.nbd_order.specs.Finding.{IsFound, Says};
-ghost use Rattle.nbd_order.specs.Sources.{HasNoSource};
-ghost use Rattle.nbd_order.specs.internal.Proposals.{IsProposal};
+ghost use Rattle.nbd_wire.specs.protocol.Verdicts.{Passes, request_count};
+ghost use Rattle.nbd_order.specs.Finding.{AreWhole, IsFound, IsWanted, Says, arrival};
+ghost use Rattle.nbd_order.specs.declared.search.Wanted.TheVariants.{Whole};
+ghost use Rattle.nbd_order.specs.internal.Proposals.{IsOpen, IsProposed};
 
 use crate::guess::{by_arrival, by_reply};
+use crate::judging::{are_whole, explains};
 use crate::laws;
-use crate::source::has_no_source;
-use crate::suspects::{Suspect, first_suspect};
 use nbd_export::Start;
-use nbd_judge::{Verdict, verdict_on};
-use nbd_segments::{Limits, Reason, Search, by_parts};
+use nbd_segments::{Limits, Reason, Search, by_parts, by_wholes};
 use nbd_session::Transcript;
+use nbd_sources::no_source;
 use nbd_wire::Entry;
 use std::alloc::{AllocError, Global};
+
+/// Which orders are looked for.
+#[derive(Clone, Copy, Debug, PartialEq, Eq, Drop)]
+pub enum Wanted {
+    /// Also those that serve requests in parts.
+    Any,
+    /// Those that serve each request at once.
+    Whole,
+}
+
+/// What is looked for, and what that may cost.
+#[derive(Clone, Copy, Debug, PartialEq, Eq, Drop)]
+pub struct Scope {
+    /// Which orders.
+    pub wanted: Wanted,
+    /// What each search may cost.
+    pub limits: Limits,
+}
+
+impl Scope {
+    /// Orders of any kind, within the usual limits.
+    pub fn usual() -> Scope {
+        Scope {
+            wanted: Wanted::Any,
+            limits: Limits::usual(),
+        }
+    }
+}
 
 /// What the search for an order came to.
 #[derive(Drop)]
@@ -43,8 +70,10 @@ pub enum Found {
         /// The export's size in bytes.
         size: u64,
     },
-    /// Searched, and not proved: no order explains the session, since these requests have none at this offset.
+    /// Searched, and not proved: no such order explains the session, since these requests have none at this offset.
     Refuted {
+        /// Which orders were searched.
+        among: Wanted,
         /// The numbers of the requests, in their order.
         requests: Vec<u64>,
         /// In bytes from the export's start.
@@ -62,121 +91,163 @@ pub enum Found {
 }
 
 /// Looks for an order that explains the session from this start. Tried are the order of arrival, that of the replies, and what the
-/// search in parts finds: each is judged by the judge of `check` before it is handed out. Before that search a READ's byte is looked
-/// for that nothing can have left. An `Err` says that memory ran out.
+/// searches for an order in parts and for one of whole requests find: each is judged by the judge of `check` before it is handed out.
+/// Before the searches a READ's byte is looked for that nothing can have left. An `Err` says that memory ran out.
 pub fn find(
+    alloc: Global,
+    transcript: &Transcript,
+    start: &Start,
+    scope: Scope,
+) -> Result<Found, AllocError>
+    ensures found { IfOk result (IsFound transcript.now (initial_of start.now)) }
+    ensures wanted { IfOk result (IsWanted scope.wanted) }
+    // What is found is so of each run with this report.
+    ensures says { IfOk result (λ f. (items : List Item) → IsRun items → report items ≡ transcript.now →
+        Says items (initial_of start.now) f) }
+{
+    laws::found_is_so();
+    match settled(alloc, transcript, start, scope.limits)? {
+        Some(found) => Ok(found),
+        None => {
+            let search = by_parts(alloc, transcript, start, scope.limits)?;
+            concluded(alloc, transcript, start, scope, search)
+        }
+    }
+}
+
+/// What can be said without a search: of an image of another size, of the orders of arrival and of the replies, and of a READ's byte
+/// that nothing can have left.
+fn settled(
+    alloc: Global,
+    transcript: &Transcript,
+    start: &Start,
+    limits: Limits,
+) -> Result<Option<Found>, AllocError>
+    ensures found { IfOk result (λ found. MatchOption found
+        (Passes transcript.now (arrival (request_count transcript.now)) (initial_of start.now) → ⊥)
+        (IsFound transcript.now (initial_of start.now))) }
+    ensures wanted { IfOk result (λ found. IfSome found (IsWanted Whole)) }
+{
+    if let Some((image, size)) = other_size(transcript, start) {
+        return Ok(Some(Found::Image { image, size }));
+    }
+    let arrival = by_arrival(alloc, transcript.count())?;
+    if explains(alloc, transcript, &arrival, start)? {
+        return Ok(Some(Found::Order(arrival)));
+    }
+    let replies = by_reply(alloc, transcript)?;
+    if are_whole(&replies) && explains(alloc, transcript, &replies, start)? {
+        return Ok(Some(Found::Order(replies)));
+    }
+    match no_source(alloc, transcript, start, limits.steps)? {
+        Some((request, offset)) => Ok(Some(Found::NoSource { request, offset })),
+        None => Ok(None),
+    }
+}
+
+// What a search for an order in parts comes to. Where one has to have parts, an order of whole requests is looked for too.
+fn concluded(
+    alloc: Global,
+    transcript: &Transcript,
+    start: &Start,
+    scope: Scope,
+    search: Search,
+) -> Result<Found, AllocError>
+    ensures proposed { IfOk result (IsProposed transcript.now (initial_of start.now)) }
+    ensures wanted { IfOk result (IsWanted scope.wanted) }
+{
+    let Search::Order(order) = search else {
+        return Ok(unfound(search, Wanted::Any));
+    };
+    if are_whole(&order) {
+        return judged(alloc, transcript, start, order);
+    }
+    match scope.wanted {
+        Wanted::Whole => in_wholes(alloc, transcript, start, scope.limits),
+        Wanted::Any => match in_wholes(alloc, transcript, start, fewer(scope.limits))? {
+            Found::Order(order) => Ok(Found::Order(order)),
+            _ => judged(alloc, transcript, start, order),
+        },
+    }
+}
+
+// What the search for an order of whole requests comes to.
+fn in_wholes(
     alloc: Global,
     transcript: &Transcript,
     start: &Start,
     limits: Limits,
 ) -> Result<Found, AllocError>
-    ensures found { IfOk result (IsFound transcript.now (initial_of start.now)) }
-    // What is found is so of each run with this report.
-    ensures says { IfOk result (λ f. (items : List Item) → IsRun items → report items ≡ transcript.now →
-        Says (pairs items) (initial_of start.now) f) }
+    ensures proposed { IfOk result (IsProposed transcript.now (initial_of start.now)) }
+    ensures wanted { IfOk result (IsWanted Whole) }
 {
-    laws::found_is_so();
-    if let Some((image, size)) = other_size(transcript, start) {
-        return Ok(Found::Image { image, size });
+    let search = by_wholes(alloc, transcript, start, limits)?;
+    let Search::Order(order) = search else {
+        return Ok(unfound(search, Wanted::Whole));
+    };
+    if are_whole(&order) {
+        judged(alloc, transcript, start, order)
+    } else {
+        Ok(misfit())
     }
-    let arrival = by_arrival(alloc, transcript.count())?;
-    if explains(alloc, transcript, &arrival, start)? {
-        return Ok(Found::Order(arrival));
+}
+
+// A proposed order, where it explains the session.
+fn judged(
+    alloc: Global,
+    transcript: &Transcript,
+    start: &Start,
+    order: Vec<Entry>,
+) -> Result<Found, AllocError>
+    ensures proposed { IfOk result (IsProposed transcript.now (initial_of start.now)) }
+    ensures wanted { IfOk result (λ f. AreWhole order.items → IsWanted Whole f) }
+{
+    if explains(alloc, transcript, &order, start)? {
+        Ok(Found::Order(order))
+    } else {
+        Ok(misfit())
     }
-    let replies = by_reply(alloc, transcript)?;
-    if explains(alloc, transcript, &replies, start)? {
-        return Ok(Found::Order(replies));
-    }
-    if let Some((request, offset)) = no_source(alloc, transcript, start, limits)? {
-        return Ok(Found::NoSource { request, offset });
-    }
-    match proposal(alloc, transcript, start, limits)? {
-        Search::Order(order) => Ok(Found::Order(order)),
-        Search::Refuted { requests, offset } => Ok(Found::Refuted { requests, offset }),
+}
+
+// The answer of a search that has no order.
+fn unfound(search: Search, among: Wanted) -> Found
+    ensures { IsOpen result }
+{
+    match search {
+        Search::Refuted { requests, offset } => Found::Refuted {
+            among,
+            requests,
+            offset,
+        },
         Search::GaveUp {
             request,
             offset,
             reason,
-        } => Ok(Found::GaveUp {
+        } => Found::GaveUp {
             request,
             offset,
             reason,
-        }),
+        },
+        Search::Order(_) => misfit(),
     }
 }
 
-// A READ and an offset of a byte that nothing can have left, where one is found.
-fn no_source(
-    alloc: Global,
-    transcript: &Transcript,
-    start: &Start,
-    limits: Limits,
-) -> Result<Option<(u64, u64)>, AllocError>
-    ensures { IfOk result (λ found. IfSome found (λ p. HasNoSource transcript.now
-        (start_byte (initial_of start.now)) p.0 p.1)) }
+// The answer where the judge refuses what was proposed.
+fn misfit() -> Found
+    ensures { IsOpen result }
 {
-    match first_suspect(alloc, transcript, start, limits.steps)? {
-        Suspect::Byte { request, offset } => {
-            if has_no_source(transcript, start, request, offset) {
-                Ok(Some((request, offset)))
-            } else {
-                Ok(None)
-            }
-        }
-        Suspect::None | Suspect::GaveUp { .. } => Ok(None),
+    Found::GaveUp {
+        request: 0,
+        offset: 0,
+        reason: Reason::Tables,
     }
 }
 
-// What the search in parts finds; an order only where it explains the session.
-fn proposal(
-    alloc: Global,
-    transcript: &Transcript,
-    start: &Start,
-    limits: Limits,
-) -> Result<Search, AllocError>
-    ensures { IfOk result (IsProposal transcript.now (initial_of start.now)) }
-{
-    let found = by_parts(alloc, transcript, start, limits)?;
-    if let Search::Order(order) = &found {
-        if !explains(alloc, transcript, order, start)? {
-            return Ok(Search::GaveUp {
-                request: 0,
-                offset: 0,
-                reason: Reason::Tables,
-            });
-        }
-    }
-    Ok(found)
-}
-
-// Whether the order explains the session from this start.
-fn explains(
-    alloc: Global,
-    transcript: &Transcript,
-    order: &[Entry],
-    start: &Start,
-) -> Result<bool, AllocError>
-    ensures { IfOk result (λ yes. MatchBool yes (Passes transcript.now order.now (initial_of start.now))
-        (Passes transcript.now order.now (initial_of start.now) → ⊥)) }
-{
-    match verdict_on(alloc, transcript, order, copy_of(alloc, start)?)? {
-        Verdict::Yes { .. } => Ok(true),
-        _ => Ok(false),
-    }
-}
-
-// The same start.
-fn copy_of(alloc: Global, start: &Start) -> Result<Start, AllocError>
-    ensures { IfOk result (λ copy. initial_of copy ≡ initial_of start.now) }
-{
-    match start {
-        Start::Unknown => Ok(Start::Unknown),
-        Start::Zeroes => Ok(Start::Zeroes),
-        Start::Image(image) => {
-            let mut copy = Vec::new(alloc);
-            copy.extend_from_slice(image)?;
-            Ok(Start::Image(copy))
-        }
+// What a further search may cost where there is an order already.
+fn fewer(limits: Limits) -> Limits {
+    Limits {
+        states: limits.states,
+        steps: limits.steps / 8,
     }
 }
 

@@ -7,6 +7,7 @@ use Rattle.nbd_wire.specs.protocol.Explains.{IsExplained, start_byte}
 use Rattle.nbd_wire.specs.protocol.Marks.{Item, pairs}
 use Rattle.nbd_wire.specs.protocol.Reports.{Report, report}
 use Rattle.nbd_wire.specs.protocol.Rules.{IsRun}
+use Rattle.nbd_wire.specs.protocol.Verdicts.{request_count}
 use Rattle.nbd_session.specs.declared.fault.SessionFault.{SessionFault}
 use Rattle.nbd_session.specs.declared.fault.SessionFault.TheVariants.{Wire}
 use Rattle.nbd_session.specs.Refusals.{EndsIn}
@@ -15,13 +16,14 @@ use Rattle.nbd_session.proofs.judge.RefusalLemmas.{no_run_of}
 use Rattle.nbd_judge.specs.Captures.{IsFaultOf}
 use Rattle.nbd_judge.specs.internal.Captures.{HasReport}
 use Rattle.nbd_judge.specs.declared.verdict.Verdict.TheVariants as verdict
-use Rattle.nbd_order.specs.Finding.{IsFound, Says}
-use Rattle.nbd_order.specs.Sources.{HasNoSource, IsUnexplained}
+use Rattle.nbd_order.specs.Finding.{IsFound, IsWanted, Says, arrival}
+use Rattle.nbd_sources.specs.Sources.{HasNoSource, IsUnexplained}
 use Rattle.nbd_order.specs.declared.search.Found.{Found}
 use Rattle.nbd_order.specs.declared.search.Found.TheVariants as found
+use Rattle.nbd_order.specs.declared.search.Wanted.{Wanted}
 use Rattle.nbd_tool.specs.Ends.{IsOverText}
-use Rattle.nbd_tool.specs.Ordering.{IsOrdered, IsOrderedFrom, Orders, entry_lines, found_text, no_source_line, ordered_of}
-use Rattle.nbd_tool.specs.Ordering.IsOrdered.{image, no_source, order, unproved, wire}
+use Rattle.nbd_tool.specs.Ordering.{IsOrdered, IsOrderedFrom, IsUnexplainedBy, Orders, entry_lines, found_text, no_source_line, ordered_of}
+use Rattle.nbd_tool.specs.Ordering.IsOrdered.{gave_up, image, no_source, order, refuted, wire}
 use Rattle.nbd_tool.specs.declared.ordering.Ordered.TheVariants.{Refuted}
 use Rattle.nbd_tool.specs.declared.start.Beginning.{Beginning}
 use Rattle.nbd_tool.specs.Beginnings.{IsBeginningOf}
@@ -46,48 +48,52 @@ counted_other (Some e) initial n size flags q h =
     (h.2, same, λ z. (let more : e.size < n = h.3 in let is : n ≡ length h.0 = h.2 in absurd (omega (arith, z, more, is))))
 
 -- what was found of the report of a run, and written
-ordered : (capture : List Pair) (initial : Start) (told : Report) (items : List Item) (f : Found) (text : List ℕ) (old new : Option (List ℕ)) → IsRun items → pairs items ≡ capture → report items ≡ told →
-    IsFound told initial f → Says (pairs items) initial f → found_text f text → Appends old new text → IsOrdered capture initial old new (ordered_of f)
-ordered capture initial told items (found.Order entries) text old new is_run has same is says lines appended =
-    order entries.items (subst (λ c. IsExplained c entries.items initial) has says) (subst (Appends old new) lines appended)
-ordered capture initial told items (found.NoSource request offset) text old new is_run has same is says lines appended =
+ordered : (capture : List Pair) (initial : Start) (wanted : Wanted) (told : Report) (items : List Item) (f : Found) (old new : Option (List ℕ)) → IsRun items → pairs items ≡ capture → report items ≡ told →
+    IsFound told initial f → IsWanted wanted f → Says items initial f → Appends old new (found_text f) → IsOrdered capture initial wanted old new (ordered_of f)
+ordered capture initial wanted told items (found.Order entries) old new is_run has same is fits says appended =
+    order entries.items (subst (λ c. IsExplained c entries.items initial) has says) fits appended
+ordered capture initial wanted told items (found.NoSource request offset) old new is_run has same is fits says appended =
     no_source items request offset is_run has (subst (λ r. HasNoSource r (start_byte initial) request offset) (sym same) is)
-    (subst (λ c. IsUnexplained c initial) has says) (subst (Appends old new) lines appended)
-ordered capture initial told items (found.Image n size) text old new is_run has same is says lines appended =
-    image items n size is_run has (subst (λ (r : Report). IsOtherSize r.export initial n size) (sym same) is) (subst (Appends old new) lines appended)
-ordered capture initial told items (found.Refuted requests offset) text old new is_run has same is says lines appended = unproved text appended
-ordered capture initial told items (found.GaveUp request offset reason) text old new is_run has same is says lines appended = unproved text appended
+    (subst (λ c. IsUnexplained c initial) has says) appended
+ordered capture initial wanted told items (found.Image n size) old new is_run has same is fits says appended =
+    image items n size is_run has (subst (λ (r : Report). IsOtherSize r.export initial n size) (sym same) is) appended
+ordered capture initial wanted told items (found.Refuted among requests offset) old new is_run has same is fits says appended =
+    refuted items among requests.items offset is_run has (subst (λ c. IsUnexplainedBy c initial (arrival (request_count (report items)))) has says) appended
+ordered capture initial wanted told items (found.GaveUp request offset reason) old new is_run has same is fits says appended =
+    gave_up items request offset reason is_run has (subst (λ c. IsUnexplainedBy c initial (arrival (request_count (report items)))) has says) appended
 
 -- the same, where the start may be known
-ordered_from : (capture : List Pair) (known : Option Start) (initial : Start) (told : Report) (items : List Item) (f : Found) (text : List ℕ) (old new : Option (List ℕ)) → IfSome known (λ s. initial ≡ s) →
-    IsRun items → pairs items ≡ capture → report items ≡ told → IsFound told initial f → Says (pairs items) initial f → found_text f text → Appends old new text → IsOrderedFrom capture known old new (ordered_of f)
-ordered_from capture None initial told items f text old new is is_run has same found says lines appended = tt
-ordered_from capture (Some start) initial told items f text old new is is_run has same found says lines appended =
-    subst (λ s. IsOrdered capture s old new (ordered_of f)) is (ordered capture initial told items f text old new is_run has same found says lines appended)
+ordered_from : (capture : List Pair) (known : Option Start) (initial : Start) (wanted : Wanted) (told : Report) (items : List Item) (f : Found) (old new : Option (List ℕ)) → IfSome known (λ s. initial ≡ s) →
+    IsRun items → pairs items ≡ capture → report items ≡ told → IsFound told initial f → IsWanted wanted f → Says items initial f → Appends old new (found_text f) →
+    IsOrderedFrom capture known wanted old new (ordered_of f)
+ordered_from capture None initial wanted told items f old new is is_run has same found fits says appended = tt
+ordered_from capture (Some start) initial wanted told items f old new is is_run has same found fits says appended =
+    subst (λ s. IsOrdered capture s wanted old new (ordered_of f)) is (ordered capture initial wanted told items f old new is_run has same found fits says appended)
 
-pub orders : (known : Option (List ℕ)) (start : Option Start) (room : ℕ) (beginning : Beginning) (r : SessionView) (told : Report) (finished : Result Report SessionFault) (f : Found) (text : List ℕ) (old new : Option (List ℕ)) →
+pub orders : (known : Option (List ℕ)) (start : Option Start) (room : ℕ) (beginning : Beginning) (wanted : Wanted) (r : SessionView) (told : Report) (finished : Result Report SessionFault) (f : Found)
+    (old new : Option (List ℕ)) →
     IsOverText known r → finished ≡ Ok told → fault_of finished ≡ fault_at_end r → IfOk finished (IsReported r) → (begun : IsBeginningOf start room beginning) → IsReadAs (size_of told.export) begun.initial beginning →
-    ((initial : Start) → IsReadAs (size_of told.export) initial beginning → IsFound told initial f) →
-    ((initial : Start) (items : List Item) → IsReadAs (size_of told.export) initial beginning → IsRun items → report items ≡ told → Says (pairs items) initial f) →
-    found_text f text → Appends old new text → Orders known start (ordered_of f) old new
-orders known start room beginning r told finished f text old new session is same reported begun is_read found says lines appended =
+    ((initial : Start) → IsReadAs (size_of told.export) initial beginning → IsFound told initial f) → IsWanted wanted f →
+    ((initial : Start) (items : List Item) → IsReadAs (size_of told.export) initial beginning → IsRun items → report items ≡ told → Says items initial f) →
+    Appends old new (found_text f) → Orders known start wanted (ordered_of f) old new
+orders known start room beginning wanted r told finished f old new session is same reported begun is_read found fits says appended =
     let has : HasReport (flat_of session.chunks) told = subst (λ o. IfOk o (HasReport (flat_of session.chunks))) is (report_over (flat_of session.chunks) r finished session.over same reported) in
     let told_is : report has.items ≡ told = has.same_report has.items has.is_run has.has_pairs in
     record {
       chunks = session.chunks;
       is_text = session.is_text;
-      is_ordered = ordered_from (flat_of session.chunks) start begun.initial told has.items f text old new begun.is_known has.is_run has.has_pairs told_is
-          (found begun.initial is_read) (says begun.initial has.items is_read has.is_run told_is) lines appended;
+      is_ordered = ordered_from (flat_of session.chunks) start begun.initial wanted told has.items f old new begun.is_known has.is_run has.has_pairs told_is
+          (found begun.initial is_read) fits (says begun.initial has.items is_read has.is_run told_is) appended;
     }
 
 -- the session was refused
-wired : (capture : List Pair) (start : Option Start) (at : ℕ) (fault : WireFault) (old new : Option (List ℕ)) → IsFaultOf capture (Wire at fault) → Appends old new (line (verdict.Wire at fault)) →
-    IsOrderedFrom capture start old new Refuted
-wired capture None at fault old new why appended = tt
-wired capture (Some initial) at fault old new why appended = wire why.0 at fault why.1 (no_run_of capture why.0 at fault why.1) appended
+wired : (capture : List Pair) (start : Option Start) (wanted : Wanted) (at : ℕ) (fault : WireFault) (old new : Option (List ℕ)) → IsFaultOf capture (Wire at fault) → Appends old new (line (verdict.Wire at fault)) →
+    IsOrderedFrom capture start wanted old new Refuted
+wired capture None wanted at fault old new why appended = tt
+wired capture (Some initial) wanted at fault old new why appended = wire why.0 at fault why.1 (no_run_of capture why.0 at fault why.1) appended
 
-pub refuses : (known : Option (List ℕ)) (start : Option Start) (r : SessionView) (at : ℕ) (fault : WireFault) (finished : Result Report SessionFault) (old new : Option (List ℕ)) → IsOverText known r →
-    finished ≡ Err (Wire at fault) → fault_of finished ≡ fault_at_end r → IfErr finished (EndsIn r) → Appends old new (line (verdict.Wire at fault)) → Orders known start Refuted old new
-refuses known start r at fault finished old new session is same ends appended =
+pub refuses : (known : Option (List ℕ)) (start : Option Start) (wanted : Wanted) (r : SessionView) (at : ℕ) (fault : WireFault) (finished : Result Report SessionFault) (old new : Option (List ℕ)) → IsOverText known r →
+    finished ≡ Err (Wire at fault) → fault_of finished ≡ fault_at_end r → IfErr finished (EndsIn r) → Appends old new (line (verdict.Wire at fault)) → Orders known start wanted Refuted old new
+refuses known start wanted r at fault finished old new session is same ends appended =
     let why = subst (λ o. IfErr o (IsFaultOf (flat_of session.chunks))) is (fault_over (flat_of session.chunks) r finished session.over same ends) in
-    record { chunks = session.chunks; is_text = session.is_text; is_ordered = wired (flat_of session.chunks) start at fault old new why appended }
+    record { chunks = session.chunks; is_text = session.is_text; is_ordered = wired (flat_of session.chunks) start wanted at fault old new why appended }

@@ -1,5 +1,6 @@
 -- What a run of `order` writes, where the reader and the writer state their bytes.
 use Rattle.std.specs.Prelude.{◌≡◌, ◌⊎◌, ℕ, List, [], ◌∷◌, ◌++◌, Option, Some, None, IfSome, Result, Ok, Err, codes, flat_map}
+use Rattle.std.specs.Fmt.{decimal}
 use Rattle.std.specs.Io.KnownBytes.{Appends, Keeps}
 use Rattle.nbd_wire.specs.declared.entry.Entry.{Entry}
 use Rattle.nbd_wire.specs.declared.fault.WireFault.{WireFault}
@@ -9,6 +10,7 @@ use Rattle.nbd_wire.specs.protocol.Explains.{IsExplained, Start, start_byte}
 use Rattle.nbd_wire.specs.protocol.Marks.{Item, pairs}
 use Rattle.nbd_wire.specs.protocol.Reports.{report}
 use Rattle.nbd_wire.specs.protocol.Rules.{IsRun}
+use Rattle.nbd_wire.specs.protocol.Verdicts.{request_count}
 use Rattle.nbd_wire.specs.protocol.Within.{IsOfNoRun}
 use Rattle.nbd_capture.specs.Capture.{Chunk, IsCaptureText}
 use Rattle.nbd_capture.specs.Lines.{line_feed}
@@ -17,9 +19,14 @@ use Rattle.nbd_session.specs.Refusals.{IsWireFault}
 use Rattle.nbd_judge.specs.Images.{IsOtherSize}
 use Rattle.nbd_judge.specs.declared.verdict.Verdict.TheVariants.{Wire}
 use Rattle.nbd_judge.specs.declared.verdict.Verdict.TheVariants as verdict
-use Rattle.nbd_order.specs.Sources.{HasNoSource, IsUnexplained}
+use Rattle.nbd_order.specs.Finding.{IsWantedOrder, arrival}
+use Rattle.nbd_sources.specs.Sources.{HasNoSource, IsUnexplained}
 use Rattle.nbd_order.specs.declared.search.Found.{Found}
 use Rattle.nbd_order.specs.declared.search.Found.TheVariants as found
+use Rattle.nbd_order.specs.declared.search.Wanted.{Wanted}
+use Rattle.nbd_order.specs.declared.search.Wanted.TheVariants.{Any, Whole}
+use Rattle.nbd_segments.specs.declared.budget.Reason.{Reason}
+use Rattle.nbd_segments.specs.declared.budget.Reason.TheVariants.{States, Steps, Tables}
 use Rattle.nbd_tool.specs.declared.fault.RunFault.{RunFault}
 use Rattle.nbd_tool.specs.declared.fault.RunFault.TheVariants.{ImageRead, Memory, Write}
 use Rattle.nbd_tool.specs.declared.ordering.Ordered.{Ordered}
@@ -38,20 +45,45 @@ entry_lines entries = flat_map (λ (e : Entry). entry_text e ++ line_feed ∷ []
 abbrev pub no_source_line : (request offset : ℕ) → List ℕ
 no_source_line request offset = words (verdict.Content request offset) ++ codes " in any order\n"
 
--- the text of what was found; of what is not proved nothing is said
-abbrev pub found_text : Found → List ℕ → Type 0
-found_text (found.Order entries) text = text ≡ entry_lines entries.items
-found_text (found.NoSource request offset) text = text ≡ no_source_line request offset
-found_text (found.Image image size) text = text ≡ line (verdict.Image image size)
-found_text (found.Refuted requests offset) text = Unit {0}
-found_text (found.GaveUp request offset reason) text = Unit {0}
+-- what is said of a search that tried all orders, which is not proved
+abbrev pub searched : Wanted → List ℕ
+searched Any = codes " (searched, not proved)\n"
+searched Whole = codes " (whole requests alone; searched, not proved)\n"
+
+-- numbers, each behind a space
+abbrev pub spaced_numbers : List ℕ → List ℕ
+spaced_numbers numbers = flat_map (λ n. codes " " ++ decimal n) numbers
+
+-- the line of requests that have no order at an offset
+abbrev pub refuted_line : Wanted → (requests : List ℕ) → (offset : ℕ) → List ℕ
+refuted_line among requests offset = codes "no order found: requests" ++ spaced_numbers requests ++
+    codes " at offset " ++ decimal offset ++ searched among
+
+-- why a search was broken off
+abbrev pub reason_words : Reason → List ℕ
+reason_words States = codes "too many states"
+reason_words Steps = codes "too many steps"
+reason_words Tables = codes "a proposal that the judge refused"
+
+-- the line of a search that was broken off
+abbrev pub gave_up_line : (request offset : ℕ) → Reason → List ℕ
+gave_up_line request offset reason = codes "gave up: " ++ reason_words reason ++ codes " at request " ++ decimal request ++
+    codes " offset " ++ decimal offset ++ codes "\n"
+
+-- the text of what was found
+abbrev pub found_text : Found → List ℕ
+found_text (found.Order entries) = entry_lines entries.items
+found_text (found.NoSource request offset) = no_source_line request offset
+found_text (found.Image image size) = line (verdict.Image image size)
+found_text (found.Refuted among requests offset) = refuted_line among requests.items offset
+found_text (found.GaveUp request offset reason) = gave_up_line request offset reason
 
 -- what that comes to
 abbrev pub ordered_of : Found → Ordered
 ordered_of (found.Order entries) = IsFound
 ordered_of (found.NoSource request offset) = Refuted
 ordered_of (found.Image image size) = Refuted
-ordered_of (found.Refuted requests offset) = Open
+ordered_of (found.Refuted among requests offset) = Open
 ordered_of (found.GaveUp request offset reason) = Open
 
 -- the exit status of an answer
@@ -61,33 +93,44 @@ status_of (Ok Refuted) = 1
 status_of (Ok Open) = 5
 status_of (Err fault) = status fault
 
+-- this order does not explain the capture
+abbrev pub IsUnexplainedBy : List Pair → Start → List Entry → Type 0
+IsUnexplainedBy capture initial order = IsExplained capture order initial → ⊥
+
 -- what was written of a capture's bytes from a start, and the answer
-pub data IsOrdered (capture : List Pair) (initial : Start) (old new : Option (List ℕ)) : Ordered → Type 0 where
-  -- an order that explains it
-  order : (entries : List Entry) → IsExplained capture entries initial → Appends old new (entry_lines entries) → IsOrdered capture initial old new IsFound
+pub data IsOrdered (capture : List Pair) (initial : Start) (wanted : Wanted) (old new : Option (List ℕ)) : Ordered → Type 0 where
+  -- an order that explains it, and is one of those that are wanted
+  order : (entries : List Entry) → IsExplained capture entries initial → IsWantedOrder wanted entries → Appends old new (entry_lines entries)
+      → IsOrdered capture initial wanted old new IsFound
   -- no run has these bytes: where and why
   wire : (messages : List Message) (at : ℕ) (fault : WireFault) → IsWireFault capture messages at fault → IsOfNoRun capture
-      → Appends old new (line (Wire at fault)) → IsOrdered capture initial old new Refuted
+      → Appends old new (line (Wire at fault)) → IsOrdered capture initial wanted old new Refuted
   -- the image has another size than the export
   image : (items : List Item) (image size : ℕ) → IsRun items → pairs items ≡ capture → IsOtherSize (report items).export initial image size
-      → Appends old new (line (verdict.Image image size)) → IsOrdered capture initial old new Refuted
+      → Appends old new (line (verdict.Image image size)) → IsOrdered capture initial wanted old new Refuted
   -- a READ's byte that nothing can have left
   no_source : (items : List Item) (request offset : ℕ) → IsRun items → pairs items ≡ capture
       → HasNoSource (report items) (start_byte initial) request offset → IsUnexplained capture initial
-      → Appends old new (no_source_line request offset) → IsOrdered capture initial old new Refuted
-  -- what is not proved
-  unproved : (text : List ℕ) → Appends old new text → IsOrdered capture initial old new Open
+      → Appends old new (no_source_line request offset) → IsOrdered capture initial wanted old new Refuted
+  -- what is not proved: that no order explains it. That of arrival does not
+  refuted : (items : List Item) (among : Wanted) (requests : List ℕ) (offset : ℕ) → IsRun items → pairs items ≡ capture
+      → IsUnexplainedBy capture initial (arrival (request_count (report items)))
+      → Appends old new (refuted_line among requests offset) → IsOrdered capture initial wanted old new Open
+  -- the search was broken off
+  gave_up : (items : List Item) (request offset : ℕ) (reason : Reason) → IsRun items → pairs items ≡ capture
+      → IsUnexplainedBy capture initial (arrival (request_count (report items)))
+      → Appends old new (gave_up_line request offset reason) → IsOrdered capture initial wanted old new Open
 
 -- the same, where the start is known
-abbrev pub IsOrderedFrom : List Pair → Option Start → (old new : Option (List ℕ)) → Ordered → Type 0
-IsOrderedFrom capture (Some initial) old new ordered = IsOrdered capture initial old new ordered
-IsOrderedFrom capture None old new ordered = Unit {0}
+abbrev pub IsOrderedFrom : List Pair → Option Start → Wanted → (old new : Option (List ℕ)) → Ordered → Type 0
+IsOrderedFrom capture (Some initial) wanted old new ordered = IsOrdered capture initial wanted old new ordered
+IsOrderedFrom capture None wanted old new ordered = Unit {0}
 
 -- the same of a capture text
-pub record Orders (known : Option (List ℕ)) (initial : Option Start) (ordered : Ordered) (old new : Option (List ℕ)) : Type 0 where
+pub record Orders (known : Option (List ℕ)) (initial : Option Start) (wanted : Wanted) (ordered : Ordered) (old new : Option (List ℕ)) : Type 0 where
   pub chunks : List Chunk
   pub is_text : IfSome known (λ text. IsCaptureText text chunks)
-  pub is_ordered : IsOrderedFrom (flat_of chunks) initial old new ordered
+  pub is_ordered : IsOrderedFrom (flat_of chunks) initial wanted old new ordered
 
 -- what a fault says of the capture and of the start
 abbrev pub IsOrderingCause : {I : Type 0} → Option (List ℕ) → StartFrom I → RunFault → Type 0

@@ -3,13 +3,13 @@
 ghost use Rattle.std.specs.Prelude.{◌≡◌, List, IfErr, IfOk, OnOk};
 ghost use Rattle.std.specs.Io.KnownBytes.{Appends};
 ghost use Rattle.nbd_wire.specs.protocol.Explains as definitions;
-ghost use Rattle.nbd_wire.specs.protocol.Marks.{Item, pairs};
+ghost use Rattle.nbd_wire.specs.protocol.Marks.{Item};
 ghost use Rattle.nbd_wire.specs.protocol.Reports.{report};
 ghost use Rattle.nbd_wire.specs.protocol.Rules.{IsRun};
 ghost use Rattle.nbd_judge.specs.Servable.{size_of};
-ghost use Rattle.nbd_order.specs.Finding.{IsFound, Says};
+ghost use Rattle.nbd_order.specs.Finding.{IsFound, IsWanted, Says};
 ghost use Rattle.nbd_tool.specs.Beginnings.{IsReadAs};
-ghost use Rattle.nbd_tool.specs.Ordering.{IsOrderingCause, LeavesOrdered, Orders, entry_lines, found_text, ordered_of, status_of};
+ghost use Rattle.nbd_tool.specs.Ordering.{IsOrderingCause, LeavesOrdered, Orders, entry_lines, found_text, ordered_of, reason_words, refuted_line, spaced_numbers, status_of};
 ghost use Rattle.nbd_tool.specs.Starts.{IsStartWithinLimit, IsWithinLimit, initial_from};
 
 use crate::capture::session_over;
@@ -19,8 +19,8 @@ use crate::verdict::Line;
 use nbd_capture::write_whole;
 use nbd_export::Start;
 use nbd_judge::Verdict;
-use nbd_order::{Found, find};
-use nbd_segments::{Limits, Reason};
+use nbd_order::{Found, Scope, Wanted, find};
+use nbd_segments::Reason;
 use nbd_session::{SessionFault, Transcript};
 use nbd_wire::Entry;
 use std::alloc::{AllocError, Global};
@@ -58,10 +58,10 @@ pub fn run_order<C: BufRead + Drop, I: Read + Drop, W: Write>(
     alloc: Global,
     capture: C,
     start: StartFrom<I>,
-    limits: Limits,
+    scope: Scope,
     out: &mut W,
 ) -> Result<Ordered, RunFault>
-    ensures written { IfOk result (λ ordered. Orders (C.remaining capture) (initial_from I.remaining start) ordered
+    ensures written { IfOk result (λ ordered. Orders (C.remaining capture) (initial_from I.remaining start) scope.wanted ordered
         (W.contents out.old) (W.contents out.new)) }
     ensures limited { OnOk result (IsWithinLimit (C.remaining capture)) }
     ensures start_limited { OnOk result (IsStartWithinLimit I.remaining start) }
@@ -73,7 +73,7 @@ pub fn run_order<C: BufRead + Drop, I: Read + Drop, W: Write>(
     let start = read_start(alloc, start, room_of(&finished))?;
     match finished {
         Ok(transcript) => {
-            let found = find_from(alloc, &transcript, start, limits)?;
+            let found = find_from(alloc, &transcript, start, scope)?;
             let text = text_of(alloc, &found)?;
             write_whole(out, text.as_bytes())?;
             Ok(ordered_as(&found))
@@ -93,20 +93,21 @@ fn find_from(
     alloc: Global,
     transcript: &Transcript,
     beginning: Beginning,
-    limits: Limits,
+    scope: Scope,
 ) -> Result<Found, AllocError>
+    ensures wanted { IfOk result (IsWanted scope.wanted) }
     ensures found { IfOk result (λ f. (initial : definitions.Start) →
         IsReadAs (size_of transcript.now.export) initial beginning → IsFound transcript.now initial f) }
     ensures says { IfOk result (λ f. (initial : definitions.Start) (items : List Item) →
         IsReadAs (size_of transcript.now.export) initial beginning → IsRun items → report items ≡ transcript.now →
-        Says (pairs items) initial f) }
+        Says items initial f) }
 {
     nbd_order::laws::found_is_so();
     match beginning {
-        Beginning::Whole(start) => find(alloc, transcript, &start, limits),
+        Beginning::Whole(start) => find(alloc, transcript, &start, scope),
         Beginning::Longer(image) => match transcript.export() {
             Some((size, _)) => Ok(Found::Image { image, size }),
-            None => find(alloc, transcript, &Start::Unknown, limits),
+            None => find(alloc, transcript, &Start::Unknown, scope),
         },
     }
 }
@@ -124,7 +125,7 @@ fn ordered_as(found: &Found) -> Ordered
 
 // The lines of an order, or the line that says why there is none.
 fn text_of(alloc: Global, found: &Found) -> Result<String, AllocError>
-    ensures { IfOk result (λ text. found_text found.now text.bytes.items) }
+    ensures { IfOk result (λ text. text.bytes.items ≡ found_text found.now) }
 {
     match found {
         Found::Order(entries) => lines_of(alloc, entries),
@@ -138,13 +139,17 @@ fn text_of(alloc: Global, found: &Found) -> Result<String, AllocError>
             let verdict = Verdict::Image { image, size };
             Ok(format!(in alloc; "{}\n", Line { verdict })?)
         }
-        Found::Refuted { requests, offset } => refuted(alloc, requests, *offset),
+        Found::Refuted {
+            among,
+            requests,
+            offset,
+        } => refuted(alloc, *among, requests, *offset),
         Found::GaveUp {
             request,
             offset,
             reason,
         } => {
-            let reason = reason_name(*reason);
+            let (reason, request, offset) = (reason_name(*reason), *request, *offset);
             Ok(format!(in alloc; "gave up: {reason} at request {request} offset {offset}\n")?)
         }
     }
@@ -169,18 +174,41 @@ fn lines_of(alloc: Global, entries: &[Entry]) -> Result<String, AllocError>
 }
 
 // The line of a search that found that there is no order, which is not proved.
-fn refuted(alloc: Global, requests: &[u64], offset: u64) -> Result<String, AllocError> {
-    let mut text = String::new(alloc);
-    write!(&mut text, "no order found: requests")?;
-    for request in requests {
-        write!(&mut text, " {request}")?;
+fn refuted(
+    alloc: Global,
+    among: Wanted,
+    requests: &[u64],
+    offset: u64,
+) -> Result<String, AllocError>
+    ensures { IfOk result (λ text. text.bytes.items ≡ refuted_line among requests.now offset) }
+{
+    let requests = numbers_of(alloc, requests)?;
+    let requests = requests.as_str();
+    match among {
+        Wanted::Any => Ok(format!(in alloc;
+            "no order found: requests{requests} at offset {offset} (searched, not proved)\n"
+        )?),
+        Wanted::Whole => Ok(format!(in alloc;
+            "no order found: requests{requests} at offset {offset} (whole requests alone; searched, not proved)\n"
+        )?),
     }
-    writeln!(&mut text, " at offset {offset} (searched, not proved)")?;
+}
+
+// Numbers, each behind a space.
+fn numbers_of(alloc: Global, numbers: &[u64]) -> Result<String, AllocError>
+    ensures { IfOk result (λ text. text.bytes.items ≡ spaced_numbers numbers.now) }
+{
+    let mut text = String::new(alloc);
+    for number in numbers {
+        write!(&mut text, " {number}")?;
+    }
     Ok(text)
 }
 
 // Why a search was broken off.
-fn reason_name(reason: Reason) -> &'static str {
+fn reason_name(reason: Reason) -> &'static str
+    ensures { result.now ≡ reason_words reason }
+{
     match reason {
         Reason::States => "too many states",
         Reason::Steps => "too many steps",

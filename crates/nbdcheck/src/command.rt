@@ -6,6 +6,7 @@ ghost use Rattle.nbd_tool.specs.CommandLine.{exit_status};
 use clap::error::ErrorKind;
 use clap::{Arg, ArgAction, ArgMatches, Command, Error};
 use nbd_explain::{run_arrival, run_explain, run_names};
+use nbd_order::{Scope, Wanted};
 use nbd_segments::Limits;
 use nbd_tool::{
     FinalWriter, Opener, Ordered, RunFault, StartFrom, StartWord, exit_status, open_inputs,
@@ -154,6 +155,10 @@ fn order_command<'a>(alloc: Global) -> Result<Command<'a>, AllocError> {
         .long("arrival")
         .action(ArgAction::SetTrue)
         .help("The order in which the requests came");
+    let whole = Arg::new(alloc, "whole")
+        .long("whole")
+        .action(ArgAction::SetTrue)
+        .help("Only orders that serve each request at once");
     let states = Arg::new(alloc, "states")
         .long("states")
         .value_name("NUMBER")
@@ -169,6 +174,7 @@ fn order_command<'a>(alloc: Global) -> Result<Command<'a>, AllocError> {
         .after_help(ORDER_HELP)
         .arg(capture_word(alloc))?
         .arg(start_word(alloc))?
+        .arg(whole)?
         .arg(arrival)?
         .arg(states)?
         .arg(steps)
@@ -249,12 +255,18 @@ fn start_in<'a>(words: &ArgMatches<'a>) -> Option<StartWord<'a>> {
     words.get_str("start").and_then(start_of)
 }
 
-/// What a search may cost, as the words have it.
-fn limits_in(words: &ArgMatches<'_>) -> Option<Limits> {
-    Some(Limits {
+/// Which orders are looked for, and what that may cost, as the words have it.
+fn scope_in(words: &ArgMatches<'_>) -> Option<Scope> {
+    let wanted = if words.get_flag("whole") {
+        Wanted::Whole
+    } else {
+        Wanted::Any
+    };
+    let limits = Limits {
         states: number_of(words.get_str("states")?)?,
         steps: number_of(words.get_str("steps")?)?,
-    })
+    };
+    Some(Scope { wanted, limits })
 }
 
 fn number_of(text: &str) -> Option<u64> {
@@ -297,7 +309,7 @@ fn order(rt: &HostRuntime, words: &ArgMatches<'_>) -> u8 {
     let Some(start) = start_in(words) else {
         return complain(rt, "fault start", USAGE);
     };
-    let Some(limits) = limits_in(words) else {
+    let Some(scope) = scope_in(words) else {
         return complain(rt, "fault limit", USAGE);
     };
     let capture = words.get_str("CAPTURE").unwrap_or("");
@@ -305,7 +317,7 @@ fn order(rt: &HostRuntime, words: &ArgMatches<'_>) -> u8 {
     if words.get_flag("arrival") {
         return number(rt, &mut files, capture);
     }
-    match order_files(&mut files, capture, start, limits) {
+    match order_files(&mut files, capture, start, scope) {
         Ok(ordered) => order_status(&Ok(ordered)),
         Err(fault) => files.report(Err(fault)),
     }
@@ -440,12 +452,12 @@ fn order_files(
     files: &mut Files<'_>,
     capture: &str,
     start: StartWord<'_>,
-    limits: Limits,
+    scope: Scope,
 ) -> Result<Ordered, RunFault> {
     let (rt, alloc) = (files.rt, files.rt.alloc());
     let capture = files.open_buffered(capture, RunFault::CaptureRead)?;
     let start = open_start(files, start)?;
-    run_order(alloc, capture, start, limits, &mut io::writer(rt))
+    run_order(alloc, capture, start, scope, &mut io::writer(rt))
 }
 
 fn number_file(files: &mut Files<'_>, capture: &str) -> Result<bool, RunFault> {

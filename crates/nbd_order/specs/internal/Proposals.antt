@@ -1,11 +1,20 @@
--- What becomes of an order that the search in parts proposes.
+-- What a search may answer.
 use Rattle.nbd_wire.specs.protocol.Explains.{Start}
 use Rattle.nbd_wire.specs.protocol.Reports.{Report}
 use Rattle.nbd_wire.specs.protocol.Verdicts.{Passes}
-use Rattle.nbd_segments.specs.declared.Search.{Search}
-use Rattle.nbd_segments.specs.declared.Search.TheVariants.{Order}
+use Rattle.nbd_order.specs.declared.search.Found.{Found}
+use Rattle.nbd_order.specs.declared.search.Found.TheVariants.{GaveUp, Image, NoSource, Order, Refuted}
 
--- an order is without a fault and without a wrong byte
-abbrev pub IsProposal : Report → Start → Search → Type 0
-IsProposal r initial (Order order) = Passes r order.items initial
-IsProposal r initial _ = Unit {0}
+-- an order without a fault and without a wrong byte, or what is not proved
+abbrev pub IsProposed : Report → Start → Found → Type 0
+IsProposed r initial (Order order) = Passes r order.items initial
+IsProposed r initial (NoSource request offset) = ⊥
+IsProposed r initial (Image image size) = ⊥
+IsProposed r initial (Refuted among requests offset) = Unit {0}
+IsProposed r initial (GaveUp request offset reason) = Unit {0}
+
+-- what is not proved
+abbrev pub IsOpen : Found → Type 0
+IsOpen (Refuted among requests offset) = Unit {0}
+IsOpen (GaveUp request offset reason) = Unit {0}
+IsOpen found = ⊥

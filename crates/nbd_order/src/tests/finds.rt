@@ -5,10 +5,9 @@ use super::random::{SMALL, start_of};
 use super::recordings::Sent::{Ask, Data, Reply, Write};
 use super::recordings::recorded;
 use super::server::{Shape, session};
-use crate::{Found, find};
+use crate::{Found, Scope, find};
 use nbd_export::Start;
 use nbd_judge::{Verdict, verdict_on};
-use nbd_segments::Limits;
 use nbd_wire::commands::READ;
 use std::process::Abort;
 use std::test::Fail;
@@ -33,7 +32,7 @@ fn run<R: Abort + AllocGlobal>(rt: &R, shape: Shape, count: u64) -> Result<Count
         let start = start_of(alloc, seed, shape.size)?;
         let transcript = session(rt, shape, seed.wrapping_mul(131), &start)?;
         let wanted = first_without_source(alloc, &transcript, &start)?;
-        match find(alloc, &transcript, &start, Limits::usual())? {
+        match find(alloc, &transcript, &start, Scope::usual())? {
             Found::Order(order) => {
                 counts.orders = counts.orders.saturating_add(1);
                 assert_eq!(rt; wanted, None, "seed {seed}");
@@ -74,7 +73,7 @@ fn two_writes_read_one_after_the_other_and_again(rt: HostRuntime) -> Result<(), 
         Reply(2, 0),
     ];
     let transcript = recorded(&rt, 8, &sent)?;
-    let found = find(rt.alloc(), &transcript, &Start::Zeroes, Limits::usual())?;
+    let found = find(rt.alloc(), &transcript, &Start::Zeroes, Scope::usual())?;
     assert!(rt; matches!(&found, Found::Refuted { offset: 0, .. }));
     Ok(())
 }
@@ -88,7 +87,7 @@ fn an_image_of_another_size(rt: HostRuntime) -> Result<(), Fail> {
         rt.alloc(),
         &transcript,
         &Start::Image(image),
-        Limits::usual(),
+        Scope::usual(),
     )?;
     assert!(rt; matches!(&found, Found::Image { image: 9, size: 8 }));
     Ok(())
