@@ -3,7 +3,7 @@
 scripts round it: the build, the installation, the conversions of recordings.
 
 The last line is `N passed, M failed`. With names as words, runs these parts alone: build, commands, conversions, cuts,
-explain, install, names, readme, refusals, sizes.
+explain, install, names, order, readme, refusals, sizes.
 """
 
 import sys
@@ -16,6 +16,7 @@ import test_cuts
 import test_explain
 import test_install
 import test_names
+import test_order
 import test_readme
 import test_refusals
 import test_sizes
@@ -29,6 +30,7 @@ PARTS = {
     "explain": test_explain,
     "install": test_install,
     "names": test_names,
+    "order": test_order,
     "readme": test_readme,
     "refusals": test_refusals,
     "sizes": test_sizes,

@@ -71,8 +71,9 @@ and prints it: a line 'k' for request k, or 'k offset length' for a part of it. 
 'nbdcheck check' judges it before it is printed. It may not be the order that the server took: a wrong
 byte that is an older one may be right in another order. So where the server can log its order, check
 that one.
-With --arrival the numbers of the requests in the order in which they came are printed, unjudged: the
-order of a server that takes one request after the other.
+An order of whole requests is preferred; with --whole no other is printed. With --arrival the numbers
+of the requests in the order in which they came are printed, unjudged: the order of a server that takes
+one request after the other.
 
 Exit status:
   0  an order was printed

@@ -5,10 +5,13 @@ use super::random::{SMALL, start_of};
 use super::recordings::Sent::{Ask, Data, Reply, Write};
 use super::recordings::recorded;
 use super::server::{Shape, session};
+use crate::{Found, Scope, Wanted, find};
 use nbd_export::Start;
 use nbd_judge::{Verdict, verdict_on};
 use nbd_segments::{Limits, Search, by_parts, by_wholes};
+use nbd_session::Transcript;
 use nbd_wire::commands::READ;
+use std::alloc::{AllocError, Global};
 use std::process::Abort;
 use std::test::Fail;
 
@@ -37,6 +40,10 @@ fn run<R: Abort + AllocGlobal>(rt: &R, shape: Shape, count: u64) -> Result<Count
                 counts.whole = counts.whole.saturating_add(1);
                 let whole = order.iter().all(|entry| entry.part.is_none());
                 assert!(rt; whole, "seed {seed}: {order:?}");
+                let any = finds_whole(alloc, &transcript, &start, Wanted::Any)?;
+                assert_eq!(rt; any, Some(true), "seed {seed}");
+                let whole = finds_whole(alloc, &transcript, &start, Wanted::Whole)?;
+                assert_eq!(rt; whole, Some(true), "seed {seed}");
                 let verdict = verdict_on(alloc, &transcript, &order, start)?;
                 let explains = matches!(&verdict, Verdict::Yes { .. });
                 assert!(rt; explains, "seed {seed}: {verdict:?} for {order:?}");
@@ -49,14 +56,36 @@ fn run<R: Abort + AllocGlobal>(rt: &R, shape: Shape, count: u64) -> Result<Count
                     "seed {seed}: {requests:?} have an order at {offset}"
                 );
                 let parts = by_parts(alloc, &transcript, &start, Limits::usual())?;
-                if matches!(&parts, Search::Order(_)) {
+                let in_parts = matches!(&parts, Search::Order(_));
+                if in_parts {
                     counts.parts = counts.parts.saturating_add(1);
                 }
+                let any = finds_whole(alloc, &transcript, &start, Wanted::Any)?;
+                assert_eq!(rt; any, in_parts.then_some(false), "seed {seed}");
+                let whole = finds_whole(alloc, &transcript, &start, Wanted::Whole)?;
+                assert_eq!(rt; whole, None, "seed {seed}");
             }
             Search::GaveUp { reason, .. } => panic!(rt; "seed {seed}: gave up, {reason:?}"),
         }
     }
     Ok(counts)
+}
+
+// Whether the order that is found serves each request at once; None where none is found.
+fn finds_whole(
+    alloc: Global,
+    transcript: &Transcript,
+    start: &Start,
+    wanted: Wanted,
+) -> Result<Option<bool>, AllocError> {
+    let scope = Scope {
+        wanted,
+        limits: Limits::usual(),
+    };
+    match find(alloc, transcript, start, scope)? {
+        Found::Order(order) => Ok(Some(order.iter().all(|entry| entry.part.is_none()))),
+        _ => Ok(None),
+    }
 }
 
 // Two WRITEs of two bytes, and READs that find the first byte of one and the second of the other.

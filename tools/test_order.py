@@ -1,0 +1,158 @@
+"""The command `order` of the built program: what it writes of sessions with an order and of those without one."""
+
+import re
+import subprocess
+
+from built import PROGRAM, TOP, Ended, Room, Tally
+from messages import begun, content, done, read, simple, text, write
+from test_commands import fault, on_a_terminal
+
+# Sessions of examples/ for which `check` has another answer than that with an order which explains them.
+OTHERS = {
+    "nbdkit-python-whole": b"yes requests 16 answered 16 improper 0\n",
+    "nbdkit-split": b"no content request 3 offset 39000 in any order\n",
+    "write-at-once": b"yes requests 2 answered 2 improper 0\n",
+    "write-half-served": b"yes requests 2 answered 2 improper 0\n",
+    "write-read-late-order": b"yes requests 2 answered 2 improper 0\n",
+    "write-read-wrong-byte": b"no content request 2 offset 1 in any order\n",
+}
+# They have an order in parts, and none of whole requests.
+IN_PARTS = ("nbdkit-python-parts", "nbdkit-python-whole", "write-at-once", "write-half-served", "write-in-parts")
+
+
+def got(cookie, offset, data):
+    """The reply to a READ with structured replies."""
+    return [content(cookie, offset, data), done(cookie)]
+
+
+def open_writes(*reads):
+    """Two WRITEs of one byte, READs of it while both are open, with the byte that each got, and then the replies."""
+    records = begun(True) + [write(1, 0, b"a"), write(2, 0, b"b")]
+    for cookie, byte in enumerate(reads, 3):
+        records += [read(cookie, 0, 1), *got(cookie, 0, byte)]
+    return text(records + [simple(1), simple(2)])
+
+
+# Requests 3, 4 and 5 read a, b and a: one of the two WRITEs would have to be served twice.
+NO_ORDER = open_writes(b"a", b"b", b"a")
+# Request 3 read the first byte of one WRITE and the second of the other.
+TORN = text(begun(True) + [write(1, 0, b"aa"), write(2, 0, b"bb"), simple(1), simple(2), read(3, 0, 2), *got(3, 0, b"ab")])
+# Request 1 read what nobody wrote; from an unknown start it may have been there.
+ALONE = text(begun() + [read(1, 3, 1), simple(1, b"x")])
+# The only WRITE of the byte is still open when it is read.
+WHILE_OPEN = text(begun(True) + [write(1, 0, b"a"), read(2, 0, 1), *got(2, 0, b"a"), simple(1)])
+# The only WRITE of the byte came before another one of it, which came before the READ.
+OVERWRITTEN = text(begun() + [write(1, 0, b"a"), simple(1), write(2, 0, b"b"), simple(2), read(3, 0, 1), simple(3, b"a")])
+# The READ was answered before the WRITE of its byte came.
+BEFORE = text(begun() + [read(1, 0, 1), simple(1, b"a"), write(2, 0, b"a"), simple(2)])
+
+
+def examples(tally, room):
+    """The sessions of examples/: what is found explains them."""
+    folder = TOP / "examples"
+    for capture in sorted(folder.glob("*.cap")):
+        start = capture.with_suffix(".start").read_text().strip().replace("image:", f"image:{folder}/")
+        line = OTHERS.get(capture.stem, capture.with_suffix(".out").read_bytes())
+        found = room.run("order", capture, "--start", start)
+        if line.startswith(b"no"):
+            tally.want(f"order {capture.name}", found, Ended(1, line, b""))
+            continue
+        tally.want(f"order {capture.name}", (found.status, found.err), (0, b""))
+        judged = room.run("check", capture, room.put("order", found.out), "--start", start)
+        tally.want(f"order and check {capture.name}", judged, Ended(0, line, b""))
+        has_parts = any(b" " in entry for entry in found.out.splitlines())
+        tally.want(f"parts of {capture.name}", has_parts, capture.stem in IN_PARTS)
+        whole = room.run("order", capture, "--start", start, "--whole")
+        if capture.stem in IN_PARTS:
+            told = b" (whole requests alone; searched, not proved)\n"
+            tally.want(f"order --whole {capture.name}", (whole.status, whole.err), (5, b""))
+            tally.holds(f"order --whole {capture.name}", whole.out.startswith(b"no order found: requests "), whole.out)
+            tally.holds(f"order --whole {capture.name}", whole.out.endswith(told), whole.out)
+        else:
+            tally.want(f"order --whole {capture.name}", whole, found)
+
+
+def lines(tally, room):
+    """The line of each answer, and its status."""
+    for name, capture, asked, wanted in (
+        ("nothing", b"", [], Ended(0, b"", b"")),
+        ("no request", text(begun()), [], Ended(0, b"", b"")),
+        ("a refused byte", b"C 00\n", [], Ended(1, b"no at byte 1: OutOfTurn\n", b"")),
+        ("cut off", b"S 4e\n", [], Ended(1, b"no at byte 2: Unfinished\n", b"")),
+        ("a bad line", b"C 0\n", [], fault("capture line 1")),
+        ("unknown start", ALONE, [], Ended(0, b"1\n", b"")),
+        ("zero start", ALONE, ["--start", "zero"], Ended(1, b"no content request 1 offset 3 in any order\n", b"")),
+        ("while the WRITE is open", WHILE_OPEN, ["--start", "zero"], Ended(0, b"1\n2\n", b"")),
+        ("overwritten", OVERWRITTEN, [], Ended(1, b"no content request 3 offset 0 in any order\n", b"")),
+        ("before", BEFORE, ["--start", "zero"], Ended(1, b"no content request 1 offset 0 in any order\n", b"")),
+        ("before, unknown start", BEFORE, [], Ended(0, b"1\n2\n", b"")),
+        ("a number", ALONE, ["--steps", "x"], fault("limit", 2)),
+        ("a negative number", ALONE, ["--states=-1"], fault("limit", 2)),
+        ("2^64", ALONE, ["--steps", str(2**64)], fault("limit", 2)),
+        ("a start", ALONE, ["--start", "zeroes"], fault("start", 2)),
+    ):
+        tally.want(f"order: {name}", room.run("order", room.put("capture", capture), *asked), wanted)
+    torn = room.put("torn", TORN)
+    found = room.run("order", torn, "--start", "zero")
+    tally.want("torn", (found.status, found.err, b" 0 1\n" in found.out), (0, b"", True))
+    yes = Ended(0, b"yes requests 3 answered 3 improper 0\n", b"")
+    tally.want("torn and judged", room.run("check", torn, room.put("found", found.out), "--start", "zero"), yes)
+
+
+def searches(tally, room):
+    """The line of a search that found no order or was broken off: what it names are requests and an offset of the session."""
+    for name, capture, asked, pattern in (
+        ("no order", NO_ORDER, [], rb"no order found: requests( [1-5]){2,5} at offset 0 \(searched, not proved\)\n"),
+        ("torn, whole", TORN, ["--whole"],
+         rb"no order found: requests( [1-3]){1,3} at offset [01] \(whole requests alone; searched, not proved\)\n"),
+        ("one step", NO_ORDER, ["--steps", "1"], rb"gave up: too many steps at request [0-5] offset 0\n"),
+        ("no state", NO_ORDER, ["--states", "0"], rb"gave up: too many states at request [1-5] offset 0\n"),
+    ):
+        found = room.run("order", room.put("capture", capture), "--start", "zero", *asked)
+        tally.want(f"order: {name}", (found.status, found.err), (5, b""))
+        tally.holds(f"order: {name}", re.fullmatch(pattern, found.out), found.out)
+
+
+def files(tally, room):
+    """Images, files that cannot be opened, an output that takes nothing, and a pipe."""
+    capture, none = room.put("capture", ALONE), room.path("none")
+    image = room.put("image", b"abcxefgh")
+    tally.want("an image", room.run("order", capture, "--start", f"image:{image}"), Ended(0, b"1\n", b""))
+    other = room.put("other", b"abcdefgh")
+    line = Ended(1, b"no content request 1 offset 3 in any order\n", b"")
+    tally.want("another image", room.run("order", capture, "--start", f"image:{other}"), line)
+    for size in (7, 9):
+        short = room.put("short", bytes(size))
+        wanted = Ended(1, f"no image {size} size 8\n".encode(), b"")
+        tally.want(f"an image of {size} bytes", room.run("order", capture, "--start", f"image:{short}"), wanted)
+    tally.want("no capture", room.run("order", none, "--start", f"image:{none}"), fault("capture read"))
+    tally.want("no image", room.run("order", capture, "--start", f"image:{none}"), fault("image read"))
+    tally.want("a full device", room.run("order", capture, stdout="/dev/full"), fault("write"))
+    piped = 'set -o pipefail; "$0" order "$1" --start zero | "$0" check "$1" /dev/stdin --start zero'
+    words = ["/bin/bash", "-c", piped, PROGRAM, room.put("torn", TORN)]
+    found = subprocess.run(words, stdin=subprocess.DEVNULL, capture_output=True, timeout=60)
+    yes = (0, b"yes requests 3 answered 3 improper 0\n", b"")
+    tally.want("through a pipe", (found.returncode, found.stdout, found.stderr), yes)
+    limited = ["-c", 'ulimit -v 24576; exec "$@"', "sh", PROGRAM, "order", room.put("long", text(begun() + [write(1, 0, bytes(1 << 24))]))]
+    tally.want("24 MiB", room.run(*limited, program="/bin/sh"), fault("memory", 4))
+
+
+def terminals(tally, room):
+    """A short search says nothing on a terminal; which file could not be opened does."""
+    capture, none = room.put("torn", TORN), room.path("none")
+    found = on_a_terminal(room, "order", capture, "--start", "zero")
+    tally.want("a short search on a terminal", (found.status, found.err), (0, b""))
+    why = f"{none}: No such file or directory (os error 2)\n".encode()
+    tally.want("no file on a terminal", on_a_terminal(room, "order", none), Ended(3, b"", b"fault capture read\n" + why))
+
+
+def run(tally):
+    with Room() as room:
+        for part in (examples, lines, searches, files, terminals):
+            part(tally, room)
+
+
+if __name__ == "__main__":
+    told = Tally()
+    run(told)
+    print(f"{told.passed} passed, {told.failed} failed")
