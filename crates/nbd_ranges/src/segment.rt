@@ -9,80 +9,94 @@ use super::operation::{Kind, Operations};
 use std::alloc::Global;
 
 /// What two nodes of a log or of a history cost, in steps: they are kept to the end.
-pub(crate) const NODES: usize = 8;
+pub const NODES: usize = 8;
 
 /// What the search keeps beside the segments.
 #[derive(Drop)]
-pub(crate) struct Work {
-    pub(crate) alloc: Global,
-    pub(crate) budget: Budget,
-    pub(crate) logs: Logs,
-    pub(crate) events: Events,
+pub struct Work {
+    /// Where memory comes from.
+    pub alloc: Global,
+    /// What may still be spent.
+    pub budget: Budget,
+    /// What the states have served.
+    pub logs: Logs,
+    /// What happened in the segments.
+    pub events: Events,
 }
 
 /// A request that has arrived and is not due yet.
 #[derive(Clone, Copy, Drop)]
-pub(crate) struct Open {
-    pub(crate) request: u64,
-    pub(crate) value: Value,
-    pub(crate) is_read: bool,
+pub struct Open {
+    /// Its number, counted from 1.
+    pub request: u64,
+    /// What it reads or leaves, by the segment's name for it.
+    pub value: Value,
+    /// It is a READ.
+    pub is_read: bool,
     /// Its last slot; None where it may stay out.
-    pub(crate) due: Option<u64>,
+    pub due: Option<u64>,
 }
 
 /// One way in which the requests so far can have been served.
 #[derive(Drop)]
-pub(crate) struct State {
+pub struct State {
     /// What the segment holds.
-    pub(crate) now: Value,
+    pub now: Value,
     /// The slot in which it came to hold that; 0 where it does from the first.
-    pub(crate) switched: u64,
+    pub switched: u64,
     /// The open requests that are served, by their numbers.
-    pub(crate) used: Vec<u64>,
+    pub used: Vec<u64>,
     /// How many of the requests that may stay out are served.
-    pub(crate) spent: usize,
+    pub spent: usize,
     /// What is served before the last switch.
-    pub(crate) before: Log,
+    pub before: Log,
     /// What is served from the last switch on.
-    pub(crate) block: Log,
+    pub block: Log,
 }
 
 /// What may be left by the last change here: its last slot and its value.
 #[derive(Clone, Copy, Drop)]
-pub(crate) struct Last {
-    pub(crate) due: u64,
-    pub(crate) value: Value,
+pub struct Last {
+    /// The change's last slot.
+    pub due: u64,
+    /// What it leaves.
+    pub value: Value,
 }
 
 /// A range that the same requests touch. Its bytes are one value.
 #[derive(Drop)]
-pub(crate) struct Segment {
-    pub(crate) lo: u64,
-    pub(crate) hi: u64,
+pub struct Segment {
+    /// Its first offset.
+    pub lo: u64,
+    /// The offset behind it.
+    pub hi: u64,
     /// What it held at first.
-    pub(crate) first: Value,
+    pub first: Value,
     /// The open requests that have to be served, by their numbers.
-    pub(crate) open: Vec<Open>,
+    pub open: Vec<Open>,
     /// The changes that may stay out, by their numbers.
-    pub(crate) loose: Vec<u64>,
-    pub(crate) states: Vec<State>,
+    pub loose: Vec<u64>,
+    /// The ways in which the requests so far can have been served; none where there is no order.
+    pub states: Vec<State>,
     /// The values that were met here and are neither unknown nor zeroes, each once.
-    pub(crate) values: Vec<Value>,
+    pub values: Vec<Value>,
     /// What the last change may leave; of no meaning where a change may stay out.
-    pub(crate) last: Vec<Last>,
-    pub(crate) history: History,
+    pub last: Vec<Last>,
+    /// What happened here.
+    pub history: History,
     /// The READs that were served without the segment and stand before the changes behind them.
-    pub(crate) ahead: History,
+    pub ahead: History,
     /// A READ was seen to have the present value, and no change came since.
-    pub(crate) pinned: bool,
+    pub pinned: bool,
     /// A READ was served without the segment since the last change came.
-    pub(crate) lent: bool,
+    pub lent: bool,
     /// It is one byte, and its states miss no order.
-    pub(crate) exact: bool,
+    pub exact: bool,
 }
 
 impl Work {
-    pub(crate) fn new(alloc: Global, limits: Limits) -> Work {
+    /// Nothing yet.
+    pub fn new(alloc: Global, limits: Limits) -> Work {
         Work {
             alloc,
             budget: Budget::new(limits),
@@ -94,7 +108,7 @@ impl Work {
 
 impl Segment {
     /// A range that holds this, in which nothing happened yet.
-    pub(crate) fn new(
+    pub fn new(
         work: &mut Work,
         operations: &Operations,
         lo: u64,
@@ -134,17 +148,17 @@ impl Segment {
     }
 
     /// Whether each request that arrived is served or may stay out, and none may still come in.
-    pub(crate) fn is_closed(&self) -> bool {
+    pub fn is_closed(&self) -> bool {
         self.open.is_empty() && self.loose.is_empty()
     }
 
     /// Whether this request is open.
-    pub(crate) fn has_open(&self, request: u64) -> bool {
+    pub fn has_open(&self, request: u64) -> bool {
         self.open.iter().any(|open| open.request == request)
     }
 
     /// Whether there is one state, with this value.
-    pub(crate) fn holds(&self, value: Value) -> bool {
+    pub fn holds(&self, value: Value) -> bool {
         match self.states.as_slice() {
             [state] => state.now == value,
             _ => false,
@@ -152,8 +166,8 @@ impl Segment {
     }
 }
 
-/// A request arrives.
-pub(crate) fn arrive(
+/// A request arrives. An error also where it does nothing that counts.
+pub fn arrive(
     work: &mut Work,
     operations: &Operations,
     segment: &mut Segment,

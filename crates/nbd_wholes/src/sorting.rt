@@ -1,7 +1,7 @@
 //! The requests in an order that slots and edges allow.
 
-use super::super::operation::{Kind, Operations};
 use super::precedence::Precedence;
+use nbd_ranges::operation::{Kind, Operations};
 use nbd_wire::Entry;
 use std::alloc::{AllocError, Global};
 use std::collections::BTreeSet;

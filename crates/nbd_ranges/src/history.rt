@@ -4,7 +4,7 @@ use std::alloc::{AllocError, Global};
 
 /// What happened to a request in a segment.
 #[derive(Clone, Copy, PartialEq, Eq, Drop)]
-pub(crate) enum Event {
+pub enum Event {
     /// It arrived.
     Arrived(u64),
     /// It was due, in a slot.
@@ -14,7 +14,7 @@ pub(crate) enum Event {
 }
 
 /// The last event of a history, by its place in `Events`; None where nothing happened.
-pub(crate) type History = Option<usize>;
+pub type History = Option<usize>;
 
 #[derive(Clone, Copy, Drop)]
 struct Past {
@@ -24,7 +24,7 @@ struct Past {
 
 /// The events of all histories.
 #[derive(Drop)]
-pub(crate) struct Events {
+pub struct Events {
     list: Vec<Past>,
 }
 
@@ -36,14 +36,14 @@ impl Events {
     }
 
     /// A history and behind it an event.
-    pub(crate) fn add(&mut self, before: History, event: Event) -> Result<History, AllocError> {
+    pub fn add(&mut self, before: History, event: Event) -> Result<History, AllocError> {
         let place = self.list.len();
         self.list.push(Past { event, before })?;
         Ok(Some(place))
     }
 
     /// The events of a history, from the first on.
-    pub(crate) fn list(&self, alloc: Global, history: History) -> Result<Vec<Event>, AllocError> {
+    pub fn list(&self, alloc: Global, history: History) -> Result<Vec<Event>, AllocError> {
         let mut events = Vec::new(alloc);
         let mut at = history;
         for _ in 0..self.list.len() {

@@ -1,12 +1,12 @@
 //! The requests, and the parts of those that are served in parts, as nodes of a graph: its edges say what stands before
 //! what.
 
-use super::budget::{Reason, Stop};
 use super::graph::Graph;
-use super::operation::{Kind, Operations};
 use super::pieces::Pieces;
-use super::plan::Plan;
-use super::segment::Work;
+use nbd_ranges::budget::{Reason, Stop};
+use nbd_ranges::operation::{Kind, Operations};
+use nbd_ranges::plan::Plan;
+use nbd_ranges::segment::Work;
 use std::alloc::{AllocError, Global};
 use std::collections::BTreeMap;
 

@@ -1,12 +1,11 @@
 //! What a READ of a range can have read there.
 
-use super::super::budget::Stop;
-use super::super::content::Value;
-use super::super::intern::value_of;
-use super::super::operation::Operations;
-use super::super::reading::holds_read;
-use super::super::segment::Work;
 use super::changes::{Change, Changes};
+use nbd_ranges::budget::Stop;
+use nbd_ranges::content::{Value, holds_read};
+use nbd_ranges::intern::value_of;
+use nbd_ranges::operation::Operations;
+use nbd_ranges::segment::Work;
 use std::alloc::Global;
 
 /// A change that must not stand between a source and its READ.
@@ -79,7 +78,7 @@ pub(crate) fn sources(
 fn fits(work: &mut Work, operations: &Operations, left: Value, read: Read) -> Result<bool, Stop> {
     work.budget.spend(1)?;
     let own = value_of(operations, read.request);
-    holds_read(work, operations, left, own, read.lo, read.hi)
+    holds_read(operations, left, own, read.lo, read.hi, &mut work.budget)
 }
 
 // The likeliest source first: the one in the order of the range, and then those that stand near it.

@@ -9,7 +9,7 @@ use std::alloc::{AllocError, Global};
 
 /// What an operation does in its range.
 #[derive(Clone, Copy, PartialEq, Eq, Drop)]
-pub(crate) enum Kind {
+pub enum Kind {
     /// It reads bytes.
     Read,
     /// It leaves bytes.
@@ -31,54 +31,60 @@ pub(crate) struct Placed {
 /// A request as an operation: it may be served in the slots from its number to `due`, slot t being the time between the
 /// completion of request t and that of the next.
 #[derive(Drop)]
-pub(crate) struct Operation {
-    pub(crate) kind: Kind,
+pub struct Operation {
+    /// What it does in its range.
+    pub kind: Kind,
     /// The first offset of its range.
-    pub(crate) lo: u64,
+    pub lo: u64,
     /// The offset behind its range.
-    pub(crate) hi: u64,
+    pub hi: u64,
     /// The last slot; None where the request may stay out.
-    pub(crate) due: Option<u64>,
+    pub due: Option<u64>,
     /// The pieces of a READ that are not empty, by their offsets.
     pub(crate) pieces: Vec<Placed>,
 }
 
-/// The operations of a session.
-#[derive(Drop)]
-pub(crate) struct Operations<'a> {
-    pub(crate) transcript: &'a Transcript,
-    pub(crate) start: &'a Start,
-    list: Vec<Operation>,
+/// The operations of a session, beside the session and its start.
+#[derive(Clone, Copy, Drop)]
+pub struct Operations<'a> {
+    /// The session.
+    pub transcript: &'a Transcript,
+    /// What the export holds at first.
+    pub start: &'a Start,
+    list: &'a [Operation],
 }
 
 impl<'a> Operations<'a> {
-    pub(crate) fn new(
-        alloc: Global,
+    /// A session, its start, and the operations that `operations_of` makes of the session.
+    pub fn new(
         transcript: &'a Transcript,
         start: &'a Start,
-    ) -> Result<Operations<'a>, AllocError> {
-        let list = list_of(alloc, transcript)?;
-        Ok(Operations {
+        list: &'a [Operation],
+    ) -> Operations<'a> {
+        Operations {
             transcript,
             start,
             list,
-        })
+        }
     }
 
     /// How many there are; they are counted from 1.
-    pub(crate) fn count(&self) -> u64 {
+    pub fn count(&self) -> u64 {
         self.list.len() as u64
     }
 
-    pub(crate) fn get(&self, request: u64) -> Option<&Operation> {
+    /// The operation of a request; None where there is no request with this number.
+    pub fn get(&self, request: u64) -> Option<&Operation> {
         self.list.get(request.checked_sub(1)? as usize)
     }
 
-    pub(crate) fn due(&self, request: u64) -> Option<u64> {
+    /// The last slot of a request; None where it may stay out, or is not there.
+    pub fn due(&self, request: u64) -> Option<u64> {
         self.get(request)?.due
     }
 
-    pub(crate) fn kind(&self, request: u64) -> Kind {
+    /// What a request does.
+    pub fn kind(&self, request: u64) -> Kind {
         match self.get(request) {
             Some(operation) => operation.kind,
             None => Kind::Idle,
@@ -86,7 +92,7 @@ impl<'a> Operations<'a> {
     }
 
     /// What the export holds at first, as a value.
-    pub(crate) fn initial(&self) -> Value {
+    pub fn initial(&self) -> Value {
         match self.start {
             Start::Unknown => Value::Unknown,
             Start::Zeroes => Value::Zeroes,
@@ -95,8 +101,8 @@ impl<'a> Operations<'a> {
     }
 }
 
-// An operation for each request.
-fn list_of(alloc: Global, transcript: &Transcript) -> Result<Vec<Operation>, AllocError> {
+/// An operation for each request of a session, in their order.
+pub fn operations_of(alloc: Global, transcript: &Transcript) -> Result<Vec<Operation>, AllocError> {
     let size = match transcript.export() {
         Some((size, _)) => size,
         None => 0,

@@ -1,25 +1,16 @@
 //! An order of whole requests: for each READ its source is chosen, and for each other change on which side of the two
 //! it stands.
 
-mod ahead;
-mod changes;
-mod precedence;
-mod propagation;
-mod readings;
-mod search;
-mod sorting;
-mod sources;
-
-use super::budget::Stop;
-use super::operation::Operations;
-use super::plan::Plan;
-use super::segment::Work;
+use super::choices::search;
+use super::precedence::Precedence;
+use super::propagation::propagate;
+use super::readings::{Reading, readings};
+use super::sorting::entries;
+use nbd_ranges::budget::Stop;
+use nbd_ranges::operation::Operations;
+use nbd_ranges::plan::Plan;
+use nbd_ranges::segment::Work;
 use nbd_wire::Entry;
-use precedence::Precedence;
-use propagation::propagate;
-use readings::{Reading, readings};
-use search::search;
-use sorting::entries;
 use std::alloc::Global;
 
 /// An order of whole requests.

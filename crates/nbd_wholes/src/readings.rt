@@ -1,14 +1,14 @@
 //! The READs of all ranges, each with its sources there.
 
-use super::super::budget::Stop;
-use super::super::content::Value;
-use super::super::log::Served;
-use super::super::operation::{Kind, Operations};
-use super::super::plan::Plan;
-use super::super::segment::Work;
 use super::ahead::add_ahead;
 use super::changes::Changes;
 use super::sources::{Read, Source, sources};
+use nbd_ranges::budget::Stop;
+use nbd_ranges::content::Value;
+use nbd_ranges::log::Served;
+use nbd_ranges::operation::{Kind, Operations};
+use nbd_ranges::plan::Plan;
+use nbd_ranges::segment::Work;
 use std::alloc::{AllocError, Global};
 
 /// A READ of a range, one of whose sources is to be chosen.

@@ -4,13 +4,15 @@ use std::alloc::{AllocError, Global};
 
 /// A request that is served in a slot.
 #[derive(Clone, Copy, PartialEq, Eq, Drop)]
-pub(crate) struct Served {
-    pub(crate) request: u64,
-    pub(crate) slot: u64,
+pub struct Served {
+    /// Its number, counted from 1.
+    pub request: u64,
+    /// The slot in which it is served.
+    pub slot: u64,
 }
 
 /// A list of what is served, by its node in `Logs`; None where it is empty.
-pub(crate) type Log = Option<usize>;
+pub type Log = Option<usize>;
 
 #[derive(Clone, Copy, Drop)]
 enum Node {
@@ -20,7 +22,7 @@ enum Node {
 
 /// The nodes of all logs.
 #[derive(Drop)]
-pub(crate) struct Logs {
+pub struct Logs {
     nodes: Vec<Node>,
 }
 
@@ -32,14 +34,14 @@ impl Logs {
     }
 
     /// The log of one request.
-    pub(crate) fn one(&mut self, request: u64, slot: u64) -> Result<Log, AllocError> {
+    pub fn one(&mut self, request: u64, slot: u64) -> Result<Log, AllocError> {
         let node = self.nodes.len();
         self.nodes.push(Node::One(Served { request, slot }))?;
         Ok(Some(node))
     }
 
     /// A log and behind it another.
-    pub(crate) fn join(&mut self, before: Log, behind: Log) -> Result<Log, AllocError> {
+    pub fn join(&mut self, before: Log, behind: Log) -> Result<Log, AllocError> {
         let (Some(a), Some(b)) = (before, behind) else {
             return Ok(before.or(behind));
         };
@@ -49,7 +51,7 @@ impl Logs {
     }
 
     /// What a log holds, from the first on.
-    pub(crate) fn list(&self, alloc: Global, log: Log) -> Result<Vec<Served>, AllocError> {
+    pub fn list(&self, alloc: Global, log: Log) -> Result<Vec<Served>, AllocError> {
         let mut list = Vec::new(alloc);
         let mut open = Vec::new(alloc);
         if let Some(node) = log {

@@ -2,7 +2,7 @@
 
 use std::alloc::{AllocError, AllocFailed};
 
-/// What the search for an order in parts may cost.
+/// What the search for an order may cost.
 #[derive(Clone, Copy, Debug, PartialEq, Eq, Drop)]
 pub struct Limits {
     /// How many states a segment may have at once.
@@ -34,16 +34,23 @@ pub enum Reason {
 
 /// Why the search ends before it has an order.
 #[derive(Drop)]
-pub(crate) enum Stop {
+pub enum Stop {
+    /// Memory ran out.
     OutOfMemory,
     /// These requests have no order at this offset.
     Refuted {
+        /// The numbers of the requests, in their order.
         requests: Vec<u64>,
+        /// In bytes from the export's start.
         offset: u64,
     },
+    /// The search ended without an answer.
     GaveUp {
+        /// The request that was being looked at, counted from 1; 0 where it was none.
         request: u64,
+        /// In bytes from the export's start.
         offset: u64,
+        /// Why it ended.
         reason: Reason,
     },
 }
@@ -62,7 +69,7 @@ impl<T: Drop> From<AllocFailed<T>> for Stop {
 
 /// The steps that are left, and where the search is.
 #[derive(Drop)]
-pub(crate) struct Budget {
+pub struct Budget {
     states: u64,
     left: u64,
     request: u64,
@@ -80,18 +87,23 @@ impl Budget {
     }
 
     /// Says where the search is.
-    pub(crate) fn enter(&mut self, request: u64, offset: u64) {
+    pub fn enter(&mut self, request: u64, offset: u64) {
         self.request = request;
         self.offset = offset;
     }
 
     /// Says that it goes on at another offset.
-    pub(crate) fn move_to(&mut self, offset: u64) {
+    pub fn move_to(&mut self, offset: u64) {
         self.offset = offset;
     }
 
-    /// Takes so many steps.
-    pub(crate) fn spend(&mut self, steps: usize) -> Result<(), Stop> {
+    /// How many steps are left.
+    pub fn left(&self) -> u64 {
+        self.left
+    }
+
+    /// Takes so many steps; an error where fewer are left.
+    pub fn spend(&mut self, steps: usize) -> Result<(), Stop> {
         match self.left.checked_sub(steps as u64) {
             Some(left) => {
                 self.left = left;
@@ -102,7 +114,7 @@ impl Budget {
     }
 
     /// An error where a segment has too many states.
-    pub(crate) fn allow_states(&self, count: usize) -> Result<(), Stop> {
+    pub fn allow_states(&self, count: usize) -> Result<(), Stop> {
         if count as u64 > self.states {
             return Err(self.give_up(Reason::States));
         }
@@ -110,7 +122,7 @@ impl Budget {
     }
 
     /// The end of the search here.
-    pub(crate) fn give_up(&self, reason: Reason) -> Stop {
+    pub fn give_up(&self, reason: Reason) -> Stop {
         Stop::GaveUp {
             request: self.request,
             offset: self.offset,

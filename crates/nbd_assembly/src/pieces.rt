@@ -1,6 +1,6 @@
 //! The ranges in which each request is served.
 
-use super::plan::Plan;
+use nbd_ranges::plan::Plan;
 use std::alloc::{AllocError, Global};
 
 /// A range in which a request is served.

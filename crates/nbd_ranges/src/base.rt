@@ -6,15 +6,18 @@ use std::collections::BTreeMap;
 
 /// A range of the export, and what it holds.
 #[derive(Clone, Copy, Drop)]
-pub(crate) struct Holding {
-    pub(crate) lo: u64,
-    pub(crate) hi: u64,
-    pub(crate) value: Value,
+pub struct Holding {
+    /// Its first offset.
+    pub lo: u64,
+    /// The offset behind it.
+    pub hi: u64,
+    /// What each of its offsets holds.
+    pub value: Value,
 }
 
 /// What the export holds, for certain, after the segments that are closed.
 #[derive(Drop)]
-pub(crate) struct Base {
+pub struct Base {
     alloc: Global,
     // What each offset holds that is in no range.
     initial: Value,
@@ -23,7 +26,8 @@ pub(crate) struct Base {
 }
 
 impl Base {
-    pub(crate) fn new(alloc: Global, initial: Value) -> Base {
+    /// A base of which each offset holds this.
+    pub fn new(alloc: Global, initial: Value) -> Base {
         Base {
             alloc,
             initial,
@@ -32,7 +36,7 @@ impl Base {
     }
 
     /// The ranges that lie from `lo` to before `hi`, side by side.
-    pub(crate) fn ranges(&self, lo: u64, hi: u64) -> Result<Vec<Holding>, AllocError> {
+    pub fn ranges(&self, lo: u64, hi: u64) -> Result<Vec<Holding>, AllocError> {
         let mut list = Vec::new(self.alloc);
         let mut at = lo;
         for holding in self.meeting(lo, hi)? {
@@ -79,7 +83,7 @@ impl Base {
     }
 
     /// The offsets from `lo` to before `hi` hold this from now on.
-    pub(crate) fn set(&mut self, lo: u64, hi: u64, value: Value) -> Result<(), AllocError> {
+    pub fn set(&mut self, lo: u64, hi: u64, value: Value) -> Result<(), AllocError> {
         for holding in self.meeting(lo, hi)? {
             self.ranges.remove(&holding.lo);
             if holding.lo < lo {

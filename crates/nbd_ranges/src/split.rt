@@ -10,7 +10,7 @@ use std::alloc::AllocError;
 use std::collections::BTreeMap;
 
 /// The part of a segment from `lo` to before `hi`, with its past.
-pub(crate) fn part_of(
+pub fn part_of(
     work: &mut Work,
     operations: &Operations,
     segment: &Segment,

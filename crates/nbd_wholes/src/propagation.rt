@@ -1,10 +1,10 @@
 //! What can be said without a choice: a READ with one source, a change with one side.
 
-use super::super::budget::Stop;
-use super::super::segment::Work;
 use super::precedence::{Edge, Precedence};
 use super::readings::Reading;
 use super::sources::{Other, Source};
+use nbd_ranges::budget::Stop;
+use nbd_ranges::segment::Work;
 use std::alloc::AllocError;
 
 /// How often all that is open is looked at again before the search.

@@ -1,23 +1,19 @@
 //! One order out of the orders of the ranges: requests are served whole but where that would close a cycle.
 
-use super::budget::{Reason, Stop};
 use super::components::components;
 use super::entries::entries;
 use super::kahn::{Sorted, in_order};
 use super::nodes::Network;
-use super::operation::{Kind, Operations};
 use super::pieces::Pieces;
-use super::plan::Plan;
-use super::segment::Work;
+use nbd_ranges::budget::{Reason, Stop};
+use nbd_ranges::operation::{Kind, Operations};
+use nbd_ranges::plan::Plan;
+use nbd_ranges::segment::Work;
 use nbd_wire::Entry;
 use std::alloc::AllocError;
 
 /// An order in which each range has its own.
-pub(crate) fn order(
-    work: &mut Work,
-    operations: &Operations,
-    plan: &Plan,
-) -> Result<Vec<Entry>, Stop> {
+pub fn order(work: &mut Work, operations: &Operations, plan: &Plan) -> Result<Vec<Entry>, Stop> {
     work.budget.enter(0, 0);
     let pieces = Pieces::new(work.alloc, plan)?;
     let count = (operations.count() as usize).saturating_add(1);

@@ -1,7 +1,7 @@
 //! The changes of a range, as the READs of the range meet them.
 
-use super::super::log::Served;
-use super::super::operation::{Kind, Operations};
+use nbd_ranges::log::Served;
+use nbd_ranges::operation::{Kind, Operations};
 use std::alloc::{AllocError, Global};
 
 /// A change of a range.

@@ -1,8 +1,8 @@
 //! What stands before what: the slots order some requests, and edges others. Each request keeps the slots that the
 //! edges leave to it. A trail takes changes back.
 
-use super::super::budget::{Budget, Stop};
-use super::super::operation::Operations;
+use nbd_ranges::budget::{Budget, Stop};
+use nbd_ranges::operation::Operations;
 use std::alloc::{AllocError, Global};
 
 /// A request, and one that stands behind it.

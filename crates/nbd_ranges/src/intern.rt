@@ -24,7 +24,7 @@ pub(crate) fn interned(
 }
 
 /// What a request reads or leaves, by a name of its own.
-pub(crate) fn value_of(operations: &Operations, request: u64) -> Value {
+pub fn value_of(operations: &Operations, request: u64) -> Value {
     match operations.kind(request) {
         Kind::Read => Value::Of(request),
         Kind::Write => match operations.transcript.asked(request) {

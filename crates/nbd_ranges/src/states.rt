@@ -6,7 +6,7 @@ use std::cmp::Ordering;
 
 /// The states without those that another one stands for: it holds the same, has served the same open requests and no
 /// more of those that may stay out, and switched no earlier.
-pub(crate) fn best(alloc: Global, states: Vec<State>) -> Result<Vec<State>, AllocError> {
+pub fn best(alloc: Global, states: Vec<State>) -> Result<Vec<State>, AllocError> {
     let mut states = states;
     if states.len() < 2 {
         return Ok(states);

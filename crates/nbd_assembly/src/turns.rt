@@ -1,8 +1,8 @@
 //! What stands before what in one range: each READ directly behind the change that it reads, as far as changes go.
 
 use super::nodes::{Network, Node};
-use super::operation::{Kind, Operations};
-use super::plan::Emission;
+use nbd_ranges::operation::{Kind, Operations};
+use nbd_ranges::plan::Emission;
 use std::alloc::AllocError;
 
 // The walk along the order of a range, by nodes.

@@ -1,9 +1,9 @@
 //! The entries of an order, out of nodes in their order.
 
 use super::nodes::{Network, Node};
-use super::operation::Operations;
 use super::pieces::Pieces;
-use super::plan::Plan;
+use nbd_ranges::operation::Operations;
+use nbd_ranges::plan::Plan;
 use nbd_wire::{Entry, Part};
 use std::alloc::{AllocError, Global};
 

@@ -1,10 +1,10 @@
 //! The choices that are left, tried in turn: the last one that has another way is changed where nothing is possible.
 
-use super::super::budget::{Reason, Stop};
-use super::super::segment::Work;
 use super::precedence::Precedence;
 use super::propagation::{Item, Open, add_all, choose, edges, is_off, option_count};
 use super::readings::Reading;
+use nbd_ranges::budget::{Reason, Stop};
+use nbd_ranges::segment::Work;
 
 /// How often a choice may be changed.
 const CHANGES: usize = 20_000;

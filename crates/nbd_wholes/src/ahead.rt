@@ -1,12 +1,12 @@
 //! The READs that were served as they arrived, and were not due when changes of their range came.
 
-use super::super::budget::Stop;
-use super::super::log::Served;
-use super::super::operation::{Kind, Operations};
-use super::super::plan::{Emission, Plan};
-use super::super::segment::Work;
 use super::changes::Changes;
 use super::readings::{Range, Reading, add_read};
+use nbd_ranges::budget::Stop;
+use nbd_ranges::log::Served;
+use nbd_ranges::operation::{Kind, Operations};
+use nbd_ranges::plan::{Emission, Plan};
+use nbd_ranges::segment::Work;
 use std::alloc::{AllocError, Global};
 
 /// Adds these READs where they have to choose. A range may have had several orders, one after the other, while such a

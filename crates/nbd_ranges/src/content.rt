@@ -8,8 +8,10 @@ use nbd_wire::{Piece, commands};
 
 /// What a range holds.
 #[derive(Clone, Copy, PartialEq, Eq, PartialOrd, Ord, Drop)]
-pub(crate) enum Value {
+pub enum Value {
+    /// Unknown bytes.
     Unknown,
+    /// Zeroes.
     Zeroes,
     /// The bytes of the image.
     Image,
@@ -51,6 +53,21 @@ pub(crate) fn are_same(
         at = at.saturating_add(length);
     }
     Ok(true)
+}
+
+/// Whether a READ that gives `own` from `lo` to before `hi` can find `now` there.
+pub fn holds_read(
+    operations: &Operations,
+    now: Value,
+    own: Value,
+    lo: u64,
+    hi: u64,
+    budget: &mut Budget,
+) -> Result<bool, Stop> {
+    if now == Value::Unknown {
+        return Ok(true);
+    }
+    are_same(operations, now, own, lo, hi, budget)
 }
 
 fn length_of(chunk: Chunk) -> u64 {
