@@ -18,8 +18,8 @@ use Rattle.nbd_wire.specs.protocol.Rules.{IsRun}
 use Rattle.nbd_order.specs.declared.search.Found.{Found}
 use Rattle.nbd_order.specs.declared.search.Wanted.{Wanted}
 use Rattle.nbd_order.specs.declared.search.Wanted.TheVariants.{Any, Whole}
-use Rattle.nbd_order.specs.Finding.{AreWhole, FoundIsSo, IsFound, IsWanted, IsWantedOrder, Says, arrival}
-use Rattle.nbd_order.specs.internal.Proposals.{IsOpen, IsProposed}
+use Rattle.nbd_order.specs.Finding.{AreWhole, FoundIsSo, IsFound, IsProposed, IsWanted, IsWantedOrder, Says, arrival}
+use Rattle.nbd_order.specs.internal.Proposals.{IsOpen}
 use Rattle.nbd_sources.specs.Sources.{NoSourceNoOrder}
 use Rattle.nbd_order.specs.declared.search.Found.TheVariants.{GaveUp, Image as FoundImage, NoSource, Order, Refuted}
 

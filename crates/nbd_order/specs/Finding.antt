@@ -45,6 +45,14 @@ IsFound r initial (Image image size) = IsOtherSize r.export initial image size
 IsFound r initial (Refuted among requests offset) = Passes r (arrival (request_count r)) initial → ⊥
 IsFound r initial (GaveUp request offset reason) = Passes r (arrival (request_count r)) initial → ⊥
 
+-- what a search answers: an order without a fault and without a wrong byte, or what is not proved
+abbrev pub IsProposed : Report → Start → Found → Type 0
+IsProposed r initial (Order order) = Passes r order.items initial
+IsProposed r initial (NoSource request offset) = ⊥
+IsProposed r initial (Image image size) = ⊥
+IsProposed r initial (Refuted among requests offset) = Unit {0}
+IsProposed r initial (GaveUp request offset reason) = Unit {0}
+
 -- what that says of the bytes of a run with this report: the order explains them, or no order does, or at least that of arrival does not
 abbrev pub Says : List Item → Start → Found → Type 0
 Says items initial (Order order) = IsExplained (pairs items) order.items initial

@@ -8,4 +8,4 @@ pub mod search;
 #[cfg(test)]
 mod tests;
 
-pub use search::{Found, Scope, Wanted, find};
+pub use search::{Found, Scope, Wanted, advance, find, settled};

@@ -8,17 +8,18 @@ ghost use Rattle.nbd_wire.specs.protocol.Marks.{Item};
 ghost use Rattle.nbd_wire.specs.protocol.Reports.{report};
 ghost use Rattle.nbd_wire.specs.protocol.Rules.{IsRun};
 ghost use Rattle.nbd_wire.specs.protocol.Verdicts.{Passes, request_count};
-ghost use Rattle.nbd_order.specs.Finding.{AreWhole, IsFound, IsWanted, Says, arrival};
+ghost use Rattle.nbd_order.specs.Finding.{AreWhole, IsFound, IsProposed, IsWanted, Says, arrival};
 ghost use Rattle.nbd_order.specs.declared.search.Wanted.TheVariants.{Whole};
-ghost use Rattle.nbd_order.specs.internal.Proposals.{IsOpen, IsProposed};
+ghost use Rattle.nbd_order.specs.internal.Proposals.{IsOpen};
 
 use crate::guess::{by_arrival, by_reply};
 use crate::judging::{are_whole, explains};
 use crate::laws;
 use nbd_export::Start;
-use nbd_segments::{Limits, Reason, Search, by_parts, by_wholes};
+use nbd_segments::{Limits, Reason, Search, Searching};
 use nbd_session::Transcript;
 use nbd_sources::no_source;
+use nbd_wholes::by_wholes;
 use nbd_wire::Entry;
 use std::alloc::{AllocError, Global};
 
@@ -108,16 +109,50 @@ pub fn find(
     laws::found_is_so();
     match settled(alloc, transcript, start, scope.limits)? {
         Some(found) => Ok(found),
-        None => {
-            let search = by_parts(alloc, transcript, start, scope.limits)?;
-            concluded(alloc, transcript, start, scope, search)
-        }
+        None => searched(alloc, transcript, start, scope),
+    }
+}
+
+// What the searches find.
+fn searched(
+    alloc: Global,
+    transcript: &Transcript,
+    start: &Start,
+    scope: Scope,
+) -> Result<Found, AllocError>
+    ensures proposed { IfOk result (IsProposed transcript.now (initial_of start.now)) }
+    ensures wanted { IfOk result (IsWanted scope.wanted) }
+{
+    let mut searching = Searching::new(alloc, transcript, start, scope.limits)?;
+    match advance(alloc, transcript, start, scope, &mut searching, u64::MAX)? {
+        Some(found) => Ok(found),
+        None => Ok(misfit()),
+    }
+}
+
+/// Goes on with a search of this session from this start, for about `steps` steps: `None` says that it is not at its end. What is
+/// found is an order that explains the session, or an answer that is not proved. An `Err` says that memory ran out.
+pub fn advance(
+    alloc: Global,
+    transcript: &Transcript,
+    start: &Start,
+    scope: Scope,
+    searching: &mut Searching,
+    steps: u64,
+) -> Result<Option<Found>, AllocError>
+    ensures proposed { IfOk result (λ found. IfSome found (IsProposed transcript.now (initial_of start.now))) }
+    ensures wanted { IfOk result (λ found. IfSome found (IsWanted scope.wanted)) }
+{
+    match searching.advance(transcript, start, steps)? {
+        Some(search) => Ok(Some(concluded(alloc, transcript, start, scope, search)?)),
+        None => Ok(None),
     }
 }
 
 /// What can be said without a search: of an image of another size, of the orders of arrival and of the replies, and of a READ's byte
-/// that nothing can have left.
-fn settled(
+/// that nothing can have left. `None` where that is not enough; then the order of arrival does not explain the session. An `Err` says
+/// that memory ran out.
+pub fn settled(
     alloc: Global,
     transcript: &Transcript,
     start: &Start,

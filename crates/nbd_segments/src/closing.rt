@@ -1,11 +1,11 @@
 //! A segment whose last change is certain is closed: what it holds goes back to the base.
 
-use super::base::Base;
-use super::budget::Stop;
 use super::cover::Segments;
-use super::history::Event;
-use super::plan::{Emission, Plan};
-use super::segment::{Segment, Work};
+use nbd_ranges::base::Base;
+use nbd_ranges::budget::Stop;
+use nbd_ranges::history::Event;
+use nbd_ranges::plan::{Emission, Plan};
+use nbd_ranges::segment::{Segment, Work};
 use std::alloc::AllocError;
 
 /// Closes a segment where its last change is certain, and keeps it among the others where it is not.

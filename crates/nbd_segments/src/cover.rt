@@ -1,9 +1,9 @@
 //! The segments that lie in a range, and the gaps between them.
 
-use super::budget::Stop;
-use super::operation::Operations;
-use super::segment::{Segment, Work};
-use super::split::part_of;
+use nbd_ranges::budget::Stop;
+use nbd_ranges::operation::Operations;
+use nbd_ranges::segment::{Segment, Work};
+use nbd_ranges::split::part_of;
 use std::alloc::AllocError;
 use std::collections::BTreeMap;
 

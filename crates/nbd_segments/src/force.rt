@@ -1,9 +1,9 @@
 //! A request is due: each state serves it, in each way in which that can be done.
 
-use super::budget::Stop;
-use super::content::Value;
-use super::segment::{NODES, Open, Segment, State, Work};
-use super::states::best;
+use nbd_ranges::budget::Stop;
+use nbd_ranges::content::Value;
+use nbd_ranges::segment::{NODES, Open, Segment, State, Work};
+use nbd_ranges::states::best;
 use std::mem;
 
 /// Serves a request in each state by this slot, its last one. No state is left where none can.

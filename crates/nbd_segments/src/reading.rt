@@ -1,10 +1,10 @@
-//! Whether a READ gives what a range holds for certain.
+//! Whether a READ gives what a segment holds for certain.
 
-use super::budget::Stop;
-use super::content::{Value, are_same};
-use super::intern::value_of;
-use super::operation::Operations;
-use super::segment::{Segment, Work};
+use nbd_ranges::budget::Stop;
+use nbd_ranges::content::holds_read;
+use nbd_ranges::intern::value_of;
+use nbd_ranges::operation::Operations;
+use nbd_ranges::segment::{Segment, Work};
 
 /// Whether a READ gives what a segment without open requests was seen to hold.
 pub(crate) fn tells_nothing(
@@ -19,23 +19,9 @@ pub(crate) fn tells_nothing(
     match segment.states.first() {
         Some(state) => {
             let (now, own) = (state.now, value_of(operations, request));
-            holds_read(work, operations, now, own, segment.lo, segment.hi)
+            let (lo, hi) = (segment.lo, segment.hi);
+            holds_read(operations, now, own, lo, hi, &mut work.budget)
         }
         None => Ok(false),
     }
-}
-
-/// Whether a READ that gives `own` can find `now`.
-pub(crate) fn holds_read(
-    work: &mut Work,
-    operations: &Operations,
-    now: Value,
-    own: Value,
-    lo: u64,
-    hi: u64,
-) -> Result<bool, Stop> {
-    if now == Value::Unknown {
-        return Ok(true);
-    }
-    are_same(operations, now, own, lo, hi, &mut work.budget)
 }

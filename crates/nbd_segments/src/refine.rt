@@ -1,11 +1,11 @@
 //! A segment without an order as one value: its halves, down to bytes.
 
-use super::budget::Stop;
 use super::force::force;
-use super::history::Event;
-use super::operation::Operations;
-use super::segment::{Segment, Work, arrive};
 use super::witness::refuted;
+use nbd_ranges::budget::Stop;
+use nbd_ranges::history::Event;
+use nbd_ranges::operation::Operations;
+use nbd_ranges::segment::{Segment, Work, arrive};
 
 /// The segments into which this one falls, each with an order; an error where a byte of it has none.
 pub(crate) fn refine(

@@ -1,23 +1,30 @@
 //! The pass over the slots: requests arrive and are due, in the segments of their ranges.
 
-use super::base::{Base, Holding};
-use super::budget::Stop;
 use super::closing::{close, settle};
 use super::cover::{Cover, Segments, covering, starts};
 use super::force::force;
-use super::history::Event;
-use super::intern::value_of;
-use super::operation::{Kind, Operations};
-use super::plan::{Direct, Plan};
-use super::reading::{holds_read, tells_nothing};
+use super::reading::tells_nothing;
 use super::refine::refine;
-use super::segment::{Segment, Work, arrive};
+use nbd_ranges::base::{Base, Holding};
+use nbd_ranges::budget::{Reason, Stop};
+use nbd_ranges::content::holds_read;
+use nbd_ranges::history::Event;
+use nbd_ranges::intern::value_of;
+use nbd_ranges::operation::{Kind, Operations};
+use nbd_ranges::plan::{Direct, Plan};
+use nbd_ranges::segment::{Segment, Work, arrive};
 use std::alloc::{AllocError, Global};
 use std::collections::BTreeMap;
 
-// What the pass holds.
+/// The pass, as far as it has come.
 #[derive(Drop)]
-struct Sweep {
+pub(crate) struct Sweep {
+    // The last slots and numbers of the requests that have to be served, by slots.
+    due: Vec<(u64, u64)>,
+    // How many of these are passed.
+    next: usize,
+    // How many slots are passed.
+    passed: u64,
     segments: Segments,
     base: Base,
     plan: Plan,
@@ -26,32 +33,84 @@ struct Sweep {
 }
 
 /// For each range of the export the order in which its requests are served there.
-pub(crate) fn plan(work: &mut Work, operations: &Operations) -> Result<Plan, Stop> {
-    let mut sweep = Sweep {
-        segments: BTreeMap::new(work.alloc),
-        base: Base::new(work.alloc, operations.initial()),
-        plan: Plan {
-            emissions: Vec::new(work.alloc),
-            direct: Vec::new(work.alloc),
-        },
-        reading: BTreeMap::new(work.alloc),
-    };
-    let due = by_slot(work.alloc, operations)?;
-    let mut next = 0;
-    for i in 0..operations.count() {
-        let slot = i.saturating_add(1);
-        arrives(work, operations, &mut sweep, slot)?;
-        for _ in next..due.len() {
-            match due.get(next) {
-                Some((last, request)) if *last <= slot => {
-                    is_due(work, operations, &mut sweep, *request, slot)?;
-                    next = next.saturating_add(1);
+pub fn plan(work: &mut Work, operations: &Operations) -> Result<Plan, Stop> {
+    let mut sweep = Sweep::new(work.alloc, operations)?;
+    if !sweep.advance(work, operations, u64::MAX)? {
+        return Err(work.budget.give_up(Reason::Steps));
+    }
+    sweep.finish(work)
+}
+
+impl Sweep {
+    /// The pass before its first slot.
+    pub(crate) fn new(alloc: Global, operations: &Operations) -> Result<Sweep, AllocError> {
+        Ok(Sweep {
+            due: by_slot(alloc, operations)?,
+            next: 0,
+            passed: 0,
+            segments: BTreeMap::new(alloc),
+            base: Base::new(alloc, operations.initial()),
+            plan: Plan {
+                emissions: Vec::new(alloc),
+                direct: Vec::new(alloc),
+            },
+            reading: BTreeMap::new(alloc),
+        })
+    }
+
+    /// How many slots are passed.
+    pub(crate) fn passed(&self) -> u64 {
+        self.passed
+    }
+
+    /// Passes one slot, and more until so many steps are spent: whether the last one is passed.
+    pub(crate) fn advance(
+        &mut self,
+        work: &mut Work,
+        operations: &Operations,
+        steps: u64,
+    ) -> Result<bool, Stop> {
+        let before = work.budget.left();
+        for _ in self.passed..operations.count() {
+            self.pass(work, operations)?;
+            if before.saturating_sub(work.budget.left()) >= steps {
+                break;
+            }
+        }
+        Ok(self.passed >= operations.count())
+    }
+
+    // The next slot: its request arrives, and then the requests are due that have to be served by it.
+    fn pass(&mut self, work: &mut Work, operations: &Operations) -> Result<(), Stop> {
+        work.budget.spend(1)?;
+        let slot = self.passed.saturating_add(1);
+        arrives(work, operations, self, slot)?;
+        for _ in self.next..self.due.len() {
+            match self.due.get(self.next).copied() {
+                Some((last, request)) if last <= slot => {
+                    is_due(work, operations, self, request, slot)?;
+                    self.next = self.next.saturating_add(1);
                 }
                 _ => break,
             }
         }
+        self.passed = slot;
+        Ok(())
     }
-    finish(work, sweep)
+
+    /// The end of the pass: all segments that are left are closed.
+    pub(crate) fn finish(self, work: &mut Work) -> Result<Plan, Stop> {
+        let Sweep {
+            segments,
+            mut base,
+            mut plan,
+            ..
+        } = self;
+        for (_, segment) in segments {
+            close(work, &mut base, &mut plan, &segment)?;
+        }
+        Ok(plan)
+    }
 }
 
 // The last slots and numbers of the requests that have to be served and touch the export, by slots.
@@ -66,20 +125,6 @@ fn by_slot(alloc: Global, operations: &Operations) -> Result<Vec<(u64, u64)>, Al
     }
     list.sort_by_key(|due| due.0)?;
     Ok(list)
-}
-
-// All segments that are left are closed.
-fn finish(work: &mut Work, sweep: Sweep) -> Result<Plan, Stop> {
-    let Sweep {
-        segments,
-        mut base,
-        mut plan,
-        reading: _,
-    } = sweep;
-    for (_, segment) in segments {
-        close(work, &mut base, &mut plan, &segment)?;
-    }
-    Ok(plan)
 }
 
 // A request arrives in each part of its range.
@@ -153,7 +198,7 @@ fn touches(
     work.budget.spend(1)?;
     if operations.kind(request) == Kind::Read {
         let own = value_of(operations, request);
-        if holds_read(work, operations, value, own, lo, hi)? {
+        if holds_read(operations, value, own, lo, hi, &mut work.budget)? {
             return read_at_once(work, sweep, request, lo, hi);
         }
     }

@@ -1,10 +1,10 @@
 //! Requests that have no order at a byte: all changes there, and few of the READs.
 
-use super::budget::Stop;
-use super::history::Event;
-use super::operation::{Kind, Operations};
 use super::refine::replayed;
-use super::segment::{Segment, Work};
+use nbd_ranges::budget::Stop;
+use nbd_ranges::history::Event;
+use nbd_ranges::operation::{Kind, Operations};
+use nbd_ranges::segment::{Segment, Work};
 use std::alloc::AllocError;
 
 // How often the search is done again to find out which READs are not needed.

@@ -25,8 +25,8 @@ use Rattle.nbd_order.specs.declared.search.Found.{Found}
 use Rattle.nbd_order.specs.declared.search.Found.TheVariants as found
 use Rattle.nbd_order.specs.declared.search.Wanted.{Wanted}
 use Rattle.nbd_order.specs.declared.search.Wanted.TheVariants.{Any, Whole}
-use Rattle.nbd_segments.specs.declared.budget.Reason.{Reason}
-use Rattle.nbd_segments.specs.declared.budget.Reason.TheVariants.{States, Steps, Tables}
+use Rattle.nbd_ranges.specs.declared.budget.Reason.{Reason}
+use Rattle.nbd_ranges.specs.declared.budget.Reason.TheVariants.{States, Steps, Tables}
 use Rattle.nbd_tool.specs.declared.fault.RunFault.{RunFault}
 use Rattle.nbd_tool.specs.declared.fault.RunFault.TheVariants.{ImageRead, Memory, Write}
 use Rattle.nbd_tool.specs.declared.ordering.Ordered.{Ordered}
