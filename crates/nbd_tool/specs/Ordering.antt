@@ -56,8 +56,8 @@ spaced_numbers numbers = flat_map (λ n. codes " " ++ decimal n) numbers
 
 -- the line of requests that have no order at an offset
 abbrev pub refuted_line : Wanted → (requests : List ℕ) → (offset : ℕ) → List ℕ
-refuted_line among requests offset = codes "no order found: requests" ++ spaced_numbers requests ++
-    codes " at offset " ++ decimal offset ++ searched among
+refuted_line among requests offset = codes "no order found: requests" ++ (spaced_numbers requests ++ (codes " at offset " ++
+    (decimal offset ++ searched among)))
 
 -- why a search was broken off
 abbrev pub reason_words : Reason → List ℕ
@@ -67,8 +67,8 @@ reason_words Tables = codes "a proposal that the judge refused"
 
 -- the line of a search that was broken off
 abbrev pub gave_up_line : (request offset : ℕ) → Reason → List ℕ
-gave_up_line request offset reason = codes "gave up: " ++ reason_words reason ++ codes " at request " ++ decimal request ++
-    codes " offset " ++ decimal offset ++ codes "\n"
+gave_up_line request offset reason = codes "gave up: " ++ (reason_words reason ++ (codes " at request " ++ (decimal request ++
+    (codes " offset " ++ (decimal offset ++ codes "\n")))))
 
 -- the text of what was found
 abbrev pub found_text : Found → List ℕ

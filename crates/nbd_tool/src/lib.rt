@@ -12,6 +12,7 @@ pub mod laws;
 mod make;
 pub mod opening;
 pub mod ordering;
+mod progress;
 pub mod show;
 pub mod start;
 #[cfg(test)]
@@ -27,7 +28,8 @@ pub use final_writer::FinalWriter;
 pub use input::READ_LIMIT;
 pub use make::run_make;
 pub use opening::{Inputs, Opener, open_inputs, open_start};
-pub use ordering::{Ordered, order_status, run_order};
+pub use ordering::{Ordered, find_order, found_text_of, order_status, run_order};
+pub use progress::Progress;
 pub use show::{run_show, write_end};
 pub use start::{Beginning, StartFrom, read_start, room_of};
 pub use verdict::{Line, is_yes};

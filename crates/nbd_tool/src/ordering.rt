@@ -6,6 +6,7 @@ ghost use Rattle.nbd_wire.specs.protocol.Explains as definitions;
 ghost use Rattle.nbd_wire.specs.protocol.Marks.{Item};
 ghost use Rattle.nbd_wire.specs.protocol.Reports.{report};
 ghost use Rattle.nbd_wire.specs.protocol.Rules.{IsRun};
+ghost use Rattle.nbd_judge.specs.Beginnings.{initial_of};
 ghost use Rattle.nbd_judge.specs.Servable.{size_of};
 ghost use Rattle.nbd_order.specs.Finding.{IsFound, IsWanted, Says};
 ghost use Rattle.nbd_tool.specs.Beginnings.{IsReadAs};
@@ -14,17 +15,21 @@ ghost use Rattle.nbd_tool.specs.Starts.{IsStartWithinLimit, IsWithinLimit, initi
 
 use crate::capture::session_over;
 use crate::fault::RunFault;
+use crate::progress::Progress;
 use crate::start::{Beginning, StartFrom, read_start, room_of};
 use crate::verdict::Line;
 use nbd_capture::write_whole;
 use nbd_export::Start;
 use nbd_judge::Verdict;
-use nbd_order::{Found, Scope, Wanted, find};
-use nbd_segments::Reason;
+use nbd_order::{Found, Scope, Wanted, advance, settled};
+use nbd_segments::{Reason, Searching};
 use nbd_session::{SessionFault, Transcript};
 use nbd_wire::Entry;
 use std::alloc::{AllocError, Global};
 use std::io::{BufRead, Read, Write};
+
+/// How many steps a search takes before it says how far it is.
+const STEPS: u64 = 2_000_000;
 
 /// What a run of `order` came to.
 #[derive(Clone, Copy, Debug, PartialEq, Eq, Drop)]
@@ -53,13 +58,15 @@ pub fn order_status(answer: &Result<Ordered, RunFault>) -> u8
 /// Reads a capture text to its end, and then an image, if there is one, and writes an order of service that explains the session
 /// from this start, an entry a line; or a line that says why there is none or that none was found.
 ///
-/// Nothing is written unless all were read whole and are well formed. After `Write` a prefix stands written.
-pub fn run_order<C: BufRead + Drop, I: Read + Drop, W: Write>(
+/// Nothing is written unless all were read whole and are well formed. After `Write` a prefix stands written. A long search says on
+/// `progress` how far it is.
+pub fn run_order<C: BufRead + Drop, I: Read + Drop, W: Write, P: Write + Drop>(
     alloc: Global,
     capture: C,
     start: StartFrom<I>,
     scope: Scope,
     out: &mut W,
+    progress: &mut Progress<P>,
 ) -> Result<Ordered, RunFault>
     ensures written { IfOk result (λ ordered. Orders (C.remaining capture) (initial_from I.remaining start) scope.wanted ordered
         (W.contents out.old) (W.contents out.new)) }
@@ -73,8 +80,8 @@ pub fn run_order<C: BufRead + Drop, I: Read + Drop, W: Write>(
     let start = read_start(alloc, start, room_of(&finished))?;
     match finished {
         Ok(transcript) => {
-            let found = find_from(alloc, &transcript, start, scope)?;
-            let text = text_of(alloc, &found)?;
+            let found = find_order(alloc, &transcript, start, scope, progress)?;
+            let text = found_text_of(alloc, &found)?;
             write_whole(out, text.as_bytes())?;
             Ok(ordered_as(&found))
         }
@@ -88,28 +95,59 @@ pub fn run_order<C: BufRead + Drop, I: Read + Drop, W: Write>(
     }
 }
 
-// Looks for an order from what was read of the start.
-fn find_from(
+/// Looks for an order that explains the session from what was read of the start. An `Err` says that memory ran out.
+pub fn find_order<P: Write + Drop>(
     alloc: Global,
     transcript: &Transcript,
     beginning: Beginning,
     scope: Scope,
+    progress: &mut Progress<P>,
 ) -> Result<Found, AllocError>
-    ensures wanted { IfOk result (IsWanted scope.wanted) }
     ensures found { IfOk result (λ f. (initial : definitions.Start) →
         IsReadAs (size_of transcript.now.export) initial beginning → IsFound transcript.now initial f) }
+    ensures wanted { IfOk result (IsWanted scope.wanted) }
     ensures says { IfOk result (λ f. (initial : definitions.Start) (items : List Item) →
         IsReadAs (size_of transcript.now.export) initial beginning → IsRun items → report items ≡ transcript.now →
         Says items initial f) }
 {
     nbd_order::laws::found_is_so();
     match beginning {
-        Beginning::Whole(start) => find(alloc, transcript, &start, scope),
+        Beginning::Whole(start) => find(alloc, transcript, &start, scope, progress),
         Beginning::Longer(image) => match transcript.export() {
             Some((size, _)) => Ok(Found::Image { image, size }),
-            None => find(alloc, transcript, &Start::Unknown, scope),
+            None => find(alloc, transcript, &Start::Unknown, scope, progress),
         },
     }
+}
+
+// Looks for an order from this start, and says how far that is.
+fn find<P: Write + Drop>(
+    alloc: Global,
+    transcript: &Transcript,
+    start: &Start,
+    scope: Scope,
+    progress: &mut Progress<P>,
+) -> Result<Found, AllocError>
+    ensures found { IfOk result (IsFound transcript.now (initial_of start.now)) }
+    ensures wanted { IfOk result (IsWanted scope.wanted) }
+{
+    if let Some(found) = settled(alloc, transcript, start, scope.limits)? {
+        return Ok(found);
+    }
+    let mut searching = Searching::new(alloc, transcript, start, scope.limits)?;
+    for _ in 0..u64::MAX {
+        if let Some(found) = advance(alloc, transcript, start, scope, &mut searching, STEPS)? {
+            progress.end();
+            return Ok(found);
+        }
+        progress.tell(searching.passed(), transcript.count());
+    }
+    progress.end();
+    Ok(Found::GaveUp {
+        request: 0,
+        offset: 0,
+        reason: Reason::Steps,
+    })
 }
 
 // Whether an order was found, or why not.
@@ -123,8 +161,8 @@ fn ordered_as(found: &Found) -> Ordered
     }
 }
 
-// The lines of an order, or the line that says why there is none.
-fn text_of(alloc: Global, found: &Found) -> Result<String, AllocError>
+/// The lines of an order, or the line that says why there is none. An `Err` says that memory ran out.
+pub fn found_text_of(alloc: Global, found: &Found) -> Result<String, AllocError>
     ensures { IfOk result (λ text. text.bytes.items ≡ found_text found.now) }
 {
     match found {
@@ -183,7 +221,6 @@ fn refuted(
     ensures { IfOk result (λ text. text.bytes.items ≡ refuted_line among requests.now offset) }
 {
     let requests = numbers_of(alloc, requests)?;
-    let requests = requests.as_str();
     match among {
         Wanted::Any => Ok(format!(in alloc;
             "no order found: requests{requests} at offset {offset} (searched, not proved)\n"

@@ -458,7 +458,15 @@ fn order_files(
     let (rt, alloc) = (files.rt, files.rt.alloc());
     let capture = files.open_buffered(capture, RunFault::CaptureRead)?;
     let start = open_start(files, start)?;
-    run_order(alloc, capture, start, scope, &mut io::writer(rt))
+    let mut progress = Progress::new(terminal(rt));
+    run_order(
+        alloc,
+        capture,
+        start,
+        scope,
+        &mut io::writer(rt),
+        &mut progress,
+    )
 }
 
 fn number_file(files: &mut Files<'_>, capture: &str) -> Result<bool, RunFault> {
@@ -513,6 +521,16 @@ fn complain<D: Display + Drop>(rt: &HostRuntime, text: D, status: u8) -> u8
 {
     let _ = rt.eprintln(text);
     status
+}
+
+/// Standard error, where that is a terminal.
+fn terminal(rt: &HostRuntime) -> Option<Stderr> {
+    let stderr = rt.stderr();
+    if stderr.is_terminal() {
+        Some(stderr)
+    } else {
+        None
+    }
 }
 
 /// Prints a line for a person on standard error, where that is a terminal.
