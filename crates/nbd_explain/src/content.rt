@@ -1,14 +1,10 @@
 //! Which byte of a READ was wrong, and which was right.
 
-use crate::brief::Brief;
 use crate::entries::serves;
 use crate::explanation::{Sources, add_rule, add_told};
-use crate::recording::Recording;
-use crate::story::{Outcome, Request, Story, Told};
-use crate::window::add_window;
-use crate::words::Range;
 use nbd_export::Start;
 use nbd_names::CONTENT_RULE;
+use nbd_story::{Brief, Outcome, Range, Recording, Request, Story, Told, add_window};
 use nbd_wire::{Content, Entry, Side, commands, content_of, head_lengths};
 use std::alloc::AllocError;
 

@@ -16,12 +16,11 @@ ghost use Rattle.nbd_explain.specs.Settled.{KeepsUnread};
 
 use crate::explanation::{Sources, explanation_of};
 use crate::reading::recorded_over;
-use crate::recording::Recording;
-use crate::story::Story;
 use nbd_capture::write_whole;
 use nbd_export::Start;
 use nbd_judge::Verdict;
 use nbd_session::{Session, SessionFault};
+use nbd_story::{Recording, Story};
 use nbd_tool::{
     Beginning, Line, RunFault, StartFrom, conclude_from, is_yes, read_order, read_start, room_of,
     write_end,

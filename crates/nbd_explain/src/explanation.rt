@@ -2,13 +2,11 @@
 
 use crate::content::add_content;
 use crate::order::add_order;
-use crate::recording::Recording;
-use crate::story::{Story, Told};
 use crate::wire::add_wire;
-use crate::words::bytes;
 use nbd_export::Start;
 use nbd_judge::Verdict;
 use nbd_names::{Breaker, IMAGE_RULE, Rule};
+use nbd_story::{Recording, Story, Told, bytes};
 use nbd_wire::{Entry, Side};
 use std::alloc::{AllocError, Global};
 

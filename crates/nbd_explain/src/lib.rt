@@ -2,24 +2,17 @@
 #![tactic(auto)]
 
 mod arrival;
-mod begun;
-mod brief;
 mod content;
 mod entries;
 mod explain;
 mod explanation;
 mod listing;
 mod order;
-mod parts;
 mod reading;
-mod recording;
 mod related;
-mod story;
 #[cfg(test)]
 mod tests;
-mod window;
 mod wire;
-mod words;
 
 pub use arrival::run_arrival;
 pub use explain::run_explain;
