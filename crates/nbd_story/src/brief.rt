@@ -9,9 +9,13 @@ use nbd_wire::{
 #[derive(Clone, Copy)]
 pub enum Brief {
     /// The server's greeting.
-    Greeting { flags: u16 },
+    Greeting {
+        flags: u16,
+    },
     /// The client's flags.
-    ClientFlags { flags: u32 },
+    ClientFlags {
+        flags: u32,
+    },
     /// An option that the client chooses.
     Choice {
         id: u32,

@@ -73,8 +73,8 @@ pub fn run_order<C: BufRead + Drop, I: Read + Drop, W: Write>(
     let start = read_start(alloc, start, room_of(&finished))?;
     match finished {
         Ok(transcript) => {
-            let found = find_from(alloc, &transcript, start, limits)?;
-            let text = text_of(alloc, &found)?;
+            let found = find_order(alloc, &transcript, start, limits)?;
+            let text = found_text_of(alloc, &found)?;
             write_whole(out, text.as_bytes())?;
             Ok(ordered_as(&found))
         }
@@ -88,8 +88,8 @@ pub fn run_order<C: BufRead + Drop, I: Read + Drop, W: Write>(
     }
 }
 
-// Looks for an order from what was read of the start.
-fn find_from(
+/// Looks for an order that explains the session from what was read of the start. An `Err` says that memory ran out.
+pub fn find_order(
     alloc: Global,
     transcript: &Transcript,
     beginning: Beginning,
@@ -122,8 +122,8 @@ fn ordered_as(found: &Found) -> Ordered
     }
 }
 
-// The lines of an order, or the line that says why there is none.
-fn text_of(alloc: Global, found: &Found) -> Result<String, AllocError>
+/// The lines of an order, or the line that says why there is none. An `Err` says that memory ran out.
+pub fn found_text_of(alloc: Global, found: &Found) -> Result<String, AllocError>
     ensures { IfOk result (λ text. found_text found.now text.bytes.items) }
 {
     match found {

@@ -1,4 +1,4 @@
-use Rattle.nbd_tool.proofs.ordering.text_of.Goals as goal
+use Rattle.nbd_tool.proofs.ordering.found_text_of.Goals as goal
 
 pub returns-in_ok-format-in-NoSource : goal.returns-in_ok-format-in-NoSource
 returns-in_ok-format-in-NoSource c = rw c.in-NoSource.is c.in_ok-format-in-NoSource.ensures.ok

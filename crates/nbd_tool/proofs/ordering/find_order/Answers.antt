@@ -4,7 +4,7 @@ use Rattle.nbd_order.specs.declared.search.Found.TheVariants.{Image}
 use Rattle.nbd_order.proofs.FoundLemmas.{says_of}
 use Rattle.nbd_tool.specs.Beginnings.{IsReadAs}
 use Rattle.nbd_tool.proofs.OrderingLemmas.{counted_other}
-use Rattle.nbd_tool.proofs.ordering.find_from.Goals as goal
+use Rattle.nbd_tool.proofs.ordering.find_order.Goals as goal
 
 pub returns-in-Some-clause-says : goal.returns-in-Some-clause-says
 returns-in-Some-clause-says c = λ initial items is_read is_run same.
