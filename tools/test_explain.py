@@ -1,7 +1,7 @@
 """`explain`, `show --names` and `order --arrival` of the built program: what they write, word for word.
 
-explained/NAME.txt has what `explain` writes of the session NAME below, and NAME.why of examples/ what it writes of that recording;
-each was judged against docs/PROFILE.md and the session's bytes.
+explained/NAME.txt has what `explain` writes of the session NAME below, without an order where it is one of ORDERLESS, and NAME.why
+of examples/ what it writes of that recording; each was judged against docs/PROFILE.md and the session's bytes.
 """
 
 from collections import namedtuple
@@ -103,6 +103,34 @@ JUDGED = {
     "content-of-the-start-in-parts": Session(OVERLAPPED, "1 0 1\n3 1 1\n2\n1 1 1\n3 0 1\n3 2 2\n"),
 }
 
+# Sessions that are explained without an order.
+ORDERLESS = {
+    "found": Session(WRITTEN),
+    "found-in-parts": Session(
+        [*begun(), write(1, 0, b"\xab\xcd"), read(2, 0, 2), simple(1), simple(2, b"\xab\0")]),
+    "no-source-overwritten": Session(
+        [*begun(), write(1, 0, b"\xab\xcd"), simple(1), write(2, 0, b"\x11\x22"), simple(2), read(3, 0, 4),
+         simple(3, b"\xab\x22\0\0")]),
+    "no-source-served-after": Session([*begun(), read(1, 0, 2), simple(1, b"\xab\0"), write(2, 0, b"\xab")]),
+    "no-source-changed-before": Session(
+        [*begun(), write(1, 0, b"\xab\xcd"), simple(1), read(2, 0, 2), simple(2, b"\xab\xce")], start="unknown"),
+    "no-source-of-many": Session(
+        [*begun(), *(record for number in range(1, 11) for record in (write(number, 0, bytes([number])), simple(number))),
+         read(11, 0, 1), simple(11, b"\xff")]),
+    "image": Session(WRITTEN, start="image:9"),
+    "unknown-cookie": WIRE["unknown-cookie"],
+}
+# Two WRITEs that are outstanding while three READs come one after the other: they got the bytes of the one, of the other, and of
+# the one again.
+UNORDERED = [
+    *begun(), write(1, 0, b"\1"), write(2, 0, b"\2"), read(3, 0, 1), simple(3, b"\1"), read(4, 0, 1), simple(4, b"\2"), read(5, 0, 1),
+    simple(5, b"\1"), simple(1), simple(2),
+]
+OPEN = b"""\
+open: this was searched and not proved, so it is neither a yes nor a no
+stronger: an order that the server logged
+"""
+
 # Every kind of message; a READ that failed, one that is pending, requests and options that proto.md has no name for.
 NAMED = [
     *begun(structured=True)[:-3], option(99), answer(99, 0x80000001, b"what?"), *begun(structured=True)[-3:], write(1, 0, b"\xab\xcd"),
@@ -154,8 +182,7 @@ def sessions(tally, room):
         tally.want(f"explain {name}", room.run("explain", *words), Ended(checked.status, wanted, b""))
         tally.holds(f"explain {name} begins as check", wanted.startswith(checked.out), checked.out)
         shown = room.run("show", capture)
-        alone = wanted if name in WIRE else b"ok\n"
-        tally.want(f"explain {name} without an order", room.run("explain", capture), Ended(shown.status, alone, b""))
+        searched(tally, room, name, [capture, *words[2:]])
         arrival = b"".join(b"%d\n" % number for number in numbers_of(session.records))
         ended = Ended(1, b"", b"no order: the session was refused\n") if name in WIRE else Ended(0, arrival, b"")
         tally.want(f"order {name}", room.run("order", capture, "--arrival"), ended)
@@ -163,6 +190,33 @@ def sessions(tally, room):
         tally.want(f"names of {name}", (named.status, named.err), (shown.status, b""))
         tally.want(f"names of {name}, lines", named.out.count(b"\n"), shown.out.count(b"\n"))
         tally.want(f"names of {name}, end", named.out.splitlines()[-1], shown.out.splitlines()[-1])
+
+
+def searched(tally, room, name, words):
+    """Without an order the status is that of `order`, and the first line its own, or that of `check` on the order that it writes."""
+    found, told = room.run("order", *words), room.run("explain", *words)
+    line = found.out
+    if found.status == 0:
+        line = room.run("check", words[0], room.put("found.ord", found.out), *words[1:]).out
+        count, parts = found.out.count(b"\n"), sum(b" " in entry for entry in found.out.splitlines())
+        entries = f"\nentries: {count}, of which {parts} are parts\n".encode()
+        tally.holds(f"explain {name} without an order, entries", entries in told.out, told.out)
+    tally.want(f"explain {name} without an order", (told.status, told.err), (found.status, found.err))
+    tally.holds(f"explain {name} without an order begins as order", told.out.startswith(line), told.out)
+
+
+def orderless(tally, room):
+    for name, session in ORDERLESS.items():
+        capture = room.put(f"{name}.cap", text(session.records))
+        words = [capture, "--start", start_of(room, name, session.start)]
+        wanted = (EXPLAINED / f"{name}.txt").read_bytes()
+        status = 0 if wanted.startswith(b"yes") else 1
+        tally.want(f"explain {name}", room.run("explain", *words), Ended(status, wanted, b""))
+        searched(tally, room, name, words)
+    words = [room.put("unordered.cap", text(UNORDERED)), "--start", "zero"]
+    line = room.run("order", *words).out
+    tally.holds("an open answer", line.startswith(b"no order found: requests "), line)
+    tally.want("explain an open answer", room.run("explain", *words), Ended(5, line + OPEN, b""))
 
 
 def numbers_of(records):
@@ -176,6 +230,7 @@ def examples(tally, room):
     for capture in sorted(folder.glob("*.cap")):
         start = capture.with_suffix(".start").read_text().strip().replace("image:", f"image:{folder}/")
         line, why = capture.with_suffix(".out").read_bytes(), capture.with_suffix(".why").read_bytes()
+        searched(tally, room, capture.name, [capture, "--start", start])
         found = room.run("explain", capture, capture.with_suffix(".ord"), "--start", start)
         tally.want(f"explain {capture.name}", found, Ended(0 if line.startswith(b"yes") else 1, why, b""))
         tally.holds(f"explain {capture.name} begins as check", why.startswith(line), why)
@@ -188,15 +243,19 @@ def names(tally, room):
 
 
 def fronts(tally, room):
-    """Sessions cut off behind each byte: the first line is that with which `show` ends, and the place stands in brackets."""
+    """Sessions cut off behind each byte: where they are refused, the first line is that with which `show` ends, and the place stands
+    in brackets."""
     for session in SESSIONS:
         for count in range(1, sum(len(data) for _, data in session.records) + 1):
             name = f"{session.name}, {count} bytes"
             capture = room.put("front", text(front(session.records, count)))
             shown, explained = room.run("show", capture), room.run("explain", capture)
-            line, _, why = explained.out.partition(b"\n")
-            tally.want(name, (explained.status, line, explained.err), (shown.status, shown.out.splitlines()[-1], b""))
-            tally.want(f"{name}, places", why.count(b"["), shown.status)
+            if shown.status == 0:
+                searched(tally, room, name, [capture, "--start", "zero"])
+            else:
+                line, _, why = explained.out.partition(b"\n")
+                tally.want(name, (explained.status, line, explained.err), (1, shown.out.splitlines()[-1], b""))
+                tally.want(f"{name}, places", why.count(b"["), 1)
             named = room.run("show", "--names", capture)
             told = (named.status, named.out.count(b"\n"), named.err)
             tally.want(f"{name}, names", told, (shown.status, shown.out.count(b"\n"), b""))
@@ -215,14 +274,16 @@ def faults(tally, room):
         shown = room.run("show", capture)
         for words in (["explain", capture], ["show", "--names", capture], ["order", "--arrival", capture]):
             tally.want(f"{words}", room.run(*words), shown)
-    for words in (["order", good], ["order"], ["explain"], ["explain", good, order, order], ["order", good, "--arrival", order]):
+    for words in ([good, "--start", f"image:{none}"], [bad, "--start", f"image:{none}"], [good, "--start", "none"]):
+        tally.want(f"explain {words}", room.run("explain", *words), room.run("order", *words))
+    for words in (["order"], ["explain"], ["explain", good, order, order], ["order", good, "--arrival", order]):
         found = room.run(*words)
         tally.want(f"{words}", (found.status, found.out), (2, b""))
 
 
 def run(tally):
     with Room() as room:
-        for part in (sessions, examples, names, fronts, faults):
+        for part in (sessions, orderless, examples, names, fronts, faults):
             part(tally, room)
 
 

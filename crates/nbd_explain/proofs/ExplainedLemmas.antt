@@ -1,5 +1,5 @@
 -- The verdict that is explained, and the lines of an order of arrival.
-use Rattle.std.proofs.Common.{◌≡◌, ◌↔◌, ℕ, List, ◌++◌, Bool, true, false, refl, sym, subst, Option, None, Some, Result, Ok, Err, IfOk, IfErr, OnOk, IsTrue, length, suc, ◌+◌, arith, codes}
+use Rattle.std.proofs.Common.{◌≡◌, ℕ, List, ◌++◌, true, false, refl, sym, subst, Option, None, Some, Result, Ok, Err, IfOk, IfErr, OnOk, length, suc, ◌+◌, arith, codes}
 use Rattle.std.specs.Fmt.{decimal}
 use Rattle.std.specs.Io.KnownBytes.{Appends, Keeps}
 use Rattle.nbd_wire.specs.declared.fault.WireFault.{WireFault}
@@ -17,17 +17,18 @@ use Rattle.nbd_tool.specs.declared.fault.RunFault.{RunFault}
 use Rattle.nbd_tool.specs.Ends.{IsOverText}
 use Rattle.nbd_tool.specs.declared.start.StartFrom.{StartFrom}
 use Rattle.nbd_tool.specs.Runs.{IsCapture, IsCause, IsVerdictOn, flat_of}
-use Rattle.nbd_tool.specs.Shown.{IsShowCause}
-use Rattle.nbd_tool.specs.Verdicts.{IsYes}
+use Rattle.nbd_tool.specs.Ordering.{IsOrderingCause}
 use Rattle.nbd_tool.proofs.OverLemmas.{fault_over, report_over}
 use Rattle.nbd_explain.specs.Arrival.{Arrives, number_lines}
 use Rattle.nbd_explain.specs.Arrival.HasArrival.{accepted, refused}
+use Rattle.nbd_explain.specs.declared.answer.Answer.{Answer}
+use Rattle.nbd_explain.specs.Answering.{IsAnswerTo}
 use Rattle.nbd_explain.specs.Explained.{BeginsWithLine, Explains, IsExplainCause, IsExplained}
-use Rattle.nbd_explain.specs.Settled.{Settles}
+use Rattle.nbd_explain.specs.Orderless.{Tells}
 
 -- a verdict's line was written, with text behind it
-pub explained_if : (r : SessionView) (order : Option (List ℕ)) (initial : Option Start) (old new : Option (List ℕ)) (v : Verdict) (o : Result Bool RunFault) →
-    IfOk o (λ b. IsTrue b ↔ IsYes v) → OnOk o (BeginsWithLine v old new) → ((known : Option (List ℕ)) → IsOverText known r → IsVerdictOn known order initial v) →
+pub explained_if : (r : SessionView) (order : Option (List ℕ)) (initial : Option Start) (old new : Option (List ℕ)) (v : Verdict) (o : Result Answer RunFault) →
+    IfOk o (IsAnswerTo v) → OnOk o (BeginsWithLine v old new) → ((known : Option (List ℕ)) → IsOverText known r → IsVerdictOn known order initial v) →
     IfOk o (λ b. (known : Option (List ℕ)) → IsOverText known r → Explains known order initial b old new)
 explained_if r order initial old new v (Err fault) answer begins on = tt
 explained_if r order initial old new v (Ok b) answer begins on = λ known session. record { verdict = v; is_verdict = on known session; answer = answer; begins = begins }
@@ -58,18 +59,19 @@ number_lines_step n =
     subst (λ k. number_lines k ≡ number_lines n ++ (decimal k ++ codes "\n")) e refl
 
 -- without an order
-pub explained_without : {O : Type 0} (remaining : O → Option (List ℕ)) (known : Option (List ℕ)) (order : Option O) (initial : Option Start) (old new : Option (List ℕ)) (o : Result Bool RunFault) →
-    order ≡ None → IfOk o (Settles known) → IfOk o (λ b. IsExplained remaining known order initial b old new)
-explained_without remaining known order initial old new o none settled = subst (λ q. IfOk o (λ b. IsExplained remaining known q initial b old new)) (sym none) settled
+pub explained_without : {O : Type 0} (remaining : O → Option (List ℕ)) (known : Option (List ℕ)) (order : Option O) (r : SessionView) (initial : Option Start) (old new : Option (List ℕ)) (o : Result Answer RunFault) →
+    order ≡ None → IsOverText known r → IfOk o (λ a. (k : Option (List ℕ)) → IsOverText k r → Tells k initial a old new) → IfOk o (λ a. IsExplained remaining known order initial a old new)
+explained_without remaining known order r initial old new (Err fault) none session told = tt
+explained_without remaining known order r initial old new (Ok a) none session told = subst (λ q. IsExplained remaining known q initial a old new) (sym none) (told known session)
 
 -- what a fault says of a capture that was read, and of its order
-pub cause_with : {O I : Type 0} (remaining : O → Option (List ℕ)) (known : Option (List ℕ)) (order : Option O) (given : O) (start : StartFrom I) (o : Result Bool RunFault) → order ≡ Some given →
+pub cause_with : {O I : Type 0} (remaining : O → Option (List ℕ)) (known : Option (List ℕ)) (order : Option O) (given : O) (start : StartFrom I) (o : Result Answer RunFault) → order ≡ Some given →
     IsCapture known → IfErr o (λ fault. (k : Option (List ℕ)) → IsCapture k → IsCause k (remaining given) start fault) → IfErr o (IsExplainCause remaining known order start)
 cause_with remaining known order given start (Ok b) is capture cause = tt
 cause_with remaining known order given start (Err fault) is capture cause = subst (λ q. IsExplainCause remaining known q start fault) (sym is) (cause known capture)
 
 -- and without an order
-pub cause_without : {O I : Type 0} (remaining : O → Option (List ℕ)) (known : Option (List ℕ)) (order : Option O) (start : StartFrom I) (o : Result Bool RunFault) → order ≡ None →
-    IsCapture known → IfErr o (λ fault. (k : Option (List ℕ)) → IsCapture k → IsShowCause k fault) → IfErr o (IsExplainCause remaining known order start)
+pub cause_without : {O I : Type 0} (remaining : O → Option (List ℕ)) (known : Option (List ℕ)) (order : Option O) (start : StartFrom I) (o : Result Answer RunFault) → order ≡ None →
+    IsCapture known → IfErr o (λ fault. (k : Option (List ℕ)) → IsCapture k → IsOrderingCause k start fault) → IfErr o (IsExplainCause remaining known order start)
 cause_without remaining known order start (Ok b) none capture cause = tt
 cause_without remaining known order start (Err fault) none capture cause = subst (λ q. IsExplainCause remaining known q start fault) (sym none) (cause known capture)

@@ -1,2 +1,3 @@
 pub mod ExplainedLemmas
+pub mod OrderlessLemmas
 pub mod SettledLemmas

@@ -1,3 +1,6 @@
+pub mod Answering
 pub mod Arrival
 pub mod Explained
+pub mod Orderless
 pub mod Settled
+pub mod internal

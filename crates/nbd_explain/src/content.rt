@@ -1,23 +1,20 @@
 //! Which byte of a READ was wrong, and which was right.
 
-use crate::brief::Brief;
 use crate::entries::serves;
 use crate::explanation::{Sources, add_rule, add_told};
-use crate::recording::Recording;
-use crate::story::{Outcome, Request, Story, Told};
-use crate::window::add_window;
-use crate::words::Range;
 use nbd_export::Start;
 use nbd_names::CONTENT_RULE;
+use nbd_story::{Brief, Outcome, Range, Recording, Request, Story, Told, add_window};
+use nbd_tool::Beginning;
 use nbd_wire::{Content, Entry, Side, commands, content_of, head_lengths};
 use std::alloc::AllocError;
 
 /// A byte that a READ got.
 #[derive(Clone, Copy)]
-struct Came {
-    byte: u8,
+pub struct Came {
+    pub byte: u8,
     /// Its place in the capture; of a byte of a hole the last byte of the chunk that told the hole.
-    place: u64,
+    pub place: u64,
     reply: Told,
 }
 
@@ -42,18 +39,23 @@ pub fn add_content(
     add_served(text, request, place, *entry)?;
     let came = found_byte(request, offset, sources);
     if let Some(came) = came {
-        let (byte, place) = (came.byte, came.place);
-        add_told(text, "reply", &came.reply)?;
-        writeln!(
-            text,
-            "came: {byte:02x} for offset {offset}, at byte {place}"
-        )?;
+        add_came(text, came, offset)?;
     }
     add_expected(text, place, offset, sources)?;
     match came {
         Some(came) => add_window(text, sources.recording, came.place),
         None => Ok(()),
     }
+}
+
+/// Adds a byte that a READ got for an offset, and the message that brought it.
+pub fn add_came(text: &mut String, came: Came, offset: u64) -> Result<(), AllocError> {
+    let (byte, place) = (came.byte, came.place);
+    add_told(text, "reply", &came.reply)?;
+    writeln!(
+        text,
+        "came: {byte:02x} for offset {offset}, at byte {place}"
+    )
 }
 
 // A request with its places, and the entry that serves it or a part of it.
@@ -74,8 +76,8 @@ fn add_served(
     }
 }
 
-// The byte that a request got for an offset.
-fn found_byte(request: &Request, offset: u64, sources: Sources<'_>) -> Option<Came> {
+/// The byte that a request got for an offset.
+pub fn found_byte(request: &Request, offset: u64, sources: Sources<'_>) -> Option<Came> {
     for told in &sources.story.told {
         if told.answers(request) {
             if let Some(came) = found_in(told, request, offset, sources) {
@@ -168,32 +170,46 @@ fn add_expected(
             return add_served(text, change, at, *entry);
         }
     }
-    match sources.start {
-        Start::Unknown => Ok(()),
-        Start::Zeroes => writeln!(text, "expected: 00, since the export began with zeroes"),
-        Start::Image(image) => match image.get(offset as usize) {
-            Some(byte) => writeln!(text, "expected: {byte:02x}, of the image"),
-            None => Ok(()),
-        },
+    match (sources.start, byte_at_first(sources.start, offset)) {
+        (Beginning::Whole(Start::Zeroes), _) => writeln!(
+            text,
+            "expected: 00, since the export began with zeroes"
+        ),
+        (_, Some(byte)) => writeln!(text, "expected: {byte:02x}, of the image"),
+        (_, None) => Ok(()),
+    }
+}
+
+/// The byte that the export held at an offset at first, where that is known.
+pub fn byte_at_first(start: &Beginning, offset: u64) -> Option<u8> {
+    match start {
+        Beginning::Whole(Start::Zeroes) => Some(0),
+        Beginning::Whole(Start::Image(image)) => image.get(offset as usize).copied(),
+        Beginning::Whole(Start::Unknown) | Beginning::Longer(_) => None,
     }
 }
 
 // The request of an entry that changes the export at an offset.
 fn touching(entry: Entry, offset: u64, story: &Story) -> Option<&Request> {
     let request = story.request(entry.request)?;
-    let is_change = matches!(
-        request.head.command,
-        commands::WRITE | commands::TRIM | commands::WRITE_ZEROES
-    );
-    if is_change && request.asks(offset) && serves(entry, offset) {
+    if changes(request, offset) && serves(entry, offset) {
         Some(request)
     } else {
         None
     }
 }
 
-// The byte that a change left at an offset.
-fn byte_by(change: &Request, offset: u64, sources: Sources<'_>) -> Option<u8> {
+/// Whether a request changes the export at an offset.
+pub fn changes(request: &Request, offset: u64) -> bool {
+    let is_change = matches!(
+        request.head.command,
+        commands::WRITE | commands::TRIM | commands::WRITE_ZEROES
+    );
+    is_change && request.asks(offset)
+}
+
+/// The byte that a change left at an offset, where that is known.
+pub fn byte_by(change: &Request, offset: u64, sources: Sources<'_>) -> Option<u8> {
     match (change.head.command, change.outcome()) {
         (commands::WRITE, Outcome::Success) => {
             let from = change

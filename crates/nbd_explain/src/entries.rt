@@ -1,9 +1,7 @@
 //! What entries of an order serve.
 
-use crate::parts::{has_offset, shared};
-use crate::story::{Request, Story};
-use crate::words::Range;
 use nbd_state::{Span, has_range};
+use nbd_story::{Range, Request, Story, has_offset, shared};
 use nbd_wire::{Entry, Part};
 use std::alloc::{AllocError, Global};
 

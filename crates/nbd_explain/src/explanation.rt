@@ -2,13 +2,11 @@
 
 use crate::content::add_content;
 use crate::order::add_order;
-use crate::recording::Recording;
-use crate::story::{Story, Told};
 use crate::wire::add_wire;
-use crate::words::bytes;
-use nbd_export::Start;
 use nbd_judge::Verdict;
 use nbd_names::{Breaker, IMAGE_RULE, Rule};
+use nbd_story::{Recording, Story, Told, bytes};
+use nbd_tool::Beginning;
 use nbd_wire::{Entry, Side};
 use std::alloc::{AllocError, Global};
 
@@ -18,7 +16,7 @@ pub struct Sources<'a> {
     pub story: &'a Story,
     pub recording: &'a Recording,
     pub order: &'a [Entry],
-    pub start: &'a Start,
+    pub start: &'a Beginning,
 }
 
 /// What stands behind the verdict's line: nothing behind a yes.
@@ -34,13 +32,7 @@ pub fn explanation_of(
             add_wire(alloc, &mut text, *at, *fault, sources)?;
         }
         Verdict::Image { image, size } => {
-            add_rule(
-                &mut text,
-                &IMAGE_RULE,
-                breaker_name(IMAGE_RULE.breaker, None),
-            )?;
-            let (image, size) = (bytes(*image), bytes(*size));
-            writeln!(&mut text, "sizes: the image has {image}, the export {size}")?;
+            add_image(&mut text, *image, *size)?;
         }
         Verdict::Order { entry, fault } => {
             add_order(alloc, &mut text, *entry, *fault, sources)?;
@@ -50,6 +42,13 @@ pub fn explanation_of(
         }
     }
     Ok(text)
+}
+
+/// Adds why an image of so many bytes does not fit an export of this size.
+pub fn add_image(text: &mut String, image: u64, size: u64) -> Result<(), AllocError> {
+    let (image, size) = (bytes(image), bytes(size));
+    add_rule(text, &IMAGE_RULE, breaker_name(IMAGE_RULE.breaker, None))?;
+    writeln!(text, "sizes: the image has {image}, the export {size}")
 }
 
 /// Adds a rule, who broke it, and where it stands.

@@ -1,26 +1,25 @@
 //! What is said of a session for people: why it was refused, its messages in words, and its order of arrival.
 #![tactic(auto)]
 
+pub mod answer;
 mod arrival;
-mod begun;
-mod brief;
 mod content;
 mod entries;
 mod explain;
 mod explanation;
+mod found;
 mod listing;
 mod order;
-mod parts;
 mod reading;
-mod recording;
 mod related;
-mod story;
+mod searching;
+mod source;
 #[cfg(test)]
 mod tests;
-mod window;
 mod wire;
-mod words;
+mod writing;
 
+pub use answer::{Answer, explain_status};
 pub use arrival::run_arrival;
 pub use explain::run_explain;
 pub use listing::run_names;

@@ -7,10 +7,8 @@ ghost use Rattle.nbd_tool.specs.Starts.{IsWithinLimit};
 ghost use Rattle.nbd_explain.specs.Settled.{KeepsUnread, Settles};
 
 use crate::reading::recorded_over;
-use crate::story::{Outcome, Story, Told};
-use crate::window::letter_of;
-use crate::words::error_of;
 use nbd_capture::write_whole;
+use nbd_story::{Outcome, Story, Told, error_of, letter_of};
 use nbd_tool::{RunFault, write_end};
 use nbd_wire::Side;
 use std::alloc::{AllocError, Global};

@@ -2,12 +2,10 @@
 
 use crate::entries::{add_entry, first_shared, inside, parts_of};
 use crate::explanation::{Sources, add_rule, breaker_name};
-use crate::parts::{first_gap, first_outside};
-use crate::story::{Request, Story};
-use crate::words::{Range, bytes, requests};
 use nbd_judge::OrderFault;
 use nbd_names::order_rule;
 use nbd_state::has_range;
+use nbd_story::{Range, Request, Story, bytes, first_gap, first_outside, requests};
 use nbd_wire::Entry;
 use std::alloc::{AllocError, Global};
 
@@ -99,7 +97,7 @@ fn add_earlier(
     for (at, other) in sources.order.iter().enumerate() {
         if at > place {
             if let Some(request) = sources.story.request(other.request) {
-                if request.replied.is_some_and(|first| first < late.asked.last) {
+                if request.is_before(late) {
                     return add_entry_moments(text, at, *other, request);
                 }
             }

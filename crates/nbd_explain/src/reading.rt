@@ -5,9 +5,9 @@ ghost use Rattle.nbd_tool.specs.Ends.{IsOverText};
 ghost use Rattle.nbd_tool.specs.Runs.{IsCaptureCause};
 ghost use Rattle.nbd_tool.specs.Starts.{IsWithinLimit};
 
-use crate::recording::Recording;
 use nbd_capture::CaptureReader;
 use nbd_session::{Session, SessionFault};
+use nbd_story::Recording;
 use nbd_tool::{READ_LIMIT, RunFault};
 use std::alloc::Global;
 use std::io::BufRead;

@@ -1,11 +1,8 @@
 //! What a refused message is to be compared with.
 
-use crate::brief::{Brief, Brought};
 use crate::explanation::add_told;
-use crate::parts::{first_gap, shared};
-use crate::story::{Request, Story, Told};
-use crate::words::{Range, Words};
 use nbd_state::Span;
+use nbd_story::{Brief, Brought, Range, Request, Story, Told, Words, first_gap, shared};
 use nbd_wire::flags::has;
 use nbd_wire::{Part, Side, WireFault, command_flags};
 use std::alloc::{AllocError, Global};

@@ -2,10 +2,8 @@
 
 use crate::explanation::{Sources, add_rule, add_told, breaker_name};
 use crate::related::add_related;
-use crate::story::Story;
-use crate::window::add_window;
-use crate::words::{Places, bytes};
 use nbd_names::wire_rule;
+use nbd_story::{Places, Story, add_window, bytes};
 use nbd_wire::magics::{
     ANSWER_MAGIC, CHUNK_MAGIC, GREETING_MAGIC, OPTION_MAGIC, REQUEST_MAGIC, SIMPLE_MAGIC,
 };

@@ -5,12 +5,12 @@ ghost use Rattle.nbd_tool.specs.CommandLine.{exit_status};
 
 use clap::error::ErrorKind;
 use clap::{Arg, ArgAction, ArgMatches, Command, Error};
-use nbd_explain::{run_arrival, run_explain, run_names};
+use nbd_explain::{Answer, explain_status, run_arrival, run_explain, run_names};
 use nbd_order::{Scope, Wanted};
 use nbd_segments::Limits;
 use nbd_tool::{
-    FinalWriter, Opener, Ordered, RunFault, StartFrom, StartWord, exit_status, open_inputs,
-    open_start, order_status, run_check, run_make, run_order, run_show, start_of,
+    FinalWriter, Opener, Ordered, RunFault, StartWord, exit_status, open_inputs, open_start,
+    order_status, run_check, run_make, run_order, run_show, start_of,
 };
 use std::alloc::{AllocError, Global};
 use std::fmt::Display;
@@ -52,13 +52,22 @@ const EXPLAIN_HELP: &str = "\
 Example:
   nbdcheck explain session.cap session.ord --start zero
 
-Prints the line of 'nbdcheck check', or without ORDER that with which 'nbdcheck show' ends, and after
-a no what an author needs to mend the program: the rule, who broke it and where it stands; the message
-with its first and last byte, counted from 1 over both sides; of a wrong byte which one was expected,
-and which entry of ORDER wrote it; of an order its entries, and what is wrong with a part; and the bytes
-round the place, which stands in brackets.
+Prints the line of 'nbdcheck check', and after a no what an author needs to mend the program: the rule,
+who broke it and where it stands; the message with its first and last byte, counted from 1 over both
+sides; of a wrong byte which one was expected, and which entry of ORDER wrote it; of an order its
+entries, and what is wrong with a part; and the bytes round the place, which stands in brackets.
+Without ORDER it looks for one, as 'nbdcheck order' does:
+  nbdcheck explain session.cap --start zero
+Of an order that it finds it prints the line of 'nbdcheck check', and what such a yes is worth; where a
+read got a byte that nothing can have left, which byte, and why neither START nor a request left it.
 
-Exit status: that of 'nbdcheck check'.";
+Exit status:
+  0  yes
+  1  no: the lines say where and why
+  2  the command line has no form
+  3  an input could not be read or is not well formed, or the output could not be written
+  4  out of memory
+  5  without ORDER: the search found no order, which is not proved, or gave up";
 
 const ORDER_ABOUT: &str = "Finds an order of service that explains a capture";
 
@@ -300,9 +309,12 @@ fn explain(rt: &HostRuntime, words: &ArgMatches<'_>) -> u8 {
     let mut files = Files::new(rt);
     let answer = match words.get_str("ORDER") {
         Some(order) => explain_files(&mut files, capture, order, start),
-        None => explain_file(&mut files, capture),
+        None => explain_file(&mut files, capture, start),
     };
-    files.report(answer)
+    match answer {
+        Ok(answer) => explain_status(&Ok(answer)),
+        Err(fault) => files.report(Err(fault)),
+    }
 }
 
 /// `nbdcheck order CAPTURE --start START`, or `nbdcheck order CAPTURE --arrival`.
@@ -428,7 +440,7 @@ fn explain_files(
     capture: &str,
     order: &str,
     start: StartWord<'_>,
-) -> Result<bool, RunFault> {
+) -> Result<Answer, RunFault> {
     let (rt, alloc) = (files.rt, files.rt.alloc());
     let inputs = open_inputs(files, capture, order, start)?;
     let capture = BufReader::new(alloc, inputs.capture).map_err(|_| RunFault::Memory)?;
@@ -437,15 +449,29 @@ fn explain_files(
         capture,
         Some(inputs.order),
         inputs.start,
+        Limits::usual(),
         &mut io::writer(rt),
     )
 }
 
-fn explain_file(files: &mut Files<'_>, capture: &str) -> Result<bool, RunFault> {
+/// Opens the capture and then the image, if there is one, and explains the session without an order.
+fn explain_file(
+    files: &mut Files<'_>,
+    capture: &str,
+    start: StartWord<'_>,
+) -> Result<Answer, RunFault> {
     let (rt, alloc) = (files.rt, files.rt.alloc());
     let capture = files.open_buffered(capture, RunFault::CaptureRead)?;
-    let (order, start): (Option<File>, StartFrom<File>) = (None, StartFrom::Unknown);
-    run_explain(alloc, capture, order, start, &mut io::writer(rt))
+    let order: Option<File> = None;
+    let start = open_start(files, start)?;
+    run_explain(
+        alloc,
+        capture,
+        order,
+        start,
+        Limits::usual(),
+        &mut io::writer(rt),
+    )
 }
 
 /// Opens the capture and then the image, if there is one, and looks for an order.

@@ -9,7 +9,9 @@ use std::fmt;
 /// A numbered request by its type and its number: `READ #3`.
 #[derive(Clone, Copy, Drop)]
 pub struct Numbered {
+    /// From 1, in the order of arrival.
     pub number: u64,
+    /// The type of the request.
     pub command: u16,
 }
 
@@ -26,7 +28,9 @@ impl fmt::Display for Numbered {
 /// A message in words, and the request that it is or answers, where it is or answers one.
 #[derive(Clone, Copy, Drop)]
 pub struct Words {
+    /// The message.
     pub brief: Brief,
+    /// The request.
     pub request: Option<Numbered>,
 }
 
@@ -92,7 +96,9 @@ impl fmt::Display for Words {
 /// The size and the flags of an export: `8 bytes, HAS_FLAGS (0x1)`.
 #[derive(Clone, Copy, Drop)]
 pub struct Export {
+    /// In bytes.
     pub size: u64,
+    /// The transmission flags.
     pub flags: u16,
 }
 
@@ -143,7 +149,9 @@ pub fn requests(count: u64) -> Count {
 /// So many bytes of an export from an offset on: `4 bytes at 8`.
 #[derive(Clone, Copy, Drop)]
 pub struct Range {
+    /// In bytes from the export's start.
     pub offset: u64,
+    /// In bytes.
     pub length: u64,
 }
 
@@ -166,7 +174,9 @@ impl fmt::Display for Range {
 /// Places of a capture, counted from 1, from the first to the last: `byte 1`, `bytes 1 to 4`.
 #[derive(Clone, Copy, Drop)]
 pub struct Places {
+    /// The place of the first byte.
     pub first: u64,
+    /// The place of the last one.
     pub last: u64,
 }
 

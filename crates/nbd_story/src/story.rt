@@ -11,7 +11,9 @@ use std::collections::BTreeMap;
 /// A message, its places in the capture, and the request that it is or answers.
 #[derive(Clone, Copy)]
 pub struct Told {
+    /// Its sender.
     pub side: Side,
+    /// The message, and the request.
     pub words: Words,
     /// How many bytes of its side stand before it.
     pub before: u64,
@@ -45,6 +47,7 @@ impl Told {
 pub enum Outcome {
     /// Its reply is not finished.
     Pending,
+    /// It succeeded.
     Success,
     /// It failed with this error.
     Failure(u32),
@@ -53,8 +56,11 @@ pub enum Outcome {
 /// A numbered request.
 #[derive(Clone, Copy)]
 pub struct Request {
+    /// Its type and its number.
     pub numbered: Numbered,
+    /// What it asks for.
     pub head: RequestHead,
+    /// The message that asks it.
     pub asked: Told,
     /// The place of the first byte of its reply.
     pub replied: Option<u64>,
@@ -72,6 +78,11 @@ impl Request {
             .is_some_and(|index| index < u64::from(self.head.length))
     }
 
+    /// Whether it was surely served before another one: its reply began before that one had come whole.
+    pub fn is_before(&self, other: &Request) -> bool {
+        self.replied.is_some_and(|began| began < other.asked.last)
+    }
+
     /// What became of it.
     pub fn outcome(&self) -> Outcome {
         match (self.finished, self.error) {
@@ -85,6 +96,7 @@ impl Request {
 /// The messages of a session, and its requests.
 #[derive(Drop)]
 pub struct Story {
+    /// The messages, in the order of their completion.
     pub told: Vec<Told>,
     /// By their numbers.
     pub requests: Vec<Request>,

@@ -8,34 +8,47 @@ use nbd_wire::{
 /// A message without its payload, and of some messages the payload's length.
 #[derive(Clone, Copy)]
 pub enum Brief {
+    /// The server's greeting.
     Greeting {
         flags: u16,
     },
+    /// The client's flags.
     ClientFlags {
         flags: u32,
     },
+    /// An option that the client chooses.
     Choice {
         id: u32,
+        /// Of its data, in bytes.
         length: u64,
     },
+    /// The server's reply to an option.
     Answer {
         option: u32,
         kind: u32,
+        /// Of its data, in bytes.
         length: u64,
         /// What an INFO states.
         info: Option<Info>,
     },
+    /// The server's answer to EXPORT_NAME.
     Exported {
+        /// Of the export, in bytes.
         size: u64,
         flags: u16,
     },
+    /// A request.
     Request(RequestHead),
+    /// A simple reply.
     Simple(SimpleHead),
+    /// A chunk of a structured reply.
     Chunk {
         flags: u16,
         kind: u16,
         cookie: u64,
+        /// Of its payload, in bytes.
         length: u64,
+        /// What it brings, if its payload has the form of its type.
         brought: Option<Brought>,
     },
 }
@@ -45,6 +58,7 @@ pub enum Brief {
 pub enum Brought {
     /// Content that lies there.
     Content(Part),
+    /// An error.
     Failure(Failure),
 }
 

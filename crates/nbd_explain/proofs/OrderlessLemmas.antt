@@ -1,0 +1,105 @@
+-- What is told of a session without an order.
+use Rattle.std.proofs.Common.{◌≡◌, ℕ, List, ◌++◌, sym, subst, Option, Some, None, Result, Ok, Err, IfOk, IfErr, IfSome, OnOk}
+use Rattle.std.specs.Io.KnownBytes.{Appends}
+use Rattle.nbd_wire.specs.declared.entry.Entry.{Entry}
+use Rattle.nbd_wire.specs.declared.fault.WireFault.{WireFault}
+use Rattle.nbd_wire.specs.protocol.Captures.{Pair}
+use Rattle.nbd_wire.specs.protocol.Explains.{IsExplained, Start, start_byte}
+use Rattle.nbd_wire.specs.protocol.Marks.{Item, pairs}
+use Rattle.nbd_wire.specs.protocol.Reports.{Report, report}
+use Rattle.nbd_wire.specs.protocol.Rules.{IsRun}
+use Rattle.nbd_session.specs.declared.fault.SessionFault.{SessionFault}
+use Rattle.nbd_session.specs.declared.fault.SessionFault.TheVariants.{Wire}
+use Rattle.nbd_session.specs.Refusals.{EndsIn}
+use Rattle.nbd_session.specs.Sessions.{IsReported, SessionView, fault_at_end, fault_of}
+use Rattle.nbd_session.proofs.judge.RefusalLemmas.{no_run_of}
+use Rattle.nbd_judge.specs.Captures.{IsChecked, IsFaultOf}
+use Rattle.nbd_judge.specs.Images.{IsOtherSize}
+use Rattle.nbd_judge.specs.Servable.{size_of}
+use Rattle.nbd_judge.specs.internal.Captures.{HasReport}
+use Rattle.nbd_judge.specs.declared.verdict.Verdict.{Verdict}
+use Rattle.nbd_judge.specs.declared.verdict.Verdict.TheVariants as verdict
+use Rattle.nbd_judge.proofs.verdicts.ChunkLemmas.{checked}
+use Rattle.nbd_order.specs.Finding.{IsFound, Says}
+use Rattle.nbd_order.specs.Sources.{HasNoSource}
+use Rattle.nbd_order.specs.declared.search.Found.{Found}
+use Rattle.nbd_order.specs.declared.search.Found.TheVariants.{GaveUp, Image, NoSource, Order, Refuted}
+use Rattle.nbd_tool.specs.Beginnings.{IsBeginningOf, IsReadAs}
+use Rattle.nbd_tool.specs.Ends.{IsOverText}
+use Rattle.nbd_tool.specs.Runs.{flat_of}
+use Rattle.nbd_tool.specs.Verdicts.{IsYes}
+use Rattle.nbd_tool.specs.declared.fault.RunFault.{RunFault}
+use Rattle.nbd_tool.specs.declared.start.Beginning.{Beginning}
+use Rattle.nbd_tool.proofs.OverLemmas.{fault_over, report_over}
+use Rattle.nbd_explain.specs.declared.answer.Answer.{Answer}
+use Rattle.nbd_explain.specs.declared.answer.Answer.TheVariants.{No, Open, Yes}
+use Rattle.nbd_explain.specs.Answering.{IsAnswerTo, answer_to}
+use Rattle.nbd_explain.specs.Explained.{BeginsWithLine}
+use Rattle.nbd_explain.specs.Orderless.{IsTold, IsToldFrom, Tells}
+use Rattle.nbd_explain.specs.Orderless.IsTold.{found, image, no_source, unproved, wire}
+use Rattle.nbd_explain.specs.internal.Lines.{BeginsWithLineOf, IsLineOf}
+
+-- the verdict on an order that explains a capture is a yes
+yes_of : (capture : List Pair) (entries : List Entry) (initial : Start) (v : Verdict) → IsExplained capture entries initial → IsChecked capture entries initial v → IsYes v
+yes_of capture entries initial (verdict.Yes a b c) explained judged = tt
+yes_of capture entries initial (verdict.Wire at fault) explained judged =
+    absurd (no_run_of capture judged.0 at fault judged.1 explained.items explained.is_run explained.has_pairs)
+yes_of capture entries initial (verdict.Image n size) explained judged = absurd (judged.answers explained)
+yes_of capture entries initial (verdict.Order entry fault) explained judged = absurd (judged.answers.0 explained)
+yes_of capture entries initial (verdict.Content request offset) explained judged = absurd (judged.answers explained)
+
+-- what was found of the report of a run, and written
+told_of : (capture : List Pair) (initial : Start) (told : Report) (beginning : Beginning) (f : Found) (first rest : List ℕ) (old new : Option (List ℕ)) → HasReport capture told →
+    IsReadAs (size_of told.export) initial beginning → IsFound told initial f → Says capture initial f → IsLineOf told f beginning first → Appends old new (first ++ rest) → IsTold capture initial old new (answer_to f)
+told_of capture initial told beginning (Order entries) first rest old new has is_read is says is_line appended =
+    let judged : IsChecked capture entries.items initial is_line.verdict =
+    checked capture entries.items initial (Ok told) is_line.verdict has tt (is_line.concludes initial is_read) (λ items is_run reported. is_line.answers initial items is_read is_run reported) in
+    found entries.items is_line.verdict says judged (yes_of capture entries.items initial is_line.verdict says judged)
+    (rest, subst (λ text. Appends old new (text ++ rest)) is_line.is_line appended)
+told_of capture initial told beginning (NoSource request offset) first rest old new has is_read is says is_line appended =
+    no_source has.items request offset has.is_run has.has_pairs (subst (λ r. HasNoSource r (start_byte initial) request offset) (sym (has.same_report has.items has.is_run has.has_pairs)) is)
+    says (rest, subst (λ text. Appends old new (text ++ rest)) is_line appended)
+told_of capture initial told beginning (Image n size) first rest old new has is_read is says is_line appended =
+    image has.items n size has.is_run has.has_pairs (subst (λ (r : Report). IsOtherSize r.export initial n size) (sym (has.same_report has.items has.is_run has.has_pairs)) is)
+    (rest, subst (λ text. Appends old new (text ++ rest)) is_line appended)
+told_of capture initial told beginning (Refuted requests offset) first rest old new has is_read is says is_line appended = unproved (first ++ rest) appended
+told_of capture initial told beginning (GaveUp request offset reason) first rest old new has is_read is says is_line appended = unproved (first ++ rest) appended
+
+-- the same, where the start may be known
+told_from : (capture : List Pair) (known : Option Start) (initial : Start) (told : Report) (beginning : Beginning) (f : Found) (first rest : List ℕ) (old new : Option (List ℕ)) → IfSome known (λ s. initial ≡ s) → HasReport capture told →
+    IsReadAs (size_of told.export) initial beginning → IsFound told initial f → Says capture initial f → IsLineOf told f beginning first → Appends old new (first ++ rest) → IsToldFrom capture known old new (answer_to f)
+told_from capture None initial told beginning f first rest old new is_known has is_read is says is_line appended = tt
+told_from capture (Some start) initial told beginning f first rest old new is_known has is_read is says is_line appended =
+    subst (λ s. IsTold capture s old new (answer_to f)) is_known (told_of capture initial told beginning f first rest old new has is_read is says is_line appended)
+
+-- what the search came to is told
+pub tells : (known : Option (List ℕ)) (start : Option Start) (room : ℕ) (beginning kept : Beginning) (r : SessionView) (told : Report) (finished : Result Report SessionFault) (f : Found) (text : List ℕ) (old new : Option (List ℕ)) →
+    IsOverText known r → finished ≡ Ok told → fault_of finished ≡ fault_at_end r → IfOk finished (IsReported r) → (begun : IsBeginningOf start room beginning) → IsReadAs (size_of told.export) begun.initial beginning →
+    ((n : ℕ) (initial : Start) → IsReadAs n initial beginning → IsReadAs n initial kept) → ((initial : Start) → IsReadAs (size_of told.export) initial beginning → IsFound told initial f) →
+    ((initial : Start) (items : List Item) → IsReadAs (size_of told.export) initial beginning → IsRun items → report items ≡ told → Says (pairs items) initial f) →
+    BeginsWithLineOf told f kept text → Appends old new text → Tells known start (answer_to f) old new
+tells known start room beginning kept r told finished f text old new session is same reported begun is_read copied is_found says begins appended =
+    let has : HasReport (flat_of session.chunks) told = subst (λ o. IfOk o (HasReport (flat_of session.chunks))) is (report_over (flat_of session.chunks) r finished session.over same reported) in
+    record {
+      chunks = session.chunks;
+      is_text = session.is_text;
+      is_told = told_from (flat_of session.chunks) start begun.initial told kept f begins.first begins.explanation old new begun.is_known has
+          (copied (size_of told.export) begun.initial is_read) (is_found begun.initial is_read)
+          (subst (λ c. Says c begun.initial f) has.has_pairs (says begun.initial has.items is_read has.is_run (has.same_report has.items has.is_run has.has_pairs)))
+          begins.is_line (subst (Appends old new) begins.parts appended);
+    }
+
+-- a session that was refused
+wired : (capture : List Pair) (start : Option Start) (at : ℕ) (fault : WireFault) (old new : Option (List ℕ)) → IsFaultOf capture (Wire at fault) → BeginsWithLine (verdict.Wire at fault) old new → IsToldFrom capture start old new No
+wired capture None at fault old new why begins = tt
+wired capture (Some initial) at fault old new why begins = wire why.0 at fault why.1 (no_run_of capture why.0 at fault why.1) begins
+
+pub refuses : (start : Option Start) (r : SessionView) (at : ℕ) (fault : WireFault) (finished : Result Report SessionFault) (old new : Option (List ℕ)) (o : Result Answer RunFault) →
+    finished ≡ Err (Wire at fault) → fault_of finished ≡ fault_at_end r → IfErr finished (EndsIn r) → IfOk o (IsAnswerTo (verdict.Wire at fault)) → OnOk o (BeginsWithLine (verdict.Wire at fault) old new) →
+    IfOk o (λ answer. (known : Option (List ℕ)) → IsOverText known r → Tells known start answer old new)
+refuses start r at fault finished old new (Err e) is same ends answer begins = tt
+refuses start r at fault finished old new (Ok Yes) is same ends answer begins = absurd answer
+refuses start r at fault finished old new (Ok Open) is same ends answer begins = absurd answer
+refuses start r at fault finished old new (Ok No) is same ends answer begins = λ known session.
+    let why = subst (λ o. IfErr o (IsFaultOf (flat_of session.chunks))) is (fault_over (flat_of session.chunks) r finished session.over same ends) in
+    record { chunks = session.chunks; is_text = session.is_text; is_told = wired (flat_of session.chunks) start at fault old new why begins }

@@ -1,0 +1,57 @@
+-- What a run of `explain` without an order writes, where the reader and the writer state their bytes.
+use Rattle.std.specs.Prelude.{◌≡◌, ℕ, List, ◌++◌, Option, Some, None, IfSome}
+use Rattle.std.specs.Io.KnownBytes.{Appends}
+use Rattle.nbd_wire.specs.declared.entry.Entry.{Entry}
+use Rattle.nbd_wire.specs.declared.fault.WireFault.{WireFault}
+use Rattle.nbd_wire.specs.declared.message.Message.{Message}
+use Rattle.nbd_wire.specs.protocol.Captures.{Pair}
+use Rattle.nbd_wire.specs.protocol.Explains.{IsExplained, Start, start_byte}
+use Rattle.nbd_wire.specs.protocol.Marks.{Item, pairs}
+use Rattle.nbd_wire.specs.protocol.Reports.{report}
+use Rattle.nbd_wire.specs.protocol.Rules.{IsRun}
+use Rattle.nbd_wire.specs.protocol.Within.{IsOfNoRun}
+use Rattle.nbd_capture.specs.Capture.{Chunk, IsCaptureText}
+use Rattle.nbd_session.specs.Refusals.{IsWireFault}
+use Rattle.nbd_judge.specs.Captures.{IsChecked}
+use Rattle.nbd_judge.specs.Images.{IsOtherSize}
+use Rattle.nbd_judge.specs.declared.verdict.Verdict.{Verdict}
+use Rattle.nbd_judge.specs.declared.verdict.Verdict.TheVariants.{Image, Wire}
+use Rattle.nbd_order.specs.Sources.{HasNoSource, IsUnexplained}
+use Rattle.nbd_tool.specs.Ordering.{no_source_line}
+use Rattle.nbd_tool.specs.Runs.{flat_of}
+use Rattle.nbd_tool.specs.Verdicts.{IsYes, line}
+use Rattle.nbd_explain.specs.declared.answer.Answer.{Answer}
+use Rattle.nbd_explain.specs.declared.answer.Answer.TheVariants.{No, Open, Yes}
+
+-- this text was written, and some text behind it
+abbrev pub BeginsWith : List ℕ → (old new : Option (List ℕ)) → Type 0
+BeginsWith text old new = (explanation : List ℕ) × Appends old new (text ++ explanation)
+
+-- what was written of a capture's bytes from a start, and the answer
+pub data IsTold (capture : List Pair) (initial : Start) (old new : Option (List ℕ)) : Answer → Type 0 where
+  -- an order explains it: the line of the yes that is the verdict on that order
+  found : (entries : List Entry) (verdict : Verdict) → IsExplained capture entries initial → IsChecked capture entries initial verdict → IsYes verdict
+      → BeginsWith (line verdict) old new → IsTold capture initial old new Yes
+  -- no run has these bytes: where and why
+  wire : (messages : List Message) (at : ℕ) (fault : WireFault) → IsWireFault capture messages at fault → IsOfNoRun capture
+      → BeginsWith (line (Wire at fault)) old new → IsTold capture initial old new No
+  -- the image has another size than the export
+  image : (items : List Item) (image size : ℕ) → IsRun items → pairs items ≡ capture → IsOtherSize (report items).export initial image size
+      → BeginsWith (line (Image image size)) old new → IsTold capture initial old new No
+  -- a READ's byte that nothing can have left
+  no_source : (items : List Item) (request offset : ℕ) → IsRun items → pairs items ≡ capture
+      → HasNoSource (report items) (start_byte initial) request offset → IsUnexplained capture initial
+      → BeginsWith (no_source_line request offset) old new → IsTold capture initial old new No
+  -- what is not proved
+  unproved : (text : List ℕ) → Appends old new text → IsTold capture initial old new Open
+
+-- the same, where the start is known
+abbrev pub IsToldFrom : List Pair → Option Start → (old new : Option (List ℕ)) → Answer → Type 0
+IsToldFrom capture (Some initial) old new answer = IsTold capture initial old new answer
+IsToldFrom capture None old new answer = Unit {0}
+
+-- the same of a capture text
+pub record Tells (known : Option (List ℕ)) (initial : Option Start) (answer : Answer) (old new : Option (List ℕ)) : Type 0 where
+  pub chunks : List Chunk
+  pub is_text : IfSome known (λ text. IsCaptureText text chunks)
+  pub is_told : IsToldFrom (flat_of chunks) initial old new answer

@@ -1,0 +1,109 @@
+//! The command `explain` without an order.
+
+ghost use Rattle.std.specs.Prelude.{◌≡◌, ℕ, List, Option, IfErr, IfOk, OnOk};
+ghost use Rattle.nbd_wire.specs.protocol.Explains as definitions;
+ghost use Rattle.nbd_tool.specs.Beginnings.{IsReadAs};
+ghost use Rattle.nbd_tool.specs.Ends.{IsOverText};
+ghost use Rattle.nbd_tool.specs.Ordering.{IsOrderingCause, LeavesOrdered};
+ghost use Rattle.nbd_tool.specs.Runs.{IsCapture};
+ghost use Rattle.nbd_tool.specs.Starts.{IsStartWithinLimit, initial_from};
+ghost use Rattle.nbd_explain.specs.Orderless.{Tells};
+ghost use Rattle.nbd_explain.specs.internal.Lines.{BeginsWithLineOf, IsLineOf};
+
+use crate::answer::{Answer, found_answer};
+use crate::explanation::Sources;
+use crate::found::found_explanation;
+use crate::writing::{copy_of, write_explained};
+use nbd_capture::write_whole;
+use nbd_judge::Verdict;
+use nbd_order::Found;
+use nbd_segments::Limits;
+use nbd_session::{Session, SessionFault, Transcript};
+use nbd_story::{Recording, Story};
+use nbd_tool::{
+    Beginning, Line, RunFault, StartFrom, conclude_from, find_order, found_text_of, read_start,
+    room_of,
+};
+use std::alloc::{AllocError, Global};
+use std::io::{Read, Write};
+
+/// Looks for an order that explains a session from this start, and writes the line of what it came to and what that
+/// says; of a session that was refused the verdict's line and why.
+pub fn explain_by_search<I: Read + Drop, W: Write>(
+    alloc: Global,
+    session: Session,
+    story: &Story,
+    recording: &Recording,
+    start: StartFrom<I>,
+    limits: Limits,
+    out: &mut W,
+) -> Result<Answer, RunFault>
+    ensures written { IfOk result (λ answer. (known : Option (List ℕ)) → IsOverText known session →
+        Tells known (initial_from I.remaining start) answer (W.contents out.old) (W.contents out.new)) }
+    ensures start_limited { OnOk result (IsStartWithinLimit I.remaining start) }
+    ensures cause { IfErr result (λ fault. (known : Option (List ℕ)) → IsCapture known →
+        IsOrderingCause known start fault) }
+    ensures left { IfErr result (LeavesOrdered (W.contents out.old) (W.contents out.new)) }
+{
+    let finished = session.finish();
+    let start = read_start(alloc, start, room_of(&finished))?;
+    match finished {
+        Ok(transcript) => {
+            let kept = copy_of(alloc, &start)?;
+            let found = find_order(alloc, &transcript, start, limits)?;
+            let text = text_of(alloc, transcript, &found, kept, story, recording)?;
+            write_whole(out, text.as_bytes())?;
+            Ok(found_answer(&found))
+        }
+        Err(SessionFault::Wire { at, fault }) => {
+            let sources = Sources {
+                story,
+                recording,
+                order: &[],
+                start: &start,
+            };
+            write_explained(alloc, Verdict::Wire { at, fault }, sources, out)
+        }
+        Err(SessionFault::Memory) => Err(RunFault::Memory),
+    }
+}
+
+// The line of what was found, and what that says.
+fn text_of(
+    alloc: Global,
+    transcript: Transcript,
+    found: &Found,
+    start: Beginning,
+    story: &Story,
+    recording: &Recording,
+) -> Result<String, AllocError>
+    ensures { IfOk result (λ text. BeginsWithLineOf transcript found.now start text.bytes.items) }
+{
+    let sources = Sources {
+        story,
+        recording,
+        order: &[],
+        start: &start,
+    };
+    let explanation = found_explanation(alloc, found, sources)?;
+    let line = line_of(alloc, transcript, found, start)?;
+    Ok(format!(in alloc; "{}{}", line, explanation)?)
+}
+
+// The line of what was found: of an order that of the verdict on it.
+fn line_of(
+    alloc: Global,
+    transcript: Transcript,
+    found: &Found,
+    start: Beginning,
+) -> Result<String, AllocError>
+    ensures { IfOk result (λ text. IsLineOf transcript found.now start text.bytes.items) }
+{
+    match found {
+        Found::Order(entries) => {
+            let verdict = conclude_from(alloc, Ok(transcript), entries, start)?;
+            Ok(format!(in alloc; "{}\n", Line { verdict })?)
+        }
+        _ => found_text_of(alloc, found),
+    }
+}
