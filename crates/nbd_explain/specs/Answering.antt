@@ -20,7 +20,7 @@ abbrev pub answer_to : Found → Answer
 answer_to (found.Order entries) = Yes
 answer_to (found.NoSource request offset) = No
 answer_to (found.Image image size) = No
-answer_to (found.Refuted requests offset) = Open
+answer_to (found.Refuted among requests offset) = Open
 answer_to (found.GaveUp request offset reason) = Open
 
 -- the exit status of an answer

@@ -9,6 +9,7 @@ use Rattle.nbd_wire.specs.protocol.Explains.{IsExplained, Start, start_byte}
 use Rattle.nbd_wire.specs.protocol.Marks.{Item, pairs}
 use Rattle.nbd_wire.specs.protocol.Reports.{report}
 use Rattle.nbd_wire.specs.protocol.Rules.{IsRun}
+use Rattle.nbd_wire.specs.protocol.Verdicts.{request_count}
 use Rattle.nbd_wire.specs.protocol.Within.{IsOfNoRun}
 use Rattle.nbd_capture.specs.Capture.{Chunk, IsCaptureText}
 use Rattle.nbd_session.specs.Refusals.{IsWireFault}
@@ -16,8 +17,11 @@ use Rattle.nbd_judge.specs.Captures.{IsChecked}
 use Rattle.nbd_judge.specs.Images.{IsOtherSize}
 use Rattle.nbd_judge.specs.declared.verdict.Verdict.{Verdict}
 use Rattle.nbd_judge.specs.declared.verdict.Verdict.TheVariants.{Image, Wire}
-use Rattle.nbd_order.specs.Sources.{HasNoSource, IsUnexplained}
-use Rattle.nbd_tool.specs.Ordering.{no_source_line}
+use Rattle.nbd_ranges.specs.declared.budget.Reason.{Reason}
+use Rattle.nbd_sources.specs.Sources.{HasNoSource, IsUnexplained}
+use Rattle.nbd_order.specs.Finding.{arrival}
+use Rattle.nbd_order.specs.declared.search.Wanted.{Wanted}
+use Rattle.nbd_tool.specs.Ordering.{IsUnexplainedBy, gave_up_line, no_source_line, refuted_line}
 use Rattle.nbd_tool.specs.Runs.{flat_of}
 use Rattle.nbd_tool.specs.Verdicts.{IsYes, line}
 use Rattle.nbd_explain.specs.declared.answer.Answer.{Answer}
@@ -42,8 +46,14 @@ pub data IsTold (capture : List Pair) (initial : Start) (old new : Option (List 
   no_source : (items : List Item) (request offset : ℕ) → IsRun items → pairs items ≡ capture
       → HasNoSource (report items) (start_byte initial) request offset → IsUnexplained capture initial
       → BeginsWith (no_source_line request offset) old new → IsTold capture initial old new No
-  -- what is not proved
-  unproved : (text : List ℕ) → Appends old new text → IsTold capture initial old new Open
+  -- what is not proved: that no order explains it. That of arrival does not
+  refuted : (items : List Item) (among : Wanted) (requests : List ℕ) (offset : ℕ) → IsRun items → pairs items ≡ capture
+      → IsUnexplainedBy capture initial (arrival (request_count (report items)))
+      → BeginsWith (refuted_line among requests offset) old new → IsTold capture initial old new Open
+  -- the search was broken off
+  gave_up : (items : List Item) (request offset : ℕ) (reason : Reason) → IsRun items → pairs items ≡ capture
+      → IsUnexplainedBy capture initial (arrival (request_count (report items)))
+      → BeginsWith (gave_up_line request offset reason) old new → IsTold capture initial old new Open
 
 -- the same, where the start is known
 abbrev pub IsToldFrom : List Pair → Option Start → (old new : Option (List ℕ)) → Answer → Type 0

@@ -8,14 +8,14 @@ ghost use Rattle.nbd_tool.specs.Starts.{IsStartWithinLimit, IsWithinLimit, initi
 ghost use Rattle.nbd_explain.specs.Explained.{Explains, IsExplainCause, IsExplained};
 
 use crate::answer::Answer;
-use crate::explanation::Sources;
+use crate::explanation::Recorded;
 use crate::reading::recorded_over;
 use crate::searching::explain_by_search;
 use crate::writing::{copy_of, write_explained};
 use nbd_segments::Limits;
 use nbd_session::Session;
-use nbd_story::{Recording, Story};
-use nbd_tool::{RunFault, StartFrom, conclude_from, read_order, read_start, room_of};
+use nbd_story::Story;
+use nbd_tool::{Progress, RunFault, StartFrom, conclude_from, read_order, read_start, room_of};
 use std::alloc::Global;
 use std::io::{BufRead, Read, Write};
 
@@ -24,14 +24,16 @@ use std::io::{BufRead, Read, Write};
 /// writes the line that `check` writes of the order that was found, or that with which `order` says that it found
 /// none, and behind it what that says.
 ///
-/// Nothing is written unless all were read whole and are well formed. After `Write` a prefix stands written.
-pub fn run_explain<C: BufRead + Drop, O: Read + Drop, I: Read + Drop, W: Write>(
+/// Nothing is written unless all were read whole and are well formed. After `Write` a prefix stands written. A long
+/// search says on `progress` how far it is.
+pub fn run_explain<C: BufRead + Drop, O: Read + Drop, I: Read + Drop, W: Write, P: Write + Drop>(
     alloc: Global,
     capture: C,
     order: Option<O>,
     start: StartFrom<I>,
     limits: Limits,
     out: &mut W,
+    progress: &mut Progress<P>,
 ) -> Result<Answer, RunFault>
     ensures written { IfOk result (λ answer. IsExplained O.remaining (C.remaining capture) order
         (initial_from I.remaining start) answer (W.contents out.old) (W.contents out.new)) }
@@ -44,9 +46,13 @@ pub fn run_explain<C: BufRead + Drop, O: Read + Drop, I: Read + Drop, W: Write>(
     let read = recorded_over(alloc, capture)?;
     let (session, recording) = read;
     let story = Story::of(alloc, session.messages(), &recording)?;
+    let recorded = Recorded {
+        story: &story,
+        recording: &recording,
+    };
     match order {
-        Some(order) => explain_verdict(alloc, session, &story, &recording, order, start, out),
-        None => explain_by_search(alloc, session, &story, &recording, start, limits, out),
+        Some(order) => explain_verdict(alloc, session, recorded, order, start, out),
+        None => explain_by_search(alloc, session, recorded, start, limits, out, progress),
     }
 }
 
@@ -54,8 +60,7 @@ pub fn run_explain<C: BufRead + Drop, O: Read + Drop, I: Read + Drop, W: Write>(
 fn explain_verdict<O: Read + Drop, I: Read + Drop, W: Write>(
     alloc: Global,
     session: Session,
-    story: &Story,
-    recording: &Recording,
+    recorded: Recorded<'_>,
     mut order: O,
     start: StartFrom<I>,
     out: &mut W,
@@ -73,11 +78,5 @@ fn explain_verdict<O: Read + Drop, I: Read + Drop, W: Write>(
     let kept = copy_of(alloc, &start)?;
     let entries = order.as_slice();
     let verdict = conclude_from(alloc, finished, entries, start)?;
-    let sources = Sources {
-        story,
-        recording,
-        order: entries,
-        start: &kept,
-    };
-    write_explained(alloc, verdict, sources, out)
+    write_explained(alloc, verdict, recorded.with(entries, &kept), out)
 }

@@ -10,6 +10,25 @@ use nbd_tool::Beginning;
 use nbd_wire::{Entry, Side};
 use std::alloc::{AllocError, Global};
 
+/// What was recorded: the session's messages, and all bytes of the capture.
+#[derive(Clone, Copy)]
+pub struct Recorded<'a> {
+    pub story: &'a Story,
+    pub recording: &'a Recording,
+}
+
+impl<'a> Recorded<'a> {
+    /// That with an order and a start.
+    pub fn with(self, order: &'a [Entry], start: &'a Beginning) -> Sources<'a> {
+        Sources {
+            story: self.story,
+            recording: self.recording,
+            order,
+            start,
+        }
+    }
+}
+
 /// What an explanation looks at.
 #[derive(Clone, Copy)]
 pub struct Sources<'a> {

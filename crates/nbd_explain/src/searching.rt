@@ -11,32 +11,31 @@ ghost use Rattle.nbd_explain.specs.Orderless.{Tells};
 ghost use Rattle.nbd_explain.specs.internal.Lines.{BeginsWithLineOf, IsLineOf};
 
 use crate::answer::{Answer, found_answer};
-use crate::explanation::Sources;
+use crate::explanation::Recorded;
 use crate::found::found_explanation;
 use crate::writing::{copy_of, write_explained};
 use nbd_capture::write_whole;
 use nbd_judge::Verdict;
-use nbd_order::Found;
+use nbd_order::{Found, Scope, Wanted};
 use nbd_segments::Limits;
 use nbd_session::{Session, SessionFault, Transcript};
-use nbd_story::{Recording, Story};
 use nbd_tool::{
-    Beginning, Line, RunFault, StartFrom, conclude_from, find_order, found_text_of, read_start,
-    room_of,
+    Beginning, Line, Progress, RunFault, StartFrom, conclude_from, find_order, found_text_of,
+    read_start, room_of,
 };
 use std::alloc::{AllocError, Global};
 use std::io::{Read, Write};
 
 /// Looks for an order that explains a session from this start, and writes the line of what it came to and what that
 /// says; of a session that was refused the verdict's line and why.
-pub fn explain_by_search<I: Read + Drop, W: Write>(
+pub fn explain_by_search<I: Read + Drop, W: Write, P: Write + Drop>(
     alloc: Global,
     session: Session,
-    story: &Story,
-    recording: &Recording,
+    recorded: Recorded<'_>,
     start: StartFrom<I>,
     limits: Limits,
     out: &mut W,
+    progress: &mut Progress<P>,
 ) -> Result<Answer, RunFault>
     ensures written { IfOk result (λ answer. (known : Option (List ℕ)) → IsOverText known session →
         Tells known (initial_from I.remaining start) answer (W.contents out.old) (W.contents out.new)) }
@@ -50,19 +49,22 @@ pub fn explain_by_search<I: Read + Drop, W: Write>(
     match finished {
         Ok(transcript) => {
             let kept = copy_of(alloc, &start)?;
-            let found = find_order(alloc, &transcript, start, limits)?;
-            let text = text_of(alloc, transcript, &found, kept, story, recording)?;
+            let scope = Scope {
+                wanted: Wanted::Any,
+                limits,
+            };
+            let found = find_order(alloc, &transcript, start, scope, progress)?;
+            let text = text_of(alloc, transcript, &found, kept, recorded)?;
             write_whole(out, text.as_bytes())?;
             Ok(found_answer(&found))
         }
         Err(SessionFault::Wire { at, fault }) => {
-            let sources = Sources {
-                story,
-                recording,
-                order: &[],
-                start: &start,
-            };
-            write_explained(alloc, Verdict::Wire { at, fault }, sources, out)
+            write_explained(
+                alloc,
+                Verdict::Wire { at, fault },
+                recorded.with(&[], &start),
+                out,
+            )
         }
         Err(SessionFault::Memory) => Err(RunFault::Memory),
     }
@@ -74,18 +76,11 @@ fn text_of(
     transcript: Transcript,
     found: &Found,
     start: Beginning,
-    story: &Story,
-    recording: &Recording,
+    recorded: Recorded<'_>,
 ) -> Result<String, AllocError>
     ensures { IfOk result (λ text. BeginsWithLineOf transcript found.now start text.bytes.items) }
 {
-    let sources = Sources {
-        story,
-        recording,
-        order: &[],
-        start: &start,
-    };
-    let explanation = found_explanation(alloc, found, sources)?;
+    let explanation = found_explanation(alloc, found, recorded.with(&[], &start))?;
     let line = line_of(alloc, transcript, found, start)?;
     Ok(format!(in alloc; "{}{}", line, explanation)?)
 }

@@ -2,7 +2,7 @@
 
 use crate::{explain_status, run_arrival, run_explain, run_names};
 use nbd_segments::Limits;
-use nbd_tool::{StartFrom, exit_status};
+use nbd_tool::{Progress, StartFrom, exit_status};
 use std::alloc::Global;
 use std::test::Fail;
 
@@ -98,7 +98,17 @@ fn explained_from(
     limits: Limits,
 ) -> Result<String, Fail> {
     let mut out = Vec::new(alloc);
-    let answer = run_explain(alloc, capture.as_bytes(), order, start, limits, &mut out);
+    let mut progress: Progress<Vec<u8>> = Progress::new(None);
+    let capture = capture.as_bytes();
+    let answer = run_explain(
+        alloc,
+        capture,
+        order,
+        start,
+        limits,
+        &mut out,
+        &mut progress,
+    );
     ended(alloc, out, explain_status(&answer))
 }
 

@@ -9,13 +9,13 @@ use nbd_explain::{Answer, explain_status, run_arrival, run_explain, run_names};
 use nbd_order::{Scope, Wanted};
 use nbd_segments::Limits;
 use nbd_tool::{
-    FinalWriter, Opener, Ordered, RunFault, StartWord, exit_status, open_inputs, open_start,
-    order_status, run_check, run_make, run_order, run_show, start_of,
+    FinalWriter, Opener, Ordered, Progress, RunFault, StartWord, exit_status, open_inputs,
+    open_start, order_status, run_check, run_make, run_order, run_show, start_of,
 };
 use std::alloc::{AllocError, Global};
 use std::fmt::Display;
 use std::fs::File;
-use std::io::{BufReader, BufWriter, IsTerminal, Write};
+use std::io::{BufReader, BufWriter, IsTerminal, Stderr, Write};
 use std::{env, io};
 
 /// The exit status of help and of the version.
@@ -451,6 +451,7 @@ fn explain_files(
         inputs.start,
         Limits::usual(),
         &mut io::writer(rt),
+        &mut Progress::new(terminal(rt)),
     )
 }
 
@@ -471,6 +472,7 @@ fn explain_file(
         start,
         Limits::usual(),
         &mut io::writer(rt),
+        &mut Progress::new(terminal(rt)),
     )
 }
 
@@ -484,14 +486,13 @@ fn order_files(
     let (rt, alloc) = (files.rt, files.rt.alloc());
     let capture = files.open_buffered(capture, RunFault::CaptureRead)?;
     let start = open_start(files, start)?;
-    let mut progress = Progress::new(terminal(rt));
     run_order(
         alloc,
         capture,
         start,
         scope,
         &mut io::writer(rt),
-        &mut progress,
+        &mut Progress::new(terminal(rt)),
     )
 }
 

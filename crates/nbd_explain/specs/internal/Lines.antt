@@ -26,10 +26,10 @@ pub record HasVerdictLine (told : Report) (entries : List Entry) (beginning : Be
 -- the line of what was found: of an order that of the verdict on it, else that of `order`
 abbrev pub IsLineOf : Report → Found → Beginning → List ℕ → Type 0
 IsLineOf told (Order entries) beginning text = HasVerdictLine told entries.items beginning text
-IsLineOf told (NoSource request offset) beginning text = found_text (NoSource request offset) text
-IsLineOf told (Image image size) beginning text = found_text (Image image size) text
-IsLineOf told (Refuted requests offset) beginning text = Unit {0}
-IsLineOf told (GaveUp request offset reason) beginning text = Unit {0}
+IsLineOf told (NoSource request offset) beginning text = text ≡ found_text (NoSource request offset)
+IsLineOf told (Image image size) beginning text = text ≡ found_text (Image image size)
+IsLineOf told (Refuted among requests offset) beginning text = text ≡ found_text (Refuted among requests offset)
+IsLineOf told (GaveUp request offset reason) beginning text = text ≡ found_text (GaveUp request offset reason)
 
 -- a text begins with that line
 pub record BeginsWithLineOf (told : Report) (found : Found) (beginning : Beginning) (text : List ℕ) : Type 0 where
