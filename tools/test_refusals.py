@@ -12,6 +12,7 @@ from pathlib import Path
 from built import TOP, Ended, Room, Tally
 from messages import begun, text
 from test_cuts import SESSIONS
+from test_explain import ORDERLESS
 
 # The most refusals that are tried of one run: a run that meets no refusal comes before.
 MOST = 100_000
@@ -100,6 +101,9 @@ def runs(room):
     yield "explain a wrong byte", words, room.run(*words), 0
     words = ["explain", room.path("chunks.cap"), room.path("chunks.ord"), "--start", f"image:{image}"]
     yield "explain over an image", words, room.run(*words), 0
+    for name, session in (("a wrong byte", "no-source-overwritten"), ("parts", "found-in-parts")):
+        words = ["explain", room.put(f"{session}.cap", text(ORDERLESS[session].records)), "--start", "zero"]
+        yield f"explain {name} without an order", words, room.run(*words), 0
     scripts = (("two messages", b"S greeting flags=3\nC client-flags flags=3\n"), ("a recorded session", shown.out))
     for name, script in scripts:
         words = ["make", room.put(f"{name}.script", script)]
@@ -133,6 +137,8 @@ def reads(tally, room, name, words, whole):
     wanted = [f"fault {what} read\n".encode() for what in faults]
     if "zero" in words:
         wanted.remove(b"fault image read\n")
+    if "without an order" in name:
+        wanted.remove(b"fault order read\n")
     for what in ("read", "read-again"):
         told = []
         for number, found, is_refused in room.each(words, what):
