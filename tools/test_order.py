@@ -78,7 +78,7 @@ def lines(tally, room):
         ("nothing", b"", [], Ended(0, b"", b"")),
         ("no request", text(begun()), [], Ended(0, b"", b"")),
         ("a refused byte", b"C 00\n", [], Ended(1, b"no at byte 1: OutOfTurn\n", b"")),
-        ("cut off", b"S 4e\n", [], Ended(1, b"no at byte 2: Unfinished\n", b"")),
+        ("cut off", b"S 4e\n", [], Ended(1, b"no at byte 1: Unfinished\n", b"")),
         ("a bad line", b"C 0\n", [], fault("capture line 1")),
         ("unknown start", ALONE, [], Ended(0, b"1\n", b"")),
         ("zero start", ALONE, ["--start", "zero"], Ended(1, b"no content request 1 offset 3 in any order\n", b"")),
