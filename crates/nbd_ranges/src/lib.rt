@@ -1,5 +1,5 @@
-//! What the search for an order keeps: the requests as operations, the ranges of the export with the orders that they can
-//! have had so far, and what may still be spent.
+//! What the search for an order keeps: the requests as operations, the ranges of the export with the orders that they
+//! can have had so far, and what may still be spent.
 #![tactic(auto)]
 
 pub mod base;

@@ -43,8 +43,8 @@ pub enum Search {
 }
 
 /// Looks for an order of service that explains the session from this start, with requests served in parts where that is
-/// needed; `Refuted` says that none does, in parts or whole. An image has to be as long as the export. An `Err` says that
-/// memory ran out.
+/// needed; `Refuted` says that none does, in parts or whole. An image has to be as long as the export. An `Err` says
+/// that memory ran out.
 pub fn by_parts(
     alloc: Global,
     transcript: &Transcript,

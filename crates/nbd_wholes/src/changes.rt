@@ -1,5 +1,6 @@
 //! The changes of a range, as the READs of the range meet them.
 
+use nbd_ranges::budget::{Budget, Stop};
 use nbd_ranges::log::Served;
 use nbd_ranges::operation::{Kind, Operations};
 use std::alloc::{AllocError, Global};
@@ -113,11 +114,17 @@ impl Changes {
 
     /// The changes that a READ may find, or that must not stand between, from the newest on: no change that surely
     /// comes before the READ surely comes behind them.
-    pub(crate) fn near(&self, read: u64, due: u64) -> Result<Vec<Change>, AllocError> {
+    pub(crate) fn near(
+        &self,
+        budget: &mut Budget,
+        read: u64,
+        due: u64,
+    ) -> Result<Vec<Change>, Stop> {
         let newest = self.newest_before(read);
         let count = self.list.partition_point(|change| change.request <= due);
         let mut near = Vec::new(self.alloc);
         for i in 0..count {
+            budget.spend(1)?;
             match self.list.get(count.saturating_sub(i).saturating_sub(1)) {
                 Some(change) if change.latest >= newest => {
                     if change.due >= newest {

@@ -1,10 +1,11 @@
-//! An order of whole requests: for each READ its source is chosen, and for each other change on which side of the two it
-//! stands.
+//! An order of whole requests: for each READ its source is chosen, and for each other change on which side of the two
+//! it stands.
 #![tactic(auto)]
 
 mod ahead;
 mod changes;
 mod choices;
+mod links;
 mod order;
 mod precedence;
 mod propagation;

@@ -1,12 +1,10 @@
 //! What stands before what: the slots order some requests, and edges others. Each request keeps the slots that the
 //! edges leave to it. A trail takes changes back.
 
+use super::links::{Edge, Links};
 use nbd_ranges::budget::{Budget, Stop};
 use nbd_ranges::operation::Operations;
 use std::alloc::{AllocError, Global};
-
-/// A request, and one that stands behind it.
-pub(crate) type Edge = (u64, u64);
 
 // What was changed, with what it was before.
 #[derive(Clone, Copy, Drop)]
@@ -29,42 +27,27 @@ enum Bound {
 #[derive(Drop)]
 pub(crate) struct Precedence {
     alloc: Global,
-    // The last slots that the session leaves.
-    due: Vec<u64>,
-    // The first and the last slots that the edges leave.
+    // The first and the last slots that the session and the edges leave.
     first: Vec<u64>,
     last: Vec<u64>,
-    // The edges, from both ends.
-    behind: Vec<Vec<u64>>,
-    before: Vec<Vec<u64>>,
+    links: Links,
     trail: Vec<Change>,
-    // The walk in which a request was last met, and the number of the present walk.
-    met: Vec<u64>,
-    walk: u64,
 }
 
 impl Precedence {
     /// The order that the slots alone give.
     pub(crate) fn new(alloc: Global, operations: &Operations) -> Result<Precedence, AllocError> {
+        let count = operations.count();
         let mut new = Precedence {
             alloc,
-            due: Vec::new(alloc),
             first: Vec::new(alloc),
             last: Vec::new(alloc),
-            behind: Vec::new(alloc),
-            before: Vec::new(alloc),
+            links: Links::new(alloc, count)?,
             trail: Vec::new(alloc),
-            met: Vec::new(alloc),
-            walk: 0,
         };
-        for request in 0..operations.count().saturating_add(1) {
-            let due = operations.due(request).unwrap_or(operations.count());
-            new.due.push(due)?;
+        for request in 0..count.saturating_add(1) {
             new.first.push(request)?;
-            new.last.push(due)?;
-            new.behind.push(Vec::new(alloc))?;
-            new.before.push(Vec::new(alloc))?;
-            new.met.push(0)?;
+            new.last.push(operations.due(request).unwrap_or(count))?;
         }
         Ok(new)
     }
@@ -81,18 +64,17 @@ impl Precedence {
 
     /// The requests to which a request has edges.
     pub(crate) fn behind(&self, request: u64) -> &[u64] {
-        list(&self.behind, request)
+        self.links.behind(request)
     }
 
     /// How many edges come to a request.
     pub(crate) fn incoming(&self, request: u64) -> usize {
-        list(&self.before, request).len()
+        self.links.before(request).len()
     }
 
-    /// Whether an edge, or the slots of the session, put one before the other.
+    /// Whether an edge, or the slots that are left, put one before the other.
     pub(crate) fn has(&self, edge: Edge) -> bool {
-        let (a, b) = edge;
-        at(&self.due, a) < b || self.behind(a).contains(&b)
+        self.last(edge.0) < self.first(edge.1) || self.links.has(edge)
     }
 
     /// Where the trail stands.
@@ -103,23 +85,24 @@ impl Precedence {
     /// Whether an edge closes no cycle and leaves both their slots.
     pub(crate) fn allows(&mut self, budget: &mut Budget, edge: Edge) -> Result<bool, Stop> {
         let (a, b) = edge;
+        budget.spend(1)?;
         if self.has(edge) {
             return Ok(true);
         }
-        Ok(self.first(a) <= self.last(b) && !self.reaches(budget, b, a)?)
+        Ok(self.first(a) <= self.last(b) && !self.links.reaches(budget, b, a)?)
     }
 
     /// Adds an edge; false where it cannot be, and then the trail is to be taken back to a mark.
     pub(crate) fn add(&mut self, budget: &mut Budget, edge: Edge) -> Result<bool, Stop> {
         let (a, b) = edge;
+        budget.spend(1)?;
         if self.has(edge) {
             return Ok(true);
         }
         if !self.allows(budget, edge)? {
             return Ok(false);
         }
-        push(&mut self.behind, a, b)?;
-        push(&mut self.before, b, a)?;
+        self.links.add(budget, edge)?;
         self.trail.push(Change::Edge(edge))?;
         Ok(self.raise(budget, a)? && self.lower(budget, b)?)
     }
@@ -128,43 +111,12 @@ impl Precedence {
     pub(crate) fn undo(&mut self, mark: usize) {
         for _ in mark..self.trail.len() {
             match self.trail.pop() {
-                Some(Change::Edge((a, b))) => {
-                    pop(&mut self.behind, a);
-                    pop(&mut self.before, b);
-                }
+                Some(Change::Edge(edge)) => self.links.remove(edge),
                 Some(Change::First(request, slot)) => set(&mut self.first, request, slot),
                 Some(Change::Last(request, slot)) => set(&mut self.last, request, slot),
                 None => break,
             }
         }
-    }
-
-    // Whether edges lead from one to the other.
-    fn reaches(&mut self, budget: &mut Budget, from: u64, to: u64) -> Result<bool, Stop> {
-        if from == to {
-            return Ok(true);
-        }
-        let latest = self.last(to);
-        self.walk = self.walk.saturating_add(1);
-        let mut open = Vec::new(self.alloc);
-        open.push(from)?;
-        for _ in 0..u64::MAX {
-            let Some(request) = open.pop() else {
-                break;
-            };
-            let next = list(&self.behind, request);
-            budget.spend(next.len().saturating_add(1))?;
-            for other in next {
-                if *other == to {
-                    return Ok(true);
-                }
-                if at(&self.first, *other) <= latest && at(&self.met, *other) != self.walk {
-                    set(&mut self.met, *other, self.walk);
-                    open.push(*other)?;
-                }
-            }
-        }
-        Ok(false)
     }
 
     // No request behind this one has a slot before its first one; false where one has no slot left.
@@ -176,10 +128,10 @@ impl Precedence {
                 break;
             };
             let slot = self.first(request);
-            let count = list(&self.behind, request).len();
+            let count = self.links.behind(request).len();
             budget.spend(count.saturating_add(1))?;
             for i in 0..count {
-                let other = nth(&self.behind, request, i);
+                let other = nth(self.links.behind(request), i);
                 match self.raise_to(other, slot)? {
                     Bound::Kept => {}
                     Bound::Moved => open.push(other)?,
@@ -209,10 +161,10 @@ impl Precedence {
                 break;
             };
             let slot = self.last(request);
-            let count = list(&self.before, request).len();
+            let count = self.links.before(request).len();
             budget.spend(count.saturating_add(1))?;
             for i in 0..count {
-                let other = nth(&self.before, request, i);
+                let other = nth(self.links.before(request), i);
                 match self.lower_to(other, slot)? {
                     Bound::Kept => {}
                     Bound::Moved => open.push(other)?,
@@ -252,26 +204,6 @@ fn set(slots: &mut Vec<u64>, request: u64, slot: u64) {
     }
 }
 
-fn list(lists: &[Vec<u64>], request: u64) -> &[u64] {
-    match lists.get(request as usize) {
-        Some(list) => list.as_slice(),
-        None => &[],
-    }
-}
-
-fn nth(lists: &[Vec<u64>], request: u64, place: usize) -> u64 {
-    list(lists, request).get(place).copied().unwrap_or(0)
-}
-
-fn push(lists: &mut Vec<Vec<u64>>, request: u64, other: u64) -> Result<(), AllocError> {
-    if let Some(list) = lists.get_mut(request as usize) {
-        list.push(other)?;
-    }
-    Ok(())
-}
-
-fn pop(lists: &mut Vec<Vec<u64>>, request: u64) {
-    if let Some(list) = lists.get_mut(request as usize) {
-        list.pop();
-    }
+fn nth(list: &[u64], place: usize) -> u64 {
+    list.get(place).copied().unwrap_or(0)
 }

@@ -1,6 +1,7 @@
 //! What can be said without a choice: a READ with one source, a change with one side.
 
-use super::precedence::{Edge, Precedence};
+use super::links::Edge;
+use super::precedence::Precedence;
 use super::readings::Reading;
 use super::sources::{Other, Source};
 use nbd_ranges::budget::Stop;
@@ -89,6 +90,7 @@ fn items(work: &mut Work, readings: &[Reading]) -> Result<Vec<Item>, Stop> {
             if source.change == 0 {
                 continue;
             }
+            work.budget.spend(source.others.len())?;
             for k in 0..source.others.len() {
                 list.push(Item::Side(i, j, k))?;
             }

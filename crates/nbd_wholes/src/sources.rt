@@ -44,7 +44,7 @@ pub(crate) fn sources(
     first: Value,
     read: Read,
 ) -> Result<Option<Vec<Source>>, Stop> {
-    let near = changes.near(read.request, read.due)?;
+    let near = changes.near(&mut work.budget, read.request, read.due)?;
     let mut fitting = Vec::new(work.alloc);
     let mut wrong = Vec::new(work.alloc);
     for change in near {
@@ -59,7 +59,7 @@ pub(crate) fn sources(
     let mut list = Vec::new(work.alloc);
     for change in &fitting {
         let source = source_of(work.alloc, *change, &wrong)?;
-        work.budget.spend(source.others.len().saturating_add(2))?;
+        work.budget.spend(wrong.len().saturating_add(2))?;
         if source.others.is_empty() && change.due < read.request {
             return Ok(None);
         }
