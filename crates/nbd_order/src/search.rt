@@ -144,7 +144,7 @@ pub fn advance(
     ensures wanted { IfOk result (λ found. IfSome found (IsWanted scope.wanted)) }
 {
     match searching.advance(transcript, start, steps)? {
-        Some(search) => Ok(Some(concluded(alloc, transcript, start, scope, search)?)),
+        Some(search) => Ok(Some(concluded(alloc, transcript, start, scope, searching, search)?)),
         None => Ok(None),
     }
 }
@@ -186,6 +186,7 @@ fn concluded(
     transcript: &Transcript,
     start: &Start,
     scope: Scope,
+    searching: &Searching,
     search: Search,
 ) -> Result<Found, AllocError>
     ensures proposed { IfOk result (IsProposed transcript.now (initial_of start.now)) }
@@ -198,8 +199,8 @@ fn concluded(
         return judged(alloc, transcript, start, order);
     }
     match scope.wanted {
-        Wanted::Whole => in_wholes(alloc, transcript, start, scope.limits),
-        Wanted::Any => match in_wholes(alloc, transcript, start, fewer(scope.limits))? {
+        Wanted::Whole => in_wholes(alloc, transcript, start, searching, scope.limits),
+        Wanted::Any => match in_wholes(alloc, transcript, start, searching, fewer(scope.limits))? {
             Found::Order(order) => Ok(Found::Order(order)),
             _ => judged(alloc, transcript, start, order),
         },
@@ -211,12 +212,13 @@ fn in_wholes(
     alloc: Global,
     transcript: &Transcript,
     start: &Start,
+    searching: &Searching,
     limits: Limits,
 ) -> Result<Found, AllocError>
     ensures proposed { IfOk result (IsProposed transcript.now (initial_of start.now)) }
     ensures wanted { IfOk result (IsWanted Whole) }
 {
-    let search = by_wholes(alloc, transcript, start, limits)?;
+    let search = by_wholes(alloc, transcript, start, searching, limits)?;
     let Search::Order(order) = search else {
         return Ok(unfound(search, Wanted::Whole));
     };

@@ -17,7 +17,6 @@ use nbd_session::Transcript;
 use nbd_wire::Entry;
 pub use searching::Searching;
 use std::alloc::{AllocError, Global};
-pub use sweep::plan;
 
 /// What the search for an order came to.
 #[derive(Debug, Drop)]

@@ -6,6 +6,7 @@ use nbd_assembly::order;
 use nbd_export::Start;
 use nbd_ranges::budget::{Limits, Reason, Stop};
 use nbd_ranges::operation::{Operation, Operations, operations_of};
+use nbd_ranges::plan::Plan;
 use nbd_ranges::segment::Work;
 use nbd_session::Transcript;
 use nbd_wire::Entry;
@@ -19,6 +20,8 @@ pub struct Searching {
     // None after the end.
     sweep: Option<Sweep>,
     passed: u64,
+    // None but behind a pass that came to its end.
+    ranges: Option<Plan>,
 }
 
 impl Searching {
@@ -37,6 +40,7 @@ impl Searching {
             operations: list,
             sweep: Some(sweep),
             passed: 0,
+            ranges: None,
         })
     }
 
@@ -64,6 +68,17 @@ impl Searching {
         self.passed
     }
 
+    /// The requests as operations.
+    pub fn operations(&self) -> &[Operation] {
+        &self.operations
+    }
+
+    /// For each range of the export the order in which its requests are served there; None before the end, and where
+    /// some range has none.
+    pub fn ranges(&self) -> Option<&Plan> {
+        self.ranges.as_ref()
+    }
+
     // Goes on with the pass. Where that comes to its end, the order.
     fn go_on(
         &mut self,
@@ -80,8 +95,9 @@ impl Searching {
             self.sweep = Some(sweep);
             return Ok(None);
         }
-        let plan = sweep.finish(&mut self.work)?;
-        let entries = order(&mut self.work, &operations, &plan)?;
-        Ok(Some(entries))
+        let ranges = sweep.finish(&mut self.work)?;
+        let entries = order(&mut self.work, &operations, &ranges);
+        self.ranges = Some(ranges);
+        Ok(Some(entries?))
     }
 }

@@ -32,15 +32,6 @@ pub(crate) struct Sweep {
     reading: BTreeMap<u64, Vec<(u64, u64)>>,
 }
 
-/// For each range of the export the order in which its requests are served there.
-pub fn plan(work: &mut Work, operations: &Operations) -> Result<Plan, Stop> {
-    let mut sweep = Sweep::new(work.alloc, operations)?;
-    if !sweep.advance(work, operations, u64::MAX)? {
-        return Err(work.budget.give_up(Reason::Steps));
-    }
-    sweep.finish(work)
-}
-
 impl Sweep {
     /// The pass before its first slot.
     pub(crate) fn new(alloc: Global, operations: &Operations) -> Result<Sweep, AllocError> {

@@ -8,7 +8,7 @@ use super::server::{Shape, session};
 use crate::{Found, Scope, Wanted, find};
 use nbd_export::Start;
 use nbd_judge::{Verdict, verdict_on};
-use nbd_segments::{Limits, Search, by_parts};
+use nbd_segments::{Limits, Search, Searching, by_parts};
 use nbd_session::Transcript;
 use nbd_wholes::by_wholes;
 use nbd_wire::commands::READ;
@@ -36,7 +36,7 @@ fn run<R: Abort + AllocGlobal>(rt: &R, shape: Shape, count: u64) -> Result<Count
     for seed in 0..count {
         let start = start_of(alloc, seed, shape.size)?;
         let transcript = session(rt, shape, seed.wrapping_mul(59), &start)?;
-        match by_wholes(alloc, &transcript, &start, Limits::usual())? {
+        match whole_order(alloc, &transcript, &start)? {
             Search::Order(order) => {
                 counts.whole = counts.whole.saturating_add(1);
                 let whole = order.iter().all(|entry| entry.part.is_none());
@@ -72,6 +72,21 @@ fn run<R: Abort + AllocGlobal>(rt: &R, shape: Shape, count: u64) -> Result<Count
     Ok(counts)
 }
 
+// The order of whole requests, where there is one in parts.
+fn whole_order(
+    alloc: Global,
+    transcript: &Transcript,
+    start: &Start,
+) -> Result<Search, AllocError> {
+    let limits = Limits::usual();
+    let mut searching = Searching::new(alloc, transcript, start, limits)?;
+    match searching.advance(transcript, start, u64::MAX)? {
+        Some(Search::Order(_)) => by_wholes(alloc, transcript, start, &searching, limits),
+        Some(search) => Ok(search),
+        None => Err(AllocError),
+    }
+}
+
 // Whether the order that is found serves each request at once; None where none is found.
 fn finds_whole(
     alloc: Global,
@@ -101,7 +116,7 @@ fn two_writes_torn(rt: HostRuntime) -> Result<(), Fail> {
         Data(3, 0, b"ab", true),
     ];
     let transcript = recorded(&rt, 8, &sent)?;
-    let found = by_wholes(rt.alloc(), &transcript, &Start::Zeroes, Limits::usual())?;
+    let found = whole_order(rt.alloc(), &transcript, &Start::Zeroes)?;
     assert!(rt; matches!(&found, Search::Refuted { .. }));
     let found = by_parts(rt.alloc(), &transcript, &Start::Zeroes, Limits::usual())?;
     assert!(rt; matches!(&found, Search::Order(_)));
