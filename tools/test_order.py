@@ -1,8 +1,10 @@
 """The command `order` of the built program: what it writes of sessions with an order and of those without one."""
 
+import random
 import re
 import subprocess
 
+from bench_order import session
 from built import PROGRAM, TOP, Ended, Room, Tally
 from messages import begun, content, done, read, simple, text, write
 from test_commands import fault, on_a_terminal
@@ -137,8 +139,17 @@ def files(tally, room):
     tally.want("24 MiB", room.run(*limited, program="/bin/sh"), fault("memory", 4))
 
 
+def long_search():
+    """A session of 3,000 requests on 4 KiB, 64 at a time, of ranges that overlap: its search takes more than two million steps."""
+    records = session(3_000, 64, 4_096, False, random.Random(3_000_064))
+    return text(begun(size=4_096) + [(side.decode(), data) for side, data in records])
+
+
 def terminals(tally, room):
-    """A short search says nothing on a terminal; which file could not be opened does."""
+    """A long search says on a terminal how far it is, and takes that away; a short one says nothing. Which file could not be opened."""
+    found = on_a_terminal(room, "order", room.put("long", long_search()), "--start", "zero")
+    told = re.fullmatch(rb"(\rrequest \d+ of 3000)+\r\x1b\[K", found.err)
+    tally.holds("a long search on a terminal", told and found.status in (0, 5), found.err[-80:])
     capture, none = room.put("torn", TORN), room.path("none")
     found = on_a_terminal(room, "order", capture, "--start", "zero")
     tally.want("a short search on a terminal", (found.status, found.err), (0, b""))
