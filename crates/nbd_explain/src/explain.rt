@@ -24,8 +24,8 @@ use std::io::{BufRead, Read, Write};
 /// writes the line that `check` writes of the order that was found, or that with which `order` says that it found
 /// none, and behind it what that says.
 ///
-/// Nothing is written unless all were read whole and are well formed. After `Write` a prefix stands written. A long
-/// search says on `progress` how far it is.
+/// Nothing is written unless all were read whole and are well formed. After `Write` some of it may stand written. A
+/// long search says on `progress` how far it is.
 pub fn run_explain<C: BufRead + Drop, O: Read + Drop, I: Read + Drop, W: Write, P: Write + Drop>(
     alloc: Global,
     capture: C,

@@ -28,7 +28,7 @@ pub enum Reason {
     States,
     /// Too many steps were taken.
     Steps,
-    /// The search's own tables did not fit together.
+    /// A mistake of the search: its own tables did not fit together, or the judge refused what it proposed.
     Tables,
 }
 

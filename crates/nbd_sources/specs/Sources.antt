@@ -41,7 +41,7 @@ pub record HasNoSource (r : Report) (initial : ℕ → Option ℕ) (k x : ℕ) :
   pub at_first : Differs initial read.read x ⊎ IsChangedBefore r k x
   pub changes : (w : ℕ) (e : Effect) → IsChange r w x e → IsNoSource r k read.read x w e
 
--- no order explains the capture, in parts or whole
+-- no order explains the capture from this start, in parts or whole
 abbrev pub IsUnexplained : List Pair → Start → Type 0
 IsUnexplained capture initial = (order : List Entry) → IsExplained capture order initial → ⊥
 

@@ -11,8 +11,9 @@ use nbd_export::Start;
 use nbd_session::Transcript;
 use std::alloc::{AllocError, Global};
 
-/// A READ of the session, by its number, and an offset of the export at which it read what nothing can have left there; the least
-/// READ that has such a byte, and its least offset. `None` where none is found within so many steps. An `Err` says that memory ran out.
+/// A READ of the session, by its number, and an offset of the export at which it read what nothing can have left there. `None` where
+/// none is found within so many steps, each of one change with one READ. Tested, and not proved, is that it is the least such READ and
+/// its least offset, where the steps suffice. An `Err` says that memory ran out.
 pub fn no_source(
     alloc: Global,
     transcript: &Transcript,

@@ -16,7 +16,7 @@ use nbd_session::{Asked, Outcome, Transcript};
 use nbd_wire::{Piece, commands};
 
 /// Whether request `k` is a READ that succeeded and cannot have read its byte at `offset`, in whatever order the requests were
-/// served: neither the start nor any change can have left it there. It takes one pass over the requests.
+/// served: neither the start nor any change can have left it there. It takes two passes over the requests.
 pub fn has_no_source(transcript: &Transcript, start: &Start, k: u64, offset: u64) -> bool
     ensures { MatchBool result (HasNoSource transcript.now (explains.start_byte (initial_of start.now)) k offset)
         (HasNoSource transcript.now (explains.start_byte (initial_of start.now)) k offset → ⊥) }

@@ -42,7 +42,8 @@ struct Pass<'a> {
 }
 
 /// The least request that is a READ with a byte of which neither the start nor a change is a source, and the least offset of one.
-/// After `limit` comparisons, each of one change with one READ, the pass is broken off. The cost is that of sorting and of these.
+/// After `limit` comparisons, each of one change with one READ, the pass is broken off: a byte that it has found until then need not be
+/// the least. The cost is that of sorting and of these.
 pub fn first_suspect(
     alloc: Global,
     transcript: &Transcript,
@@ -77,13 +78,18 @@ pub fn first_suspect(
         pass.arrive(request)?;
         least = lesser(least, pass.expire(request));
         if pass.steps > limit {
-            return Ok(Suspect::GaveUp { request });
+            return Ok(found_of(least, Suspect::GaveUp { request }));
         }
     }
-    Ok(match least {
+    Ok(found_of(least, Suspect::None))
+}
+
+// The byte that was found, or what stands for none.
+fn found_of(least: Option<(u64, u64)>, none: Suspect) -> Suspect {
+    match least {
         Some((request, offset)) => Suspect::Byte { request, offset },
-        None => Suspect::None,
-    })
+        None => none,
+    }
 }
 
 impl<'a> Pass<'a> {

@@ -63,7 +63,7 @@ refuted_line among requests offset = codes "no order found: requests" ++ (spaced
 abbrev pub reason_words : Reason → List ℕ
 reason_words States = codes "too many states"
 reason_words Steps = codes "too many steps"
-reason_words Tables = codes "a proposal that the judge refused"
+reason_words Tables = codes "a mistake of its own"
 
 -- the line of a search that was broken off
 abbrev pub gave_up_line : (request offset : ℕ) → Reason → List ℕ

@@ -8,7 +8,7 @@ ghost use Rattle.nbd_wire.specs.protocol.Reports.{report};
 ghost use Rattle.nbd_wire.specs.protocol.Rules.{IsRun};
 ghost use Rattle.nbd_judge.specs.Beginnings.{initial_of};
 ghost use Rattle.nbd_judge.specs.Servable.{size_of};
-ghost use Rattle.nbd_order.specs.Finding.{IsFound, IsWanted, Says};
+ghost use Rattle.nbd_order.specs.Finding.{IsFound, IsProposed, IsWanted, Says};
 ghost use Rattle.nbd_tool.specs.Beginnings.{IsReadAs};
 ghost use Rattle.nbd_tool.specs.Ordering.{IsOrderingCause, LeavesOrdered, Orders, entry_lines, found_text, ordered_of, reason_words, refuted_line, spaced_numbers, status_of};
 ghost use Rattle.nbd_tool.specs.Starts.{IsStartWithinLimit, IsWithinLimit, initial_from};
@@ -58,8 +58,8 @@ pub fn order_status(answer: &Result<Ordered, RunFault>) -> u8
 /// Reads a capture text to its end, and then an image, if there is one, and writes an order of service that explains the session
 /// from this start, an entry a line; or a line that says why there is none or that none was found.
 ///
-/// Nothing is written unless all were read whole and are well formed. After `Write` a prefix stands written. A long search says on
-/// `progress` how far it is.
+/// Nothing is written unless all were read whole and are well formed. After `Write` some of it may stand written. A long search
+/// says on `progress` how far it is.
 pub fn run_order<C: BufRead + Drop, I: Read + Drop, W: Write, P: Write + Drop>(
     alloc: Global,
     capture: C,
@@ -134,19 +134,33 @@ fn find<P: Write + Drop>(
     if let Some(found) = settled(alloc, transcript, start, scope.limits)? {
         return Ok(found);
     }
+    let found = searched(alloc, transcript, start, scope, progress);
+    progress.end();
+    found
+}
+
+// What the searches find; each round passes a request at least.
+fn searched<P: Write + Drop>(
+    alloc: Global,
+    transcript: &Transcript,
+    start: &Start,
+    scope: Scope,
+    progress: &mut Progress<P>,
+) -> Result<Found, AllocError>
+    ensures proposed { IfOk result (IsProposed transcript.now (initial_of start.now)) }
+    ensures wanted { IfOk result (IsWanted scope.wanted) }
+{
     let mut searching = Searching::new(alloc, transcript, start, scope.limits)?;
-    for _ in 0..u64::MAX {
+    for _ in 0..transcript.count().saturating_add(1) {
         if let Some(found) = advance(alloc, transcript, start, scope, &mut searching, STEPS)? {
-            progress.end();
             return Ok(found);
         }
         progress.tell(searching.passed(), transcript.count());
     }
-    progress.end();
     Ok(Found::GaveUp {
         request: 0,
         offset: 0,
-        reason: Reason::Steps,
+        reason: Reason::Tables,
     })
 }
 
@@ -249,6 +263,6 @@ fn reason_name(reason: Reason) -> &'static str
     match reason {
         Reason::States => "too many states",
         Reason::Steps => "too many steps",
-        Reason::Tables => "a proposal that the judge refused",
+        Reason::Tables => "a mistake of its own",
     }
 }
