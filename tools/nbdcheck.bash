@@ -5,7 +5,7 @@ _nbdcheck() {
     local -A options=(
         [check]="--start --help"
         [explain]="--start --help"
-        [order]="--arrival --help"
+        [order]="--start --whole --arrival --states --steps --help"
         [show]="--names --help"
         [make]="--help"
         [help]=""
