@@ -103,6 +103,13 @@ JUDGED = {
     "content-of-the-start-in-parts": Session(OVERLAPPED, "1 0 1\n3 1 1\n2\n1 1 1\n3 0 1\n3 2 2\n"),
 }
 
+# Two WRITEs that are outstanding while three READs come one after the other: they got the bytes of the one, of the other, and of
+# the one again.
+UNORDERED = [
+    *begun(), write(1, 0, b"\1"), write(2, 0, b"\2"), read(3, 0, 1), simple(3, b"\1"), read(4, 0, 1), simple(4, b"\2"), read(5, 0, 1),
+    simple(5, b"\1"), simple(1), simple(2),
+]
+
 # Sessions that are explained without an order.
 ORDERLESS = {
     "found": Session(WRITTEN),
@@ -117,20 +124,10 @@ ORDERLESS = {
     "no-source-of-many": Session(
         [*begun(), *(record for number in range(1, 11) for record in (write(number, 0, bytes([number])), simple(number))),
          read(11, 0, 1), simple(11, b"\xff")]),
+    "no-order-of-three-reads": Session(UNORDERED),
     "image": Session(WRITTEN, start="image:9"),
     "unknown-cookie": WIRE["unknown-cookie"],
 }
-# Two WRITEs that are outstanding while three READs come one after the other: they got the bytes of the one, of the other, and of
-# the one again.
-UNORDERED = [
-    *begun(), write(1, 0, b"\1"), write(2, 0, b"\2"), read(3, 0, 1), simple(3, b"\1"), read(4, 0, 1), simple(4, b"\2"), read(5, 0, 1),
-    simple(5, b"\1"), simple(1), simple(2),
-]
-OPEN = b"""\
-open: this was searched and not proved, so it is neither a yes nor a no
-stronger: an order that the server logged
-"""
-
 # Every kind of message; a READ that failed, one that is pending, requests and options that proto.md has no name for.
 NAMED = [
     *begun(structured=True)[:-3], option(99), answer(99, 0x80000001, b"what?"), *begun(structured=True)[-3:], write(1, 0, b"\xab\xcd"),
@@ -213,10 +210,6 @@ def orderless(tally, room):
         status = 0 if wanted.startswith(b"yes") else 1
         tally.want(f"explain {name}", room.run("explain", *words), Ended(status, wanted, b""))
         searched(tally, room, name, words)
-    words = [room.put("unordered.cap", text(UNORDERED)), "--start", "zero"]
-    line = room.run("order", *words).out
-    tally.holds("an open answer", line.startswith(b"no order found: requests "), line)
-    tally.want("explain an open answer", room.run("explain", *words), Ended(5, line + OPEN, b""))
 
 
 def numbers_of(records):

@@ -66,10 +66,7 @@ def examples(tally, room):
         tally.want(f"parts of {capture.name}", has_parts, capture.stem in IN_PARTS)
         whole = room.run("order", capture, "--start", start, "--whole")
         if capture.stem in IN_PARTS:
-            told = b" (whole requests alone; searched, not proved)\n"
-            tally.want(f"order --whole {capture.name}", (whole.status, whole.err), (5, b""))
-            tally.holds(f"order --whole {capture.name}", whole.out.startswith(b"no order found: requests "), whole.out)
-            tally.holds(f"order --whole {capture.name}", whole.out.endswith(told), whole.out)
+            tally.want(f"order --whole {capture.name}", whole, Ended(5, b"no order of whole requests found\n", b""))
         else:
             tally.want(f"order --whole {capture.name}", whole, found)
 
@@ -88,6 +85,14 @@ def lines(tally, room):
         ("overwritten", OVERWRITTEN, [], Ended(1, b"no content request 3 offset 0 in any order\n", b"")),
         ("before", BEFORE, ["--start", "zero"], Ended(1, b"no content request 1 offset 0 in any order\n", b"")),
         ("before, unknown start", BEFORE, [], Ended(0, b"1\n2\n", b"")),
+        ("three READs", NO_ORDER, ["--start", "zero"], Ended(1, b"no order explains requests 3 4 5 at offset 0\n", b"")),
+        ("three READs, --whole", NO_ORDER, ["--start", "zero", "--whole"],
+         Ended(1, b"no order explains requests 3 4 5 at offset 0\n", b"")),
+        ("torn, --whole", TORN, ["--start", "zero", "--whole"], Ended(5, b"no order of whole requests found\n", b"")),
+        ("one step", NO_ORDER, ["--start", "zero", "--steps", "1"],
+         Ended(5, b"gave up: too many steps at request 3 offset 0\n", b"")),
+        ("no state", NO_ORDER, ["--start", "zero", "--states", "0"],
+         Ended(5, b"gave up: too many states at request 3 offset 0\n", b"")),
         ("a number", ALONE, ["--steps", "x"], fault("limit", 2)),
         ("a negative number", ALONE, ["--states=-1"], fault("limit", 2)),
         ("2^64", ALONE, ["--steps", str(2**64)], fault("limit", 2)),
@@ -99,20 +104,6 @@ def lines(tally, room):
     tally.want("torn", (found.status, found.err, b" 0 1\n" in found.out), (0, b"", True))
     yes = Ended(0, b"yes requests 3 answered 3 improper 0\n", b"")
     tally.want("torn and judged", room.run("check", torn, room.put("found", found.out), "--start", "zero"), yes)
-
-
-def searches(tally, room):
-    """The line of a search that found no order or was broken off: what it names are requests and an offset of the session."""
-    for name, capture, asked, pattern in (
-        ("no order", NO_ORDER, [], rb"no order found: requests( [1-5]){2,5} at offset 0 \(searched, not proved\)\n"),
-        ("torn, whole", TORN, ["--whole"],
-         rb"no order found: requests( [1-3]){1,3} at offset [01] \(whole requests alone; searched, not proved\)\n"),
-        ("one step", NO_ORDER, ["--steps", "1"], rb"gave up: too many steps at request [0-5] offset 0\n"),
-        ("no state", NO_ORDER, ["--states", "0"], rb"gave up: too many states at request [1-5] offset 0\n"),
-    ):
-        found = room.run("order", room.put("capture", capture), "--start", "zero", *asked)
-        tally.want(f"order: {name}", (found.status, found.err), (5, b""))
-        tally.holds(f"order: {name}", re.fullmatch(pattern, found.out), found.out)
 
 
 def files(tally, room):
@@ -140,16 +131,20 @@ def files(tally, room):
 
 
 def long_search():
-    """A session of 3,000 requests on 4 KiB, 64 at a time, of ranges that overlap: its search takes more than two million steps."""
+    """A session of 3,000 requests on 4 KiB, 64 at a time, of ranges that overlap."""
     records = session(3_000, 64, 4_096, False, random.Random(3_000_064))
     return text(begun(size=4_096) + [(side.decode(), data) for side, data in records])
 
 
 def terminals(tally, room):
     """A long search says on a terminal how far it is, and takes that away; a short one says nothing. Which file could not be opened."""
-    found = on_a_terminal(room, "order", room.put("long", long_search()), "--start", "zero")
-    told = re.fullmatch(rb"(\rrequest \d+ of 3000)+\r\x1b\[K", found.err)
-    tally.holds("a long search on a terminal", told and found.status in (0, 5), found.err[-80:])
+    long = room.put("long", long_search())
+    found = on_a_terminal(room, "order", long, "--start", "zero")
+    told = re.fullmatch(rb"(\r\x1b\[K(round \d+: replaying|searching \d+ ranges))+\r\x1b\[K", found.err)
+    tally.holds("a long search on a terminal", told, found.err[-80:])
+    judged = room.run("check", long, room.put("order", found.out), "--start", "zero")
+    yes = Ended(0, b"yes requests 3000 answered 3000 improper 0\n", b"")
+    tally.want("what a long search found", (found.status, judged), (0, yes))
     capture, none = room.put("torn", TORN), room.path("none")
     found = on_a_terminal(room, "order", capture, "--start", "zero")
     tally.want("a short search on a terminal", (found.status, found.err), (0, b""))
@@ -159,7 +154,7 @@ def terminals(tally, room):
 
 def run(tally):
     with Room() as room:
-        for part in (examples, lines, searches, files, terminals):
+        for part in (examples, lines, files, terminals):
             part(tally, room)
 
 

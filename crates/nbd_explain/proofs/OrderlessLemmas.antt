@@ -21,10 +21,11 @@ use Rattle.nbd_judge.specs.internal.Captures.{HasReport}
 use Rattle.nbd_judge.specs.declared.verdict.Verdict.{Verdict}
 use Rattle.nbd_judge.specs.declared.verdict.Verdict.TheVariants as verdict
 use Rattle.nbd_judge.proofs.verdicts.ChunkLemmas.{checked}
-use Rattle.nbd_order.specs.Finding.{IsFound, Says, arrival}
-use Rattle.nbd_sources.specs.Sources.{HasNoSource, IsUnexplained}
-use Rattle.nbd_order.specs.declared.search.Found.{Found}
-use Rattle.nbd_order.specs.declared.search.Found.TheVariants.{GaveUp, Image, NoSource, Order, Refuted}
+use Rattle.nbd_order.specs.Finding.{IsFound, IsWanted, Says, arrival}
+use Rattle.nbd_order.specs.Unexplained.{IsRefutedBy, IsUnexplained}
+use Rattle.nbd_order.specs.declared.finding.Found.{Found}
+use Rattle.nbd_order.specs.declared.finding.Found.TheVariants.{GaveUp, Image, NoneWhole, Order, Unexplained}
+use Rattle.nbd_order.specs.declared.finding.Wanted.TheVariants.{Any, Whole}
 use Rattle.nbd_tool.specs.Beginnings.{IsBeginningOf, IsReadAs}
 use Rattle.nbd_tool.specs.Ends.{IsOverText}
 use Rattle.nbd_tool.specs.Ordering.{IsUnexplainedBy}
@@ -38,7 +39,7 @@ use Rattle.nbd_explain.specs.declared.answer.Answer.TheVariants.{No, Open, Yes}
 use Rattle.nbd_explain.specs.Answering.{IsAnswerTo, answer_to}
 use Rattle.nbd_explain.specs.Explained.{BeginsWithLine}
 use Rattle.nbd_explain.specs.Orderless.{IsTold, IsToldFrom, Tells}
-use Rattle.nbd_explain.specs.Orderless.IsTold.{found, gave_up, image, no_source, refuted, wire}
+use Rattle.nbd_explain.specs.Orderless.IsTold.{found, gave_up, image, unexplained, wire}
 use Rattle.nbd_explain.specs.internal.Lines.{BeginsWithLineOf, IsLineOf}
 
 -- the verdict on an order that explains a capture is a yes
@@ -52,46 +53,45 @@ yes_of capture entries initial (verdict.Content request offset) explained judged
 
 -- what was found of the report of a run, and written
 told_of : (capture : List Pair) (initial : Start) (told : Report) (beginning : Beginning) (f : Found) (first rest : List ℕ) (old new : Option (List ℕ)) → (has : HasReport capture told) →
-    IsReadAs (size_of told.export) initial beginning → IsFound told initial f → Says has.items initial f → IsLineOf told f beginning first → Appends old new (first ++ rest) → IsTold capture initial old new (answer_to f)
-told_of capture initial told beginning (Order entries) first rest old new has is_read is says is_line appended =
+    IsReadAs (size_of told.export) initial beginning → IsFound told initial f → IsWanted Any f → Says has.items initial f → IsLineOf told f beginning first → Appends old new (first ++ rest) → IsTold capture initial old new (answer_to f)
+told_of capture initial told beginning (Order entries) first rest old new has is_read is fits says is_line appended =
     let judged : IsChecked capture entries.items initial is_line.verdict =
     checked capture entries.items initial (Ok told) is_line.verdict has tt (is_line.concludes initial is_read) (λ items is_run reported. is_line.answers initial items is_read is_run reported) in
     let explained : IsExplained capture entries.items initial = subst (λ c. IsExplained c entries.items initial) has.has_pairs says in
     found entries.items is_line.verdict explained judged (yes_of capture entries.items initial is_line.verdict explained judged)
     (rest, subst (λ text. Appends old new (text ++ rest)) is_line.is_line appended)
-told_of capture initial told beginning (NoSource request offset) first rest old new has is_read is says is_line appended =
-    no_source has.items request offset has.is_run has.has_pairs (subst (λ r. HasNoSource r (start_byte initial) request offset) (sym (has.same_report has.items has.is_run has.has_pairs)) is)
+told_of capture initial told beginning (Unexplained refutation) first rest old new has is_read is fits says is_line appended =
+    unexplained has.items refutation.reads.items refutation.offset has.is_run has.has_pairs
+    (subst (λ r. IsRefutedBy r (start_byte initial) refutation.offset refutation.reads.items) (sym (has.same_report has.items has.is_run has.has_pairs)) is)
     (subst (λ c. IsUnexplained c initial) has.has_pairs says) (rest, subst (λ text. Appends old new (text ++ rest)) is_line appended)
-told_of capture initial told beginning (Image n size) first rest old new has is_read is says is_line appended =
+told_of capture initial told beginning (Image n size) first rest old new has is_read is fits says is_line appended =
     image has.items n size has.is_run has.has_pairs (subst (λ (r : Report). IsOtherSize r.export initial n size) (sym (has.same_report has.items has.is_run has.has_pairs)) is)
     (rest, subst (λ text. Appends old new (text ++ rest)) is_line appended)
-told_of capture initial told beginning (Refuted among requests offset) first rest old new has is_read is says is_line appended =
-    refuted has.items among requests.items offset has.is_run has.has_pairs (subst (λ c. IsUnexplainedBy c initial (arrival (request_count (report has.items)))) has.has_pairs says)
-    (rest, subst (λ text. Appends old new (text ++ rest)) is_line appended)
-told_of capture initial told beginning (GaveUp request offset reason) first rest old new has is_read is says is_line appended =
+told_of capture initial told beginning NoneWhole first rest old new has is_read is fits says is_line appended = absurd (cc)
+told_of capture initial told beginning (GaveUp request offset reason) first rest old new has is_read is fits says is_line appended =
     gave_up has.items request offset reason has.is_run has.has_pairs (subst (λ c. IsUnexplainedBy c initial (arrival (request_count (report has.items)))) has.has_pairs says)
     (rest, subst (λ text. Appends old new (text ++ rest)) is_line appended)
 
 -- the same, where the start may be known
 told_from : (capture : List Pair) (known : Option Start) (initial : Start) (told : Report) (beginning : Beginning) (f : Found) (first rest : List ℕ) (old new : Option (List ℕ)) → IfSome known (λ s. initial ≡ s) → (has : HasReport capture told) →
-    IsReadAs (size_of told.export) initial beginning → IsFound told initial f → Says has.items initial f → IsLineOf told f beginning first → Appends old new (first ++ rest) → IsToldFrom capture known old new (answer_to f)
-told_from capture None initial told beginning f first rest old new is_known has is_read is says is_line appended = tt
-told_from capture (Some start) initial told beginning f first rest old new is_known has is_read is says is_line appended =
-    subst (λ s. IsTold capture s old new (answer_to f)) is_known (told_of capture initial told beginning f first rest old new has is_read is says is_line appended)
+    IsReadAs (size_of told.export) initial beginning → IsFound told initial f → IsWanted Any f → Says has.items initial f → IsLineOf told f beginning first → Appends old new (first ++ rest) → IsToldFrom capture known old new (answer_to f)
+told_from capture None initial told beginning f first rest old new is_known has is_read is fits says is_line appended = tt
+told_from capture (Some start) initial told beginning f first rest old new is_known has is_read is fits says is_line appended =
+    subst (λ s. IsTold capture s old new (answer_to f)) is_known (told_of capture initial told beginning f first rest old new has is_read is fits says is_line appended)
 
 -- what the search came to is told
 pub tells : (known : Option (List ℕ)) (start : Option Start) (room : ℕ) (beginning kept : Beginning) (r : SessionView) (told : Report) (finished : Result Report SessionFault) (f : Found) (text : List ℕ) (old new : Option (List ℕ)) →
     IsOverText known r → finished ≡ Ok told → fault_of finished ≡ fault_at_end r → IfOk finished (IsReported r) → (begun : IsBeginningOf start room beginning) → IsReadAs (size_of told.export) begun.initial beginning →
-    ((n : ℕ) (initial : Start) → IsReadAs n initial beginning → IsReadAs n initial kept) → ((initial : Start) → IsReadAs (size_of told.export) initial beginning → IsFound told initial f) →
+    ((n : ℕ) (initial : Start) → IsReadAs n initial beginning → IsReadAs n initial kept) → ((initial : Start) → IsReadAs (size_of told.export) initial beginning → IsFound told initial f) → IsWanted Any f →
     ((initial : Start) (items : List Item) → IsReadAs (size_of told.export) initial beginning → IsRun items → report items ≡ told → Says items initial f) →
     BeginsWithLineOf told f kept text → Appends old new text → Tells known start (answer_to f) old new
-tells known start room beginning kept r told finished f text old new session is same reported begun is_read copied is_found says begins appended =
+tells known start room beginning kept r told finished f text old new session is same reported begun is_read copied is_found fits says begins appended =
     let has : HasReport (flat_of session.chunks) told = subst (λ o. IfOk o (HasReport (flat_of session.chunks))) is (report_over (flat_of session.chunks) r finished session.over same reported) in
     record {
       chunks = session.chunks;
       is_text = session.is_text;
       is_told = told_from (flat_of session.chunks) start begun.initial told kept f begins.first begins.explanation old new begun.is_known has
-          (copied (size_of told.export) begun.initial is_read) (is_found begun.initial is_read)
+          (copied (size_of told.export) begun.initial is_read) (is_found begun.initial is_read) fits
           (says begun.initial has.items is_read has.is_run (has.same_report has.items has.is_run has.has_pairs))
           begins.is_line (subst (Appends old new) begins.parts appended);
     }

@@ -1,8 +1,8 @@
 -- The answers of `explain`.
 use Rattle.std.specs.Prelude.{ℕ, Result, Ok, Err}
 use Rattle.nbd_judge.specs.declared.verdict.Verdict.{Verdict}
-use Rattle.nbd_order.specs.declared.search.Found.{Found}
-use Rattle.nbd_order.specs.declared.search.Found.TheVariants as found
+use Rattle.nbd_order.specs.declared.finding.Found.{Found}
+use Rattle.nbd_order.specs.declared.finding.Found.TheVariants as found
 use Rattle.nbd_tool.specs.declared.fault.RunFault.{RunFault}
 use Rattle.nbd_tool.specs.Faults.{status}
 use Rattle.nbd_tool.specs.Verdicts.{IsYes}
@@ -15,12 +15,12 @@ IsAnswerTo verdict Yes = IsYes verdict
 IsAnswerTo verdict No = IsYes verdict → ⊥
 IsAnswerTo verdict Open = ⊥
 
--- the answer to what the search for an order came to
+-- the answer to what looking for an order came to
 abbrev pub answer_to : Found → Answer
 answer_to (found.Order entries) = Yes
-answer_to (found.NoSource request offset) = No
+answer_to (found.Unexplained refutation) = No
 answer_to (found.Image image size) = No
-answer_to (found.Refuted among requests offset) = Open
+answer_to found.NoneWhole = Open
 answer_to (found.GaveUp request offset reason) = Open
 
 -- the exit status of an answer

@@ -23,7 +23,7 @@ pub record Explains (capture order : Option (List ℕ)) (initial : Option Start)
   pub answer : IsAnswerTo verdict answered
   pub begins : BeginsWithLine verdict old new
 
--- the same, where an order is given; else what the search for one came to
+-- the same, where an order is given; else what looking for one came to
 abbrev pub IsExplained : {O : Type 0} → (O → Option (List ℕ)) → Option (List ℕ) → Option O → Option Start → Answer → (old new : Option (List ℕ)) → Type 0
 IsExplained remaining capture (Some order) initial answer old new = Explains capture (remaining order) initial answer old new
 IsExplained remaining capture None initial answer old new = Tells capture initial answer old new

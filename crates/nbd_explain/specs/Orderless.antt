@@ -1,5 +1,5 @@
 -- What a run of `explain` without an order writes, where the reader and the writer state their bytes.
-use Rattle.std.specs.Prelude.{◌≡◌, ℕ, List, ◌++◌, Option, Some, None, IfSome}
+use Rattle.std.specs.Prelude.{◌≡◌, ℕ, List, ◌++◌, Option, Some, None, IfSome, codes}
 use Rattle.std.specs.Io.KnownBytes.{Appends}
 use Rattle.nbd_wire.specs.declared.entry.Entry.{Entry}
 use Rattle.nbd_wire.specs.declared.fault.WireFault.{WireFault}
@@ -17,13 +17,12 @@ use Rattle.nbd_judge.specs.Captures.{IsChecked}
 use Rattle.nbd_judge.specs.Images.{IsOtherSize}
 use Rattle.nbd_judge.specs.declared.verdict.Verdict.{Verdict}
 use Rattle.nbd_judge.specs.declared.verdict.Verdict.TheVariants.{Image, Wire}
-use Rattle.nbd_ranges.specs.declared.budget.Reason.{Reason}
-use Rattle.nbd_sources.specs.Sources.{HasNoSource, IsUnexplained}
+use Rattle.nbd_search.specs.declared.proposal.Reason.{Reason}
 use Rattle.nbd_order.specs.Finding.{arrival}
-use Rattle.nbd_order.specs.declared.search.Wanted.{Wanted}
-use Rattle.nbd_tool.specs.Ordering.{IsUnexplainedBy, gave_up_line, no_source_line, refuted_line}
+use Rattle.nbd_order.specs.Unexplained.{IsRefutedBy, IsUnexplained}
+use Rattle.nbd_tool.specs.Ordering.{IsUnexplainedBy, gave_up_line, unexplained_line}
 use Rattle.nbd_tool.specs.Runs.{flat_of}
-use Rattle.nbd_tool.specs.Verdicts.{IsYes, line}
+use Rattle.nbd_tool.specs.Verdicts.{IsYes, line, words}
 use Rattle.nbd_explain.specs.declared.answer.Answer.{Answer}
 use Rattle.nbd_explain.specs.declared.answer.Answer.TheVariants.{No, Open, Yes}
 
@@ -31,25 +30,25 @@ use Rattle.nbd_explain.specs.declared.answer.Answer.TheVariants.{No, Open, Yes}
 abbrev pub BeginsWith : List ℕ → (old new : Option (List ℕ)) → Type 0
 BeginsWith text old new = (explanation : List ℕ) × Appends old new (text ++ explanation)
 
+-- the line of the verdict on an order, and that the order was found and not given
+abbrev pub found_lines : Verdict → List ℕ
+found_lines verdict = words verdict ++ codes "\norder: found, not given; 'nbdcheck order' with the same words writes it\n"
+
 -- what was written of a capture's bytes from a start, and the answer
 pub data IsTold (capture : List Pair) (initial : Start) (old new : Option (List ℕ)) : Answer → Type 0 where
-  -- an order explains it: the line of the yes that is the verdict on that order
+  -- an order explains it: the line of the yes that is the verdict on that order, and that it was found
   found : (entries : List Entry) (verdict : Verdict) → IsExplained capture entries initial → IsChecked capture entries initial verdict → IsYes verdict
-      → BeginsWith (line verdict) old new → IsTold capture initial old new Yes
+      → BeginsWith (found_lines verdict) old new → IsTold capture initial old new Yes
   -- no run has these bytes: where and why
   wire : (messages : List Message) (at : ℕ) (fault : WireFault) → IsWireFault capture messages at fault → IsOfNoRun capture
       → BeginsWith (line (Wire at fault)) old new → IsTold capture initial old new No
   -- the image has another size than the export
   image : (items : List Item) (image size : ℕ) → IsRun items → pairs items ≡ capture → IsOtherSize (report items).export initial image size
       → BeginsWith (line (Image image size)) old new → IsTold capture initial old new No
-  -- a READ's byte that nothing can have left
-  no_source : (items : List Item) (request offset : ℕ) → IsRun items → pairs items ≡ capture
-      → HasNoSource (report items) (start_byte initial) request offset → IsUnexplained capture initial
-      → BeginsWith (no_source_line request offset) old new → IsTold capture initial old new No
-  -- what is not proved: that no order explains it. That of arrival does not
-  refuted : (items : List Item) (among : Wanted) (requests : List ℕ) (offset : ℕ) → IsRun items → pairs items ≡ capture
-      → IsUnexplainedBy capture initial (arrival (request_count (report items)))
-      → BeginsWith (refuted_line among requests offset) old new → IsTold capture initial old new Open
+  -- no order explains it: in each one of these READs has a wrong byte at this offset
+  unexplained : (items : List Item) (reads : List ℕ) (offset : ℕ) → IsRun items → pairs items ≡ capture
+      → IsRefutedBy (report items) (start_byte initial) offset reads → IsUnexplained capture initial
+      → BeginsWith (unexplained_line reads offset) old new → IsTold capture initial old new No
   -- the search was broken off
   gave_up : (items : List Item) (request offset : ℕ) (reason : Reason) → IsRun items → pairs items ≡ capture
       → IsUnexplainedBy capture initial (arrival (request_count (report items)))

@@ -14,7 +14,7 @@ pub enum Answer {
     Yes,
     /// The order that was given does not explain it, or none does: what was written says why.
     No,
-    /// No order was given, and the search found none, which is not proved, or was broken off.
+    /// No order was given, and the search for one was broken off.
     Open,
 }
 
@@ -41,13 +41,13 @@ pub fn verdict_answer(verdict: &Verdict) -> Answer
     }
 }
 
-/// Yes where an order was found, no where there is none, and open where the search found none.
+/// Yes where an order was found, no where there is none, and open where that is not proved.
 pub fn found_answer(found: &Found) -> Answer
     ensures { result ≡ answer_to found.now }
 {
     match found {
         Found::Order(_) => Answer::Yes,
-        Found::NoSource { .. } | Found::Image { .. } => Answer::No,
-        Found::Refuted { .. } | Found::GaveUp { .. } => Answer::Open,
+        Found::Unexplained(_) | Found::Image { .. } => Answer::No,
+        Found::NoneWhole | Found::GaveUp { .. } => Answer::Open,
     }
 }

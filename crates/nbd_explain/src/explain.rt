@@ -12,7 +12,7 @@ use crate::explanation::Recorded;
 use crate::reading::recorded_over;
 use crate::searching::explain_by_search;
 use crate::writing::{copy_of, write_explained};
-use nbd_segments::Limits;
+use nbd_search::Limits;
 use nbd_session::Session;
 use nbd_story::Story;
 use nbd_tool::{Progress, RunFault, StartFrom, conclude_from, read_order, read_start, room_of};
@@ -21,8 +21,8 @@ use std::io::{BufRead, Read, Write};
 
 /// Reads a capture text to its end, then an order text and an image, if there are such; writes the line that
 /// `check` writes, and behind it why the answer is no. Without an order it looks for one within these limits: it
-/// writes the line that `check` writes of the order that was found, or that with which `order` says that it found
-/// none, and behind it what that says.
+/// writes the line that `check` writes of the order that was found, or that with which `order` says that there is none or
+/// that it found none, and behind it what that says.
 ///
 /// Nothing is written unless all were read whole and are well formed. After `Write` some of it may stand written. A
 /// long search says on `progress` how far it is.

@@ -1,9 +1,9 @@
-//! What the search for an order came to, in words.
+//! What looking for an order came to, in words.
 
 use crate::explanation::{Sources, add_image};
-use crate::source::add_no_source;
+use crate::refutation::add_refutation;
 use nbd_order::Found;
-use nbd_segments::Reason;
+use nbd_search::Reason;
 use nbd_wire::Entry;
 use std::alloc::{AllocError, Global};
 
@@ -16,11 +16,11 @@ pub fn found_explanation(
     let mut text = String::new(alloc);
     match found {
         Found::Order(entries) => add_found(&mut text, entries)?,
-        Found::NoSource { request, offset } => {
-            add_no_source(alloc, &mut text, *request, *offset, sources)?;
+        Found::Unexplained(refutation) => {
+            add_refutation(alloc, &mut text, refutation, sources)?;
         }
         Found::Image { image, size } => add_image(&mut text, *image, *size)?,
-        Found::Refuted { .. } => add_open(&mut text)?,
+        Found::NoneWhole => add_open(&mut text)?,
         Found::GaveUp { reason, .. } => {
             add_open(&mut text)?;
             add_limits(&mut text, *reason)?;
@@ -29,14 +29,10 @@ pub fn found_explanation(
     Ok(text)
 }
 
-// What an order is worth that was found.
+// What an order is worth that was found: behind the lines that say so.
 fn add_found(text: &mut String, order: &[Entry]) -> Result<(), AllocError> {
     let count = order.len();
     let parts = order.iter().filter(|entry| entry.part.is_some()).count();
-    writeln!(
-        text,
-        "order: found, not given; 'nbdcheck order' with the same words writes it"
-    )?;
     writeln!(text, "entries: {count}, of which {parts} are parts")?;
     writeln!(
         text,
@@ -48,13 +44,18 @@ fn add_found(text: &mut String, order: &[Entry]) -> Result<(), AllocError> {
         at 4, 16 and 64 requests outstanding, on an export of 1 KiB"
     )?;
     writeln!(text, "stronger: an order that the server logged")?;
+    add_assumed(text)
+}
+
+/// Adds on what an answer without an order rests.
+pub fn add_assumed(text: &mut String) -> Result<(), AllocError> {
     writeln!(
         text,
         "assumes: the start is right, this is the only connection, a request takes effect before its first reply"
     )
 }
 
-// What a search is worth that found no order.
+// What a search is worth that was broken off.
 fn add_open(text: &mut String) -> Result<(), AllocError> {
     writeln!(
         text,
@@ -68,7 +69,7 @@ fn add_limits(text: &mut String, reason: Reason) -> Result<(), AllocError> {
     let option = match reason {
         Reason::States => "--states",
         Reason::Steps => "--steps",
-        Reason::Tables => return Ok(()),
+        Reason::Mistake => return Ok(()),
     };
     writeln!(
         text,

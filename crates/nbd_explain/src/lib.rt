@@ -11,6 +11,7 @@ mod found;
 mod listing;
 mod order;
 mod reading;
+mod refutation;
 mod related;
 mod searching;
 mod source;

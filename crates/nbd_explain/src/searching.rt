@@ -17,7 +17,7 @@ use crate::writing::{copy_of, write_explained};
 use nbd_capture::write_whole;
 use nbd_judge::Verdict;
 use nbd_order::{Found, Scope, Wanted};
-use nbd_segments::Limits;
+use nbd_search::Limits;
 use nbd_session::{Session, SessionFault, Transcript};
 use nbd_tool::{
     Beginning, Line, Progress, RunFault, StartFrom, conclude_from, find_order, found_text_of,
@@ -85,7 +85,7 @@ fn text_of(
     Ok(format!(in alloc; "{}{}", line, explanation)?)
 }
 
-// The line of what was found: of an order that of the verdict on it.
+// The line of what was found: of an order that of the verdict on it, and that it was found.
 fn line_of(
     alloc: Global,
     transcript: Transcript,
@@ -97,7 +97,10 @@ fn line_of(
     match found {
         Found::Order(entries) => {
             let verdict = conclude_from(alloc, Ok(transcript), entries, start)?;
-            Ok(format!(in alloc; "{}\n", Line { verdict })?)
+            Ok(format!(in alloc;
+                "{}\norder: found, not given; 'nbdcheck order' with the same words writes it\n",
+                Line { verdict }
+            )?)
         }
         _ => found_text_of(alloc, found),
     }

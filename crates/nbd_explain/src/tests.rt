@@ -1,7 +1,7 @@
 //! What the commands write of a small session. tools/test_explain.py has the others.
 
 use crate::{explain_status, run_arrival, run_explain, run_names};
-use nbd_segments::Limits;
+use nbd_search::Limits;
 use nbd_tool::{Progress, StartFrom, exit_status};
 use std::alloc::Global;
 use std::test::Fail;

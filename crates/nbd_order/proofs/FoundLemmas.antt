@@ -4,8 +4,10 @@ use Rattle.std.proofs.lemmas.List.Elements.{All-append, All-cons, All-nil}
 use Rattle.nbd_wire.specs.declared.entry.Entry.{Entry}
 use Rattle.nbd_wire.specs.protocol.Entries.{whole}
 use Rattle.nbd_wire.specs.protocol.Explains.{FitsImage, Image, Start, Unknown, Zeroes}
+use Rattle.nbd_wire.specs.protocol.Marks.{Item}
 use Rattle.nbd_wire.specs.protocol.Operations.{Exporting}
 use Rattle.nbd_wire.specs.protocol.Reports.{Report, report}
+use Rattle.nbd_wire.specs.protocol.Rules.{IsRun}
 use Rattle.nbd_wire.specs.protocol.Verdicts.{Passes, answered_count, improper_count, request_count}
 use Rattle.nbd_laws.specs.Explaining.{ExplainedPasses, PassingIsExplained}
 use Rattle.nbd_judge.specs.Images.{IsOtherSize}
@@ -13,15 +15,13 @@ use Rattle.nbd_judge.specs.Uniqueness.{OneVerdict}
 use Rattle.nbd_judge.specs.Verdicts.{IsVerdict}
 use Rattle.nbd_judge.specs.declared.verdict.Verdict.{Verdict}
 use Rattle.nbd_judge.specs.declared.verdict.Verdict.TheVariants.{Yes}
-use Rattle.nbd_wire.specs.protocol.Marks.{Item}
-use Rattle.nbd_wire.specs.protocol.Rules.{IsRun}
-use Rattle.nbd_order.specs.declared.search.Found.{Found}
-use Rattle.nbd_order.specs.declared.search.Wanted.{Wanted}
-use Rattle.nbd_order.specs.declared.search.Wanted.TheVariants.{Any, Whole}
-use Rattle.nbd_order.specs.Finding.{AreWhole, FoundIsSo, IsFound, IsProposed, IsWanted, IsWantedOrder, Says, arrival}
+use Rattle.nbd_order.specs.declared.finding.Found.{Found}
+use Rattle.nbd_order.specs.declared.finding.Found.TheVariants.{GaveUp, Image as FoundImage, NoneWhole, Order, Unexplained}
+use Rattle.nbd_order.specs.declared.finding.Wanted.{Wanted}
+use Rattle.nbd_order.specs.declared.finding.Wanted.TheVariants.{Any, Whole}
+use Rattle.nbd_order.specs.Finding.{AreWhole, FailsArrival, FoundIsSo, IsFound, IsWanted, IsWantedOrder, Says, arrival}
+use Rattle.nbd_order.specs.Unexplained.{RefutedIsUnexplained}
 use Rattle.nbd_order.specs.internal.Proposals.{IsOpen}
-use Rattle.nbd_sources.specs.Sources.{NoSourceNoOrder}
-use Rattle.nbd_order.specs.declared.search.Found.TheVariants.{GaveUp, Image as FoundImage, NoSource, Order, Refuted}
 
 other_size_fits : (export : Option Exporting) (initial : Start) (image size : ℕ) → IsOtherSize export initial image size → FitsImage export initial → ⊥
 other_size_fits (Some export) (Image bytes) image size o f = o.2 f
@@ -29,12 +29,12 @@ other_size_fits (Some export) Unknown image size o f = o
 other_size_fits (Some export) Zeroes image size o f = o
 other_size_fits None initial image size o f = o
 
-pub found_is_so : PassingIsExplained → ExplainedPasses → NoSourceNoOrder → FoundIsSo
+pub found_is_so : PassingIsExplained → ExplainedPasses → RefutedIsUnexplained → FoundIsSo
 found_is_so passing only refuted items initial (Order order) is_run found = passing items order.items initial is_run found
-found_is_so passing only refuted items initial (NoSource request offset) is_run found = refuted items initial request offset is_run found
+found_is_so passing only refuted items initial (Unexplained refutation) is_run found = refuted items initial refutation.offset refutation.reads.items is_run found
 found_is_so passing only refuted items initial (FoundImage image size) is_run found = λ order explained.
     other_size_fits (report items).export initial image size found (only items order initial is_run explained).fits_image
-found_is_so passing only refuted items initial (Refuted among requests offset) is_run found = λ explained.
+found_is_so passing only refuted items initial NoneWhole is_run found = λ explained.
     found (only items (arrival (request_count (report items))) initial is_run explained)
 found_is_so passing only refuted items initial (GaveUp request offset reason) is_run found = λ explained.
     found (only items (arrival (request_count (report items))) initial is_run explained)
@@ -54,40 +54,25 @@ does_not_pass one r order initial v h other p =
 pub says_of : FoundIsSo → (r : Report) (initial : Start) (found : Found) → IsFound r initial found → (items : List Item) → IsRun items → report items ≡ r → Says items initial found
 says_of law r initial found f items is_run same = law items initial found is_run (subst (λ q. IsFound q initial found) (sym same) f)
 
--- what a search answers, where the order of arrival does not explain the report
-pub found_of : (r : Report) (initial : Start) (f : Found) → (Passes r (arrival (request_count r)) initial → ⊥) → IsProposed r initial f → IsFound r initial f
-found_of r initial (Order order) refuted proposed = proposed
-found_of r initial (NoSource request offset) refuted proposed = absurd proposed
-found_of r initial (FoundImage image size) refuted proposed = absurd proposed
-found_of r initial (Refuted among requests offset) refuted proposed = refuted
-found_of r initial (GaveUp request offset reason) refuted proposed = refuted
-
--- an answer that is not proved is one that a search may give, whatever is wanted
-pub open_proposed : (r : Report) (initial : Start) (f : Found) → IsOpen f → IsProposed r initial f
-open_proposed r initial (Order order) is = absurd is
-open_proposed r initial (NoSource request offset) is = absurd is
-open_proposed r initial (FoundImage image size) is = absurd is
-open_proposed r initial (Refuted among requests offset) is = tt
-open_proposed r initial (GaveUp request offset reason) is = tt
+-- an answer that is not proved may be given where the order of arrival does not explain the report, whatever is wanted
+pub open_found : (r : Report) (initial : Start) (f : Found) → IsOpen f → FailsArrival r initial → IsFound r initial f
+open_found r initial (Order order) is fails = absurd is
+open_found r initial (Unexplained refutation) is fails = absurd is
+open_found r initial (FoundImage image size) is fails = absurd is
+open_found r initial NoneWhole is fails = absurd is
+open_found r initial (GaveUp request offset reason) is fails = fails
 
 pub open_wanted : (wanted : Wanted) (f : Found) → IsOpen f → IsWanted wanted f
 open_wanted wanted (Order order) is = absurd is
-open_wanted wanted (NoSource request offset) is = absurd is
+open_wanted wanted (Unexplained refutation) is = absurd is
 open_wanted wanted (FoundImage image size) is = absurd is
-open_wanted wanted (Refuted among requests offset) is = tt
+open_wanted wanted NoneWhole is = absurd is
 open_wanted wanted (GaveUp request offset reason) is = tt
 
-whole_wanted : (wanted : Wanted) (order : List Entry) → AreWhole order → IsWantedOrder wanted order
+-- an order of whole requests is wanted, whatever is
+pub whole_wanted : (wanted : Wanted) (order : List Entry) → AreWhole order → IsWantedOrder wanted order
 whole_wanted Whole order are = are
 whole_wanted Any order are = tt
-
--- what is wanted where orders of whole requests are is wanted where any are
-pub wanted_of : (wanted : Wanted) (f : Found) → IsWanted Whole f → IsWanted wanted f
-wanted_of wanted (Order order) is = whole_wanted wanted order.items is
-wanted_of wanted (NoSource request offset) is = tt
-wanted_of wanted (FoundImage image size) is = tt
-wanted_of wanted (Refuted among requests offset) is = tt
-wanted_of wanted (GaveUp request offset reason) is = tt
 
 -- each entry of the order of arrival is whole
 pub arrival_whole : (n : ℕ) → AreWhole (arrival n)

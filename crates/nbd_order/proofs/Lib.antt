@@ -1,1 +1,7 @@
 pub mod FoundLemmas
+pub mod NumberLemmas
+pub mod OffsetLemmas
+pub mod RefutationLemmas
+pub mod ServiceLemmas
+pub mod StateLemmas
+pub mod TouchLemmas

@@ -1,4 +1,4 @@
--- What the search for an order answers.
+-- What is answered where an order is looked for.
 use Rattle.std.specs.Prelude.{◌≡◌, ℕ, zero, suc, List, [], ◌∷◌, ◌++◌, All, None}
 use Rattle.nbd_wire.specs.declared.entry.Entry.{Entry}
 use Rattle.nbd_wire.specs.protocol.Entries.{whole}
@@ -8,11 +8,11 @@ use Rattle.nbd_wire.specs.protocol.Reports.{Report, report}
 use Rattle.nbd_wire.specs.protocol.Rules.{IsRun}
 use Rattle.nbd_wire.specs.protocol.Verdicts.{Passes, request_count}
 use Rattle.nbd_judge.specs.Images.{IsOtherSize}
-use Rattle.nbd_order.specs.declared.search.Found.{Found}
-use Rattle.nbd_order.specs.declared.search.Wanted.{Wanted}
-use Rattle.nbd_order.specs.declared.search.Wanted.TheVariants.{Any, Whole}
-use Rattle.nbd_order.specs.declared.search.Found.TheVariants.{GaveUp, Image, NoSource, Order, Refuted}
-use Rattle.nbd_sources.specs.Sources.{HasNoSource, IsUnexplained}
+use Rattle.nbd_order.specs.declared.finding.Found.{Found}
+use Rattle.nbd_order.specs.declared.finding.Found.TheVariants.{GaveUp, Image, NoneWhole, Order, Unexplained}
+use Rattle.nbd_order.specs.declared.finding.Wanted.{Wanted}
+use Rattle.nbd_order.specs.declared.finding.Wanted.TheVariants.{Any, Whole}
+use Rattle.nbd_order.specs.Unexplained.{IsRefutedBy, IsUnexplained}
 
 -- the order of arrival: each of so many requests at once, by number
 abbrev pub arrival : ℕ → List Entry
@@ -28,38 +28,38 @@ abbrev pub IsWantedOrder : Wanted → List Entry → Type 0
 IsWantedOrder Any order = Unit {0}
 IsWantedOrder Whole order = AreWhole order
 
--- the same of what is found
+-- the same of what is found; that none is whole is said only where one of whole requests is wanted
 abbrev pub IsWanted : Wanted → Found → Type 0
 IsWanted wanted (Order order) = IsWantedOrder wanted order.items
-IsWanted wanted (NoSource request offset) = Unit {0}
+IsWanted wanted (Unexplained refutation) = Unit {0}
 IsWanted wanted (Image image size) = Unit {0}
-IsWanted wanted (Refuted among requests offset) = Unit {0}
+IsWanted wanted NoneWhole = wanted ≡ Whole
 IsWanted wanted (GaveUp request offset reason) = Unit {0}
 
--- what is said of a report: an order without a fault and without a wrong byte, a READ's byte without a source, an image of another
--- size; or what is not proved, and then at least the order of arrival does not explain it
+-- the order of arrival has a fault or a wrong byte
+abbrev pub FailsArrival : Report → Start → Type 0
+FailsArrival r initial = Passes r (arrival (request_count r)) initial → ⊥
+
+-- what is said of a report: an order without a fault and without a wrong byte, READs of which one has a wrong byte in each order
+-- without a fault, or an image of another size; of every other answer only that the order of arrival does not explain it
 abbrev pub IsFound : Report → Start → Found → Type 0
 IsFound r initial (Order order) = Passes r order.items initial
-IsFound r initial (NoSource request offset) = HasNoSource r (start_byte initial) request offset
+IsFound r initial (Unexplained refutation) = IsRefutedBy r (start_byte initial) refutation.offset refutation.reads.items
 IsFound r initial (Image image size) = IsOtherSize r.export initial image size
-IsFound r initial (Refuted among requests offset) = Passes r (arrival (request_count r)) initial → ⊥
-IsFound r initial (GaveUp request offset reason) = Passes r (arrival (request_count r)) initial → ⊥
+IsFound r initial NoneWhole = FailsArrival r initial
+IsFound r initial (GaveUp request offset reason) = FailsArrival r initial
 
--- what a search answers: an order without a fault and without a wrong byte, or what is not proved
-abbrev pub IsProposed : Report → Start → Found → Type 0
-IsProposed r initial (Order order) = Passes r order.items initial
-IsProposed r initial (NoSource request offset) = ⊥
-IsProposed r initial (Image image size) = ⊥
-IsProposed r initial (Refuted among requests offset) = Unit {0}
-IsProposed r initial (GaveUp request offset reason) = Unit {0}
+-- the order of arrival does not explain the bytes of a run
+abbrev pub IsUnexplainedByArrival : List Item → Start → Type 0
+IsUnexplainedByArrival items initial = IsExplained (pairs items) (arrival (request_count (report items))) initial → ⊥
 
 -- what that says of the bytes of a run with this report: the order explains them, or no order does, or at least that of arrival does not
 abbrev pub Says : List Item → Start → Found → Type 0
 Says items initial (Order order) = IsExplained (pairs items) order.items initial
-Says items initial (NoSource request offset) = IsUnexplained (pairs items) initial
+Says items initial (Unexplained refutation) = IsUnexplained (pairs items) initial
 Says items initial (Image image size) = IsUnexplained (pairs items) initial
-Says items initial (Refuted among requests offset) = IsExplained (pairs items) (arrival (request_count (report items))) initial → ⊥
-Says items initial (GaveUp request offset reason) = IsExplained (pairs items) (arrival (request_count (report items))) initial → ⊥
+Says items initial NoneWhole = IsUnexplainedByArrival items initial
+Says items initial (GaveUp request offset reason) = IsUnexplainedByArrival items initial
 
 -- what is found of the report of a run is so of its bytes
 abbrev pub FoundIsSo : Type 0

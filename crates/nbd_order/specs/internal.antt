@@ -1,1 +1,3 @@
+pub mod Offsets
 pub mod Proposals
+pub mod Refutations

@@ -1,14 +1,21 @@
-//! A law over the definitions: it is the contract of a function that does nothing.
+//! Laws over the definitions: each is the contract of a function that does nothing.
 
 ghost use Rattle.nbd_order.specs.Finding.{FoundIsSo};
+ghost use Rattle.nbd_order.specs.Unexplained.{RefutedIsUnexplained};
 
 use nbd_laws::laws::explained_exactly;
-use nbd_sources::laws::no_source_no_order;
+
+/// Where the report of a session is refuted by some of its READs, no order explains the session, in parts or whole.
+pub fn refuted_is_unexplained()
+    ensures { RefutedIsUnexplained }
+{
+    explained_exactly();
+}
 
 /// What is found of the report of a run is so of its bytes.
 pub fn found_is_so()
     ensures { FoundIsSo }
 {
     explained_exactly();
-    no_source_no_order();
+    refuted_is_unexplained();
 }

@@ -1,11 +1,15 @@
-//! An order of service that explains a session, where none was given.
+//! An order of service that explains a session, or the proof that none does.
 #![tactic(auto)]
 
+pub mod finding;
 mod guess;
 mod judging;
 pub mod laws;
-pub mod search;
+mod offsets;
+pub mod refuting;
+mod states;
 #[cfg(test)]
 mod tests;
 
-pub use search::{Found, Scope, Wanted, advance, find, settled};
+pub use finding::{Found, Scope, Wanted, find};
+pub use refuting::is_refuted;

@@ -1,11 +1,8 @@
-//! Sessions, and the orders that are found for them.
+//! Sessions, and what is found for them.
 
 mod brute;
-mod brute_wholes;
-mod cases;
 mod dice;
-mod finds;
 mod random;
 mod recordings;
+mod refutations;
 mod server;
-mod wholes;

@@ -1,13 +1,18 @@
 -- What a run of `order` writes.
-use Rattle.std.proofs.Common.{◌≡◌, ℕ, List, ◌<◌, ap, sym, subst, Option, Some, None, Result, Ok, Err, IfOk, IfErr, IfSome, length, arith}
+use Rattle.std.proofs.Common.{◌≡◌, ℕ, List, [], ◌∷◌, ◌++◌, ◌<◌, ◌≤◌, ap, refl, sym, subst, Option, Some, None, Result, Ok, Err, IfOk, IfErr, IfSome, length, slice_index, slice_get, inl, inr, arith}
+use Rattle.std.specs.Prelude.{codes}
+use Rattle.std.specs.Fmt.{decimal}
 use Rattle.std.specs.Io.KnownBytes.{Appends}
+use Rattle.nbd_wire.specs.declared.entry.Entry.{Entry}
 use Rattle.nbd_wire.specs.declared.fault.WireFault.{WireFault}
 use Rattle.nbd_wire.specs.protocol.Captures.{Pair}
-use Rattle.nbd_wire.specs.protocol.Explains.{IsExplained, start_byte}
+use Rattle.nbd_wire.specs.protocol.Explains.{FitsImage, Image, IsExplained, Start, start_byte}
 use Rattle.nbd_wire.specs.protocol.Marks.{Item, pairs}
 use Rattle.nbd_wire.specs.protocol.Reports.{Report, report}
 use Rattle.nbd_wire.specs.protocol.Rules.{IsRun}
-use Rattle.nbd_wire.specs.protocol.Verdicts.{request_count}
+use Rattle.nbd_wire.specs.protocol.Verdicts.{Passes, request_count}
+use Rattle.nbd_laws.specs.Soundness.{IsSoundReport}
+use Rattle.nbd_judge.proofs.contents.StartLemmas.{no_export}
 use Rattle.nbd_session.specs.declared.fault.SessionFault.{SessionFault}
 use Rattle.nbd_session.specs.declared.fault.SessionFault.TheVariants.{Wire}
 use Rattle.nbd_session.specs.Refusals.{EndsIn}
@@ -17,20 +22,19 @@ use Rattle.nbd_judge.specs.Captures.{IsFaultOf}
 use Rattle.nbd_judge.specs.internal.Captures.{HasReport}
 use Rattle.nbd_judge.specs.declared.verdict.Verdict.TheVariants as verdict
 use Rattle.nbd_order.specs.Finding.{IsFound, IsWanted, Says, arrival}
-use Rattle.nbd_sources.specs.Sources.{HasNoSource, IsUnexplained}
-use Rattle.nbd_order.specs.declared.search.Found.{Found}
-use Rattle.nbd_order.specs.declared.search.Found.TheVariants as found
-use Rattle.nbd_order.specs.declared.search.Wanted.{Wanted}
+use Rattle.nbd_order.specs.Unexplained.{IsRefutedBy, IsUnexplained}
+use Rattle.nbd_order.specs.declared.finding.Found.{Found}
+use Rattle.nbd_order.specs.declared.finding.Found.TheVariants as found
+use Rattle.nbd_order.specs.declared.finding.Wanted.{Wanted}
 use Rattle.nbd_tool.specs.Ends.{IsOverText}
-use Rattle.nbd_tool.specs.Ordering.{IsOrdered, IsOrderedFrom, IsUnexplainedBy, Orders, entry_lines, found_text, no_source_line, ordered_of}
-use Rattle.nbd_tool.specs.Ordering.IsOrdered.{gave_up, image, no_source, order, refuted, wire}
+use Rattle.nbd_tool.specs.Ordering.{IsOrdered, IsOrderedFrom, IsUnexplainedBy, Orders, entry_lines, found_text, ordered_of, spaced_numbers, unexplained_line}
+use Rattle.nbd_tool.specs.Ordering.IsOrdered.{gave_up, image, none_whole, order, unexplained, wire}
 use Rattle.nbd_tool.specs.declared.ordering.Ordered.TheVariants.{Refuted}
 use Rattle.nbd_tool.specs.declared.start.Beginning.{Beginning}
 use Rattle.nbd_tool.specs.Beginnings.{IsBeginningOf}
 use Rattle.nbd_tool.specs.Runs.{flat_of}
-use Rattle.nbd_tool.specs.Verdicts.{line}
+use Rattle.nbd_tool.specs.Verdicts.{line, words}
 use Rattle.nbd_tool.proofs.OverLemmas.{fault_over, report_over}
-use Rattle.nbd_wire.specs.protocol.Explains.{Image, Start}
 use Rattle.nbd_wire.specs.protocol.Operations.{Exporting}
 use Rattle.nbd_state.specs.Transcripts.{size_and_flags}
 use Rattle.nbd_judge.specs.Images.{IsOtherSize}
@@ -47,18 +51,41 @@ counted_other (Some e) initial n size flags q h =
     subst (λ i. IsOtherSize (Some e) i n size) (sym h.1)
     (h.2, same, λ z. (let more : e.size < n = h.3 in let is : n ≡ length h.0 = h.2 in absurd (omega (arith, z, more, is))))
 
+-- without an export there is no request, and the empty order passes
+pub nothing_passes : (r : Report) (initial : Start) → IsSoundReport r → None ≡ size_and_flags r.export → Passes r [] initial
+nothing_passes r initial sound none =
+    let without : r.export ≡ None = no_export r.export none in
+    let nobody : length r.asked ≡ 0 = ap length (sound.none without) in
+    record {
+      faultless = record {
+        none_bad = λ i bad. elim bad [
+          | inl e ↦ nothing_at i e.0 e.1
+          | inr (inl e) ↦ nothing_at i e.0 e.1
+          | inr (inr e) ↦ nothing_at i e.0 e.1
+        ];
+        none_late = λ i late. (let l : late.0 < 0 = late.3 in absurd (omega arith));
+        served = λ k started. (let l : 0 < k = started.0 in let m : k ≤ length r.asked = started.1 in absurd (omega arith));
+      };
+      fits_image = subst (λ e. FitsImage e initial) (sym without) tt;
+      reads = λ i x wrong. nothing_at i wrong.0 wrong.1;
+    }
+  where
+    nothing_at : (i : ℕ) (e : Entry) → slice_get [] i ≡ Some e → ⊥
+    nothing_at i e at = absurd (cc)
+
 -- what was found of the report of a run, and written
 ordered : (capture : List Pair) (initial : Start) (wanted : Wanted) (told : Report) (items : List Item) (f : Found) (old new : Option (List ℕ)) → IsRun items → pairs items ≡ capture → report items ≡ told →
     IsFound told initial f → IsWanted wanted f → Says items initial f → Appends old new (found_text f) → IsOrdered capture initial wanted old new (ordered_of f)
 ordered capture initial wanted told items (found.Order entries) old new is_run has same is fits says appended =
     order entries.items (subst (λ c. IsExplained c entries.items initial) has says) fits appended
-ordered capture initial wanted told items (found.NoSource request offset) old new is_run has same is fits says appended =
-    no_source items request offset is_run has (subst (λ r. HasNoSource r (start_byte initial) request offset) (sym same) is)
+ordered capture initial wanted told items (found.Unexplained refutation) old new is_run has same is fits says appended =
+    unexplained items refutation.reads.items refutation.offset is_run has
+    (subst (λ r. IsRefutedBy r (start_byte initial) refutation.offset refutation.reads.items) (sym same) is)
     (subst (λ c. IsUnexplained c initial) has says) appended
 ordered capture initial wanted told items (found.Image n size) old new is_run has same is fits says appended =
     image items n size is_run has (subst (λ (r : Report). IsOtherSize r.export initial n size) (sym same) is) appended
-ordered capture initial wanted told items (found.Refuted among requests offset) old new is_run has same is fits says appended =
-    refuted items among requests.items offset is_run has (subst (λ c. IsUnexplainedBy c initial (arrival (request_count (report items)))) has says) appended
+ordered capture initial wanted told items found.NoneWhole old new is_run has same is fits says appended =
+    none_whole items fits is_run has (subst (λ c. IsUnexplainedBy c initial (arrival (request_count (report items)))) has says) appended
 ordered capture initial wanted told items (found.GaveUp request offset reason) old new is_run has same is fits says appended =
     gave_up items request offset reason is_run has (subst (λ c. IsUnexplainedBy c initial (arrival (request_count (report items)))) has says) appended
 
@@ -97,3 +124,15 @@ pub refuses : (known : Option (List ℕ)) (start : Option Start) (wanted : Wante
 refuses known start wanted r at fault finished old new session is same ends appended =
     let why = subst (λ o. IfErr o (IsFaultOf (flat_of session.chunks))) is (fault_over (flat_of session.chunks) r finished session.over same ends) in
     record { chunks = session.chunks; is_text = session.is_text; is_ordered = wired (flat_of session.chunks) start wanted at fault old new why appended }
+
+-- the line of one READ, and that of another count of them
+pub one_line : (reads : List ℕ) (offset : ℕ) → length reads ≡ 1 → words (verdict.Content (slice_index reads 0) offset) ++ codes " in any order\n" ≡ unexplained_line reads offset
+one_line [] offset h = absurd (omega arith)
+one_line (request ∷ []) offset h = refl
+one_line (request ∷ more ∷ reads) offset h = absurd (omega arith)
+
+pub several_line : (reads : List ℕ) (offset : ℕ) → (length reads ≡ 1 → ⊥)
+    → codes "no order explains requests" ++ (spaced_numbers reads ++ (codes " at offset " ++ (decimal offset ++ codes "\n"))) ≡ unexplained_line reads offset
+several_line [] offset h = refl
+several_line (request ∷ []) offset h = absurd (h refl)
+several_line (request ∷ more ∷ reads) offset h = refl

@@ -19,14 +19,14 @@ use Rattle.nbd_session.specs.Refusals.{IsWireFault}
 use Rattle.nbd_judge.specs.Images.{IsOtherSize}
 use Rattle.nbd_judge.specs.declared.verdict.Verdict.TheVariants.{Wire}
 use Rattle.nbd_judge.specs.declared.verdict.Verdict.TheVariants as verdict
+use Rattle.nbd_search.specs.declared.proposal.Reason.{Reason}
+use Rattle.nbd_search.specs.declared.proposal.Reason.TheVariants.{Mistake, States, Steps}
 use Rattle.nbd_order.specs.Finding.{IsWantedOrder, arrival}
-use Rattle.nbd_sources.specs.Sources.{HasNoSource, IsUnexplained}
-use Rattle.nbd_order.specs.declared.search.Found.{Found}
-use Rattle.nbd_order.specs.declared.search.Found.TheVariants as found
-use Rattle.nbd_order.specs.declared.search.Wanted.{Wanted}
-use Rattle.nbd_order.specs.declared.search.Wanted.TheVariants.{Any, Whole}
-use Rattle.nbd_ranges.specs.declared.budget.Reason.{Reason}
-use Rattle.nbd_ranges.specs.declared.budget.Reason.TheVariants.{States, Steps, Tables}
+use Rattle.nbd_order.specs.Unexplained.{IsRefutedBy, IsUnexplained}
+use Rattle.nbd_order.specs.declared.finding.Found.{Found}
+use Rattle.nbd_order.specs.declared.finding.Found.TheVariants as found
+use Rattle.nbd_order.specs.declared.finding.Wanted.{Wanted}
+use Rattle.nbd_order.specs.declared.finding.Wanted.TheVariants.{Whole}
 use Rattle.nbd_tool.specs.declared.fault.RunFault.{RunFault}
 use Rattle.nbd_tool.specs.declared.fault.RunFault.TheVariants.{ImageRead, Memory, Write}
 use Rattle.nbd_tool.specs.declared.ordering.Ordered.{Ordered}
@@ -41,29 +41,25 @@ use Rattle.nbd_tool.specs.Verdicts.{line, words}
 abbrev pub entry_lines : List Entry → List ℕ
 entry_lines entries = flat_map (λ (e : Entry). entry_text e ++ line_feed ∷ []) entries
 
--- the line of a READ's byte that nothing can have left
-abbrev pub no_source_line : (request offset : ℕ) → List ℕ
-no_source_line request offset = words (verdict.Content request offset) ++ codes " in any order\n"
-
--- what is said of a search that tried all orders, which is not proved
-abbrev pub searched : Wanted → List ℕ
-searched Any = codes " (searched, not proved)\n"
-searched Whole = codes " (whole requests alone; searched, not proved)\n"
-
 -- numbers, each behind a space
 abbrev pub spaced_numbers : List ℕ → List ℕ
 spaced_numbers numbers = flat_map (λ n. codes " " ++ decimal n) numbers
 
--- the line of requests that have no order at an offset
-abbrev pub refuted_line : Wanted → (requests : List ℕ) → (offset : ℕ) → List ℕ
-refuted_line among requests offset = codes "no order found: requests" ++ (spaced_numbers requests ++ (codes " at offset " ++
-    (decimal offset ++ searched among)))
+-- the line of READs of which each order has one wrong at this offset
+abbrev pub unexplained_line : (reads : List ℕ) → (offset : ℕ) → List ℕ
+unexplained_line (request ∷ []) offset = words (verdict.Content request offset) ++ codes " in any order\n"
+unexplained_line reads offset = codes "no order explains requests" ++ (spaced_numbers reads ++ (codes " at offset " ++
+    (decimal offset ++ codes "\n")))
+
+-- the line of an order in parts where one of whole requests is wanted
+abbrev pub none_whole_line : List ℕ
+none_whole_line = codes "no order of whole requests found\n"
 
 -- why a search was broken off
 abbrev pub reason_words : Reason → List ℕ
 reason_words States = codes "too many states"
 reason_words Steps = codes "too many steps"
-reason_words Tables = codes "a mistake of its own"
+reason_words Mistake = codes "a mistake of its own"
 
 -- the line of a search that was broken off
 abbrev pub gave_up_line : (request offset : ℕ) → Reason → List ℕ
@@ -73,17 +69,17 @@ gave_up_line request offset reason = codes "gave up: " ++ (reason_words reason +
 -- the text of what was found
 abbrev pub found_text : Found → List ℕ
 found_text (found.Order entries) = entry_lines entries.items
-found_text (found.NoSource request offset) = no_source_line request offset
+found_text (found.Unexplained refutation) = unexplained_line refutation.reads.items refutation.offset
 found_text (found.Image image size) = line (verdict.Image image size)
-found_text (found.Refuted among requests offset) = refuted_line among requests.items offset
+found_text found.NoneWhole = none_whole_line
 found_text (found.GaveUp request offset reason) = gave_up_line request offset reason
 
 -- what that comes to
 abbrev pub ordered_of : Found → Ordered
 ordered_of (found.Order entries) = IsFound
-ordered_of (found.NoSource request offset) = Refuted
+ordered_of (found.Unexplained refutation) = Refuted
 ordered_of (found.Image image size) = Refuted
-ordered_of (found.Refuted among requests offset) = Open
+ordered_of found.NoneWhole = Open
 ordered_of (found.GaveUp request offset reason) = Open
 
 -- the exit status of an answer
@@ -108,14 +104,14 @@ pub data IsOrdered (capture : List Pair) (initial : Start) (wanted : Wanted) (ol
   -- the image has another size than the export
   image : (items : List Item) (image size : ℕ) → IsRun items → pairs items ≡ capture → IsOtherSize (report items).export initial image size
       → Appends old new (line (verdict.Image image size)) → IsOrdered capture initial wanted old new Refuted
-  -- a READ's byte that nothing can have left
-  no_source : (items : List Item) (request offset : ℕ) → IsRun items → pairs items ≡ capture
-      → HasNoSource (report items) (start_byte initial) request offset → IsUnexplained capture initial
-      → Appends old new (no_source_line request offset) → IsOrdered capture initial wanted old new Refuted
-  -- what is not proved: that no order explains it. That of arrival does not
-  refuted : (items : List Item) (among : Wanted) (requests : List ℕ) (offset : ℕ) → IsRun items → pairs items ≡ capture
+  -- no order explains it: in each one of these READs has a wrong byte at this offset
+  unexplained : (items : List Item) (reads : List ℕ) (offset : ℕ) → IsRun items → pairs items ≡ capture
+      → IsRefutedBy (report items) (start_byte initial) offset reads → IsUnexplained capture initial
+      → Appends old new (unexplained_line reads offset) → IsOrdered capture initial wanted old new Refuted
+  -- an order of whole requests was wanted and none was found, which is not proved. That of arrival does not explain it
+  none_whole : (items : List Item) → wanted ≡ Whole → IsRun items → pairs items ≡ capture
       → IsUnexplainedBy capture initial (arrival (request_count (report items)))
-      → Appends old new (refuted_line among requests offset) → IsOrdered capture initial wanted old new Open
+      → Appends old new none_whole_line → IsOrdered capture initial wanted old new Open
   -- the search was broken off
   gave_up : (items : List Item) (request offset : ℕ) (reason : Reason) → IsRun items → pairs items ≡ capture
       → IsUnexplainedBy capture initial (arrival (request_count (report items)))

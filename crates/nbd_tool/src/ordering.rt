@@ -8,9 +8,9 @@ ghost use Rattle.nbd_wire.specs.protocol.Reports.{report};
 ghost use Rattle.nbd_wire.specs.protocol.Rules.{IsRun};
 ghost use Rattle.nbd_judge.specs.Beginnings.{initial_of};
 ghost use Rattle.nbd_judge.specs.Servable.{size_of};
-ghost use Rattle.nbd_order.specs.Finding.{IsFound, IsProposed, IsWanted, Says};
+ghost use Rattle.nbd_order.specs.Finding.{IsFound, IsWanted, Says};
 ghost use Rattle.nbd_tool.specs.Beginnings.{IsReadAs};
-ghost use Rattle.nbd_tool.specs.Ordering.{IsOrderingCause, LeavesOrdered, Orders, entry_lines, found_text, ordered_of, reason_words, refuted_line, spaced_numbers, status_of};
+ghost use Rattle.nbd_tool.specs.Ordering.{IsOrderingCause, LeavesOrdered, Orders, entry_lines, found_text, ordered_of, reason_words, spaced_numbers, status_of, unexplained_line};
 ghost use Rattle.nbd_tool.specs.Starts.{IsStartWithinLimit, IsWithinLimit, initial_from};
 
 use crate::capture::session_over;
@@ -19,17 +19,13 @@ use crate::progress::Progress;
 use crate::start::{Beginning, StartFrom, read_start, room_of};
 use crate::verdict::Line;
 use nbd_capture::write_whole;
-use nbd_export::Start;
 use nbd_judge::Verdict;
-use nbd_order::{Found, Scope, Wanted, advance, settled};
-use nbd_segments::{Reason, Searching};
+use nbd_order::{Found, Scope, find};
+use nbd_search::Reason;
 use nbd_session::{SessionFault, Transcript};
 use nbd_wire::Entry;
 use std::alloc::{AllocError, Global};
 use std::io::{BufRead, Read, Write};
-
-/// How many steps a search takes before it says how far it is.
-const STEPS: u64 = 2_000_000;
 
 /// What a run of `order` came to.
 #[derive(Clone, Copy, Debug, PartialEq, Eq, Drop)]
@@ -38,12 +34,11 @@ pub enum Ordered {
     Found,
     /// No order explains the session: the line that was written says why.
     Refuted,
-    /// The search found none, which is not proved, or was broken off: the line says where.
+    /// The search was broken off, or found an order in parts where one of whole requests is wanted: nothing is proved.
     Open,
 }
 
-/// The exit status of an answer: 0 of an order, 1 where there is none, 5 where the search found none or was broken off, and that of
-/// a fault.
+/// The exit status of an answer: 0 of an order, 1 where there is none, 5 where that is open, and that of a fault.
 pub fn order_status(answer: &Result<Ordered, RunFault>) -> u8
     ensures { result ≡ status_of answer.now }
 {
@@ -112,56 +107,17 @@ pub fn find_order<P: Write + Drop>(
 {
     nbd_order::laws::found_is_so();
     match beginning {
-        Beginning::Whole(start) => find(alloc, transcript, &start, scope, progress),
+        Beginning::Whole(start) => {
+            let found = find(alloc, transcript, &start, scope, progress);
+            progress.end();
+            found
+        }
         Beginning::Longer(image) => match transcript.export() {
             Some((size, _)) => Ok(Found::Image { image, size }),
-            None => find(alloc, transcript, &Start::Unknown, scope, progress),
+            // Without an export there is no request.
+            None => Ok(Found::Order(Vec::new(alloc))),
         },
     }
-}
-
-// Looks for an order from this start, and says how far that is.
-fn find<P: Write + Drop>(
-    alloc: Global,
-    transcript: &Transcript,
-    start: &Start,
-    scope: Scope,
-    progress: &mut Progress<P>,
-) -> Result<Found, AllocError>
-    ensures found { IfOk result (IsFound transcript.now (initial_of start.now)) }
-    ensures wanted { IfOk result (IsWanted scope.wanted) }
-{
-    if let Some(found) = settled(alloc, transcript, start, scope.limits)? {
-        return Ok(found);
-    }
-    let found = searched(alloc, transcript, start, scope, progress);
-    progress.end();
-    found
-}
-
-// What the searches find; each round passes a request at least.
-fn searched<P: Write + Drop>(
-    alloc: Global,
-    transcript: &Transcript,
-    start: &Start,
-    scope: Scope,
-    progress: &mut Progress<P>,
-) -> Result<Found, AllocError>
-    ensures proposed { IfOk result (IsProposed transcript.now (initial_of start.now)) }
-    ensures wanted { IfOk result (IsWanted scope.wanted) }
-{
-    let mut searching = Searching::new(alloc, transcript, start, scope.limits)?;
-    for _ in 0..transcript.count().saturating_add(1) {
-        if let Some(found) = advance(alloc, transcript, start, scope, &mut searching, STEPS)? {
-            return Ok(found);
-        }
-        progress.tell(searching.passed(), transcript.count());
-    }
-    Ok(Found::GaveUp {
-        request: 0,
-        offset: 0,
-        reason: Reason::Tables,
-    })
 }
 
 // Whether an order was found, or why not.
@@ -170,8 +126,8 @@ fn ordered_as(found: &Found) -> Ordered
 {
     match found {
         Found::Order(_) => Ordered::Found,
-        Found::NoSource { .. } | Found::Image { .. } => Ordered::Refuted,
-        Found::Refuted { .. } | Found::GaveUp { .. } => Ordered::Open,
+        Found::Unexplained(_) | Found::Image { .. } => Ordered::Refuted,
+        Found::NoneWhole | Found::GaveUp { .. } => Ordered::Open,
     }
 }
 
@@ -181,21 +137,15 @@ pub fn found_text_of(alloc: Global, found: &Found) -> Result<String, AllocError>
 {
     match found {
         Found::Order(entries) => lines_of(alloc, entries),
-        Found::NoSource { request, offset } => {
-            let (request, offset) = (*request, *offset);
-            let verdict = Verdict::Content { request, offset };
-            Ok(format!(in alloc; "{} in any order\n", Line { verdict })?)
+        Found::Unexplained(refutation) => {
+            unexplained(alloc, refutation.reads.as_slice(), refutation.offset)
         }
         Found::Image { image, size } => {
             let (image, size) = (*image, *size);
             let verdict = Verdict::Image { image, size };
             Ok(format!(in alloc; "{}\n", Line { verdict })?)
         }
-        Found::Refuted {
-            among,
-            requests,
-            offset,
-        } => refuted(alloc, *among, requests, *offset),
+        Found::NoneWhole => Ok(format!(in alloc; "no order of whole requests found\n")?),
         Found::GaveUp {
             request,
             offset,
@@ -225,24 +175,17 @@ fn lines_of(alloc: Global, entries: &[Entry]) -> Result<String, AllocError>
     Ok(text)
 }
 
-// The line of a search that found that there is no order, which is not proved.
-fn refuted(
-    alloc: Global,
-    among: Wanted,
-    requests: &[u64],
-    offset: u64,
-) -> Result<String, AllocError>
-    ensures { IfOk result (λ text. text.bytes.items ≡ refuted_line among requests.now offset) }
+// The line of READs of which each order has one wrong at this offset.
+fn unexplained(alloc: Global, reads: &[u64], offset: u64) -> Result<String, AllocError>
+    ensures { IfOk result (λ text. text.bytes.items ≡ unexplained_line reads.now offset) }
 {
-    let requests = numbers_of(alloc, requests)?;
-    match among {
-        Wanted::Any => Ok(format!(in alloc;
-            "no order found: requests{requests} at offset {offset} (searched, not proved)\n"
-        )?),
-        Wanted::Whole => Ok(format!(in alloc;
-            "no order found: requests{requests} at offset {offset} (whole requests alone; searched, not proved)\n"
-        )?),
+    if reads.len() != 1 {
+        let reads = numbers_of(alloc, reads)?;
+        return Ok(format!(in alloc; "no order explains requests{reads} at offset {offset}\n")?);
     }
+    let request = reads[0];
+    let verdict = Verdict::Content { request, offset };
+    Ok(format!(in alloc; "{} in any order\n", Line { verdict })?)
 }
 
 // Numbers, each behind a space.
@@ -263,6 +206,6 @@ fn reason_name(reason: Reason) -> &'static str
     match reason {
         Reason::States => "too many states",
         Reason::Steps => "too many steps",
-        Reason::Tables => "a mistake of its own",
+        Reason::Mistake => "a mistake of its own",
     }
 }

@@ -1,5 +1,6 @@
 //! How far a search is, for a person at a terminal.
 
+use nbd_search::{Stage, Watch};
 use std::io::Write;
 
 /// A line that says how far a search is, and that is written anew in its place.
@@ -19,14 +20,6 @@ impl<P: Write + Drop> Progress<P> {
         }
     }
 
-    /// Says how many of so many requests were passed. A writer that fails is of no matter.
-    pub fn tell(&mut self, passed: u64, count: u64) {
-        if let Some(out) = &mut self.out {
-            let _ = write!(out, "\rrequest {passed} of {count}");
-            self.is_shown = true;
-        }
-    }
-
     /// Takes the line away, where one was written.
     pub fn end(&mut self) {
         if let Some(out) = &mut self.out {
@@ -34,6 +27,23 @@ impl<P: Write + Drop> Progress<P> {
                 let _ = write!(out, "\r\x1b[K");
                 self.is_shown = false;
             }
+        }
+    }
+}
+
+impl<P: Write + Drop> Watch for Progress<P> {
+    // A writer that fails is of no matter.
+    fn see(&mut self, stage: Stage) {
+        if let Some(out) = &mut self.out {
+            let _ = match stage {
+                Stage::Round(round) => write!(out, "\r\x1b[Kround {round}: replaying"),
+                Stage::Ranges(count) => write!(out, "\r\x1b[Ksearching {count} ranges"),
+                Stage::Shrinking(count) => write!(
+                    out,
+                    "\r\x1b[Kno order: {count} requests show it"
+                ),
+            };
+            self.is_shown = true;
         }
     }
 }

@@ -7,7 +7,7 @@ use clap::error::ErrorKind;
 use clap::{Arg, ArgAction, ArgMatches, Command, Error};
 use nbd_explain::{Answer, explain_status, run_arrival, run_explain, run_names};
 use nbd_order::{Scope, Wanted};
-use nbd_segments::Limits;
+use nbd_search::Limits;
 use nbd_tool::{
     FinalWriter, Opener, Ordered, Progress, RunFault, StartWord, exit_status, open_inputs,
     open_start, order_status, run_check, run_make, run_order, run_show, start_of,
@@ -58,8 +58,8 @@ sides; of a wrong byte which one was expected, and which entry of ORDER wrote it
 entries, and what is wrong with a part; and the bytes round the place, which stands in brackets.
 Without ORDER it looks for one, as 'nbdcheck order' does:
   nbdcheck explain session.cap --start zero
-Of an order that it finds it prints the line of 'nbdcheck check', and what such a yes is worth; where a
-read got a byte that nothing can have left, which byte, and why neither START nor a request left it.
+Of an order that it finds it prints the line of 'nbdcheck check', and what such a yes is worth; where no
+order explains the session, which reads show it at which offset, and what they could have read there.
 
 Exit status:
   0  yes
@@ -67,7 +67,7 @@ Exit status:
   2  the command line has no form
   3  an input could not be read or is not well formed, or the output could not be written
   4  out of memory
-  5  without ORDER: the search found no order, which is not proved, or gave up";
+  5  without ORDER: the search gave up, and nothing is proved";
 
 const ORDER_ABOUT: &str = "Finds an order of service that explains a capture";
 
@@ -80,9 +80,10 @@ and prints it: a line 'k' for request k, or 'k offset length' for a part of it. 
 'nbdcheck check' judges it before it is printed. It may not be the order that the server took: a wrong
 byte that is an older one may be right in another order. So where the server can log its order, check
 that one.
-An order of whole requests is preferred; with --whole no other is printed. With --arrival the numbers
-of the requests in the order in which they came are printed, unjudged: the order of a server that takes
-one request after the other.
+It serves requests in parts only where its way of searching found no other; with --whole no such order
+is printed. That no order explains the session is proved, and told by reads of which each order has one
+wrong at an offset. With --arrival the numbers of the requests in the order in which they came are
+printed, unjudged: the order of a server that takes one request after the other.
 
 Exit status:
   0  an order was printed
@@ -90,7 +91,7 @@ Exit status:
   2  the command line has no form
   3  an input could not be read or is not well formed, or the output could not be written
   4  out of memory
-  5  the search found no order, which is not proved, or gave up: the line says where";
+  5  the search gave up: the line says where; or none was found of whole requests. Nothing is proved";
 
 const SHOW_ABOUT: &str = "Which messages does a capture hold?";
 
@@ -131,15 +132,23 @@ Exit status:
 
 /// The command that the words name, with its arguments.
 fn command<'a>(alloc: Global) -> Result<Command<'a>, AllocError> {
-    Command::new(alloc, "nbdcheck")
+    let command = Command::new(alloc, "nbdcheck")
         .about(ABOUT)
         .version("0.1.0")
-        .subcommand_required(true)
-        .subcommand(check_command(alloc)?)?
-        .subcommand(explain_command(alloc)?)?
-        .subcommand(order_command(alloc)?)?
-        .subcommand(show_command(alloc)?)?
-        .subcommand(make_command(alloc)?)
+        .subcommand_required(true);
+    let command = with(command, check_command(alloc))?;
+    let command = with(command, explain_command(alloc))?;
+    let command = with(command, order_command(alloc))?;
+    let command = with(command, show_command(alloc))?;
+    with(command, make_command(alloc))
+}
+
+/// The command with a further one of its own.
+fn with<'a>(
+    command: Command<'a>,
+    other: Result<Command<'a>, AllocError>,
+) -> Result<Command<'a>, AllocError> {
+    command.subcommand(other?)
 }
 
 fn check_command<'a>(alloc: Global) -> Result<Command<'a>, AllocError> {
@@ -161,55 +170,30 @@ fn explain_command<'a>(alloc: Global) -> Result<Command<'a>, AllocError> {
 }
 
 fn order_command<'a>(alloc: Global) -> Result<Command<'a>, AllocError> {
-    let arrival = Arg::new(alloc, "arrival")
-        .long("arrival")
-        .action(ArgAction::SetTrue)
-        .help("The order in which the requests came");
-    let whole = Arg::new(alloc, "whole")
-        .long("whole")
-        .action(ArgAction::SetTrue)
-        .help("Only orders that serve each request at once");
-    let states = Arg::new(alloc, "states")
-        .long("states")
-        .value_name("NUMBER")
-        .default_value("5000")
-        .help("How many states the search may hold for one range");
-    let steps = Arg::new(alloc, "steps")
-        .long("steps")
-        .value_name("NUMBER")
-        .default_value("50000000")
-        .help("How many steps the search may take");
     Command::new(alloc, "order")
         .about(ORDER_ABOUT)
         .after_help(ORDER_HELP)
         .arg(capture_word(alloc))?
         .arg(start_word(alloc))?
-        .arg(whole)?
-        .arg(arrival)?
-        .arg(states)?
-        .arg(steps)
+        .arg(whole_word(alloc))?
+        .arg(arrival_word(alloc))?
+        .arg(states_word(alloc))?
+        .arg(steps_word(alloc))
 }
 
 fn show_command<'a>(alloc: Global) -> Result<Command<'a>, AllocError> {
-    let names = Arg::new(alloc, "names")
-        .long("names")
-        .action(ArgAction::SetTrue)
-        .help("Tells the messages in words");
     Command::new(alloc, "show")
         .about(SHOW_ABOUT)
         .after_help(SHOW_HELP)
         .arg(capture_word(alloc))?
-        .arg(names)
+        .arg(names_word(alloc))
 }
 
 fn make_command<'a>(alloc: Global) -> Result<Command<'a>, AllocError> {
-    let script = Arg::new(alloc, "SCRIPT")
-        .required(true)
-        .help("The file of the script");
     Command::new(alloc, "make")
         .about(MAKE_ABOUT)
         .after_help(MAKE_HELP)
-        .arg(script)
+        .arg(script_word(alloc))
 }
 
 fn capture_word<'a>(alloc: Global) -> Arg<'a> {
@@ -228,6 +212,47 @@ fn start_word<'a>(alloc: Global) -> Arg<'a> {
         .value_name("START")
         .default_value("unknown")
         .help("What the export held at first: unknown, zero or image:PATH")
+}
+
+fn whole_word<'a>(alloc: Global) -> Arg<'a> {
+    Arg::new(alloc, "whole")
+        .long("whole")
+        .action(ArgAction::SetTrue)
+        .help("Only an order that serves each request at once")
+}
+
+fn arrival_word<'a>(alloc: Global) -> Arg<'a> {
+    Arg::new(alloc, "arrival")
+        .long("arrival")
+        .action(ArgAction::SetTrue)
+        .help("The order in which the requests came")
+}
+
+fn states_word<'a>(alloc: Global) -> Arg<'a> {
+    Arg::new(alloc, "states")
+        .long("states")
+        .value_name("NUMBER")
+        .help("How many states the search may hold for one range, 5000 where not said")
+}
+
+fn steps_word<'a>(alloc: Global) -> Arg<'a> {
+    Arg::new(alloc, "steps")
+        .long("steps")
+        .value_name("NUMBER")
+        .help("How many steps the search may take, 10^9 where not said")
+}
+
+fn names_word<'a>(alloc: Global) -> Arg<'a> {
+    Arg::new(alloc, "names")
+        .long("names")
+        .action(ArgAction::SetTrue)
+        .help("Tells the messages in words")
+}
+
+fn script_word<'a>(alloc: Global) -> Arg<'a> {
+    Arg::new(alloc, "SCRIPT")
+        .required(true)
+        .help("The file of the script")
 }
 
 /// Runs the program on the words that it was called with, and answers its exit status.
@@ -272,15 +297,20 @@ fn scope_in(words: &ArgMatches<'_>) -> Option<Scope> {
     } else {
         Wanted::Any
     };
+    let usual = Limits::usual();
     let limits = Limits {
-        states: number_of(words.get_str("states")?)?,
-        steps: number_of(words.get_str("steps")?)?,
+        states: number_of(words.get_str("states"), usual.states)?,
+        steps: number_of(words.get_str("steps"), usual.steps)?,
     };
     Some(Scope { wanted, limits })
 }
 
-fn number_of(text: &str) -> Option<u64> {
-    text.parse().ok()
+/// The number that was said, or the usual one where none was; None where it is no number.
+fn number_of(text: Option<&str>, usual: u64) -> Option<u64> {
+    match text {
+        Some(text) => text.parse().ok(),
+        None => Some(usual),
+    }
 }
 
 /// `nbdcheck check CAPTURE ORDER --start START`.

@@ -1,14 +1,26 @@
-//! Sessions at random: each order that is found explains its session, and each answer that there is none is so.
+//! Sessions at random: there is an order exactly where trying all finds one, and nothing is given up.
 
-use super::brute::has_order;
+use super::brute::first_without_order;
 use super::server::{Shape, session};
+use crate::{Found, Scope, find};
 use nbd_export::Start;
 use nbd_judge::{Verdict, verdict_on};
-use nbd_segments::{Limits, Search, by_parts};
-use nbd_wire::Entry;
+use nbd_search::{Stage, Watch};
 use std::alloc::{AllocError, Global};
 use std::process::Abort;
 use std::test::Fail;
+
+/// Counts how often it is told.
+#[derive(Drop)]
+struct Count {
+    told: u64,
+}
+
+impl Watch for Count {
+    fn see(&mut self, _stage: Stage) {
+        self.told = self.told.saturating_add(1);
+    }
+}
 
 /// The start of a session: each kind in turn.
 pub fn start_of(alloc: Global, seed: u64, size: u64) -> Result<Start, AllocError> {
@@ -33,23 +45,21 @@ struct Counts {
     refuted: u64,
 }
 
-fn is_whole(order: &[Entry]) -> bool {
-    order.iter().all(|entry| entry.part.is_none())
-}
-
-// Sessions of this shape, each order judged, each refutation confirmed.
+// Sessions of this shape, each answer confirmed.
 fn run<R: Abort + AllocGlobal>(rt: &R, shape: Shape, count: u64) -> Result<Counts, Fail> {
     let mut counts = Counts {
         whole: 0,
         parts: 0,
         refuted: 0,
     };
+    let mut watch = Count { told: 0 };
     for seed in 0..count {
         let start = start_of(rt.alloc(), seed, shape.size)?;
         let transcript = session(rt, shape, seed.wrapping_mul(77), &start)?;
-        match by_parts(rt.alloc(), &transcript, &start, Limits::usual())? {
-            Search::Order(order) => {
-                if is_whole(&order) {
+        let without = first_without_order(rt.alloc(), &transcript, &start)?;
+        match find(rt.alloc(), &transcript, &start, Scope::usual(), &mut watch)? {
+            Found::Order(order) => {
+                if order.iter().all(|entry| entry.part.is_none()) {
                     counts.whole = counts.whole.saturating_add(1);
                 } else {
                     counts.parts = counts.parts.saturating_add(1);
@@ -57,13 +67,15 @@ fn run<R: Abort + AllocGlobal>(rt: &R, shape: Shape, count: u64) -> Result<Count
                 let verdict = verdict_on(rt.alloc(), &transcript, &order, start)?;
                 let explains = matches!(&verdict, Verdict::Yes { .. });
                 assert!(rt; explains, "seed {seed}: {verdict:?} for {order:?}");
+                assert!(rt; without.is_none(), "seed {seed}");
             }
-            Search::Refuted { offset, .. } => {
+            Found::Unexplained(_) => {
                 counts.refuted = counts.refuted.saturating_add(1);
-                let found = has_order(rt.alloc(), &transcript, &start, offset)?;
-                assert!(rt; !found, "seed {seed}: offset {offset} has an order");
+                assert!(rt; without.is_some(), "seed {seed}");
             }
-            Search::GaveUp { reason, .. } => panic!(rt; "seed {seed}: gave up, {reason:?}"),
+            Found::Image { .. } | Found::NoneWhole | Found::GaveUp { .. } => {
+                panic!(rt; "seed {seed}: no answer")
+            }
         }
     }
     Ok(counts)
@@ -95,40 +107,12 @@ fn small_sessions(rt: HostRuntime) -> Result<(), Fail> {
 }
 
 #[test]
-fn few_requests(rt: HostRuntime) -> Result<(), Fail> {
-    try_all(
-        &rt,
-        Shape {
-            requests: 4,
-            size: 6,
-            letters: 2,
-            ..SMALL
-        },
-        true,
-    )
-}
-
-#[test]
 fn sessions_of_one_byte(rt: HostRuntime) -> Result<(), Fail> {
     try_all(
         &rt,
         Shape {
             requests: 10,
             size: 1,
-            ..SMALL
-        },
-        true,
-    )
-}
-
-#[test]
-fn requests_in_turn(rt: HostRuntime) -> Result<(), Fail> {
-    try_all(
-        &rt,
-        Shape {
-            requests: 10,
-            window: 2,
-            torn: 0,
             ..SMALL
         },
         true,
@@ -149,20 +133,4 @@ fn sessions_of_a_right_server(rt: HostRuntime) -> Result<(), Fail> {
         },
         false,
     )
-}
-
-#[test]
-fn a_long_session(rt: HostRuntime) -> Result<(), Fail> {
-    let long = Shape {
-        requests: 2_000,
-        size: 1 << 20,
-        window: 16,
-        letters: 256,
-        torn: 0,
-        failures: 1,
-        unanswered: 1,
-        wrong: 0,
-    };
-    run(&rt, long, 1)?;
-    Ok(())
 }

@@ -21,6 +21,8 @@ pub enum Sent<'a> {
     Hole(u64, u64, u32),
     /// A chunk without bytes that ends a reply.
     Done(u64),
+    /// A chunk with an error that ends a reply.
+    Failed(u64, u32),
 }
 
 /// A session under way, with structured replies.
@@ -84,6 +86,7 @@ impl Recording {
                 cookie,
                 payload: self.payload(b"")?,
             },
+            Sent::Failed(cookie, error) => self.failure(cookie, error)?,
         };
         self.say(rt, message)
     }
@@ -137,6 +140,17 @@ impl Recording {
             offset,
             length,
             payload: self.payload(bytes)?,
+        })
+    }
+
+    fn failure(&self, cookie: u64, error: u32) -> Result<Message, Fail> {
+        let mut bytes = error.to_be_bytes().to_vec(self.alloc)?;
+        bytes.extend_from_slice(b"\0\0")?;
+        Ok(Message::Chunk {
+            flags: chunks::DONE,
+            kind: chunks::ERROR,
+            cookie,
+            payload: Bytes::new(bytes),
         })
     }
 

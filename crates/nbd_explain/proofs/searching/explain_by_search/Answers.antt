@@ -18,7 +18,7 @@ returns-in-Ok-clause-written g c =
     (tells known (initial_from g.I.Read.remaining c.args.start) c.room_of.result c.in_ok-start.start c.in_ok-kept-in-Ok.kept c.args.session c.in-Ok.transcript c.finish-finished.result
     c.in_ok-found-in-Ok.found c.as_bytes.result.now (g.W.Write.contents c.args.out.now) (g.W.Write.contents c.write_whole.new.out)
     session c.in-Ok.is c.finish-finished.ensures.fault c.finish-finished.ensures.report begun is_read
-    c.in_ok-kept-in-Ok.ensures c.in_ok-found-in-Ok.ensures.found c.in_ok-found-in-Ok.ensures.says
+    c.in_ok-kept-in-Ok.ensures c.in_ok-found-in-Ok.ensures.found c.in_ok-found-in-Ok.ensures.wanted c.in_ok-found-in-Ok.ensures.says
     (subst (BeginsWithLineOf c.in-Ok.transcript c.in_ok-found-in-Ok.found c.in_ok-kept-in-Ok.kept) (sym c.as_bytes.ensures.value) c.in_ok-text-in-Ok.ensures) c.in_ok-write_whole-in-Ok.ensures.ok)
 
 pub returns-in-Err-Wire-clause-written : goal.returns-in-Err-Wire-clause-written

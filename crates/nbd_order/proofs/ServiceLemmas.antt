@@ -1,0 +1,108 @@
+-- What an order without a fault serves, and in which order.
+use Rattle.std.proofs.Common.{◌≡◌, ℕ, zero, suc, ◌<◌, ◌≤◌, ◌⊎◌, inl, inr, List, length, refl, sym, ◌∙◌, ap, subst, Option, Some, None, Bool, true, false, ◌&&◌, ◌||◌, ◌==◌, nat_lt, arith, slice_get, take, IsTrue}
+use Rattle.std.proofs.lemmas.Bool.{and_from, and_parts, cases_lt, false_from_ne_true, lt-ltb, ltb-true}
+use Rattle.std.proofs.lemmas.Option.{slice_get_within}
+use Rattle.nbd_wire.specs.declared.commands.TheConstants as commands
+use Rattle.nbd_wire.specs.declared.entry.Entry.{Entry}
+use Rattle.nbd_wire.specs.declared.entry.Part.{Part}
+use Rattle.nbd_wire.specs.protocol.Entries.{IsAgain, IsMisplaced, in_part, is_served}
+use Rattle.nbd_wire.specs.protocol.ExportBytes.{Effect, effect, effect_if, effects, touches}
+use Rattle.nbd_wire.specs.protocol.Operations.{Exporting, has_range, is_change}
+use Rattle.nbd_wire.specs.protocol.Orders.{HasNoOrderFault}
+use Rattle.nbd_wire.specs.protocol.Pieces.{is_in}
+use Rattle.nbd_wire.specs.protocol.Reports.{Asked, Report, asked_at, inside_asked, inside_in, known_in}
+use Rattle.nbd_wire.specs.protocol.Verdicts.{IsFaultless}
+use Rattle.nbd_order.specs.internal.Refutations.{IsBefore, IsChange}
+use Rattle.nbd_order.proofs.TouchLemmas.{ServesAt, from_taken, is_served_by, names_by, number_at, served_at, taken, within}
+
+-- a change has a range
+ranged : (command : ℕ) → is_change command ≡ true → has_range command ≡ true
+ranged command h = go (command == commands.READ) (command == commands.WRITE) (command == commands.TRIM) (command == commands.CACHE) (command == commands.WRITE_ZEROES) h
+  where
+    go : (a b c d e : Bool) → (b || c || e) ≡ true → (a || b || c || d || e) ≡ true
+    go true b c d e h = refl
+    go false true c d e h = refl
+    go false false true d e h = refl
+    go false false false true e h = refl
+    go false false false false e h = h
+
+pub in_range : (export : Option Exporting) (o : Option Asked) (e : Effect) (x : ℕ) → effect_if o ≡ Some e → IsTrue (inside_asked export o x)
+    → IsTrue (is_in e.offset e.length x) × ((s : Exporting) × (export ≡ Some s) × (x < s.size))
+in_range export None e x q h = absurd (cc)
+in_range None (Some a) e x q h = absurd (let z : false ≡ true = h in (cc))
+in_range (Some s) (Some a) e x q h =
+    let one = and_parts (has_range a.command) (is_in a.offset a.length x && nat_lt x s.size) h in
+    let two = and_parts (is_in a.offset a.length x) (nat_lt x s.size) one.1 in
+    let same : effect a ≡ e = cc in
+    (ap (λ (d : Effect). is_in d.offset d.length x) (sym same) ∙ two.0, (s, refl, ltb-true x s.size two.1))
+
+pub is_inside : (export : Option Exporting) (o : Option Asked) (e : Effect) (x : ℕ) (s : Exporting) → effect_if o ≡ Some e → IsTrue (touches None e x) → export ≡ Some s → x < s.size
+    → IsTrue (inside_asked export o x)
+is_inside export None e x s q t p l = absurd (cc)
+is_inside None (Some a) e x s q t p l = absurd (cc)
+is_inside (Some z) (Some a) e x s q t p l =
+    let same : effect a ≡ e = cc in
+    let touch : IsTrue (touches None (effect a) x) = ap (λ (d : Effect). touches None d x) same ∙ t in
+    let one = and_parts (is_change a.command) (is_in a.offset a.length x && true) touch in
+    let two = and_parts (is_in a.offset a.length x) true one.1 in
+    let size : z ≡ s = cc in
+    and_from (has_range a.command) (is_in a.offset a.length x && nat_lt x z.size) (ranged a.command one.0)
+    (and_from (is_in a.offset a.length x) (nat_lt x z.size) two.0 (ap (λ (y : Exporting). nat_lt x y.size) size ∙ lt-ltb x s.size l))
+
+pub numbered : (k : ℕ) (asked : List Asked) (e : Effect) → effect_if (asked_at k asked) ≡ Some e → (0 < k) × (k ≤ length asked)
+numbered zero asked e q = absurd (cc)
+numbered (suc k) asked e q = go (slice_get asked k) refl q
+  where
+    go : (o : Option Asked) → slice_get asked k ≡ o → effect_if o ≡ Some e → (0 < suc k) × (suc k ≤ length asked)
+    go None h q = absurd (cc)
+    go (Some a) h q = (let l : k < length asked = slice_get_within asked k a h in (omega arith, omega arith))
+
+module _ (r : Report) (order : List Entry) (whole : IsFaultless r order) where
+  -- what surely comes before stands before
+  pub stands_before : (a b : ℕ) (d e : Entry) → slice_get order a ≡ Some d → slice_get order b ≡ Some e → IsBefore r d.request e.request → a < b
+  stands_before a b d e at bt h = elim (cases_lt a b) [
+    | inl l ↦ l
+    | inr l ↦ absurd (whole.none_late b (
+      a,
+      h.0,
+      l,
+      within order a d at,
+      ap (known_in r) (number_at order a d at) ∙ h.1,
+      subst (λ n. h.0 < n) (sym (number_at order b e bt)) h.2,
+    ))
+  ]
+
+  -- a request is served at an offset inside it, once a reply to it began
+  pub is_reached : (p x n : ℕ) (e : Effect) → effects r p ≡ Some e → known_in r p ≡ Some n → IsTrue (inside_in r p x) → IsTrue (is_served order p x)
+  is_reached p x n e is known here =
+      let num = numbered p r.asked e is in
+      (whole.served p (num.0, num.1, (n, known))).covered x here
+
+  -- what surely comes before an entry, and is served at x, is served there before it
+  pub served_before : (i p x : ℕ) (d : Entry) → slice_get order i ≡ Some d → IsTrue (is_served order p x) → IsBefore r p d.request
+      → is_served (take i order) p x ≡ true
+  served_before i p x d at reached before =
+      let s = served_at order p x reached in
+      let l : s.0 < i = stands_before s.0 i s.1 d s.2 at (subst (λ q. IsBefore r q d.request) (sym s.3) before) in
+      is_served_by (take i order) p x s.0 s.1 (taken order i s.0 s.1 l s.2) s.3 s.4
+
+  -- what an entry's request surely comes before is not served before it
+  pub not_served_before : (i o x : ℕ) (d : Entry) → slice_get order i ≡ Some d → IsBefore r d.request o → is_served (take i order) o x ≡ false
+  not_served_before i o x d at before = false_from_ne_true (is_served (take i order) o x) λ h.
+      let s = served_at (take i order) o x h in
+      let f = from_taken order i s.0 s.1 s.2 in
+      let l : s.0 < i = f.0 in
+      let g : i < s.0 = stands_before i s.0 d s.1 at f.1 (subst (λ q. IsBefore r d.request q) (sym s.3) before) in
+      omega arith
+
+  -- an offset of a request is served once
+  pub served_once : (i x : ℕ) (d : Entry) → slice_get order i ≡ Some d → in_part d.part x ≡ true → is_served (take i order) d.request x ≡ false
+  served_once i x d at here = false_from_ne_true (is_served (take i order) d.request x) λ h. go h d.part refl
+    where
+      go : is_served (take i order) d.request x ≡ true → (p : Option Part) → d.part ≡ p → ⊥
+      go h None q =
+          let s = served_at (take i order) d.request x h in
+          whole.none_bad i (inr (inl (d, at, subst (λ p. IsAgain (take i order) d.request p) (sym q) (names_by (take i order) d.request s.0 s.1 s.2 s.3))))
+      go h (Some p) q =
+          let inside : in_part (Some p) x ≡ true = ap (λ o. in_part o x) (sym q) ∙ here in
+          whole.none_bad i (inr (inr (d, at, subst (λ o. IsMisplaced (inside_in r d.request) (take i order) d.request o) (sym q) (inr (inr (x, inside, h))))))

@@ -1,0 +1,110 @@
+-- What the first entries of an order serve at an offset, and the byte that they leave there.
+use Rattle.std.proofs.Common.{◌≡◌, ℕ, zero, suc, ◌<◌, inl, inr, List, [], ◌∷◌, length, refl, sym, ◌∙◌, ap, Option, Some, None, Bool, true, false, ◌&&◌, ◌||◌, ◌==◌, arith, slice_get, slice_index, take, IsTrue}
+use Rattle.std.proofs.lemmas.Bool.{and_from, eq-eqb, eqb-true}
+use Rattle.nbd_wire.specs.declared.entry.Entry.{Entry}
+use Rattle.nbd_wire.specs.declared.entry.Part.{Part}
+use Rattle.nbd_wire.specs.protocol.Entries.{Names, in_part, is_served, numbers}
+use Rattle.nbd_wire.specs.protocol.ExportBytes.{Effect, byte_before, byte_or_start, last_touch, later, touch_of}
+
+-- the number that an entry names, by its index
+pub number_at : (order : List Entry) (i : ℕ) (e : Entry) → slice_get order i ≡ Some e → slice_index (numbers order) i ≡ e.request
+number_at [] i e at = absurd (cc)
+number_at (d ∷ order) zero e at = (let q : d ≡ e = cc in ap (λ (y : Entry). y.request) q)
+number_at (d ∷ order) (suc i) e at = number_at order i e at
+
+pub within : (order : List Entry) (i : ℕ) (e : Entry) → slice_get order i ≡ Some e → i < length (numbers order)
+within [] i e at = absurd (cc)
+within (d ∷ order) zero e at = omega arith
+within (d ∷ order) (suc i) e at = (let h : i < length (numbers order) = within order i e at in omega arith)
+
+-- an entry that serves offset x of request k
+abbrev pub ServesAt : List Entry → (k x : ℕ) → Type 0
+ServesAt es k x = (i : ℕ) × (e : Entry) × (slice_get es i ≡ Some e) × (e.request ≡ k) × IsTrue (in_part e.part x)
+
+pub served_at : (es : List Entry) (k x : ℕ) → IsTrue (is_served es k x) → ServesAt es k x
+served_at [] k x h = absurd (let q : false ≡ true = h in (cc))
+served_at (e ∷ es) k x h = go (e.request == k) (in_part e.part x) refl refl (λ q. served_at es k x q) h
+  where
+    go : (a b : Bool) → (e.request == k) ≡ a → in_part e.part x ≡ b → (IsTrue (is_served es k x) → ServesAt es k x)
+        → ((a && b) || is_served es k x) ≡ true → ServesAt (e ∷ es) k x
+    go true true named part rest q = (zero, e, refl, eqb-true e.request k named, part)
+    go true false named part rest q = (let s = rest q in (suc s.0, s.1, s.2, s.3, s.4))
+    go false b named part rest q = (let s = rest q in (suc s.0, s.1, s.2, s.3, s.4))
+
+pub is_served_by : (es : List Entry) (k x j : ℕ) (e : Entry) → slice_get es j ≡ Some e → e.request ≡ k → IsTrue (in_part e.part x) → is_served es k x ≡ true
+is_served_by [] k x j e at named part = absurd (cc)
+is_served_by (d ∷ es) k x zero e at named part =
+    let same : e ≡ d = cc in
+    ap (λ b. b || is_served es k x)
+    (ap (λ (y : Entry). (y.request == k) && in_part y.part x) (sym same) ∙ and_from (e.request == k) (in_part e.part x) (eq-eqb e.request k named) part)
+is_served_by (d ∷ es) k x (suc j) e at named part = go ((d.request == k) && in_part d.part x) (is_served_by es k x j e at named part)
+  where
+    go : (a : Bool) → is_served es k x ≡ true → (a || is_served es k x) ≡ true
+    go true h = refl
+    go false h = h
+
+pub names_by : (es : List Entry) (k j : ℕ) (e : Entry) → slice_get es j ≡ Some e → e.request ≡ k → Names es k
+names_by [] k j e at named = absurd (cc)
+names_by (d ∷ es) k zero e at named = inl (let same : d ≡ e = cc in ap (λ (y : Entry). y.request) same ∙ named)
+names_by (d ∷ es) k (suc j) e at named = inr (names_by es k j e at named)
+
+pub taken : (es : List Entry) (i j : ℕ) (e : Entry) → j < i → slice_get es j ≡ Some e → slice_get (take i es) j ≡ Some e
+taken [] i j e l at = absurd (cc)
+taken (d ∷ es) zero j e l at = absurd (omega arith)
+taken (d ∷ es) (suc i) zero e l at = at
+taken (d ∷ es) (suc i) (suc j) e l at = taken es i j e (omega arith) at
+
+pub from_taken : (es : List Entry) (i j : ℕ) (e : Entry) → slice_get (take i es) j ≡ Some e → (j < i) × (slice_get es j ≡ Some e)
+from_taken [] zero j e at = absurd (cc)
+from_taken [] (suc i) j e at = absurd (cc)
+from_taken (d ∷ es) zero j e at = absurd (cc)
+from_taken (d ∷ es) (suc i) zero e at = (omega arith, at)
+from_taken (d ∷ es) (suc i) (suc j) e at = (let h = from_taken es i j e at in let l : j < i = h.0 in (omega arith, h.1))
+
+-- of the first entry more, or of the last: whether it serves
+one_of_two : (a b : Bool) → a ≡ b → (a || false) ≡ (false || b)
+one_of_two true b e = e
+one_of_two false b e = e
+
+regrouped : (a b c : Bool) → (a || (b || c)) ≡ ((a || b) || c)
+regrouped true b c = refl
+regrouped false b c = refl
+
+-- one entry more serves what it serves itself
+pub served_more : (es : List Entry) (i : ℕ) (d : Entry) (k x : ℕ) → slice_get es i ≡ Some d
+    → is_served (take (suc i) es) k x ≡ (is_served (take i es) k x || ((d.request == k) && in_part d.part x))
+served_more [] i d k x at = absurd (cc)
+served_more (c ∷ es) zero d k x at =
+    let same : c ≡ d = cc in
+    one_of_two ((c.request == k) && in_part c.part x) ((d.request == k) && in_part d.part x)
+    (ap (λ (y : Entry). (y.request == k) && in_part y.part x) same)
+served_more (c ∷ es) (suc i) d k x at =
+    ap (λ b. ((c.request == k) && in_part c.part x) || b) (served_more es i d k x at)
+    ∙ regrouped ((c.request == k) && in_part c.part x) (is_served (take i es) k x) ((d.request == k) && in_part d.part x)
+
+later_none : (o : Option Effect) → o ≡ later o None
+later_none (Some e) = refl
+later_none None = refl
+
+later_later : (a b c : Option Effect) → later (later a b) c ≡ later a (later b c)
+later_later (Some e) b c = refl
+later_later None b c = refl
+
+module _ (requests : ℕ → Option Effect) (x : ℕ) where
+  -- one entry more touches last where it touches
+  touch_more : (es : List Entry) (i : ℕ) (d : Entry) → slice_get es i ≡ Some d
+      → last_touch requests x (take (suc i) es) ≡ later (touch_of d.part (requests d.request) x) (last_touch requests x (take i es))
+  touch_more [] i d at = absurd (cc)
+  touch_more (c ∷ es) zero d at =
+      let same : c ≡ d = cc in
+      ap (λ (y : Entry). touch_of y.part (requests y.request) x) same ∙ later_none (touch_of d.part (requests d.request) x)
+  touch_more (c ∷ es) (suc i) d at =
+      ap (λ o. later o (touch_of c.part (requests c.request) x)) (touch_more es i d at)
+      ∙ later_later (touch_of d.part (requests d.request) x) (last_touch requests x (take i es)) (touch_of c.part (requests c.request) x)
+
+  -- one entry more leaves the byte that it touches with
+  pub byte_more : (es : List Entry) (initial : ℕ → Option ℕ) (i : ℕ) (d : Entry) (o : Option Effect) → slice_get es i ≡ Some d
+      → touch_of d.part (requests d.request) x ≡ o
+      → byte_before requests es initial (suc i) x ≡ byte_or_start (later o (last_touch requests x (take i es))) initial x
+  byte_more es initial i d o at touch =
+      ap (λ t. byte_or_start t initial x) (touch_more es i d at ∙ ap (λ t. later t (last_touch requests x (take i es))) touch)

@@ -1,0 +1,18 @@
+use Rattle.nbd_wire.specs.protocol.Explains.{start_byte}
+use Rattle.nbd_judge.specs.Beginnings.{initial_of}
+use Rattle.nbd_order.proofs.RefutationLemmas.{refuted}
+use Rattle.nbd_order.proofs.refuting.is_refuted.Goals as goal
+
+pub returns-then-are_its_requests : goal.returns-then-are_its_requests
+returns-then-are_its_requests c = λ t.
+    let f = c.args.refutation.now in
+    let requests = c.are_its_requests.ensures in
+    let states = c.are_its_states.ensures in
+    refuted c.args.transcript.now (start_byte (initial_of c.args.start.now)) f.offset f.reads.items f.changes.items f.states.items (record {
+      are_reads = requests.reads c.if-are_its_requests.true;
+      are_changes = requests.changes c.if-are_its_requests.true;
+      covered = requests.others c.if-are_its_requests.true;
+      begins = states.beginning t;
+      steps = states.stepping t;
+      ends = states.ending t;
+    })

@@ -1,0 +1,19 @@
+-- What the tests of a request at one offset say.
+use Rattle.std.specs.Prelude.{ℕ, ◌==◌, ◌&&◌, nat_lt, not, Bool, true, false, Option, Some, None, is_some}
+use Rattle.nbd_wire.specs.declared.commands.TheConstants as commands
+use Rattle.nbd_wire.specs.protocol.ExportBytes.{is_success}
+use Rattle.nbd_wire.specs.protocol.Operations.{Exporting}
+use Rattle.nbd_wire.specs.protocol.Pieces.{is_in}
+use Rattle.nbd_wire.specs.protocol.Reports.{Asked}
+use Rattle.nbd_judge.specs.Servable.{size_of}
+
+-- the byte is known, and not the one that was read
+abbrev pub differs : Option ℕ → Option ℕ → Bool
+differs None read = false
+differs (Some b) None = true
+differs (Some b) (Some c) = not (b == c)
+
+-- a READ that succeeded, with x inside it, to which a reply began
+abbrev pub reads_at : Option Exporting → Asked → ℕ → Bool
+reads_at export a x =
+    (a.command == commands.READ) && (is_success a.outcome && (is_some a.known_at && (is_in a.offset a.length x && nat_lt x (size_of export))))
