@@ -140,7 +140,7 @@ def terminals(tally, room):
     """A long search says on a terminal how far it is, and takes that away; a short one says nothing. Which file could not be opened."""
     long = room.put("long", long_search())
     found = on_a_terminal(room, "order", long, "--start", "zero")
-    told = re.fullmatch(rb"(\r\x1b\[K(round \d+: replaying|searching \d+ ranges))+\r\x1b\[K", found.err)
+    told = re.fullmatch(rb"(\r\x1b\[K(round \d+: replaying|\d+ ranges searched))+\r\x1b\[K", found.err)
     tally.holds("a long search on a terminal", told, found.err[-80:])
     judged = room.run("check", long, room.put("order", found.out), "--start", "zero")
     yes = Ended(0, b"yes requests 3000 answered 3000 improper 0\n", b"")

@@ -5,7 +5,7 @@ use crate::explanation::{Sources, add_rule};
 use crate::found::add_assumed;
 use crate::source::add_no_source;
 use nbd_names::CONTENT_RULE;
-use nbd_search::Refutation;
+use nbd_order::Refutation;
 use nbd_story::Request;
 use std::alloc::{AllocError, Global};
 

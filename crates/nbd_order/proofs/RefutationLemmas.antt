@@ -14,7 +14,7 @@ use Rattle.nbd_wire.specs.protocol.Pieces.{is_in}
 use Rattle.nbd_wire.specs.protocol.Reports.{Report, asked_at, inside_in, known_in, report}
 use Rattle.nbd_wire.specs.protocol.Verdicts.{IsFaultless}
 use Rattle.nbd_laws.specs.Explaining.{ExplainedPasses}
-use Rattle.nbd_search.specs.declared.proposal.State.{State}
+use Rattle.nbd_order.specs.declared.refutation.State.{State}
 use Rattle.nbd_order.specs.Unexplained.{IsRefutedBy, RefutedIsUnexplained, has}
 use Rattle.nbd_order.specs.internal.Refutations.{Fits, IsBefore, IsChange, IsHeld, IsRefutation, Leads, is_kept}
 use Rattle.nbd_order.proofs.ServiceLemmas.{in_range, is_inside, is_reached, not_served_before, served_before, served_once}

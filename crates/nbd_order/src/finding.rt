@@ -15,9 +15,10 @@ ghost use Rattle.nbd_order.specs.internal.Proposals.{IsOpen};
 use crate::guess::by_arrival;
 use crate::judging::{Wrong, are_whole, wrong_in};
 use crate::laws;
+use crate::refutation::{Refutation, refutation_of};
 use crate::refuting::is_refuted;
 use nbd_export::Start;
-use nbd_search::{Limits, Proposal, Reason, Refutation, Watch, search};
+use nbd_search::{Contest, Limits, Proposal, Reason, Watch, propose};
 use nbd_session::Transcript;
 use nbd_wire::Entry;
 use std::alloc::{AllocError, Global};
@@ -117,9 +118,9 @@ fn searched<W: Watch>(
     ensures found { IfOk result (IsFound transcript.now (initial_of start.now)) }
     ensures wanted { IfOk result (IsWanted scope.wanted) }
 {
-    match search(alloc, transcript, start, scope.limits, watch)? {
+    match propose(alloc, transcript, start, scope.limits, watch)? {
         Proposal::Order(order) => judged(alloc, transcript, start, scope.wanted, wrong, order),
-        Proposal::Refutation(refutation) => Ok(tested(transcript, start, wrong, refutation)),
+        Proposal::Contest(contest) => tested(alloc, transcript, start, wrong, contest),
         Proposal::GaveUp {
             request: 0,
             reason,
@@ -156,16 +157,25 @@ fn judged(
     }
 }
 
-// A proposed refutation, where it is one.
-fn tested(transcript: &Transcript, start: &Start, wrong: Wrong, refutation: Refutation) -> Found
+// The refutation of these requests, where it is one.
+fn tested(
+    alloc: Global,
+    transcript: &Transcript,
+    start: &Start,
+    wrong: Wrong,
+    contest: Contest,
+) -> Result<Found, AllocError>
     requires { Passes transcript.now (arrival (request_count transcript.now)) (initial_of start.now) → ⊥ }
-    ensures found { IsFound transcript.now (initial_of start.now) result }
-    ensures wanted { (wanted : Wanted) → IsWanted wanted result }
+    ensures found { IfOk result (IsFound transcript.now (initial_of start.now)) }
+    ensures wanted { (wanted : Wanted) → IfOk result (IsWanted wanted) }
 {
-    if is_refuted(transcript, start, &refutation) {
-        Found::Unexplained(refutation)
-    } else {
-        gave_up(wrong, Reason::Mistake)
+    match refutation_of(alloc, transcript, start, contest)? {
+        None => Ok(gave_up(wrong, Reason::States)),
+        Some(refutation) => Ok(if is_refuted(transcript, start, &refutation) {
+            Found::Unexplained(refutation)
+        } else {
+            gave_up(wrong, Reason::Mistake)
+        }),
     }
 }
 

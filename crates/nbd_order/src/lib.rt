@@ -6,10 +6,12 @@ mod guess;
 mod judging;
 pub mod laws;
 mod offsets;
+pub mod refutation;
 pub mod refuting;
 mod states;
 #[cfg(test)]
 mod tests;
 
 pub use finding::{Found, Scope, Wanted, find};
+pub use refutation::{Refutation, State};
 pub use refuting::is_refuted;

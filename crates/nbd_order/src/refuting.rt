@@ -7,9 +7,9 @@ ghost use Rattle.nbd_order.specs.Unexplained.{IsRefutedBy, has};
 ghost use Rattle.nbd_order.specs.internal.Refutations.{EachSteps, HasBeginning, HelpsNone, IsBefore, IsChangeAt, IsNoHelp, IsReadAt, NoneIsLast};
 
 use crate::offsets::{byte_left, is_before, is_change_at, is_other, is_read_at, touches};
+use crate::refutation::Refutation;
 use crate::states::{begins, ends, has, steps};
 use nbd_export::Start;
-use nbd_search::Refutation;
 use nbd_session::Transcript;
 
 /// Whether the refutation shows that each order without a fault has a wrong byte of one of its READs at its offset, from this start.

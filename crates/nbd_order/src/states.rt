@@ -7,8 +7,8 @@ ghost use Rattle.nbd_order.specs.Unexplained.{has};
 ghost use Rattle.nbd_order.specs.internal.Refutations.{AreSteps, EachSteps, Fits, HasBeginning, IsBefore, IsFitting, IsHeld, IsStep, IsUnfinished, Leads, LeadsOn, NoneIsLast};
 
 use crate::offsets::{byte_left, is_before, is_other, start_byte};
+use crate::refutation::{Refutation, State};
 use nbd_export::Start;
-use nbd_search::{Refutation, State};
 use nbd_session::Transcript;
 
 /// Whether k is one of these numbers.
@@ -159,8 +159,13 @@ fn keeps(reads: &[u64], served: &[u64], next: &[u64]) -> bool
     true
 }
 
-// Whether each READ is served, or can't be served where the offset holds this byte.
-fn fits(transcript: &Transcript, refutation: &Refutation, served: &[u64], byte: Option<u8>) -> bool
+/// Whether each READ is served, or can't be served where the offset holds this byte.
+pub fn fits(
+    transcript: &Transcript,
+    refutation: &Refutation,
+    served: &[u64],
+    byte: Option<u8>,
+) -> bool
     ensures { let f = refutation.now in IsTrue result → Fits transcript.now f.offset f.reads.items f.changes.items served.now byte }
 {
     for k in &refutation.reads {
@@ -171,8 +176,8 @@ fn fits(transcript: &Transcript, refutation: &Refutation, served: &[u64], byte: 
     true
 }
 
-// The same of one READ.
-fn is_fitting(
+/// The same of one READ.
+pub fn is_fitting(
     transcript: &Transcript,
     refutation: &Refutation,
     served: &[u64],
@@ -186,8 +191,8 @@ fn is_fitting(
         || is_other(transcript, k, refutation.offset, byte)
 }
 
-// Whether request k can't be served yet: a READ or change of the refutation surely comes before it, and was not served.
-fn is_held(transcript: &Transcript, refutation: &Refutation, served: &[u64], k: u64) -> bool
+/// Whether request k can't be served yet: a READ or change of the refutation surely comes before it, and was not served.
+pub fn is_held(transcript: &Transcript, refutation: &Refutation, served: &[u64], k: u64) -> bool
     ensures { let f = refutation.now in IsTrue result → IsHeld transcript.now f.reads.items f.changes.items served.now k }
 {
     waits(transcript, &refutation.reads, served, k)

@@ -1,17 +1,18 @@
-//! The search for an order of service. Nothing is proved of what it proposes: an order is judged and a refutation is tested by
+//! The search for an order of service. Nothing is proved of what it proposes: an order is judged and a contest is tested by
 //! nbd_order before they are told.
 #![tactic(auto)]
 
-mod graph;
+mod columns;
+mod contest;
+mod order;
 pub mod proposal;
 mod ranges;
-mod refute;
-mod replay;
+mod register;
 mod scene;
-mod searching;
+mod search;
 mod sweep;
 pub mod work;
 
-pub use proposal::{Proposal, Reason, Refutation, State};
-pub use searching::search;
+pub use proposal::{Contest, Proposal, Reason};
+pub use search::propose;
 pub use work::{Limits, Stage, Watch};

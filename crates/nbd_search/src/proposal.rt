@@ -7,8 +7,8 @@ use nbd_wire::Entry;
 pub enum Proposal {
     /// This order explains the session.
     Order(Vec<Entry>),
-    /// No order does, and this shows why.
-    Refutation(Refutation),
+    /// No order does, for these requests.
+    Contest(Contest),
     /// The search was broken off.
     GaveUp {
         /// The READ that was being looked at, counted from 1; 0 where none was as yet.
@@ -27,30 +27,18 @@ pub enum Reason {
     States,
     /// Too many steps were taken.
     Steps,
-    /// What the search proposes is wrong: its order is no order that explains the session, or its refutation is none.
+    /// What the search proposes is wrong: its order is no order that explains the session, or its requests refute none.
     Mistake,
 }
 
-/// Why no order explains a session: at one offset these READs and changes can be served in no order so that each of the READs
-/// gets its byte, and no other change can help. All numbers are those of requests, counted from 1, in rising order.
+/// Requests that refute each order: at one offset they can be served in no order so that each of the READs gets its byte, and no
+/// other change can help. All numbers are those of requests, counted from 1, in rising order.
 #[derive(Drop)]
-pub struct Refutation {
+pub struct Contest {
     /// In bytes from the export's start.
     pub offset: u64,
     /// READs of the offset that succeeded.
     pub reads: Vec<u64>,
     /// Requests that change the byte at the offset.
     pub changes: Vec<u64>,
-    /// What can have been served so far: the first is where nothing is changed yet, and each leads to others of them.
-    pub states: Vec<State>,
-}
-
-/// What of a refutation's requests was served so far.
-#[derive(Drop)]
-pub struct State {
-    /// The changes that were served, and READs, among them each one that was served.
-    pub served: Vec<u64>,
-    /// For each of the refutation's changes the place, counted from 0, of the state that serving it next leads to; any number where
-    /// it can't be served next.
-    pub next: Vec<usize>,
 }

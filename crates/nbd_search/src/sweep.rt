@@ -4,6 +4,8 @@
 //! to its value or hidden directly before the last switch; a READ in its last slot takes an open change of its value with it, in the
 //! same way.
 
+use crate::columns::Columns;
+use crate::proposal::Reason;
 use crate::scene::NEVER;
 use crate::work::{Stop, Watch, Work};
 use std::alloc::{AllocError, Global};
@@ -14,7 +16,7 @@ pub const UNKNOWN: usize = 0;
 /// What of a request concerns a range.
 #[derive(Clone, Copy, Drop)]
 pub struct Operation {
-    /// Its number, counted from 1.
+    /// Its number, counted from 1; 0 for the start.
     pub request: usize,
     /// The last slot in which it may be served, or `NEVER`.
     pub due: usize,
@@ -22,12 +24,26 @@ pub struct Operation {
     pub is_read: bool,
     /// What it reads or leaves, by its number among the values of the range.
     pub value: usize,
+    /// It is left out.
+    pub is_out: bool,
+    /// It is left out for good.
+    pub is_gone: bool,
+    // Its column while it is open.
+    column: usize,
 }
 
 impl Operation {
-    /// Whether it is surely served before a request with this number.
-    pub fn is_before(&self, request: usize) -> bool {
-        self.due < request
+    /// What a request does.
+    pub fn new(request: usize, due: usize, is_read: bool, value: usize) -> Operation {
+        Operation {
+            request,
+            due,
+            is_read,
+            value,
+            is_out: false,
+            is_gone: false,
+            column: 0,
+        }
     }
 
     /// Whether it is a READ that can find this where that was left.
@@ -36,55 +52,61 @@ impl Operation {
     }
 }
 
-// One way in which the operations so far can have been served.
-#[derive(Drop)]
-struct State {
-    value: usize,
-    // The slot of the last switch, and how many there were.
-    last: usize,
-    switches: usize,
-    // The place of what was served last in the log, behind it.
-    log: usize,
-    // Which of the open operations were served.
-    used: Vec<bool>,
+/// An operation that was served.
+#[derive(Clone, Copy, Drop)]
+pub struct Served {
+    /// What was served.
+    pub operation: Operation,
+    // What one state has served is in order where it is by turns, and then by places in the log.
+    turn: usize,
+    // The place of what the state served before in the log, behind it; 0 for nothing.
+    place: usize,
 }
 
-// An operation was served: the turns of one state, in their order, are the order.
+// One way in which the operations so far can have been served.
 #[derive(Clone, Copy, Drop)]
-struct Served {
-    // The place of what was served before in the log, behind it; 0 for nothing.
-    previous: usize,
+struct State {
+    value: usize,
+    // The slot of the last switch.
+    last: usize,
+    // Twice as many as there were switches.
     turn: usize,
-    operation: Operation,
+    // The place of what was served last in the log, behind it.
+    log: usize,
+    // Of the open operations those that were served.
+    used: Columns,
+    // How many changes it has used, and READs it has not.
+    distance: u32,
 }
 
 /// A search that goes on slot by slot.
 #[derive(Drop)]
 pub struct Sweep {
-    alloc: Global,
     // The operations that have arrived and are not due yet.
     open: Vec<Operation>,
+    // Their columns, and those of the READs among them.
+    taken: Columns,
+    reads: Columns,
     states: Vec<State>,
     log: Vec<Served>,
+    // The last slot that was gone through.
+    slot: usize,
+    // Steps that were not counted yet.
+    steps: usize,
 }
 
 impl Sweep {
-    /// A search that begins where the range holds the value `first`.
-    pub fn new(alloc: Global, first: usize) -> Result<Sweep, AllocError> {
-        let mut sweep = Sweep {
-            alloc,
+    /// A search that has not begun.
+    pub fn new(alloc: Global) -> Sweep {
+        Sweep {
             open: Vec::new(alloc),
+            taken: Columns::new(),
+            reads: Columns::new(),
             states: Vec::new(alloc),
             log: Vec::new(alloc),
-        };
-        sweep.states.push(State {
-            value: first,
-            last: 0,
-            switches: 0,
-            log: 0,
-            used: Vec::new(alloc),
-        })?;
-        Ok(sweep)
+            slot: 0,
+            steps: 0,
+        }
     }
 
     /// Serves these operations, which stand by their numbers; the slot in which that was impossible, if it was.
@@ -93,87 +115,112 @@ impl Sweep {
         work: &mut Work<W>,
         operations: &[Operation],
     ) -> Result<Option<usize>, Stop> {
-        for (slot, is_due, place) in &events(self.alloc, operations)? {
-            if let Some(one) = operations.get(*place) {
-                self.step(work, one, *slot, *is_due)?;
-            }
-            if self.states.is_empty() {
-                return Ok(Some(*slot));
+        self.begin()?;
+        for one in operations {
+            if !one.is_out {
+                self.go_on(work, one.request)?;
+                self.arrive(one)?;
             }
         }
-        Ok(None)
+        self.go_on(work, NEVER)?;
+        Ok(if self.states.is_empty() {
+            Some(self.slot)
+        } else {
+            None
+        })
     }
 
-    fn step<W: Watch>(
-        &mut self,
-        work: &mut Work<W>,
-        one: &Operation,
-        slot: usize,
-        is_due: bool,
-    ) -> Result<(), Stop> {
-        work.spend(self.states.len().saturating_mul(self.open.len() / 2 + 16))?;
-        if is_due {
-            self.fall_due(one, slot)?;
-            let compared = self.keep_undominated();
-            work.spend(compared)?;
-            work.allow_states(self.states.len())
-        } else {
-            Ok(self.arrive(one)?)
+    // Nothing has arrived and nothing is known.
+    fn begin(&mut self) -> Result<(), AllocError> {
+        self.open.clear();
+        self.taken = Columns::new();
+        self.reads = Columns::new();
+        self.log.clear();
+        self.states.clear();
+        self.states.push(State {
+            value: UNKNOWN,
+            last: 0,
+            turn: 0,
+            log: 0,
+            used: Columns::new(),
+            distance: 0,
+        })?;
+        Ok(())
+    }
+
+    // Goes through the slots before the arrival of a request, while there are states.
+    fn go_on<W: Watch>(&mut self, work: &mut Work<W>, request: usize) -> Result<(), Stop> {
+        work.spend(self.states.len().saturating_add(32))?;
+        for _ in 0..self.open.len() {
+            let Some(one) = self.next_due(request) else {
+                break;
+            };
+            if self.states.is_empty() {
+                break;
+            }
+            self.slot = one.due;
+            self.steps = self.states.len();
+            self.fall_due(&one)?;
+            work.spend(self.steps)?;
+            if self.states.len() as u64 > work.limits.states {
+                return Err(Stop::GaveUp(Reason::States));
+            }
         }
+        Ok(())
+    }
+
+    // Of the open operations that are due before the arrival of a request the first.
+    fn next_due(&self, request: usize) -> Option<Operation> {
+        let (mut found, mut due) = (None, request);
+        for one in &self.open {
+            if one.due < due {
+                (found, due) = (Some(*one), one.due);
+            }
+        }
+        found
     }
 
     // An operation arrives: a READ is served where it matches.
-    fn arrive(&mut self, one: &Operation) -> Result<(), AllocError> {
-        self.open.push(*one)?;
+    fn arrive(&mut self, one: &Operation) -> Result<(), Stop> {
+        let Some(column) = self.taken.free() else {
+            return Err(Stop::GaveUp(Reason::States));
+        };
+        let one = Operation { column, ..*one };
+        self.taken.add(column);
+        if one.is_read {
+            self.reads.add(column);
+        }
         for state in self.states.iter_mut() {
-            let is_served = one.reads(state.value);
-            state.used.push(is_served)?;
-            if is_served {
-                state.log = logged(&mut self.log, state, true, one)?;
+            if one.reads(state.value) {
+                serve(&mut self.log, state, 1, &one)?;
             }
         }
+        self.open.push(one)?;
         Ok(())
     }
 
     // An operation is in its last slot: each state that has not served it does so, in each way.
-    fn fall_due(&mut self, one: &Operation, slot: usize) -> Result<(), AllocError> {
-        let Some(at) = self
-            .open
-            .iter()
-            .position(|open| open.request == one.request)
-        else {
-            return Ok(());
-        };
+    fn fall_due(&mut self, one: &Operation) -> Result<(), AllocError> {
         for place in 0..self.states.len() {
-            self.serve(place, at, one, slot)?;
-        }
-        self.states.retain(|state| state.has_used(at));
-        for state in self.states.iter_mut() {
-            if at < state.used.len() {
-                state.used.remove(at);
+            if let Some(state) = self.states.get(place).copied() {
+                if !state.used.has(one.column) {
+                    self.branch(state, one)?;
+                }
             }
         }
-        if at < self.open.len() {
-            self.open.remove(at);
-        }
+        self.close(one.column);
+        self.prune();
         Ok(())
     }
 
-    // Adds what a state becomes by serving what is due.
-    fn serve(
-        &mut self,
-        place: usize,
-        at: usize,
-        one: &Operation,
-        slot: usize,
-    ) -> Result<(), AllocError> {
-        let last = match self.states.get(place) {
-            Some(state) if !state.has_used(at) => state.last,
-            _ => return Ok(()),
-        };
+    // Adds what a state becomes by serving what is due: by a switch in this slot to a change with which it is served, or where that
+    // change is hidden directly before the last switch.
+    fn branch(&mut self, state: State, one: &Operation) -> Result<(), AllocError> {
         for value in [one.value, UNKNOWN] {
-            self.branch(place, one, value, slot, true)?;
-            self.branch(place, one, value, last, false)?;
+            self.put(state, one, value, self.slot, true)?;
+            if state.turn > 0 {
+                self.put(state, one, value, state.last, false)?;
+            }
             if !one.is_read {
                 break;
             }
@@ -181,31 +228,37 @@ impl Sweep {
         Ok(())
     }
 
-    // Adds what a state becomes by a switch in this slot to a change with which what is due is served, or where that change is hidden
-    // directly before the last switch, which was in this slot.
-    fn branch(
+    // Adds the state with what is due served by such a change to this value in a slot, and with the open READs that match it and had
+    // arrived there; if there is such a change.
+    fn put(
         &mut self,
-        place: usize,
+        state: State,
         one: &Operation,
         value: usize,
         slot: usize,
         is_switch: bool,
     ) -> Result<(), AllocError> {
-        let Some(state) = self.states.get(place) else {
+        self.steps = self
+            .steps
+            .saturating_add(self.open.len())
+            .saturating_add(32);
+        let Some(change) = self.change(&state, one, value, slot) else {
             return Ok(());
         };
-        let Some(change) = self.change(state, one, value, slot) else {
-            return Ok(());
-        };
-        let used = state.used.as_slice().to_vec(self.alloc)?;
-        let mut next = State { used, ..*state };
+        let mut state = state;
         if is_switch {
-            next.value = change.value;
-            next.switches = next.switches.saturating_add(1);
-            next.last = slot;
+            state.value = value;
+            state.last = slot;
+            state.turn = state.turn.saturating_add(2);
         }
-        self.mark(&mut next, &change, slot, is_switch)?;
-        self.states.push(next)?;
+        let behind = usize::from(is_switch);
+        serve(&mut self.log, &mut state, behind, &change)?;
+        for open in &self.open {
+            if open.reads(value) && open.request <= slot && !state.used.has(open.column) {
+                serve(&mut self.log, &mut state, behind, open)?;
+            }
+        }
+        self.states.push(state)?;
         Ok(())
     }
 
@@ -224,162 +277,114 @@ impl Sweep {
         if !one.is_read {
             return Some(*one);
         }
-        let mut found: Option<Operation> = None;
-        for (open, is_used) in self.open.iter().zip(state.used.iter()) {
-            if !*is_used
-                && !open.is_read
+        let (mut found, mut due) = (None, NEVER);
+        for open in &self.open {
+            if !open.is_read
                 && open.value == value
                 && open.request <= slot
-                && found.is_none_or(|other| open.due < other.due)
+                && open.due <= due
+                && !state.used.has(open.column)
             {
-                found = Some(*open);
+                (found, due) = (Some(*open), open.due);
             }
         }
         found
     }
 
-    // A state serves a change, and the open READs that match it and had arrived at this slot.
-    fn mark(
-        &mut self,
-        state: &mut State,
-        change: &Operation,
-        slot: usize,
-        is_switch: bool,
-    ) -> Result<(), AllocError> {
-        state.log = logged(&mut self.log, state, is_switch, change)?;
-        for (place, open) in self.open.iter().enumerate() {
-            let is_served = open.request == change.request
-                || open.request <= slot && open.reads(change.value) && !state.has_used(place);
-            if is_served {
-                state.use_up(place);
-            }
-            if is_served && open.is_read {
-                state.log = logged(&mut self.log, state, is_switch, open)?;
-            }
+    // Leaves the states that have served what was due in this column.
+    fn close(&mut self, column: usize) {
+        self.states.retain(|state| state.used.has(column));
+        self.open.retain(|open| open.column != column);
+        self.taken.remove(column);
+        self.reads.remove(column);
+        for state in self.states.iter_mut() {
+            state.used.remove(column);
+            state.distance = state.used.distance(&self.reads);
         }
-        Ok(())
     }
 
-    // Drops each state for which another one can stand; how many were compared.
-    fn keep_undominated(&mut self) -> usize {
-        let open = self.open.as_slice();
-        self.states.sort_unstable_by_key(|state| state.rank(open));
-        let (mut first, mut kept, mut compared) = (0usize, 0usize, 0usize);
+    // Drops each state for which another one can stand.
+    fn prune(&mut self) {
+        self.states.sort_unstable_by_key(|state| (
+            state.value,
+            usize::MAX - state.last,
+            state.distance,
+        ));
+        let (mut first, mut kept, mut value) = (0, 0, UNKNOWN);
         for place in 0..self.states.len() {
-            let Some(state) = self.states.get(place) else {
+            let Some(state) = self.states.get(place).copied() else {
                 break;
             };
-            let others = self.states.get(first..kept).unwrap_or(&[]);
-            if others.last().is_none_or(|last| last.value != state.value) {
-                first = kept;
-            } else if others.iter().any(|other| other.stands_for(state, open)) {
-                compared = compared.saturating_add(others.len());
-                continue;
+            if state.value != value {
+                (first, value) = (kept, state.value);
             }
-            if kept < place && place < self.states.len() {
-                self.states.swap(kept, place);
+            self.steps = self.steps.saturating_add(kept).saturating_sub(first);
+            if !self.is_dominated(&state, first, kept) {
+                if let Some(at) = self.states.get_mut(kept) {
+                    *at = state;
+                }
+                kept = kept.saturating_add(1);
             }
-            kept = kept.saturating_add(1);
         }
         self.states.truncate(kept);
-        compared.saturating_add(kept)
     }
 
-    /// What was served, in its order.
-    pub fn order(&self) -> Result<Vec<Operation>, AllocError> {
-        let mut turns = Vec::new(self.alloc);
-        let mut at = self.states.first().map_or(0, |state| state.log);
-        for _ in 0..self.log.len() {
-            let Some(one) = self.log.get(at.wrapping_sub(1)) else {
-                break;
-            };
-            turns.push((one.turn, at))?;
-            at = one.previous;
-        }
-        turns.sort_unstable();
-        let mut order = Vec::new(self.alloc);
-        for (_, at) in &turns {
-            if let Some(one) = self.log.get(at.wrapping_sub(1)) {
-                order.push(one.operation)?;
+    // Whether one of the states from `first` to before `behind` has served all READs that this one has, and of the changes none
+    // besides, and can still hide the changes that this one has served besides: they had arrived before its last switch.
+    fn is_dominated(&self, state: &State, first: usize, behind: usize) -> bool {
+        for other in self.states.get(first..behind).unwrap_or(&[]) {
+            if other.used.is_ahead_of(&state.used, &self.reads) && self.can_hide(other, state) {
+                return true;
             }
         }
-        Ok(order)
-    }
-}
-
-// Adds to the log that a state serves an operation, before its last switch or behind it; the place behind that.
-fn logged(
-    log: &mut Vec<Served>,
-    state: &State,
-    is_behind: bool,
-    operation: &Operation,
-) -> Result<usize, AllocError> {
-    log.push(Served {
-        previous: state.log,
-        turn: state
-            .switches
-            .saturating_mul(2)
-            .saturating_add(usize::from(is_behind)),
-        operation: *operation,
-    })?;
-    Ok(log.len())
-}
-
-impl State {
-    fn has_used(&self, place: usize) -> bool {
-        self.used.get(place).copied().unwrap_or(false)
+        false
     }
 
-    fn use_up(&mut self, place: usize) {
-        if let Some(is_used) = self.used.get_mut(place) {
-            *is_used = true;
-        }
-    }
-
-    // States by their values, and one that can stand for others before them.
-    fn rank(&self, open: &[Operation]) -> (usize, usize, usize, usize) {
-        let (mut changes, mut missing) = (0usize, 0usize);
-        for (one, is_used) in open.iter().zip(self.used.iter()) {
-            if one.is_read && !*is_used {
-                missing = missing.saturating_add(1);
-            }
-            if !one.is_read && *is_used {
-                changes = changes.saturating_add(1);
-            }
-        }
-        (self.value, usize::MAX - self.last, changes, missing)
-    }
-
-    // Whether it has served all READs that another state with its value has, and of the changes none besides, switched no earlier,
-    // and can still hide the changes that the other one has served besides.
-    fn stands_for(&self, other: &State, open: &[Operation]) -> bool {
-        for (place, one) in open.iter().enumerate() {
-            let (is_used, was_used) = (self.has_used(place), other.has_used(place));
-            let is_fine = if one.is_read {
-                is_used || !was_used
-            } else {
-                is_used == was_used || was_used && one.request <= self.last
-            };
-            if !is_fine {
+    fn can_hide(&self, other: &State, state: &State) -> bool {
+        for one in &self.open {
+            if !one.is_read
+                && one.request > other.last
+                && state.used.has(one.column)
+                && !other.used.has(one.column)
+            {
                 return false;
             }
         }
         true
     }
+
+    /// What was served, in its order.
+    pub fn order(&self, alloc: Global) -> Result<Vec<Served>, AllocError> {
+        let mut order = Vec::new(alloc);
+        let mut place = match self.states.get(0) {
+            Some(state) => state.log,
+            None => 0,
+        };
+        for _ in 0..self.log.len() {
+            let Some(one) = self.log.get(place.wrapping_sub(1)) else {
+                break;
+            };
+            order.push(Served { place, ..*one })?;
+            place = one.place;
+        }
+        order.sort_unstable_by_key(|one| (one.turn, one.place));
+        Ok(order)
+    }
 }
 
-// The slot, whether an operation is due there or arrives, and its place, in the order in which that happens.
-fn events(
-    alloc: Global,
-    operations: &[Operation],
-) -> Result<Vec<(usize, bool, usize)>, AllocError> {
-    let mut events = Vec::new(alloc);
-    for (place, one) in operations.iter().enumerate() {
-        events.push((one.request, false, place))?;
-        if one.due != NEVER {
-            events.push((one.due, true, place))?;
-        }
-    }
-    events.sort_unstable();
-    Ok(events)
+// A state serves an operation, before its last switch or behind it.
+fn serve(
+    log: &mut Vec<Served>,
+    state: &mut State,
+    behind: usize,
+    operation: &Operation,
+) -> Result<(), AllocError> {
+    log.push(Served {
+        operation: *operation,
+        turn: state.turn.saturating_add(behind),
+        place: state.log,
+    })?;
+    state.log = log.len();
+    state.used.add(operation.column);
+    Ok(())
 }

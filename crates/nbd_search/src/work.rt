@@ -31,7 +31,7 @@ impl Limits {
 pub enum Stage {
     /// All requests are put into an order and replayed, for this time, counted from 1.
     Round(u64),
-    /// Orders are looked for of the requests that touch one range, for so many ranges.
+    /// Ranges that the order leaves wrong are searched one by one; so many have an order.
     Ranges(u64),
     /// A byte has no order, and of its requests so many are left to show it.
     Shrinking(u64),
@@ -50,6 +50,8 @@ pub enum Stop {
     Memory,
     /// It is broken off.
     GaveUp(Reason),
+    /// There is no order, as the contest shows that was found.
+    Refuted,
 }
 
 impl From<AllocError> for Stop {
@@ -75,9 +77,10 @@ pub struct Work<'a, W> {
     pub request: usize,
     /// The offset that is looked at, in bytes from the export's start.
     pub offset: u64,
+    /// What the search is at.
+    pub stage: Stage,
     left: u64,
     told: u64,
-    stage: Stage,
     watch: &'a mut W,
 }
 
@@ -89,16 +92,11 @@ impl<'a, W: Watch> Work<'a, W> {
             limits,
             request: 0,
             offset: 0,
+            stage: Stage::Round(1),
             left: limits.steps,
             told: limits.steps,
-            stage: Stage::Round(1),
             watch,
         }
-    }
-
-    /// Goes on with this stage.
-    pub fn enter(&mut self, stage: Stage) {
-        self.stage = stage;
     }
 
     /// Takes so many steps; an error where fewer are left.
@@ -110,14 +108,6 @@ impl<'a, W: Watch> Work<'a, W> {
         if self.told.saturating_sub(left) >= PAUSE {
             self.told = left;
             self.watch.see(self.stage);
-        }
-        Ok(())
-    }
-
-    /// An error where a search has more states than it may.
-    pub fn allow_states(&self, count: usize) -> Result<(), Stop> {
-        if count as u64 > self.limits.states {
-            return Err(Stop::GaveUp(Reason::States));
         }
         Ok(())
     }

@@ -37,7 +37,7 @@ impl<P: Write + Drop> Watch for Progress<P> {
         if let Some(out) = &mut self.out {
             let _ = match stage {
                 Stage::Round(round) => write!(out, "\r\x1b[Kround {round}: replaying"),
-                Stage::Ranges(count) => write!(out, "\r\x1b[Ksearching {count} ranges"),
+                Stage::Ranges(count) => write!(out, "\r\x1b[K{count} ranges searched"),
                 Stage::Shrinking(count) => write!(
                     out,
                     "\r\x1b[Kno order: {count} requests show it"

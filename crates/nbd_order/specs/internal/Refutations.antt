@@ -1,7 +1,7 @@
 -- Why no order explains a report at one offset: READs that get their byte there in no order of some changes, and no other change
 -- can help.
 use Rattle.std.specs.Prelude.{ℕ, List, ◌≡◌, ◌<◌, ◌⊎◌, ◌==◌, ◌||◌, Bool, true, false, Option, Some, None, IsTrue, slice_get}
-use Rattle.nbd_search.specs.declared.proposal.State.{State}
+use Rattle.nbd_order.specs.declared.refutation.State.{State}
 use Rattle.nbd_wire.specs.declared.commands.TheConstants as commands
 use Rattle.nbd_wire.specs.protocol.ExportBytes.{Differs, Effect, effect_byte, effects, touches}
 use Rattle.nbd_wire.specs.protocol.Reports.{Report, inside_in, known_in}

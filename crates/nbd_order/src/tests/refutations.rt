@@ -2,9 +2,8 @@
 
 use super::recordings::Sent::{Ask, Data, Failed, Reply, Write};
 use super::recordings::{Sent, recorded};
-use crate::is_refuted;
+use crate::{Refutation, State, is_refuted};
 use nbd_export::Start;
-use nbd_search::{Refutation, State};
 use nbd_wire::commands::{READ, TRIM};
 use std::alloc::Global;
 use std::process::Abort;

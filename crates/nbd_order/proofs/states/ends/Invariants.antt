@@ -1,5 +1,5 @@
 use Rattle.std.proofs.Common.{◌≡◌, ℕ, ◌<◌, Some, slice_get}
-use Rattle.nbd_search.specs.declared.proposal.State.{State}
+use Rattle.nbd_order.specs.declared.refutation.State.{State}
 use Rattle.nbd_order.specs.internal.Refutations.{IsUnfinished}
 use Rattle.nbd_order.proofs.states.ends.Given as goal
 
