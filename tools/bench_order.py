@@ -1,21 +1,26 @@
 #!/usr/bin/env python3
 """Times `nbdcheck order` on sessions of a server with threads, beside `nbdcheck check` with the order that it found.
 
-    tools/bench_order.py [-r RUNS] [-n COUNT ..] [-w WINDOW ..] [--bytes BYTES]
+    tools/bench_order.py [-r RUNS] [NAME ..]
 
-Each session has COUNT requests on an export of BYTES (1 MiB) that holds zeroes at first, half READs and half WRITEs, of which up to
-WINDOW are outstanding. The server takes each at a random moment between its arrival and its reply, and replies in random order. They are
-blocks of 512 bytes, or ranges of 1 to 1,024 bytes anywhere. The columns: requests, window, seconds of `order`, microseconds a request,
-the time over that of `check`, memory of `order` at its peak, and what the two said. The program is that of tools/bench_extents.py. Not
-part of the gate.
+In each session up to `window` requests are outstanding, half of them READs and half WRITEs. The server takes each at a random moment
+between its arrival and its reply, and replies in random order. Of each shape in which many requests contend for few bytes there is
+one more session with a stale byte: one READ returns at one offset what stood there before the last WRITE. In the last ones READs of
+the whole export come back as holes while WRITEs of single bytes are outstanding, of which some leave another byte. Without NAME all shapes
+are run; a NAME takes those whose names begin so. The columns: requests, seconds of `order`, the time over that of `check`, memory of
+`order` at its peak, its exit status (0 an order, 1 a proved no, 5 gave up), entries that serve a part, and what it or `check` said.
+The program is that of tools/bench_extents.py. Not part of the gate.
 """
 import argparse
 import os
 import random
 import subprocess
 import tempfile
+import typing
 
-from bench_extents import READ, TOP, WRITE, negotiation, reply, request, timed
+from bench_extents import READ, TOP, WRITE, negotiation, number, reply, request, timed
+
+MIB = 1 << 20
 
 
 class Task:
@@ -23,72 +28,127 @@ class Task:
         self.command, self.offset, self.data, self.is_served = command, offset, data, False
 
 
-def draw_range(dice, size, is_aligned):
-    if is_aligned:
-        return dice.randrange(size // 512) * 512, 512
-    length = dice.randint(1, min(1024, size))
-    return dice.randrange(size - length + 1), length
+class Shape(typing.NamedTuple):
+    """A session of so many requests: blocks of `block` bytes, or, without one, ranges of 1 to `most` bytes anywhere, of so many
+    different bytes. With `stale` one READ behind the half of them gets an old byte."""
 
+    count: int
+    window: int
+    size: int
+    block: int = 0
+    most: int = 0
+    letters: int = 256
+    stale: bool = False
 
-def session(count, window, size, is_aligned, dice):
-    """Lines of a session."""
-    export, open_tasks, asked = bytearray(size), {}, 0
-    while asked < count or open_tasks:
-        if asked < count and len(open_tasks) < window and (not open_tasks or dice.random() < 0.6):
-            asked += 1
-            offset, length = draw_range(dice, size, is_aligned)
+    def draw_range(self, dice):
+        if self.block:
+            return dice.randrange(self.size // self.block) * self.block, self.block
+        length = dice.randint(1, min(self.most, self.size))
+        return dice.randrange(self.size - length + 1), length
+
+    def draw_bytes(self, dice, length):
+        return dice.randbytes(length) if self.letters == 256 else bytes(dice.randrange(self.letters) for _ in range(length))
+
+    def records(self, dice):
+        """Its lines behind the negotiation."""
+        export, before, open_tasks, asked, stale = bytearray(self.size), bytearray(self.size), {}, 0, self.stale
+        while asked < self.count or open_tasks:
+            if asked < self.count and len(open_tasks) < self.window and (not open_tasks or dice.random() < 0.6):
+                asked += 1
+                offset, length = self.draw_range(dice)
+                if dice.random() < 0.5:
+                    open_tasks[asked] = Task(READ, offset, bytes(length))
+                    yield b"C", request(READ, asked, offset, length)
+                else:
+                    open_tasks[asked] = Task(WRITE, offset, self.draw_bytes(dice, length))
+                    yield b"C", request(WRITE, asked, offset, length, open_tasks[asked].data)
+                continue
+            cookie = dice.choice(list(open_tasks))
+            task = open_tasks[cookie]
+            end = task.offset + len(task.data)
+            if not task.is_served:
+                task.is_served = True
+                if task.command == WRITE:
+                    before[task.offset:end], export[task.offset:end] = export[task.offset:end], task.data
+                else:
+                    data = export[task.offset:end]
+                    if stale and asked > self.count // 2 and data != before[task.offset:end]:
+                        at = next(i for i in range(len(data)) if data[i] != before[task.offset + i])
+                        data[at], stale = before[task.offset + at], False
+                    task.data = bytes(data)
             if dice.random() < 0.5:
-                open_tasks[asked] = Task(READ, offset, bytes(length))
-                yield b"C", request(READ, asked, offset, length)
-            else:
-                open_tasks[asked] = Task(WRITE, offset, dice.randbytes(length))
-                yield b"C", request(WRITE, asked, offset, length, open_tasks[asked].data)
-            continue
-        cookie = dice.choice(list(open_tasks))
-        task = open_tasks[cookie]
-        end = task.offset + len(task.data)
-        if not task.is_served:
-            task.is_served = True
-            if task.command == WRITE:
-                export[task.offset:end] = task.data
-            else:
-                task.data = bytes(export[task.offset:end])
-        if dice.random() < 0.5:
-            del open_tasks[cookie]
-            yield b"S", reply(cookie, task.data if task.command == READ else b"")
+                del open_tasks[cookie]
+                yield b"S", reply(cookie, task.data if task.command == READ else b"")
+
+    def lines(self):
+        yield from negotiation(self.size, False)
+        yield from self.records(random.Random(self.count * 1000 + self.window))
 
 
-def measure(program, base, count, window, size, is_aligned, runs):
-    dice = random.Random(count * 1000 + window)
-    with open(base + ".cap", "wb") as capture:
-        for side, data in [*negotiation(size, False), *session(count, window, size, is_aligned, dice)]:
-            capture.write(side + b" " + data.hex().encode() + b"\n")
-    words = [program, "order", base + ".cap", "--start", "zero"]
+class Holes(typing.NamedTuple):
+    """WRITEs of single bytes, which are answered last, and between them as many READs of the whole export that come back as one hole.
+    So many of the WRITEs leave 1 in place of 0, so that the READs were served before them."""
+
+    count: int
+    wrong: int
+
+    def lines(self):
+        yield from negotiation(MIB, True)
+        for i in range(self.count):
+            yield b"C", request(WRITE, i + 1, i * (MIB // self.count), 1, bytes([i < self.wrong]))
+        for cookie in range(self.count + 1, 2 * self.count + 1):
+            yield b"C", request(READ, cookie, 0, MIB)
+            hole = number(0, 8) + number(MIB, 4)
+            yield b"S", bytes.fromhex("668e33ef00010002") + number(cookie, 8) + number(len(hole), 4) + hole
+        for i in range(self.count):
+            yield b"S", bytes.fromhex("668e33ef00010000") + number(i + 1, 8) + number(0, 4)
+
+
+def with_stale(name, shape):
+    return {name: shape, name + " stale": shape._replace(stale=True)}
+
+
+SHAPES = {
+    **with_stale("1 KiB 2000", Shape(2_000, 64, 1024, most=256)),
+    **with_stale("1 KiB 5000", Shape(5_000, 64, 1024, most=256)),
+    **with_stale("4 KiB 3000", Shape(3_000, 64, 4096, most=1024)),
+    **with_stale("block", Shape(2_000, 128, 512, block=512)),
+    **{key: shape for letters in (2, 4, 16, 256)
+       for key, shape in with_stale(f"byte of {letters}", Shape(3_000, 256, 1, block=1, letters=letters)).items()},
+    **{f"1 MiB {kind} {window}": Shape(100_000, window, MIB, **how)
+       for kind, how in (("aligned", {"block": 512}), ("anywhere", {"most": 1024})) for window in (1, 16, 64)},
+    **{f"holes {wrong}": Holes(1_000, wrong) for wrong in (1, 100, 1_000)},
+}
+
+
+def measure(program, folder, name, shape, runs):
+    capture, order = os.path.join(folder, "session.cap"), os.path.join(folder, "session.ord")
+    with open(capture, "wb") as file:
+        for side, data in shape.lines():
+            file.write(side + b" " + data.hex().encode() + b"\n")
+    words = [program, "order", capture, "--start", "zero"]
     took, memory, answer = timed(words, runs)
-    with open(base + ".ord", "wb") as order:
-        status = subprocess.run(words, stdout=order, check=False).returncode
-    checked, _, line = timed([program, "check", base + ".cap", base + ".ord", "--start", "zero"], runs)
-    entries = sum(1 for _ in open(base + ".ord", "rb"))
-    name = "aligned" if is_aligned else "anywhere"
-    said = line if status == 0 else answer
-    print(f"{name:9}{count:8}{window:5} {took:8.3f} s {took / count * 1e6:8.2f} us {took / checked:6.2f} {memory:8.1f} MiB "
-          f"{entries:8} entries  {status} {said[:60]}", flush=True)
+    with open(order, "wb") as file:
+        status = subprocess.run(words, stdout=file, check=False).returncode
+    over, said, parts = "", answer, 0
+    if status == 0:
+        checked, _, said = timed([program, "check", capture, order, "--start", "zero"], runs)
+        over = f"{took / checked:6.2f}"
+        with open(order, "rb") as file:
+            parts = sum(line.count(b" ") == 2 for line in file)
+    print(f"{name:20}{shape.count:8} {took:8.3f} s {over:>6} {memory:8.1f} MiB {status:3} {parts:8} {said[:70]}", flush=True)
 
 
 def main():
     parser = argparse.ArgumentParser(description=__doc__, formatter_class=argparse.RawDescriptionHelpFormatter)
     parser.add_argument("-r", dest="runs", type=int, default=1)
-    parser.add_argument("-n", dest="counts", type=int, nargs="+", default=[1_000, 10_000, 100_000])
-    parser.add_argument("-w", dest="windows", type=int, nargs="+", default=[1, 16, 64])
-    parser.add_argument("--bytes", type=int, default=1 << 20)
+    parser.add_argument("names", nargs="*")
     options = parser.parse_args()
     program = os.environ.get("NBD", os.path.join(TOP, "crates/nbdcheck/out/nbdcheck"))
     with tempfile.TemporaryDirectory() as folder:
-        for is_aligned in (True, False):
-            for window in options.windows:
-                for count in options.counts:
-                    base = os.path.join(folder, "session")
-                    measure(program, base, count, window, options.bytes, is_aligned, options.runs)
+        for name, shape in SHAPES.items():
+            if not options.names or any(name.startswith(one) for one in options.names):
+                measure(program, folder, name, shape, options.runs)
 
 
 if __name__ == "__main__":

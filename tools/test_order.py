@@ -4,7 +4,7 @@ import random
 import re
 import subprocess
 
-from bench_order import session
+from bench_order import Shape
 from built import PROGRAM, TOP, Ended, Room, Tally
 from messages import begun, content, done, read, simple, text, write
 from test_commands import fault, on_a_terminal
@@ -132,7 +132,7 @@ def files(tally, room):
 
 def long_search():
     """A session of 3,000 requests on 4 KiB, 64 at a time, of ranges that overlap."""
-    records = session(3_000, 64, 4_096, False, random.Random(3_000_064))
+    records = Shape(3_000, 64, 4_096, most=1_024).records(random.Random(3_000_064))
     return text(begun(size=4_096) + [(side.decode(), data) for side, data in records])
 
 

@@ -117,6 +117,9 @@ impl Sweep {
     ) -> Result<Option<usize>, Stop> {
         self.begin()?;
         for one in operations {
+            if self.states.is_empty() {
+                break;
+            }
             if !one.is_out {
                 self.go_on(work, one.request)?;
                 self.arrive(one)?;
