@@ -1,4 +1,4 @@
-# Completions of nbdcheck for bash.
+# Completions of nbdcheck and of capture-to-pcap for bash.
 
 _nbdcheck() {
     # The commands, each with its options; every other word is the name of a file.
@@ -29,3 +29,16 @@ _nbdcheck() {
 }
 
 complete -o filenames -F _nbdcheck nbdcheck
+
+_capture_to_pcap() {
+    # The name of a capture, or the only option.
+    local word=${COMP_WORDS[COMP_CWORD]}
+
+    if [[ $word = -* ]]; then
+        mapfile -t COMPREPLY < <(compgen -W "--help" -- "$word")
+    else
+        mapfile -t COMPREPLY < <(compgen -f -- "$word")
+    fi
+}
+
+complete -o filenames -F _capture_to_pcap capture-to-pcap

@@ -5,7 +5,7 @@ import pty
 import subprocess
 
 from built import PROGRAM, TOP, Ended, Room, Tally
-from messages import begun, read, simple, text, write
+from messages import begun, read, records_of, simple, text, write
 
 CAPTURE = text(begun() + [read(1, 0, 4), simple(1, bytes(4))])
 YES = b"yes requests 1 answered 1 improper 0\n"
@@ -20,6 +20,12 @@ MADE = b"S 4e42444d4147494349484156454f50540003\nC 00000003\n"
 
 def fault(what, status=3):
     return Ended(status, b"", f"fault {what}\n".encode())
+
+
+def sides(capture):
+    """The bytes of the client and those of the server."""
+    records = records_of(capture)
+    return [b"".join(data for one, data in records if one == side) for side in "CS"]
 
 
 def examples(tally, room):
@@ -40,8 +46,11 @@ def examples(tally, room):
         lines = shown.out.removesuffix(last)
         made = room.make(lines)
         tally.want(f"make {capture.name}", (made.status, made.err), (0, b""))
-        again = room.show(made.out)
-        tally.want(f"show of make {capture.name}", again.out.startswith(lines), True)
+        # Whole messages of which none is refused: of a session that is accepted all of its bytes, else those before the fault.
+        has_all = sides(made.out) == sides(capture.read_bytes())
+        is_front = all(whole.startswith(part) for part, whole in zip(sides(made.out), sides(capture.read_bytes())))
+        tally.holds(f"make {capture.name}, bytes", is_front and (is_wire or has_all), made.out[-80:])
+        tally.want(f"show of make {capture.name}", room.show(made.out), Ended(0, lines + b"ok\n", b""))
 
 
 def words(tally, room):
@@ -50,6 +59,9 @@ def words(tally, room):
         found = room.run(*asked)
         tally.want(f"{asked}", (found.status, found.err), (0, b""))
         tally.holds(f"{asked}", b"nbdcheck" in found.out, found.out)
+        if asked == ["--version"]:
+            # The version of the manual page's first line.
+            tally.want("--version", found.out, b"nbdcheck 0.1.0\n")
         if len(asked) == 2:
             example = b"Example:\n  nbdcheck " + asked[0].encode()
             tally.holds(f"{asked} has an example", example in found.out, found.out)
@@ -57,7 +69,7 @@ def words(tally, room):
                   ["make", "c", "d"], ["check", "c", "o", "--begin", "zero"], ["check", "c", "o", "--start"]):
         found = room.run(*asked)
         tally.want(f"{asked}", (found.status, found.out), (2, b""))
-        tally.holds(f"{asked} says why", found.err.endswith(b"\n"), found.err)
+        tally.holds(f"{asked} says why", found.err.startswith(b"error: ") and found.err.endswith(b"\n"), found.err)
 
 
 def starts(tally, room):

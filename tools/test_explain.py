@@ -10,6 +10,7 @@ from pathlib import Path
 from built import TOP, Ended, Room, Tally
 from messages import (DISC, FLUSH, READ, SERVER, WRITE_ZEROES, answer, begun, chunk, client_flags, content, cut, done, export_info,
                       front, greeting, hole, option, read, request, simple, text, write)
+from test_commands import fault
 from test_cuts import SESSIONS
 
 EXPLAINED = Path(__file__).resolve().parent / "explained"
@@ -175,26 +176,44 @@ def sessions(tally, room):
         capture, order = room.put(f"{name}.cap", text(session.records)), room.put(f"{name}.ord", session.order.encode())
         words = [capture, order, "--start", start_of(room, name, session.start)]
         wanted = (EXPLAINED / f"{name}.txt").read_bytes()
-        checked = room.run("check", *words)
-        tally.want(f"explain {name}", room.run("explain", *words), Ended(checked.status, wanted, b""))
-        tally.holds(f"explain {name} begins as check", wanted.startswith(checked.out), checked.out)
+        line, status = first_line(wanted), 0 if wanted.startswith(b"yes") else 1
+        tally.want(f"check {name}", room.run("check", *words), Ended(status, line, b""))
+        tally.want(f"explain {name}", room.run("explain", *words), Ended(status, wanted, b""))
+        last = line if name in WIRE else b"ok\n"
         shown = room.run("show", capture)
+        tally.want(f"show {name}", ending(shown), Ended(int(name in WIRE), last, b""))
         searched(tally, room, name, [capture, *words[2:]])
         arrival = b"".join(b"%d\n" % number for number in numbers_of(session.records))
         ended = Ended(1, b"", b"no order: the session was refused\n") if name in WIRE else Ended(0, arrival, b"")
         tally.want(f"order {name}", room.run("order", capture, "--arrival"), ended)
         named = room.run("show", capture, "--names")
-        tally.want(f"names of {name}", (named.status, named.err), (shown.status, b""))
+        tally.want(f"names of {name}", ending(named), Ended(int(name in WIRE), last, b""))
         tally.want(f"names of {name}, lines", named.out.count(b"\n"), shown.out.count(b"\n"))
-        tally.want(f"names of {name}, end", named.out.splitlines()[-1], shown.out.splitlines()[-1])
+
+
+def first_line(told):
+    return told.partition(b"\n")[0] + b"\n"
+
+
+def ending(found):
+    """A run with the last line of its output alone."""
+    return found._replace(out=found.out[found.out[:-1].rfind(b"\n") + 1 :])
+
+
+def status_of(line):
+    """The exit status of `order` with this line, where it is one of those that say why there is no order."""
+    return next((status for front, status in ((b"no ", 1), (b"gave up: ", 5)) if line.startswith(front)), 0)
 
 
 def searched(tally, room, name, words):
     """Without an order the status is that of `order`, and the first line its own, or that of `check` on the order that it writes."""
     found, told = room.run("order", *words), room.run("explain", *words)
     line = found.out
+    tally.want(f"order {name}", (found.status, found.err), (status_of(line), b""))
     if found.status == 0:
-        line = room.run("check", words[0], room.put("found.ord", found.out), *words[1:]).out
+        judged = room.run("check", words[0], room.put("found.ord", found.out), *words[1:])
+        line = judged.out
+        tally.want(f"order and check {name}", (judged.status, line[:4], judged.err), (0, b"yes ", b""))
         count, parts = found.out.count(b"\n"), sum(b" " in entry for entry in found.out.splitlines())
         entries = f"\nentries: {count}, of which {parts} are parts\n".encode()
         tally.holds(f"explain {name} without an order, entries", entries in told.out, told.out)
@@ -242,36 +261,43 @@ def fronts(tally, room):
         for count in range(1, sum(len(data) for _, data in session.records) + 1):
             name = f"{session.name}, {count} bytes"
             capture = room.put("front", text(front(session.records, count)))
+            is_open = session.is_open(count)
+            last = b"no at byte %d: Unfinished\n" % count if is_open else b"ok\n"
             shown, explained = room.run("show", capture), room.run("explain", capture)
-            if shown.status == 0:
-                searched(tally, room, name, [capture, "--start", "zero"])
-            else:
-                line, _, why = explained.out.partition(b"\n")
-                tally.want(name, (explained.status, line, explained.err), (1, shown.out.splitlines()[-1], b""))
+            tally.want(f"{name}, show", ending(shown), Ended(int(is_open), last, b""))
+            if is_open:
+                why = explained.out.removeprefix(last)
+                tally.want(name, explained, Ended(1, last + why, b""))
                 tally.want(f"{name}, places", why.count(b"["), 1)
+            else:
+                searched(tally, room, name, [capture, "--start", "zero"])
             named = room.run("show", "--names", capture)
-            told = (named.status, named.out.count(b"\n"), named.err)
-            tally.want(f"{name}, names", told, (shown.status, shown.out.count(b"\n"), b""))
+            tally.want(f"{name}, names", ending(named), Ended(int(is_open), last, b""))
+            tally.want(f"{name}, names, lines", named.out.count(b"\n"), shown.out.count(b"\n"))
 
 
 def faults(tally, room):
     """The inputs' faults are those of `check` and `show`."""
     good, bad, none = room.put("good", text(WRITTEN)), room.put("bad", b"C 0\n"), room.path("none")
     order, wrong = room.put("order", b"1\n2\n"), room.put("wrong", b"x\n")
-    for words in ([none, order], [good, none], [bad, order], [good, wrong], [bad, wrong], [none, none],
-                  [good, order, "--start", f"image:{none}"], [good, order, "--start", "none"]):
-        checked, explained = room.run("check", *words), room.run("explain", *words)
-        tally.want(f"explain {words}", explained, checked)
-        tally.holds(f"explain {words} is a fault", explained.status >= 2, explained)
-    for capture in (none, bad, room.folder):
-        shown = room.run("show", capture)
-        for words in (["explain", capture], ["show", "--names", capture], ["order", "--arrival", capture]):
-            tally.want(f"{words}", room.run(*words), shown)
-    for words in ([good, "--start", f"image:{none}"], [bad, "--start", f"image:{none}"], [good, "--start", "none"]):
-        tally.want(f"explain {words}", room.run("explain", *words), room.run("order", *words))
+    image, no_start = fault("image read"), fault("start", 2)
+    for words, wanted in (
+        ([none, order], fault("capture read")), ([good, none], fault("order read")), ([bad, order], fault("capture line 1")),
+        ([good, wrong], fault("order line 1")), ([bad, wrong], fault("capture line 1")), ([none, none], fault("capture read")),
+        ([good, order, "--start", f"image:{none}"], image), ([good, order, "--start", "none"], no_start),
+    ):
+        for command in ("check", "explain"):
+            tally.want(f"{command} {words}", room.run(command, *words), wanted)
+    for capture, wanted in ((none, "capture read"), (bad, "capture line 1"), (room.folder, "capture read")):
+        for words in (["show"], ["explain"], ["show", "--names"], ["order", "--arrival"]):
+            tally.want(f"{words} {capture}", room.run(*words, capture), fault(wanted))
+    for words, wanted in (([good, "--start", f"image:{none}"], image), ([bad, "--start", f"image:{none}"], image),
+                          ([good, "--start", "none"], no_start)):
+        for command in ("explain", "order"):
+            tally.want(f"{command} {words}", room.run(command, *words), wanted)
     for words in (["order"], ["explain"], ["explain", good, order, order], ["order", good, "--arrival", order]):
         found = room.run(*words)
-        tally.want(f"{words}", (found.status, found.out), (2, b""))
+        tally.want(f"{words}", (found.status, found.out, found.err[:7]), (2, b"", b"error: "))
 
 
 def run(tally):

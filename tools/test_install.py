@@ -12,7 +12,11 @@ INSTALLED = {
     "bin/nbdcheck": 0o755,
     "share/man/man1/nbdcheck.1": 0o644,
     "share/bash-completion/completions/nbdcheck": 0o644,
+    "bin/capture-to-pcap": 0o755,
+    "share/man/man1/capture-to-pcap.1": 0o644,
+    "share/bash-completion/completions/capture-to-pcap": 0o644,
 }
+SESSION = TOP / "examples/first.cap"
 
 
 def ended(*words, **how):
@@ -29,29 +33,54 @@ def installs(tally, prefix):
         tally.want(f"mode of {name}", path.is_file() and path.stat().st_mode & 0o777, mode)
     found = sorted(str(path.relative_to(prefix)) for path in prefix.rglob("*") if path.is_file())
     tally.want("nothing else", found, sorted(INSTALLED))
-    tally.want("install again", ended(TOP / "tools/install", prefix)[0], 0)
+    tally.want("install again", ended(TOP / "tools/install", prefix), (0, out, ""))
+    found = ended(prefix / "bin/nbdcheck", "check", SESSION, SESSION.with_suffix(".ord"), "--start", "zero")
+    tally.want("the program that was installed", found, (0, SESSION.with_suffix(".out").read_text(), ""))
+    tally.want("the script that was installed", ended(prefix / "bin/capture-to-pcap", "/nonexistent"),
+               (3, "", "capture-to-pcap: /nonexistent: No such file or directory\n"))
+
+
+def occupied(tally, folder):
+    """A folder where a file has to be, and a file where a folder has to be: nothing is installed."""
+    for name in INSTALLED:
+        prefix = Path(folder, "occupied", Path(name).name, name.split("/")[1])
+        (prefix / name).mkdir(parents=True)
+        found = ended(TOP / "tools/install", prefix)
+        tally.want(f"{name} is a folder", found, (1, "", f"install: {prefix}/{name} is a folder; nothing was installed\n"))
+        tally.want(f"{name} is a folder: no file", [path for path in prefix.rglob("*") if not path.is_dir()], [])
+    for name in ("", "bin", "share/man"):
+        prefix = Path(folder, "file", name.replace("/", "-") or "prefix", "prefix")
+        (prefix / name).parent.mkdir(parents=True, exist_ok=True)
+        place = prefix / name
+        place.touch()
+        found = ended(TOP / "tools/install", prefix)
+        tally.want(f"{place} is a file", found, (1, "", f"install: {place} is no folder; nothing was installed\n"))
+        tally.want(f"{place} is a file: no other", [path for path in prefix.rglob("*") if path.is_file()], [place] * bool(name))
 
 
 def words(tally, folder):
-    status, out, err = ended(TOP / "tools/install", "--help")
+    status, usage, err = ended(TOP / "tools/install", "--help")
     tally.want("install --help", (status, err), (0, ""))
-    tally.holds("install --help has an example", "tools/install ~/.local" in out, out)
+    tally.holds("install --help has an example", "tools/install ~/.local" in usage, usage)
+    for name in INSTALLED:
+        tally.holds(f"install --help has {name}", f"\n  /usr/local/{name}\n" in usage, usage)
     for asked in ([], ["--prefix"], [""], ["a", "b"]):
-        status, out, err = ended(TOP / "tools/install", *asked, cwd=folder)
-        tally.want(f"install {asked}", (status, out), (2, ""))
+        tally.want(f"install {asked}", ended(TOP / "tools/install", *asked, cwd=folder), (2, "", usage))
     tally.want("nothing installed", list(Path(folder).iterdir()), [])
 
 
-def completed(prefix, folder, *line):
-    """What the last of these words is completed to, behind the program's name."""
-    script = 'source "$1"; shift; COMP_WORDS=("$@"); COMP_CWORD=$(($# - 1)); _nbdcheck; printf "%s\\n" "${COMPREPLY[@]}"'
-    path = prefix / "share/bash-completion/completions/nbdcheck"
-    status, out, err = ended("bash", "-c", script, "bash", path, "nbdcheck", *line, cwd=folder)
+def completed(prefix, folder, *line, command="nbdcheck"):
+    """What the last of these words is completed to, behind the command's name."""
+    script = 'source "$1"; shift; COMP_WORDS=("$@"); COMP_CWORD=$(($# - 1)); _${1//-/_}; printf "%s\\n" "${COMPREPLY[@]}"'
+    path = prefix / "share/bash-completion/completions" / command
+    status, out, err = ended("bash", "-c", script, "bash", path, command, *line, cwd=folder)
     return set(out.split()) if (status, err) == (0, "") else (status, err)
 
 
 def helped(program, *words):
-    return ended(program, *words, "--help")[1]
+    """The help of a command, where it is one."""
+    status, out, err = ended(program, *words, "--help")
+    return out if (status, err) == (0, "") else f"{status}: {err}"
 
 
 def completions(tally, prefix, folder):
@@ -75,6 +104,8 @@ def completions(tally, prefix, folder):
         (["show", "t"], {"two.cap"}),
     ):
         tally.want(f"completion of {line}", completed(prefix, folder, *line), wanted)
+    for word, wanted in (("tw", {"two.cap"}), ("-", {"--help"}), ("", {"one.cap", "one.ord", "two.cap"})):
+        tally.want(f"completion of capture-to-pcap {word}", completed(prefix, folder, word, command="capture-to-pcap"), wanted)
 
 
 def run(tally):
@@ -82,6 +113,7 @@ def run(tally):
         prefix, empty = Path(folder, "prefix"), Path(folder, "empty")
         os.mkdir(empty)
         words(tally, empty)
+        occupied(tally, folder)
         installs(tally, prefix)
         completions(tally, prefix, empty)
 

@@ -139,15 +139,20 @@ def long_search():
 def terminals(tally, room):
     """A long search says on a terminal how far it is, and takes that away; a short one says nothing. Which file could not be opened."""
     long = room.put("long", long_search())
+    yes = Ended(0, b"yes requests 3000 answered 3000 improper 0\n", b"")
     found = on_a_terminal(room, "order", long, "--start", "zero")
     told = re.fullmatch(rb"(\r\x1b\[K(round \d+: replaying|\d+ ranges searched))+\r\x1b\[K", found.err)
     tally.holds("a long search on a terminal", told, found.err[-80:])
     judged = room.run("check", long, room.put("order", found.out), "--start", "zero")
-    yes = Ended(0, b"yes requests 3000 answered 3000 improper 0\n", b"")
     tally.want("what a long search found", (found.status, judged), (0, yes))
+    quiet = room.run("order", long, "--start", "zero")
+    judged = room.run("check", long, room.put("order", quiet.out), "--start", "zero")
+    tally.want("a long search without a terminal", (quiet.status, quiet.err, judged), (0, b"", yes))
     capture, none = room.put("torn", TORN), room.path("none")
     found = on_a_terminal(room, "order", capture, "--start", "zero")
-    tally.want("a short search on a terminal", (found.status, found.err), (0, b""))
+    judged = room.run("check", capture, room.put("order", found.out), "--start", "zero")
+    yes = Ended(0, b"yes requests 3 answered 3 improper 0\n", b"")
+    tally.want("a short search on a terminal", (found.status, found.err, judged), (0, b"", yes))
     why = f"{none}: No such file or directory (os error 2)\n".encode()
     tally.want("no file on a terminal", on_a_terminal(room, "order", none), Ended(3, b"", b"fault capture read\n" + why))
 

@@ -1,9 +1,9 @@
 #!/usr/bin/env python3
 """Runs the built program: its commands, sessions cut off and damaged, all that can fail, and inputs at size; and the
-scripts round it: the build, the installation, the conversions of recordings.
+scripts round it: the build, the installation, the conversions of recordings and of captures.
 
 The last line is `N passed, M failed`. With names as words, runs these parts alone: build, commands, conversions, cuts,
-explain, install, names, order, readme, refusals, sizes.
+explain, install, names, order, readme, refusals, sizes, to_pcap.
 """
 
 import sys
@@ -20,6 +20,7 @@ import test_order
 import test_readme
 import test_refusals
 import test_sizes
+import test_to_pcap
 from built import Tally, build
 
 PARTS = {
@@ -34,6 +35,7 @@ PARTS = {
     "readme": test_readme,
     "refusals": test_refusals,
     "sizes": test_sizes,
+    "to_pcap": test_to_pcap,
 }
 
 

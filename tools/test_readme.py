@@ -14,7 +14,8 @@ PRINTED = {
     "./nbdcheck check examples/first.cap examples/first.ord --start zero": YES,
     "tools/install ~/.local": "".join(
         f"{{home}}/.local/{name}\n"
-        for name in ("bin/nbdcheck", "share/man/man1/nbdcheck.1", "share/bash-completion/completions/nbdcheck")
+        for command in ("nbdcheck", "capture-to-pcap")
+        for name in (f"bin/{command}", f"share/man/man1/{command}.1", f"share/bash-completion/completions/{command}")
     ),
     # The session of recorded/session.socat, in place of one over the network.
     "tools/socat-to-capture s.txt > s.cap && nbdcheck order s.cap --arrival > s.ord && nbdcheck check s.cap s.ord --start zero":

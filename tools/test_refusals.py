@@ -5,6 +5,7 @@ reader of captures, an order, the contents of an export) stands in tests of thei
 """
 
 import itertools
+import re
 import subprocess
 import tempfile
 from pathlib import Path
@@ -31,6 +32,15 @@ FAULTS = {
     "order": ("capture",),
     "show": ("capture",),
     "make": ("script",),
+}
+
+# What each command writes where nothing is refused; other tests have it word for word.
+WRITES = {
+    "check": rb"yes requests \d+ answered \d+ improper 0\n",
+    "explain": rb"(yes|no content) [^\n]*\n([^\n]+\n)*",
+    "order": rb"(\d+\n)+",
+    "show": rb"([CS] [^\n]+\n)+ok\n",
+    "make": rb"([CS] ([0-9a-f]{2})+\n)+",
 }
 
 # Runs in which the pieces of a READ are sorted.
@@ -192,11 +202,21 @@ def run(tally):
     with Refusing() as room:
         for name, words, whole, most in runs(room):
             tally.want(name, (whole.status, whole.err), (int("wrong" in name), b""))
+            tally.holds(f"{name}, output", re.fullmatch(WRITES[words[0]], whole.out), whole.out[-80:])
             growths(tally, room, name, words, whole, most)
             reads(tally, room, name, words, whole)
             writes(tally, room, name, words, whole)
-        for words in (["--help"], ["check", "--help"], ["check"], ["check", "capture", "order", "--start", "none"]):
-            growths(tally, room, " ".join(words), words, room.run(*words), 0)
+        for words, status, out, err in (
+            (["--help"], 0, b"Usage: nbdcheck ", b""),
+            (["check", "--help"], 0, b"Usage: nbdcheck check ", b""),
+            (["check"], 2, b"", b"error: "),
+            (["check", "capture", "order", "--start", "none"], 2, b"", b"fault start\n"),
+        ):
+            name, whole = " ".join(words), room.run(*words)
+            tally.want(name, (whole.status, whole.err[: len(err)]), (status, err))
+            tally.holds(f"{name}, output", out in whole.out if out else whole.out == b"", whole)
+            tally.holds(f"{name}, nothing else", status == 2 or whole.err == b"", whole.err)
+            growths(tally, room, name, words, whole, 0)
         library(tally, room)
 
 

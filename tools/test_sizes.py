@@ -30,9 +30,10 @@ def long_messages(tally, room):
     tally.want("its bytes one by one", room.check(text(one_by_one(records)), b"1\n"), yes(1, 1, 1))
     shown = room.show(text(records))
     line = f"C request flags=0 command=1 cookie=1 offset=0 length={len(data)} payload={data.hex()}\n".encode()
-    tally.want("show of a write of 2 MiB", (shown.status, line in shown.out), (0, True))
+    is_shown = line in shown.out and shown.out.endswith(b"\nok\n")
+    tally.want("show of a write of 2 MiB", (shown.status, is_shown, shown.err), (0, True, b""))
     made = room.make(shown.out)
-    tally.want("make of a write of 2 MiB", made.out == text(records), True)
+    tally.want("make of a write of 2 MiB", (made.status, made.out == text(records), made.err), (0, True, b""))
     records = [greeting(), client_flags(), option(3, data), answer(3, 2**31 + 3, data)]
     tally.want("an option of 2 MiB", room.check(text(records), b""), yes(0, 0, 0))
     # The last byte of the message is missing.
