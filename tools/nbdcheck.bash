@@ -1,4 +1,4 @@
-# Completions of nbdcheck and of capture-to-pcap for bash.
+# Completions of nbdcheck, nbdcheck-record and capture-to-pcap for bash.
 
 _nbdcheck() {
     # The commands, each with its options; every other word is the name of a file.
@@ -42,3 +42,33 @@ _capture_to_pcap() {
 }
 
 complete -o filenames -F _capture_to_pcap capture-to-pcap
+
+_nbdcheck_record() {
+    local asked="--to --listen --start --arrival --order --profile --keep --out --help"
+    local starts="unknown zero image:"
+    local word=${COMP_WORDS[COMP_CWORD]} before=${COMP_WORDS[COMP_CWORD - 1]} at
+
+    for ((at = 1; at < COMP_CWORD; at++)); do
+        if [ "${COMP_WORDS[at]}" = -- ]; then
+            # The client and its words, with completions of their own.
+            if declare -F _command_offset >/dev/null; then
+                _command_offset $((at + 1))
+            else
+                mapfile -t COMPREPLY < <(compgen -c -f -- "$word")
+            fi
+            return
+        fi
+    done
+    if [ "$before" = --start ]; then
+        mapfile -t COMPREPLY < <(compgen -W "$starts" -- "$word")
+        [[ ${COMPREPLY[0]:-} = image: ]] && compopt -o nospace 2>/dev/null
+    elif [ "$before" = --keep ]; then
+        mapfile -t COMPREPLY < <(compgen -d -- "$word")
+    elif [[ $word = -* ]]; then
+        mapfile -t COMPREPLY < <(compgen -W "$asked --" -- "$word")
+    else
+        mapfile -t COMPREPLY < <(compgen -f -- "${word#:}")
+    fi
+}
+
+complete -o filenames -F _nbdcheck_record nbdcheck-record

@@ -25,7 +25,8 @@ if [ "$1" = run ]; then
 fi
 """
 BUILDS = ["low lib", "nbdcheck run -- --version"]
-BEGINS = "nbdcheck: proving and building, which takes about fifteen minutes the first time\n"
+BEGINS = "nbdcheck: proving and building, which takes about 3 minutes the first time\n"
+CRATES = "low: # 60\nnbdcheck: low # 120\n"
 
 
 class Tree:
@@ -33,10 +34,11 @@ class Tree:
 
     def __init__(self, folder):
         self.top, self.notes, self.temporary = Path(folder, "top"), Path(folder, "notes"), Path(folder, "tmp")
+        self.command = []
         for name in ("top/crates/low/src", "top/crates/nbdcheck/src", "bin", "tmp"):
             Path(folder, name).mkdir(parents=True)
         shutil.copy(TOP / "nbdcheck", self.top / "nbdcheck")
-        (self.top / "crates.txt").write_text("low:\nnbdcheck: low\n")
+        (self.top / "crates.txt").write_text(CRATES)
         (self.top / "crates/low/src/lib.rt").touch()
         rt = Path(folder, "bin/rt")
         rt.write_text(RT)
@@ -47,7 +49,7 @@ class Tree:
     def run(self, *words, stderr=subprocess.PIPE, **more):
         """Runs the wrapper; answers its status, output and errors, and what it built."""
         self.notes.write_text("")
-        command = [str(self.top / "nbdcheck"), *words]
+        command = [*self.command, str(self.top / "nbdcheck"), *words]
         done = subprocess.run(command, env={**self.environment, **more}, stdin=subprocess.DEVNULL,
                               stdout=subprocess.PIPE, stderr=stderr, text=True, timeout=60)
         return (done.returncode, done.stdout, done.stderr), self.notes.read_text().splitlines()
@@ -63,8 +65,8 @@ def first_build(tally, tree):
     program = tree.top / "crates/nbdcheck/out/nbdcheck"
     says = (
         BEGINS
-        + "nbdcheck: proving low, 1 of 2 crates, 0 minutes gone\n"
-        + "nbdcheck: proving nbdcheck, 2 of 2 crates, 0 minutes gone\n"
+        + "nbdcheck: proving low, 1 of 2 crates, 0 minutes gone, about 3 left\n"
+        + "nbdcheck: proving nbdcheck, 2 of 2 crates, 0 minutes gone, about 1 left\n"
         + f"nbdcheck: built {program}; tools/install PREFIX installs it\n"
     )
     tally.want("first build", (status, out, err), (0, "program check a b\n", says))
@@ -91,14 +93,19 @@ def failed_build(tally, tree):
     tally.want("no log left", list(tree.temporary.iterdir()), [])
 
 
-def side_by_side(tally, tree):
-    """No crate is begun before those that it stands on are built, however many are built at once."""
-    needs = {"low": [], "left": ["low"], "right": ["low"], "nbdcheck": ["left", "right"]}
+def write_crates(tree, needs):
+    """Lets the tree have these crates, by name what each needs and how long it takes."""
     for name in needs:
         (tree.top / "crates" / name).mkdir(exist_ok=True)
-    lines = (tree.top / "crates.txt").read_text()
-    (tree.top / "crates.txt").write_text("".join(f"{name}: {' '.join(below)} other\n" for name, below in needs.items()))
+    lines = [f"{name}: {' '.join(below)} # {seconds}\n" for name, (below, seconds) in needs.items()]
+    (tree.top / "crates.txt").write_text("".join(lines))
     tree.touch("crates.txt", 1)
+
+
+def side_by_side(tally, tree):
+    """No crate is begun before those that it stands on are built, however many are built at once."""
+    needs = {"low": ["other"], "left": ["low"], "right": ["low", "other"], "nbdcheck": ["left", "right"]}
+    write_crates(tree, {name: (below, 1) for name, below in needs.items()})
     (status, out, err), built = tree.run(SLOW="yes")
     tally.want("four crates", (status, out), (0, "program \n"))
     tally.want("four crates: begun", sorted(built), sorted(
@@ -106,9 +113,20 @@ def side_by_side(tally, tree):
     for name, below in needs.items():
         begins = next(i for i, line in enumerate(built) if line.startswith(name) and not line.endswith("ends"))
         for other in below:
-            tally.holds(f"{other} is built before {name}", built.index(f"{other} ends") < begins, built)
-    (tree.top / "crates.txt").write_text(lines)
-    tree.touch("crates.txt", -60)
+            if other in needs:
+                tally.holds(f"{other} is built before {name}", built.index(f"{other} ends") < begins, built)
+
+
+def longest_way_first(tally, tree):
+    """On one processor: the crate with the longest way to the program first, and none that the program does not need."""
+    write_crates(tree, {
+        "short": ([], 8), "low": ([], 1), "high": (["low"], 9), "unused": (["high"], 90), "nbdcheck": (["high", "short"], 1),
+    })
+    tree.command = ["taskset", "-c", "0"]
+    (status, out, err), built = tree.run()
+    tree.command = []
+    tally.want("one processor", (status, out), (0, "program \n"))
+    tally.want("one processor: begun", built, ["low lib", "high lib", "short lib", "nbdcheck run -- --version"])
 
 
 def on_a_terminal(tally, tree):
@@ -124,14 +142,14 @@ def on_a_terminal(tally, tree):
         pass
     os.close(shown)
     tally.want("on a terminal", (status, out, built), (0, "program \n", BUILDS))
-    for line in (b"\r\x1b[Knbdcheck: proving low, 1 of 2 crates, 0:00 gone", b"gone\r\x1b[Knbdcheck: built "):
+    for line in (b"\r\x1b[Knbdcheck: proving low, 1 of 2 crates, 0:00 gone, about 3:00 left", b"left\r\x1b[Knbdcheck: built "):
         tally.holds("a line that is rewritten", line in err, err)
 
 
 def run(tally):
     with tempfile.TemporaryDirectory(prefix="nbdcheck-") as folder:
         tree = Tree(folder)
-        for part in (first_build, later_runs, failed_build, on_a_terminal, side_by_side):
+        for part in (first_build, later_runs, failed_build, on_a_terminal, side_by_side, longest_way_first):
             part(tally, tree)
 
 

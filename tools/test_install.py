@@ -1,4 +1,4 @@
-"""tools/install in a folder of its own, and the completions against what the program's help names."""
+"""tools/install in a folder of its own, the completions against what the programs' helps name, and the installed recorder."""
 
 import os
 import re
@@ -8,13 +8,13 @@ from pathlib import Path
 
 from built import TOP, Tally
 
+PROGRAMS = ("nbdcheck", "nbdcheck-record", "capture-to-pcap")
+# In the order in which they are installed.
 INSTALLED = {
-    "bin/nbdcheck": 0o755,
-    "share/man/man1/nbdcheck.1": 0o644,
-    "share/bash-completion/completions/nbdcheck": 0o644,
-    "bin/capture-to-pcap": 0o755,
-    "share/man/man1/capture-to-pcap.1": 0o644,
-    "share/bash-completion/completions/capture-to-pcap": 0o644,
+    **{f"bin/{name}": 0o755 for name in PROGRAMS},
+    **{name: 0o644 for program in PROGRAMS
+       for name in (f"share/man/man1/{program}.1", f"share/bash-completion/completions/{program}")},
+    **{f"share/nbdcheck/recorder/{path.name}": 0o644 for path in sorted(TOP.glob("tools/recorder/*.py"))},
 }
 SESSION = TOP / "examples/first.cap"
 
@@ -62,7 +62,7 @@ def words(tally, folder):
     status, usage, err = ended(TOP / "tools/install", "--help")
     tally.want("install --help", (status, err), (0, ""))
     tally.holds("install --help has an example", "tools/install ~/.local" in usage, usage)
-    for name in INSTALLED:
+    for name in {re.sub("/recorder/.*", "/recorder, the parts of nbdcheck-record", name) for name in INSTALLED}:
         tally.holds(f"install --help has {name}", f"\n  /usr/local/{name}\n" in usage, usage)
     for asked in ([], ["--prefix"], [""], ["a", "b"]):
         tally.want(f"install {asked}", ended(TOP / "tools/install", *asked, cwd=folder), (2, "", usage))
@@ -108,6 +108,28 @@ def completions(tally, prefix, folder):
         tally.want(f"completion of capture-to-pcap {word}", completed(prefix, folder, word, command="capture-to-pcap"), wanted)
 
 
+def recorder(tally, prefix, folder):
+    """The installed nbdcheck-record: its modules, its help, its page, and its completions."""
+    program = prefix / "bin/nbdcheck-record"
+    found = ended(program, "--help", cwd=folder)
+    tally.want("nbdcheck-record --help", found, ended(TOP / "tools/nbdcheck-record", "--help"))
+    tally.want("nbdcheck-record runs", ended(program, "--to", "1", "--", "true", "{uri}", cwd=folder),
+               (3, "", "nbdcheck-record: no connection came: nothing was recorded\n"))
+    tally.want("no file beside its modules", sorted(path.name for path in (prefix / "share/nbdcheck").iterdir()), ["recorder"])
+    options = set(re.findall(r"^  (?:-h, )?(--\w+)", found[1].split("options:\n")[1].split("\n\n")[0], re.MULTILINE))
+    page = (prefix / "share/man/man1/nbdcheck-record.1").read_text().replace("\\-", "-")
+    tally.want("options of the manual page", {option for option in options if f"{option}" in page}, options)
+    complete = {"command": "nbdcheck-record"}
+    tally.want("options of nbdcheck-record", completed(prefix, folder, "-", **complete), options | {"--"})
+    for line, wanted in (
+        (["--start", ""], {"unknown", "zero", "image:"}),
+        (["--start", "image", ":", "tw"], {"two.cap"}),
+        (["--order", "on"], {"one.cap", "one.ord"}),
+        (["--to", "1", "--", "one.c"], {"one.cap"}),
+    ):
+        tally.want(f"completion of {line}", completed(prefix, folder, *line, **complete), wanted)
+
+
 def run(tally):
     with tempfile.TemporaryDirectory(prefix="nbdcheck-") as folder:
         prefix, empty = Path(folder, "prefix"), Path(folder, "empty")
@@ -116,6 +138,7 @@ def run(tally):
         occupied(tally, folder)
         installs(tally, prefix)
         completions(tally, prefix, empty)
+        recorder(tally, prefix, empty)
 
 
 if __name__ == "__main__":

@@ -1,9 +1,10 @@
 #!/usr/bin/env python3
 """Runs the built program: its commands, sessions cut off and damaged, all that can fail, and inputs at size; and the
-scripts round it: the build, the installation, the conversions of recordings and of captures.
+scripts round it: the build, the installation, the conversions of recordings and of captures, and the relay that records.
 
 The last line is `N passed, M failed`. With names as words, runs these parts alone: build, commands, conversions, cuts,
-explain, install, names, order, readme, refusals, sizes, to_pcap.
+explain, install, names, order, readme, record, record_answers, record_programs, refusals, search, sizes,
+to_pcap.
 """
 
 import sys
@@ -18,7 +19,11 @@ import test_install
 import test_names
 import test_order
 import test_readme
+import test_record
+import test_record_answers
+import test_record_programs
 import test_refusals
+import test_search
 import test_sizes
 import test_to_pcap
 from built import Tally, build
@@ -33,7 +38,11 @@ PARTS = {
     "names": test_names,
     "order": test_order,
     "readme": test_readme,
+    "record": test_record,
+    "record_answers": test_record_answers,
+    "record_programs": test_record_programs,
     "refusals": test_refusals,
+    "search": test_search,
     "sizes": test_sizes,
     "to_pcap": test_to_pcap,
 }

@@ -6,17 +6,14 @@ import tempfile
 from pathlib import Path
 
 from built import PROGRAM, TOP, Tally
+from test_install import INSTALLED
 
 YES = "yes requests 1 answered 1 improper 0\n"
 # What commands without an output of their own print.
 PRINTED = {
     "(cd crates/nbdcheck && rt try -- check data/first.cap data/first.ord --start zero)": YES,
     "./nbdcheck check examples/first.cap examples/first.ord --start zero": YES,
-    "tools/install ~/.local": "".join(
-        f"{{home}}/.local/{name}\n"
-        for command in ("nbdcheck", "capture-to-pcap")
-        for name in (f"bin/{command}", f"share/man/man1/{command}.1", f"share/bash-completion/completions/{command}")
-    ),
+    "tools/install ~/.local": "".join(f"{{home}}/.local/{name}\n" for name in INSTALLED),
     # The session of recorded/session.socat, in place of one over the network.
     "tools/socat-to-capture s.txt > s.cap && nbdcheck order s.cap --arrival > s.ord && nbdcheck check s.cap s.ord --start zero":
         "yes requests 2 answered 2 improper 0\n",

@@ -1,0 +1,1 @@
+"""What nbdcheck-record is made of."""

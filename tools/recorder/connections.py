@@ -1,0 +1,186 @@
+"""A connection between a client and a server: what comes is written down before it is forwarded."""
+
+import errno
+import os
+import selectors
+import socket
+import time
+
+from .captures import CLIENT, SERVER, Capture, Requests
+from .room import reason_of
+
+READ, WRITE = selectors.EVENT_READ, selectors.EVENT_WRITE
+# The most bytes that are taken at once. One such piece is held for each direction, until it is forwarded.
+LARGEST = 2**18
+NAMES = {CLIENT: "client", SERVER: "server"}
+
+
+class Flow:
+    """One direction of a connection."""
+
+    def __init__(self, side, source, target):
+        self.side, self.source, self.target = side, source, target
+        # What is written down and not yet forwarded, and how many bytes were written down.
+        self.held, self.count = b"", 0
+        # Whether more may come, and whether all that came was forwarded with its end, or the target has gone.
+        self.is_open, self.is_ended = True, False
+
+    def is_ready(self):
+        """Whether more is taken: where what came before was forwarded."""
+        return self.is_open and not self.held
+
+    def forward(self):
+        """Hands on what is held, as far as the target takes it, and then the end."""
+        try:
+            while self.held:
+                self.held = self.held[self.target.send(self.held) :]
+            if not self.is_open:
+                self.target.shutdown(socket.SHUT_WR)
+                self.is_ended = True
+        except BlockingIOError:
+            pass
+        except OSError:
+            # The target has gone: nothing more is taken for it, and its own bytes go on until they end.
+            self.held, self.is_open, self.is_ended = b"", False, True
+
+
+class Connection:
+    """A client's connection, and the one to the server that it is relayed to."""
+
+    def __init__(self, relay, number, client):
+        self.relay, self.number, self.client, self.server = relay, number, client, None
+        self.places = list(relay.places)
+        self.capture, self.flows, self.requests = None, {}, Requests()
+        # Why the recording is not whole, and the events that each end is watched for.
+        self.fault, self.is_closed, self.watched = None, False, {}
+
+    def connect(self):
+        """Tries the server's addresses, until one is connected or on its way."""
+        error = 0
+        while self.places:
+            family, where = self.places[0]
+            try:
+                self.server = socket.socket(family, socket.SOCK_STREAM)
+                self.server.setblocking(False)
+                error = self.server.connect_ex(where)
+            except OSError as failure:
+                return self.fail(f"cannot connect to {self.relay.target}: {reason_of(failure)}")
+            if error == 0:
+                return self.begin()
+            if error == errno.EINPROGRESS:
+                return self.watch(self.server, WRITE)
+            self.server.close()
+            if error == errno.EAGAIN:
+                return self.relay.waiting.append(self)
+            self.places.pop(0)
+        return self.fail(f"cannot connect to {self.relay.target}: {os.strerror(error)}")
+
+    def connected(self):
+        """The server's address has answered."""
+        error = self.server.getsockopt(socket.SOL_SOCKET, socket.SO_ERROR)
+        if error == 0:
+            return self.begin()
+        self.watch(self.server, 0)
+        self.server.close()
+        self.places.pop(0)
+        if self.places:
+            return self.connect()
+        return self.fail(f"cannot connect to {self.relay.target}: {os.strerror(error)}")
+
+    def begin(self):
+        """Both ends are there."""
+        path = self.relay.path_of(self.number)
+        try:
+            self.capture = Capture(path)
+        except OSError as error:
+            return self.fail(f"cannot write {path}: {reason_of(error)}")
+        self.flows = {CLIENT: Flow(CLIENT, self.client, self.server), SERVER: Flow(SERVER, self.server, self.client)}
+        for end in (self.client, self.server):
+            if end.family != socket.AF_UNIX:
+                end.setsockopt(socket.IPPROTO_TCP, socket.TCP_NODELAY, 1)
+        return self.watch_both()
+
+    def ready(self, end, mask):
+        """This end takes more, or more has come from it."""
+        if self.is_closed:
+            return
+        if not self.flows:
+            self.connected()
+            return
+        ours, other = (CLIENT, SERVER) if end is self.client else (SERVER, CLIENT)
+        if mask & WRITE:
+            self.flows[other].forward()
+        if mask & READ and self.flows[ours].is_ready():
+            self.take(self.flows[ours])
+        if self.is_closed:
+            return
+        if all(flow.is_ended for flow in self.flows.values()):
+            self.close()
+        else:
+            self.watch_both()
+
+    def take(self, flow):
+        """Writes down what has come, and then forwards it."""
+        try:
+            piece = flow.source.recv(LARGEST)
+        except BlockingIOError:
+            return
+        except OSError as error:
+            self.relay.tell(f"connection {self.number}: the {NAMES[flow.side]}: {reason_of(error)}")
+            piece = b""
+        if piece:
+            try:
+                self.capture.add(flow.side, piece)
+            except (OSError, MemoryError) as error:
+                self.fail(f"cannot write {self.capture.path}: {reason_of(error)}")
+                return
+            self.note(flow, piece)
+        else:
+            flow.is_open = False
+        flow.forward()
+
+    def note(self, flow, piece):
+        """Counts a piece that was written down."""
+        flow.held = memoryview(piece)
+        flow.count += len(piece)
+        if flow.side == CLIENT:
+            self.requests.feed(piece)
+        self.relay.moved = time.monotonic()
+
+    def watch_both(self):
+        for end, ours, other in ((self.client, CLIENT, SERVER), (self.server, SERVER, CLIENT)):
+            self.watch(end, (READ if self.flows[ours].is_ready() else 0) | (WRITE if self.flows[other].held else 0))
+
+    def watch(self, end, mask):
+        """Asks to be told of these events of an end."""
+        before = self.watched.get(end, 0)
+        if mask == before:
+            return
+        self.watched[end] = mask
+        if before == 0:
+            self.relay.selector.register(end, mask, self.ready)
+        elif mask == 0:
+            self.relay.selector.unregister(end)
+        else:
+            self.relay.selector.modify(end, mask, self.ready)
+
+    def fail(self, reason):
+        """Ends the connection, whose recording is not whole."""
+        self.fault = reason
+        self.relay.tell(f"connection {self.number}: {reason}")
+        self.close()
+
+    def close(self):
+        """Closes both ends and the capture."""
+        self.is_closed = True
+        for end in (self.client, self.server):
+            if end is not None and end.fileno() >= 0:
+                self.watch(end, 0)
+                end.close()
+        if self.capture is not None:
+            try:
+                self.capture.close()
+            except OSError as error:
+                self.fault = self.fault or f"cannot write {self.capture.path}: {reason_of(error)}"
+                self.relay.tell(f"connection {self.number}: {self.fault}")
+        self.relay.forget(self)

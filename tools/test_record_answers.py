@@ -1,0 +1,307 @@
+"""What nbdcheck-record answers: its words, the sessions of a client that it runs, and each exit status."""
+
+import os
+import socket
+import sys
+import tempfile
+import time
+from pathlib import Path
+
+from built import PROGRAM, TOP, Tally
+from messages import SERVER, begun, longest_runs, read, simple, write
+from recorded_ends import RECORD, Ends, Server, Tool, ended, player, runs_of
+
+# A WRITE and a READ of it, one after the other; and the same with another byte than the one that was written.
+GOOD = begun() + [write(1, 1, b"ab"), simple(1), read(2, 0, 4), simple(2, b"\0ab\0")]
+WRONG = GOOD[:-1] + [simple(2, b"\0aB\0")]
+# The READ came first and is answered first, with the bytes of a WRITE that came behind it.
+LATER = begun() + [read(2, 0, 4), write(1, 1, b"ab"), simple(2, b"\0ab\0"), simple(1)]
+# A READ of zeroes, and one of bytes that an export of zeroes has not.
+READS = begun() + [read(1, 0, 4), simple(1, bytes(4))]
+STALE = begun() + [read(1, 0, 4), simple(1, b"\0ab\0")]
+CUT = GOOD[:-1] + [(SERVER, GOOD[-1][1][:-1])]
+UNFINISHED = f"no at byte {sum(len(data) for _, data in CUT)}: Unfinished"
+YES = "yes requests 2 answered 2 improper 0"
+NO = "no content request 2 offset 2"
+NONE = "yes requests 0 answered 0 improper 0"
+APART = "contents not compared: another connection may change the export"
+
+MALFORMED = {
+    "nothing": ([], "--to"),
+    "no client and no --listen": (["--to", "1"], "neither --listen nor a client"),
+    "no client behind --": (["--to", "1", "--"], "no client behind --"),
+    "a client without --": (["--to", "1", "nbdinfo"], "nbdinfo"),
+    "a client that can't know where": (["--to", "1", "--", "nbdinfo"], "neither {uri}, {port} nor {socket}"),
+    "a port and a socket": (["--to", "1", "--", "{port}", "{socket}"], "only one"),
+    "a port where a socket is": (["--to", "1", "--listen", "./s", "--", "x", "{port}"], "a unix socket"),
+    "a socket where a port is": (["--to", "1", "--listen", "0", "--", "x", "{socket}"], "a port"),
+    "a start": (["--to", "1", "--start", "zeroes", "--", "{uri}"], "--start zeroes"),
+    "a server without a port": (["--to", "localhost", "--", "{uri}"], "localhost"),
+    "port 0": (["--to", "0", "--", "{uri}"], "port 0"),
+    "port 65536": (["--to", "65536", "--", "{uri}"], "65536"),
+    "a URI": (["--to", "nbd://localhost", "--", "{uri}"], "a URI"),
+    "colons": (["--to", "::1:10809", "--", "{uri}"], "brackets"),
+    "two orders": (["--to", "1", "--arrival", "--order", "o", "--", "{uri}"], "not allowed with"),
+    "--keep without a client": (["--to", "1", "--listen", "0", "--keep", "k"], "--keep"),
+    "--out with a client": (["--to", "1", "--out", "o", "--", "{uri}"], "--out"),
+    "the beginning of an option": (["--to", "1", "--arr", "--", "{uri}"], "--arr"),
+}
+
+
+def words(tally, folder):
+    for name, (asked, part) in MALFORMED.items():
+        status, out, err = ended(*asked, cwd=folder)
+        tally.want(name, (status, out), (2, ""))
+        tally.holds(f"{name}: says why", err.startswith("usage: nbdcheck-record ") and part in err.splitlines()[-1], err)
+    tally.want("nothing is made", os.listdir(folder), [])
+    status, out, err = ended("--help")
+    tally.want("--help", (status, err), (0, ""))
+    for part in ("usage: nbdcheck-record --to", "\nExample:\n  nbdcheck-record --to", "\nExit status", *EXITS):
+        tally.holds(f"--help has {part.strip()}", part in out, out)
+
+
+EXITS = [f"\n  {status} " for status in (0, 1, 2, 3, 4, 5, 10, 128)]
+
+
+def client_of(folder, records, *asked, path=None, where="{port}", status=0, count=1, **how):
+    """A run with a client and a server that play this session; captures go to a folder of their own."""
+    how.setdefault("env_more", {})["TMPDIR"] = folder
+    with Server(records, path=path, count=count) as server:
+        return ended("--to", server.address, *asked, "--", *player(folder, records, where, status), **how)
+
+
+def kept(folder):
+    """The captures that are left."""
+    return sorted(str(path) for path in Path(folder).rglob("*.cap"))
+
+
+def left(folder):
+    """The tool's own folders that are left."""
+    return sorted(path.name for path in Path(folder).glob("nbdcheck-record-*"))
+
+
+def answers(tally, folder):
+    """A yes, a no, what is kept of them, and which order is asked for."""
+    status, out, err = client_of(folder, GOOD, "--start", "zero")
+    tally.want("yes", (status, out.splitlines()[0], err, left(folder)), (0, YES, "", []))
+    tally.holds("yes: what it is worth", "some order explains the session" in out, out)
+    for name, asked in (("--arrival", ["--arrival"]), ("--order", ["--order", f"{folder}/order"])):
+        Path(folder, "order").write_text("1\n2\n")
+        found = client_of(folder, GOOD, "--start", "zero", *asked)
+        tally.want(name, found, (0, f"{YES}\n", ""))
+        status, out, _ = client_of(folder, LATER, "--start", "zero", *asked, "--keep", f"{folder}/later")
+        tally.want(f"{name}, another order", (status, out.splitlines()[0]), (1, "no content request 1 offset 1"))
+    tally.want("some order", client_of(folder, LATER, "--start", "zero")[:2][0], 0)
+    Path(folder, "image").write_bytes(bytes(8))
+    tally.want("an image", client_of(folder, GOOD, "--start", f"image:{folder}/image")[0], 0)
+    tally.want("an unknown start", client_of(folder, GOOD)[0], 0)
+    tally.want("a refused session, --arrival", client_of(folder, CUT, "--arrival", "--keep", f"{folder}/cut")[0:1], (1,))
+    capture = f"{folder}/keep/session.1.cap"
+    status, _, err = client_of(folder, GOOD, "--keep", f"{folder}/keep")
+    tally.want("--keep", (status, err, runs_of(capture)), (0, f"nbdcheck-record: kept {capture}\n", longest_runs(GOOD)))
+    tally.want("no folder is left", left(folder), [])
+    status, out, err = client_of(folder, WRONG, "--start", "zero")
+    tally.want("no", (status, out.splitlines()[0]), (1, f"{NO} in any order"))
+    captures = [path for path in kept(folder) if "nbdcheck-record-" in path]
+    tally.want("a no is kept", err.splitlines(), [f"nbdcheck-record: kept {path}" for path in captures])
+    tally.want("it is the session", [runs_of(path) for path in captures], [longest_runs(WRONG)])
+
+
+def places(tally, folder):
+    """The words of the client name where the tool listens."""
+    path = f"{folder}/server"
+    for name, at, where in (("a port for a port", None, "{port}"), ("a socket for a port", None, "{socket}"),
+                            ("a port for a socket", path + "1", "{port}"), ("a socket for a socket", path + "2", "{socket}")):
+        tally.want(name, client_of(folder, GOOD, path=at, where=where)[0], 0)
+    show = [sys.executable, "-IS", "-c", "import sys; print(sys.argv[1:])"]
+    for asked, to, begins in ((["{uri}"], "1", "['nbd://127.0.0.1:"), (["{uri}"], "./s", "['nbd+unix:///?socket=/"),
+                              (["{uri}/x", "{socket}"], "1", "['nbd+unix:///?socket=/"), (["a={port}"], "./s", "['a=")):
+        out = ended("--to", to, "--", *show, *asked)[1]
+        tally.holds(f"{asked} and --to {to}", out.startswith(begins), out)
+    odd = f"{folder}/a b%"
+    out = ended("--to", "1", "--listen", odd, "--", *show, "{uri}")[1]
+    tally.want("a URI of an odd path", out, f"['nbd+unix:///?socket={folder}/a%20b%25']\n")
+
+
+def failures(tally, folder):
+    """A client that fails, that never comes, that isn't there; addresses that are taken or have no name."""
+    status, out, err = client_of(folder, GOOD, "--start", "zero", status=7)
+    tally.want("a client that fails", (status, out.splitlines()[0], err),
+               (10, YES, "nbdcheck-record: the client ended with status 7\n"))
+    tally.want("a client that fails, and a no", client_of(folder, WRONG, "--start", "zero", status=7)[0], 1)
+    killed = ["sh", "-c", "kill -9 $$ {port}"]
+    tally.want("a client that is killed", ended("--to", "1", "--", *killed)[::2],
+               (10, "nbdcheck-record: the client was ended by signal 9\nnbdcheck-record: no connection came: nothing was recorded\n"))
+    none = "nbdcheck-record: no connection came: nothing was recorded\n"
+    tally.want("a client that never comes", ended("--to", "1", "--", "true", "{uri}"), (3, "", none))
+    for name, reason in ((f"{folder}/none", "No such file or directory"), (folder, "Permission denied")):
+        tally.want(f"a client {reason}", ended("--to", "1", "--", name, "{uri}"),
+                   (10, "", f"nbdcheck-record: cannot run the client {name}: {reason}\n"))
+    with socket.create_server(("127.0.0.1", 0)) as taken:
+        port = taken.getsockname()[1]
+        wanted = f"nbdcheck-record: cannot listen on 127.0.0.1:{port}: Address already in use\n"
+        tally.want("a port that is taken", ended("--to", "1", "--listen", port), (3, "", wanted))
+    Path(folder, "file").touch()
+    wanted = f"nbdcheck-record: cannot listen on {folder}/file: Address already in use\n"
+    tally.want("a socket that is taken", ended("--to", "1", "--listen", f"{folder}/file"), (3, "", wanted))
+    status, out, err = ended("--to", "a..b:1", "--", "true", "{uri}")
+    tally.want("a server without a name", (status, out, err.startswith("nbdcheck-record: cannot find a..b:1: ")), (3, "", True))
+    status, out, err = ended("--to", "./" + "x" * 200, "--", *player(folder, GOOD, "{socket}"))
+    tally.holds("a path that is too long", status == 3 and "AF_UNIX path too long" in err, err)
+    wanted = f"nbdcheck-record: cannot write {folder}/no/s.1.cap: No such file or directory\n"
+    tally.want("no folder", ended("--to", "1", "--listen", f"{folder}/l", "--out", f"{folder}/no/s"), (3, "", wanted))
+    wanted = f"nbdcheck-record: cannot write {folder}/file/session.1.cap: File exists\n"
+    tally.want("a file in place of a folder", ended("--to", "1", "--keep", f"{folder}/file", "--", "{uri}")[::2], (3, wanted))
+    with Ends(folder, "stdout", stdout=os.open("/dev/full", os.O_WRONLY)) as ends:
+        [end.close() for end in ends.both()]
+        status, _, err = ends.interrupt()
+        tally.want("standard output is full", (status, err), (3, "nbdcheck-record: No space left on device\n"))
+
+
+def lasting(tally, folder):
+    """A server that goes on behind the client's end is left, and what has passed is judged."""
+    with socket.create_server(("127.0.0.1", 0)) as listener:
+        with Tool("--to", listener.getsockname()[1], "--", *player(folder, GOOD[:2])) as tool:
+            server, _ = listener.accept()
+            begun_at = time.monotonic()
+            server.sendall(GOOD[0][1])
+            status, out, err = tool.end()
+    tally.want("a server that goes on", (status, out.splitlines()[0]), (0, "yes requests 0 answered 0 improper 0"))
+    tally.holds("a server that goes on: told", "still open 3 seconds behind the client's end: 1\n" in err, err)
+    tally.holds("a server that goes on: not for long", 2 < time.monotonic() - begun_at < 20)
+
+
+def several(tally, folder):
+    """Several connections: contents where no other one may have changed them, else the protocol alone, and the gravest status."""
+    both = ["sh", "-c", '"$@" && "$@"', "sh"]
+    for name, records, first, second, wanted in (
+        ("WRITEs", GOOD, f"connection 1: ok, {APART}", f"connection 2: ok, {APART}", 0),
+        ("wrong bytes", WRONG, f"connection 1: ok, {APART}", f"connection 2: ok, {APART}", 0),
+        ("cut", CUT, f"connection 1: {UNFINISHED}, {APART}", f"connection 2: {UNFINISHED}, {APART}", 1),
+        ("READs", READS, "connection 1\nyes requests 1 answered 1 improper 0", "connection 2\nyes requests 1 answered 1 improper 0", 0),
+        ("no request", begun(), f"connection 1\n{NONE}", f"connection 2\n{NONE}", 0),
+        ("wrong READs", STALE, "connection 1\nno content request 1 offset 1 in any order", "connection 2\nno content", 1),
+    ):
+        with Server(records, count=2) as server:
+            status, out, _ = ended("--to", server.address, "--start", "zero", "--keep", f"{folder}/two", "--", *both,
+                                   *player(folder, records))
+        tally.want(f"two connections, {name}", (status, out.startswith(first), second in out), (wanted, True, True))
+        tally.want(f"two connections, {name}: captures", [runs_of(f"{folder}/two/session.{n}.cap") for n in (1, 2)],
+                   [longest_runs(records)] * 2)
+
+
+def beside_others(tally, folder):
+    """Which of two connections is compared: one without requests, or with READs alone, beside one with a WRITE."""
+    order = Path(folder, "order")
+    order.write_text("1\n2\n")
+    for name, other, asked, wanted in (
+        ("no request", begun(), [], ["connection 1", NONE, "connection 2", YES]),
+        ("no request, --order", begun(), ["--order", order], ["connection 1", NONE, "connection 2", YES]),
+        ("READs", READS, [], [f"connection 1: ok, {APART}", "connection 2", YES]),
+        ("READs, --order", READS, ["--order", order], [f"connection 1: ok, {APART}", f"connection 2: ok, {APART}"]),
+    ):
+        with Ends(folder, name, "--start", "zero", *asked) as ends:
+            for records in (other, GOOD):
+                client, server = ends.both()
+                for side, data in records:
+                    (server if side == SERVER else client).sendall(data)
+                    (client if side == SERVER else server).recv(len(data), socket.MSG_WAITALL)
+                client.close(), server.close()
+            status, out, _ = ends.interrupt()
+        found = [line for line in out.splitlines() if line.startswith(("connection", "yes", "no"))]
+        tally.want(f"a WRITE beside {name}", (status, found), (0, wanted))
+
+
+# A stand-in for nbdcheck: for a capture it ends with the status that stands for its number, and notes its words.
+STAND_IN = """#!/bin/sh
+echo "$*" >>"$NOTES"
+[ "$1" != --version ] || exit ${VERSION:-0}
+for word; do
+    case $word in *.1.cap) status=$FIRST ;; *.2.cap) status=$SECOND ;; esac
+done
+echo "line $status"
+exit $status
+"""
+
+
+def statuses(tally, folder):
+    """Each status of nbdcheck, the gravest of two, and the words that it is given."""
+    program, notes = Path(folder, "stand-in"), Path(folder, "notes")
+    program.write_text(STAND_IN)
+    program.chmod(0o755)
+    both = ["sh", "-c", '"$@"; "$@"', "sh", *player(folder, GOOD)]
+
+    def ask(count, first, second=0, *asked, version="0"):
+        notes.write_text("")
+        env = {"FIRST": str(first), "SECOND": str(second), "NOTES": str(notes), "VERSION": version}
+        with Server(GOOD, count=count) as server:
+            client = both if count == 2 else player(folder, GOOD)
+            return ended("--to", server.address, *asked, "--keep", f"{folder}/k", "--", *client, nbdcheck=program, env_more=env)
+
+    for status, wanted in ((1, 1), (2, 2), (3, 3), (4, 4), (5, 5), (77, 3)):
+        tally.want(f"status {status}", ask(1, status)[:2], (wanted, f"line {status}\n"))
+    for first, second, wanted in ((4, 1, 1), (4, 3, 4), (3, 5, 3), (0, 5, 5)):
+        tally.want(f"statuses {first} and {second}", ask(2, first, second)[0], wanted)
+    capture = f"{folder}/k/session.1.cap"
+    for asked, wanted in (
+        (["--start", "zero"], [f"explain {capture} --start zero"]),
+        ([], [f"explain {capture} --start unknown"]),
+        (["--order", "o", "--profile", "p"], [f"explain {capture} o --start unknown --profile p"]),
+    ):
+        ask(1, 0, 0, *asked)
+        tally.want(f"its words, {asked}", notes.read_text().splitlines(), ["--version", *wanted])
+    ask(1, 0, 0, "--arrival", "--profile", "p")
+    found = notes.read_text().splitlines()
+    tally.want("its words, --arrival", (found[1], found[2].startswith(f"explain {capture} /")),
+               (f"order {capture} --arrival --profile p", True))
+    tally.want("nbdcheck fails at once", ask(1, 0, version="3")[:2], (3, ""))
+    client = ["touch", f"{folder}/came", "{uri}"]
+    found = ended("--to", "1", "--", *client, nbdcheck=f"{folder}/none")
+    wanted = f"nbdcheck-record: cannot run {folder}/none: No such file or directory\n"
+    tally.want("no nbdcheck", (found, os.path.exists(f"{folder}/came")), ((3, "", wanted), False))
+
+
+def without_client(tally, folder):
+    """Without a client an answer is given where it is asked for."""
+    for name, asked, lines in (("unasked", [], []), ("asked", ["--start", "zero", "--arrival"], [NO])):
+        with Ends(folder, name, *asked) as ends:
+            client, server = ends.both()
+            for side, data in WRONG:
+                (server if side == SERVER else client).sendall(data)
+                (client if side == SERVER else server).recv(len(data), socket.MSG_WAITALL)
+            client.close(), server.close()
+            status, out, err = ends.interrupt()
+        found = out.splitlines()
+        sizes = [sum(len(data) for sender, data in WRONG if sender == side) for side in "CS"]
+        line = f"{ends.capture()}: requests 2, bytes {sizes[0]} of the client, {sizes[1]} of the server"
+        tally.want(f"without a client, {name}", (status, found[:1], found[1:2], err), (len(lines), [line], lines, ""))
+
+
+def found_beside(tally, folder):
+    """Installed it finds the program and its modules; in the repository the wrapper."""
+    from recorder.answers import find_nbdcheck
+    kept_env = os.environ.pop("NBDCHECK", None)
+    tally.want("the repository's", find_nbdcheck(str(RECORD.parent)), str(TOP / "nbdcheck"))
+    Path(folder, "nbdcheck").touch()
+    tally.want("the one beside it", find_nbdcheck(folder), f"{folder}/nbdcheck")
+    os.environ["NBDCHECK"] = PROGRAM
+    tally.want("the one that NBDCHECK names", find_nbdcheck(folder), PROGRAM)
+    if kept_env is None:
+        del os.environ["NBDCHECK"]
+    else:
+        os.environ["NBDCHECK"] = kept_env
+
+
+PARTS = (words, answers, places, failures, lasting, several, beside_others, statuses, without_client, found_beside)
+
+
+def run(tally):
+    for part in PARTS:
+        with tempfile.TemporaryDirectory(prefix="nbdcheck-") as folder:
+            part(tally, folder)
+
+
+if __name__ == "__main__":
+    told = Tally()
+    run(told)
+    print(f"{told.passed} passed, {told.failed} failed")

@@ -1,0 +1,193 @@
+"""nbdcheck-record between servers and clients that are installed; those that are not are skipped, and named."""
+
+import contextlib
+import os
+import shutil
+import signal
+import socket
+import subprocess
+import tempfile
+import time
+from pathlib import Path
+
+from built import PROGRAM, Tally
+from recorded_ends import RECORD, SECONDS, Tool
+
+MIB = 2**20
+# A system's own programs stand before those of a python that was installed beside it.
+PATH = "/usr/bin:" + os.environ["PATH"]
+NONE = "yes requests 0 answered 0 improper 0"
+# What docs/PROFILE.md leaves out: a server granted a metadata context.
+OUT = "OutOfProfile"
+
+BYTES = "for k in range(4): h.pwrite(bytes([k + 1]) * 512, 300 * k)"
+READS = "assert h.pread(512, 700) == b'\\3' * 200 + b'\\4' * 312"
+NBDSH = ["nbdsh", "-u", "{uri}", "-c", BYTES, "-c", READS]
+QEMU_IO = ["qemu-io", "-f", "raw", "-c", "write -P 7 4096 8192", "-c", "read -P 7 4096 8192", "{uri}"]
+NBDCOPY = ["nbdcopy", "--no-extents", "{uri}", "null:"]
+FIO = ["fio", "--name=nbd", "--ioengine=nbd", "--uri={uri}", "--rw=randrw", "--bs=4k", "--size=256k", "--iodepth=4",
+       "--randseed=7", "--minimal"]
+
+# Each client: its words, the tool's, and how each of its connections is answered: its first line begins with it.
+CLIENTS = {
+    "nbdsh": (NBDSH, ["--arrival"], ["yes requests 5 answered 5 improper 0"]),
+    "nbdinfo": (["nbdinfo", "--size", "{uri}"], [], [NONE]),
+    "nbdcopy": ([*NBDCOPY, "--connections=1", "--request-size=262144"], [], ["yes requests 4 answered 4 improper 0"]),
+    "qemu-io": (QEMU_IO, [], OUT),
+    "fio": (FIO, [], [NONE, "yes requests "]),
+}
+# Servers that have no metadata context to grant, and so serve qemu's programs with no more than the profile has.
+PLAIN = ("nbdkit --no-sr", "nbd-server")
+
+
+def is_there(name):
+    return shutil.which(name, path=PATH) is not None
+
+
+def image_of(folder):
+    """An export of zeroes."""
+    path = Path(folder, "image")
+    path.write_bytes(b"")
+    os.truncate(path, MIB)
+    return str(path)
+
+
+def free_port():
+    with socket.create_server(("127.0.0.1", 0)) as held:
+        return held.getsockname()[1]
+
+
+def answers_there(address):
+    """Whether something listens there."""
+    path = "/" in address
+    with socket.socket(socket.AF_UNIX if path else socket.AF_INET) as end:
+        end.settimeout(1)
+        return end.connect_ex(address if path else ("127.0.0.1", int(address))) == 0
+
+
+@contextlib.contextmanager
+def running(words, address):
+    """A server, until the end of a test."""
+    with open(os.devnull, "wb") as none:
+        child = subprocess.Popen(words, stdin=none, stdout=none, stderr=none, env={**os.environ, "PATH": PATH})
+    try:
+        until = time.monotonic() + SECONDS
+        while not answers_there(address):
+            if time.monotonic() > until:
+                raise TimeoutError(f"{words[0]} did not begin")
+            time.sleep(0.02)
+        yield address
+    finally:
+        child.terminate()
+        child.wait(SECONDS)
+
+
+@contextlib.contextmanager
+def nbdkit(folder, *words):
+    path = f"{folder}/nbdkit.sock"
+    with running(["nbdkit", "-f", "-U", path, *words, "memory", "1M"], path) as address:
+        yield address
+
+
+@contextlib.contextmanager
+def qemu_nbd(folder):
+    path = f"{folder}/qemu-nbd.sock"
+    with running(["qemu-nbd", "-t", "-f", "raw", "-k", path, image_of(folder)], path) as address:
+        yield address
+
+
+@contextlib.contextmanager
+def nbd_server(folder):
+    """nbd-server leaves its process for another one, whose number it writes."""
+    port, config, number = free_port(), Path(folder, "config"), Path(folder, "number")
+    config.write_text(f"[generic]\nlistenaddr = 127.0.0.1\nport = {port}\n[disk]\nexportname = {image_of(folder)}\n")
+    try:
+        with running(["nbd-server", "-C", str(config), "-p", str(number)], str(port)) as address:
+            yield address
+    finally:
+        if number.exists():
+            os.kill(int(number.read_text()), signal.SIGTERM)
+
+
+SERVERS = {
+    "nbdkit": nbdkit,
+    "nbdkit --no-sr": lambda folder: nbdkit(folder, "--no-sr"),
+    "qemu-nbd": qemu_nbd,
+    "nbd-server": nbd_server,
+}
+
+
+def words_of(server, client):
+    """The client's words: nbd-server has a name for its export."""
+    words, asked, wanted = CLIENTS[client]
+    if server == "nbd-server":
+        words = [word.replace("{uri}", "{uri}/disk") for word in words]
+    return words, asked, wanted
+
+
+def first_lines(out):
+    """The first line of what is said of each connection."""
+    return [line for line in out.splitlines() if line.startswith(("yes ", "no ")) and "order: " not in line]
+
+
+def judged(tally, server, client, address, folder):
+    """What is said of a client's session with a server."""
+    words, asked, wanted = words_of(server, client)
+    keep = f"{folder}/{client}"
+    with Tool("--to", address, "--start", "unknown" if client == "qemu-io" else "zero", "--keep", keep, *asked, "--", *words,
+              env_more={"PATH": PATH}) as tool:
+        status, out, err = tool.end()
+    name, found = f"{client} and {server}", first_lines(out)
+    if wanted == OUT and server not in PLAIN:
+        tally.holds(name, status == 1 and len(found) == 1 and found[0].endswith(f": {OUT}"), (status, out, err))
+        return
+    wanted = ["yes requests "] if wanted == OUT else wanted
+    same = len(found) == len(wanted) and all(line.startswith(part) for line, part in zip(found, wanted))
+    tally.holds(name, status == 0 and same, (status, out, err))
+    captures = [f"nbdcheck-record: kept {keep}/session.{number}.cap" for number in range(1, len(wanted) + 1)]
+    tally.holds(f"{name}: captures", set(captures) <= set(err.splitlines()), err)
+
+
+def pairs(tally, folder):
+    """Each server with each client."""
+    for server, begin in SERVERS.items():
+        if not is_there(server.split()[0]):
+            continue
+        for client in CLIENTS:
+            if is_there(client):
+                with tempfile.TemporaryDirectory(prefix="nbdcheck-") as own, begin(own) as address:
+                    judged(tally, server, client, address, own)
+
+
+def run_by_nbdkit(tally, folder):
+    """nbdkit runs the tool, which runs the client."""
+    if not (is_there("nbdkit") and is_there("nbdcopy")):
+        return
+    tool = f'{RECORD} --to "$unixsocket" --start zero -- nbdcopy --synchronous --no-extents "{{uri}}" null:'
+    env = {**os.environ, "PATH": PATH, "NBDCHECK": PROGRAM}
+    done = subprocess.run(["nbdkit", "-U", "-", "memory", "1M", "--run", tool], env=env, capture_output=True, text=True,
+                          timeout=SECONDS)
+    tally.holds("nbdkit --run", done.returncode == 0 and done.stdout.startswith("yes requests 4 answered 4 "), done)
+    several = tool.replace(" --synchronous", "")
+    done = subprocess.run(["nbdkit", "-U", "-", "memory", "64M", "--run", several], env=env, capture_output=True, text=True,
+                          timeout=SECONDS)
+    lines = [line.split(" ")[0] for line in done.stdout.splitlines() if line.startswith(("connection", "yes"))]
+    tally.want("nbdcopy of several connections", (done.returncode, lines), (0, ["connection", "yes"] * 4))
+
+
+PARTS = (pairs, run_by_nbdkit)
+
+
+def run(tally):
+    skipped = {name.split()[0] for name in (*SERVERS, *CLIENTS) if not is_there(name.split()[0])}
+    for name in sorted(skipped):
+        print(f"skipped: {name}", flush=True)
+    for part in PARTS:
+        with tempfile.TemporaryDirectory(prefix="nbdcheck-") as folder:
+            part(tally, folder)
+
+
+if __name__ == "__main__":
+    told = Tally()
+    run(told)
+    print(f"{told.passed} passed, {told.failed} failed")
