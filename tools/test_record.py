@@ -109,7 +109,8 @@ def leaving(tally, folder):
         server.close()
         tally.want("the client went: its bytes", bytes_of(ends.capture(), CLIENT), b"asks")
         tally.want("the client went: the server's", bytes_of(ends.capture(), SERVER)[:1000], bytes(1000))
-        tally.want("the client went: status", ends.interrupt()[0], 0)
+        status, _, err = ends.interrupt()
+        tally.want("the client went: status", (status, err), (0, "nbdcheck-record: connection 1: the client: Broken pipe\n"))
     with socket.create_server(("127.0.0.1", 0)) as listener:
         port, out = listener.getsockname()[1], f"{folder}/reset"
         client = player(folder, [(CLIENT, b"asks"), (SERVER, b"answer")])
@@ -154,6 +155,26 @@ def connections(tally, folder):
         tally.holds("few descriptors: told", "Too many open files" in err and "Traceback" not in err, err)
 
 
+def full_queue(tally, folder):
+    """A server whose queue is full is tried again until it takes connections."""
+    with Ends(folder) as ends:
+        ends.listener.listen(0)
+        before = [socket.socket(socket.AF_UNIX) for _ in range(9)]
+        waiting = 0
+        for end in before:
+            end.setblocking(False)
+            waiting += end.connect_ex(ends.there) == 0
+        client = ends.connect()
+        client.sendall(b"waits")
+        for _ in range(waiting):
+            ends.listener.accept()[0].close()
+        server, _ = ends.listener.accept()
+        tally.want("a full queue", all_of(server, 5), b"waits")
+        client.close(), server.close()
+        [end.close() for end in before]
+        tally.want("a full queue: status", ends.interrupt()[::2], (0, ""))
+
+
 def full(tally, folder):
     """A capture that cannot be written ends with a whole line, and no byte that is not in it has passed."""
     data = data_of(40_000, 11)
@@ -192,7 +213,8 @@ def interrupts(tally, folder):
                 tally.want(f"{number.name}: the server's end", server.recv(1), b"")
             path = f"{keep}/session.1.cap"
             tally.want(number.name, (status, out), (128 + number, ""))
-            tally.holds(f"{number.name}: told", f"interrupted by {number.name}: no answer\n" in err and f"kept {path}\n" in err, err)
+            told = (f"nbdcheck-record: {line}\n" in err for line in (f"kept {path}", f"interrupted by {number.name}: no answer"))
+            tally.holds(f"{number.name}: told", all(told), err)
             tally.want(f"{number.name}: captured", runs_of(path), [(CLIENT, b"asks")])
     with Ends(folder, "streaming") as ends:
         client, server = ends.both()
@@ -242,7 +264,7 @@ def on_a_terminal(tally, folder):
     os.close(terminal)
 
 
-PARTS = (turns, halves, slow_reader, leaving, connections, full, interrupts, counts, on_a_terminal)
+PARTS = (turns, halves, slow_reader, leaving, connections, full_queue, full, interrupts, counts, on_a_terminal)
 
 
 def run(tally):

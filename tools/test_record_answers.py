@@ -1,7 +1,9 @@
 """What nbdcheck-record answers: its words, the sessions of a client that it runs, and each exit status."""
 
 import os
+import signal
 import socket
+import subprocess
 import sys
 import tempfile
 import time
@@ -23,6 +25,8 @@ CUT = GOOD[:-1] + [(SERVER, GOOD[-1][1][:-1])]
 UNFINISHED = f"no at byte {sum(len(data) for _, data in CUT)}: Unfinished"
 YES = "yes requests 2 answered 2 improper 0"
 NO = "no content request 2 offset 2"
+STALE_LINE = "no content request 1 offset 1 in any order"
+ONE = "yes requests 1 answered 1 improper 0"
 NONE = "yes requests 0 answered 0 improper 0"
 APART = "contents not compared: another connection may change the export"
 
@@ -130,9 +134,9 @@ def failures(tally, folder):
                (10, YES, "nbdcheck-record: the client ended with status 7\n"))
     tally.want("a client that fails, and a no", client_of(folder, WRONG, "--start", "zero", status=7)[0], 1)
     killed = ["sh", "-c", "kill -9 $$ {port}"]
-    tally.want("a client that is killed", ended("--to", "1", "--", *killed)[::2],
-               (10, "nbdcheck-record: the client was ended by signal 9\nnbdcheck-record: no connection came: nothing was recorded\n"))
     none = "nbdcheck-record: no connection came: nothing was recorded\n"
+    wanted = (10, f"{none}nbdcheck-record: the client was ended by signal 9\n")
+    tally.want("a client that is killed", ended("--to", "1", "--", *killed)[::2], wanted)
     tally.want("a client that never comes", ended("--to", "1", "--", "true", "{uri}"), (3, "", none))
     for name, reason in ((f"{folder}/none", "No such file or directory"), (folder, "Permission denied")):
         tally.want(f"a client {reason}", ended("--to", "1", "--", name, "{uri}"),
@@ -178,9 +182,9 @@ def several(tally, folder):
         ("WRITEs", GOOD, f"connection 1: ok, {APART}", f"connection 2: ok, {APART}", 0),
         ("wrong bytes", WRONG, f"connection 1: ok, {APART}", f"connection 2: ok, {APART}", 0),
         ("cut", CUT, f"connection 1: {UNFINISHED}, {APART}", f"connection 2: {UNFINISHED}, {APART}", 1),
-        ("READs", READS, "connection 1\nyes requests 1 answered 1 improper 0", "connection 2\nyes requests 1 answered 1 improper 0", 0),
+        ("READs", READS, f"connection 1\n{ONE}", f"connection 2\n{ONE}", 0),
         ("no request", begun(), f"connection 1\n{NONE}", f"connection 2\n{NONE}", 0),
-        ("wrong READs", STALE, "connection 1\nno content request 1 offset 1 in any order", "connection 2\nno content", 1),
+        ("wrong READs", STALE, f"connection 1\n{STALE_LINE}", f"connection 2\n{STALE_LINE}", 1),
     ):
         with Server(records, count=2) as server:
             status, out, _ = ended("--to", server.address, "--start", "zero", "--keep", f"{folder}/two", "--", *both,
@@ -261,6 +265,33 @@ def statuses(tally, folder):
     tally.want("no nbdcheck", (found, os.path.exists(f"{folder}/came")), ((3, "", wanted), False))
 
 
+def interrupted(tally, folder):
+    """An interrupt while nbdcheck runs: no answer, and the capture is kept."""
+    program, begun_at = Path(folder, "slow"), Path(folder, "begun")
+    program.write_text(f"#!/bin/sh\n[ $1 = --version ] && exit\ntouch {begun_at}\nexec sleep 60\n")
+    program.chmod(0o755)
+    with Server(GOOD) as server:
+        words = ["--to", server.address, "--", *player(folder, GOOD)]
+        with Tool(*words, nbdcheck=program, env_more={"TMPDIR": folder}) as tool:
+            while not begun_at.exists():
+                time.sleep(0.01)
+            status, out, err = tool.end(signal.SIGTERM)
+    captures = kept(folder)
+    lines = [f"nbdcheck-record: kept {path}" for path in captures]
+    tally.want("an interrupt of nbdcheck", (status, out), (143, ""))
+    tally.want("an interrupt of nbdcheck: told", err.splitlines(), [*lines, "nbdcheck-record: interrupted by SIGTERM: no answer"])
+    tally.want("an interrupt of nbdcheck: captured", [runs_of(path) for path in captures], [longest_runs(GOOD)])
+
+
+def closed_files(tally, folder):
+    """Standard output and standard error that are closed are no other file's."""
+    with Server(GOOD) as server:
+        words = [sys.executable, str(RECORD), "--to", server.address, "--keep", f"{folder}/k", "--", *player(folder, GOOD)]
+        env = {**os.environ, "NBDCHECK": PROGRAM}
+        done = subprocess.run(["sh", "-c", 'exec "$@" <&- >&- 2>&-', "sh", *words], env=env, timeout=60)
+    tally.want("closed files", (done.returncode, runs_of(f"{folder}/k/session.1.cap")), (0, longest_runs(GOOD)))
+
+
 def without_client(tally, folder):
     """Without a client an answer is given where it is asked for."""
     for name, asked, lines in (("unasked", [], []), ("asked", ["--start", "zero", "--arrival"], [NO])):
@@ -292,7 +323,8 @@ def found_beside(tally, folder):
         os.environ["NBDCHECK"] = kept_env
 
 
-PARTS = (words, answers, places, failures, lasting, several, beside_others, statuses, without_client, found_beside)
+PARTS = (words, answers, places, failures, lasting, several, beside_others, statuses, interrupted, closed_files,
+         without_client, found_beside)
 
 
 def run(tally):

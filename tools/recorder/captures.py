@@ -39,7 +39,9 @@ class Capture:
 
 OPTION, REQUEST = b"IHAVEOPT", bytes.fromhex("25609513")
 FLAGS_SIZE, OPTION_SIZE, REQUEST_SIZE = 4, 16, 28
-READ, WRITE, DISC, FLUSH, CACHE = 0, 1, 2, 3, 5
+WRITE, DISC = 1, 2
+# READ, DISC, FLUSH, CACHE and BLOCK_STATUS.
+CHANGE_NOTHING = (0, 2, 3, 5, 7)
 
 
 class Requests:
@@ -96,4 +98,4 @@ class Requests:
         kind = int.from_bytes(head[6:8], "big")
         self._rest = int.from_bytes(head[24:28], "big") if kind == WRITE else 0
         self._adds = int(kind != DISC)
-        self.has_change = self.has_change or kind not in (READ, DISC, FLUSH, CACHE)
+        self.has_change = self.has_change or kind not in CHANGE_NOTHING

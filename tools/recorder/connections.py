@@ -30,18 +30,36 @@ class Flow:
         return self.is_open and not self.held
 
     def forward(self):
-        """Hands on what is held, as far as the target takes it, and then the end."""
+        """Hands on what is held, as far as the target takes it, and then the end; the error where the target has gone."""
         try:
             while self.held:
                 self.held = self.held[self.target.send(self.held) :]
-            if not self.is_open:
-                self.target.shutdown(socket.SHUT_WR)
-                self.is_ended = True
         except BlockingIOError:
-            pass
-        except OSError:
-            # The target has gone: nothing more is taken for it, and its own bytes go on until they end.
+            return None
+        except OSError as error:
+            # Nothing more is taken for it. Its own bytes go on until they end.
             self.held, self.is_open, self.is_ended = b"", False, True
+            return error
+        if not self.is_open and not self.is_ended:
+            self.is_ended = True
+            end(self.target)
+        return None
+
+
+def end(target):
+    """Tells an end that no more comes."""
+    try:
+        target.shutdown(socket.SHUT_WR)
+    except OSError:
+        pass
+
+
+def send_at_once(target):
+    """Small pieces don't wait for others."""
+    try:
+        target.setsockopt(socket.IPPROTO_TCP, socket.TCP_NODELAY, 1)
+    except OSError:
+        pass
 
 
 class Connection:
@@ -95,21 +113,21 @@ class Connection:
         except OSError as error:
             return self.fail(f"cannot write {path}: {reason_of(error)}")
         self.flows = {CLIENT: Flow(CLIENT, self.client, self.server), SERVER: Flow(SERVER, self.server, self.client)}
-        for end in (self.client, self.server):
-            if end.family != socket.AF_UNIX:
-                end.setsockopt(socket.IPPROTO_TCP, socket.TCP_NODELAY, 1)
+        for each in (self.client, self.server):
+            if each.family != socket.AF_UNIX:
+                send_at_once(each)
         return self.watch_both()
 
-    def ready(self, end, mask):
+    def ready(self, which, mask):
         """This end takes more, or more has come from it."""
         if self.is_closed:
             return
         if not self.flows:
             self.connected()
             return
-        ours, other = (CLIENT, SERVER) if end is self.client else (SERVER, CLIENT)
+        ours, other = (CLIENT, SERVER) if which is self.client else (SERVER, CLIENT)
         if mask & WRITE:
-            self.flows[other].forward()
+            self.forward(self.flows[other])
         if mask & READ and self.flows[ours].is_ready():
             self.take(self.flows[ours])
         if self.is_closed:
@@ -119,6 +137,14 @@ class Connection:
         else:
             self.watch_both()
 
+    def forward(self, flow):
+        error = flow.forward()
+        if error is not None:
+            self.tell_gone(SERVER if flow.side == CLIENT else CLIENT, error)
+
+    def tell_gone(self, side, error):
+        self.relay.tell(f"connection {self.number}: the {NAMES[side]}: {reason_of(error)}")
+
     def take(self, flow):
         """Writes down what has come, and then forwards it."""
         try:
@@ -126,18 +152,18 @@ class Connection:
         except BlockingIOError:
             return
         except OSError as error:
-            self.relay.tell(f"connection {self.number}: the {NAMES[flow.side]}: {reason_of(error)}")
+            self.tell_gone(flow.side, error)
             piece = b""
         if piece:
             try:
                 self.capture.add(flow.side, piece)
-            except (OSError, MemoryError) as error:
+            except OSError as error:
                 self.fail(f"cannot write {self.capture.path}: {reason_of(error)}")
                 return
             self.note(flow, piece)
         else:
             flow.is_open = False
-        flow.forward()
+        self.forward(flow)
 
     def note(self, flow, piece):
         """Counts a piece that was written down."""
@@ -148,21 +174,21 @@ class Connection:
         self.relay.moved = time.monotonic()
 
     def watch_both(self):
-        for end, ours, other in ((self.client, CLIENT, SERVER), (self.server, SERVER, CLIENT)):
-            self.watch(end, (READ if self.flows[ours].is_ready() else 0) | (WRITE if self.flows[other].held else 0))
+        for which, ours, other in ((self.client, CLIENT, SERVER), (self.server, SERVER, CLIENT)):
+            self.watch(which, (READ if self.flows[ours].is_ready() else 0) | (WRITE if self.flows[other].held else 0))
 
-    def watch(self, end, mask):
+    def watch(self, which, mask):
         """Asks to be told of these events of an end."""
-        before = self.watched.get(end, 0)
+        before = self.watched.get(which, 0)
         if mask == before:
             return
-        self.watched[end] = mask
+        self.watched[which] = mask
         if before == 0:
-            self.relay.selector.register(end, mask, self.ready)
+            self.relay.selector.register(which, mask, self.ready)
         elif mask == 0:
-            self.relay.selector.unregister(end)
+            self.relay.selector.unregister(which)
         else:
-            self.relay.selector.modify(end, mask, self.ready)
+            self.relay.selector.modify(which, mask, self.ready)
 
     def fail(self, reason):
         """Ends the connection, whose recording is not whole."""
@@ -173,10 +199,10 @@ class Connection:
     def close(self):
         """Closes both ends and the capture."""
         self.is_closed = True
-        for end in (self.client, self.server):
-            if end is not None and end.fileno() >= 0:
-                self.watch(end, 0)
-                end.close()
+        for which in (self.client, self.server):
+            if which is not None and which.fileno() >= 0:
+                self.watch(which, 0)
+                which.close()
         if self.capture is not None:
             try:
                 self.capture.close()

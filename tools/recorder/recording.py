@@ -102,7 +102,7 @@ class Recording:
 
     def relay_all(self):
         """Relays until the client and its connections have ended, or an interrupt comes."""
-        while self.signals.came is None:
+        while self.signals.came is None and (self.relay.listener or self.relay.open or self.child):
             seconds = self.progress.between()
             if self.client_has_ended():
                 self.relay.end()
@@ -160,5 +160,4 @@ class Recording:
         for held in self.recorded():
             requests = held.requests.count if held.requests.is_sure else "unknown"
             client, server = (held.flows[side].count for side in (CLIENT, SERVER))
-            print(f"{held.capture.path}: requests {requests}, bytes {client} of the client, {server} of the server")
-        sys.stdout.flush()
+            print(f"{held.capture.path}: requests {requests}, bytes {client} of the client, {server} of the server", flush=True)
