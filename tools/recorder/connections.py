@@ -10,8 +10,8 @@ from .captures import CLIENT, SERVER, Capture, Requests
 from .room import reason_of
 
 READ, WRITE = selectors.EVENT_READ, selectors.EVENT_WRITE
-# The most bytes that are taken at once. One such piece is held for each direction, until it is forwarded.
-LARGEST = 2**18
+# The most bytes that are taken at once: larger pieces are slower. One is held for each direction, until it is forwarded.
+LARGEST = 2**16
 NAMES = {CLIENT: "client", SERVER: "server"}
 
 
