@@ -132,6 +132,30 @@ def holes(count):
         yield request(READ, i + 1, 0, SIZE), [hole(i + 1, 0, SIZE)]
 
 
+def holes_over(command, data=b""):
+    """Changes of every second byte, and then as many READs of the whole export as a hole."""
+
+    def session(count):
+        changes = count // 2
+        for i in range(count):
+            if i < changes:
+                yield request(command, i + 1, 2 * i % SIZE, 1, data), [reply(i + 1)]
+            else:
+                yield request(READ, i + 1, 0, SIZE), [hole(i + 1, 0, SIZE)]
+
+    return session
+
+
+def holes_between(count):
+    """WRITEs of a byte 0 anywhere, and a READ of the whole export as a hole behind each."""
+    draw = random.Random(4)
+    for i in range(count):
+        if i % 2:
+            yield request(READ, i + 1, 0, SIZE), [hole(i + 1, 0, SIZE)]
+        else:
+            yield request(WRITE, i + 1, draw.randrange(SIZE), 1, b"\0"), [reply(i + 1)]
+
+
 def reads(data, first=None):
     """READs of the whole export, behind a write of one byte where there is one."""
 
@@ -162,6 +186,11 @@ SHAPES = {
     "whole_zeroes": Shape(50000, whole(WRITE_ZEROES)),
     "whole_trim": Shape(50000, whole(TRIM)),
     "whole_holes": Shape(50000, holes, structured=True),
+    "holes_zeroed": Shape(50000, holes_over(WRITE_ZEROES), structured=True, start="unknown"),
+    "holes_written": Shape(50000, holes_over(WRITE, b"\0"), structured=True, start="unknown"),
+    "holes_trimmed": Shape(50000, holes_over(TRIM), structured=True),
+    "holes_between": Shape(50000, holes_between, structured=True, start="unknown"),
+    "holes_image": Shape(50000, holes, structured=True, start="zeroes"),
     "read_zeroes": Shape(16, reads(bytes(SIZE))),
     "read_one_byte": Shape(16, reads(WRITTEN, MIDDLE)),
     "read_image": Shape(16, reads(IMAGE), start="image"),
@@ -182,7 +211,7 @@ def generate(shape, count, base):
         lines = shape.entries(count) if shape.entries else range(1, asked + 1)
         order.writelines(f"{line}\n" for line in lines)
     with open(base + ".img", "wb") as image:
-        image.write(IMAGE)
+        image.write(bytes(SIZE) if shape.start == "zeroes" else IMAGE)
 
 
 def timed(words, runs):
@@ -206,7 +235,7 @@ def measure(shape, count, options, folder):
     writer = multiprocessing.get_context("fork").Process(target=generate, args=(shape, count, base))
     writer.start()
     writer.join()
-    start = f"image:{base}.img" if shape.start == "image" else shape.start
+    start = f"image:{base}.img" if shape.start in ("image", "zeroes") else shape.start
     words = [options.program, "check", base + ".cap", base + ".ord", "--start", start]
     took, memory, answer = timed(words, options.runs)
     hex_took = None

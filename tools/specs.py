@@ -1,11 +1,12 @@
 #!/usr/bin/env python3
 """Reads the files of crates/*/specs.
 
-  tools/specs.py check             lists files of specs/ that call a tactic or hold a lemma; exits 1 if there is one
+  tools/specs.py check             lists files of specs/ that call a tactic or hold a lemma, and lines that are too long; exits 1 if there is one
   tools/specs.py reach FUNCTION..  lists, for each clause of these functions, the files that its words lead to:
                                    of this repository, and of the kit; src/ files hold the types and constants
 """
 
+import functools
 import glob
 import os
 import re
@@ -15,6 +16,9 @@ TOP = os.path.dirname(os.path.dirname(os.path.abspath(__file__)))
 TACTIC = re.compile(r"(?<![\w'.-])(omega|search|grind|simp|cc|rw|assumption|hlevel|first_of)(?![\w'-])")
 USE = re.compile(r"^\s*(?:ghost )?(?:pub )?use (Rattle\.[^\s{;]+?)(?:\.\{(.*)\})?(?: as (\S+?))?;?$")
 WORD = re.compile(r"[A-Za-z_ℕℤ][\w'-]*(?:\.[A-Za-z_][\w'-]*)*|◌[^\s]+◌")
+# How long a line of a definition is at most. A payload that is written out may be longer.
+WIDTH = 120
+LITERAL = re.compile(r"0x[0-9a-f]{64}")
 MARKS = {"pub", "abbrev", "unfoldable"}
 
 
@@ -67,6 +71,9 @@ def check():
             if not kind and not marks & {"abbrev", "unfoldable"} and name not in ("mod", "infixl", "infixr", "infix"):
                 if not (name == "mod" or marks == {"pub"} and text.startswith("pub mod")):
                     bad.append(f"{os.path.relpath(path, TOP)}: `{name}` is no definition that a clause can open")
+        for number, line in enumerate(text.split("\n"), 1):
+            if len(line) > WIDTH and not USE.match(line) and not LITERAL.search(line):
+                bad.append(f"{os.path.relpath(path, TOP)}: line {number} has {len(line)} characters")
     for line in bad:
         print(line)
     return 1 if bad else 0
@@ -103,6 +110,7 @@ class Names:
         return found
 
 
+@functools.cache
 def definitions():
     known = {}
     for path in files_of("specs/**/*.antt"):
@@ -126,7 +134,8 @@ def source_of(module):
     return "/".join(parts) + ".rt"
 
 
-def reach(wanted):
+def clauses(wanted):
+    """The clauses of these functions: the file, the function, the clause's kind and name, and all definitions that its words lead to."""
     known = definitions()
     for path in files_of("src/**/*.rt"):
         text = open(path, encoding="utf8").read()
@@ -148,14 +157,34 @@ def reach(wanted):
                 if target not in seen:
                     seen.add(target)
                     left += known.get(target, ())
-            modules = {module for module, _ in seen}
-            own = sorted(path_of(m) for m in modules if ".declared." not in m and m.startswith("Rattle.nbd_"))
-            declared = {tuple(m.split(".specs.declared.")) for m in modules if ".declared." in m and m.startswith("Rattle.nbd_")}
-            source = sorted({f"crates/{c.split('.')[1]}/src/{source_of(m)}" for c, m in declared})
-            kit = sorted(m for m in modules if not m.startswith("Rattle.nbd_"))
-            print(f"{os.path.relpath(path, TOP)} {function} {clause.group(1)} {clause.group(2)}")
-            for label, items in (("specs", own), ("src", source), ("kit", kit)):
-                print(f"  {label}: " + " ".join(items))
+            yield path, function, clause.group(1), clause.group(2), {module for module, _ in seen}
+
+
+class Reached:
+    """What modules stand for: files of definitions, files that declare types and constants, and modules of the kit."""
+
+    def __init__(self, modules):
+        own = {m for m in modules if m.startswith("Rattle.nbd_")}
+        self.specs = {path_of(m) for m in own if ".declared." not in m}
+        declared = {tuple(m.split(".specs.declared.")) for m in own if ".declared." in m}
+        self.source = {f"crates/{crate.split('.')[1]}/src/{source_of(m)}" for crate, m in declared}
+        self.kit = modules - own
+
+
+def reached(function, clause):
+    """What this clause of a public function leads to; a method stands behind its type, in the file that has the type's name."""
+    owner, _, function = function.rpartition("::")
+    found = [modules for path, _, _, name, modules in clauses({function})
+             if name == clause and "/tests" not in path and (not owner or path.endswith(f"/{owner.lower()}.rt"))]
+    return Reached(set().union(*found))
+
+
+def reach(wanted):
+    for path, function, kind, name, modules in clauses(wanted):
+        print(f"{os.path.relpath(path, TOP)} {function} {kind} {name}")
+        found = Reached(modules)
+        for label, items in (("specs", found.specs), ("src", found.source), ("kit", found.kit)):
+            print(f"  {label}: " + " ".join(sorted(items)))
     return 0
 
 

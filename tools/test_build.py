@@ -12,6 +12,7 @@ from built import TOP, Tally
 # Notes where it runs and with which words; `run` makes the program. It fails in the crate that FAILS names.
 RT = """#!/usr/bin/env bash
 echo "$(basename "$PWD") $*" >>"$NOTES"
+[ -z "${NICE:-}" ] || echo "$(basename "$PWD") $(nice)" >>"$NOTES"
 echo "what rt says"
 [ "$(basename "$PWD")" != "${FAILS:-}" ] || exit 1
 if [ -n "${SLOW:-}" ]; then
@@ -129,6 +130,17 @@ def longest_way_first(tally, tree):
     tally.want("one processor: begun", built, ["low lib", "high lib", "short lib", "nbdcheck run -- --version"])
 
 
+def longest_way_alone(tally, tree):
+    """A crate that is not on the longest way runs at a lower priority."""
+    write_crates(tree, {"short": ([], 8), "low": ([], 1), "high": (["low"], 9), "nbdcheck": (["high", "short"], 1)})
+    (status, out, err), built = tree.run(SLOW="yes", NICE="yes")
+    tally.want("priorities", (status, out), (0, "program \n"))
+    mine = os.nice(0)
+    wanted = {"short": min(mine + 10, 19), "low": mine, "high": mine, "nbdcheck": mine}
+    tally.want("priorities of crates", dict(it.split() for it in built if it.split()[1].isdigit()),
+               {name: str(nice) for name, nice in wanted.items()})
+
+
 def on_a_terminal(tally, tree):
     shown, terminal = pty.openpty()
     (status, out, _), built = tree.run(stderr=terminal)
@@ -149,7 +161,7 @@ def on_a_terminal(tally, tree):
 def run(tally):
     with tempfile.TemporaryDirectory(prefix="nbdcheck-") as folder:
         tree = Tree(folder)
-        for part in (first_build, later_runs, failed_build, on_a_terminal, side_by_side, longest_way_first):
+        for part in (first_build, later_runs, failed_build, on_a_terminal, side_by_side, longest_way_first, longest_way_alone):
             part(tally, tree)
 
 

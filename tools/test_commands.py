@@ -66,10 +66,21 @@ def words(tally, room):
             example = b"Example:\n  nbdcheck " + asked[0].encode()
             tally.holds(f"{asked} has an example", example in found.out, found.out)
     for asked in ([], ["judge"], ["check"], ["check", "c"], ["show"], ["make"], ["show", "c", "d"],
-                  ["make", "c", "d"], ["check", "c", "o", "--begin", "zero"], ["check", "c", "o", "--start"]):
+                  ["make", "c", "d"], ["check", "c", "o", "--begin", "zero"], ["check", "c", "o", "--start"],
+                  ["order", "c", "--arrival", "--start", "zero"], ["order", "c", "--arrival", "--whole"],
+                  ["order", "c", "--arrival", "--steps", "9"], ["order", "c", "--states", "9", "--arrival"]):
         found = room.run(*asked)
         tally.want(f"{asked}", (found.status, found.out), (2, b""))
         tally.holds(f"{asked} says why", found.err.startswith(b"error: ") and found.err.endswith(b"\n"), found.err)
+
+
+    # Paths are text.
+    tally.want("a word that is not UTF-8", room.run("show", "caf\udce9.cap"),
+               Ended(2, b"", b"error: a word of the command line is not UTF-8\n"))
+    with open("/dev/full", "wb") as full:
+        for asked, status in ((["check"], 2), (["show", room.path("none")], 3)):
+            tally.want(f"{asked} 2>/dev/full", subprocess.run([PROGRAM, *asked], stderr=full).returncode, status)
+        tally.want("--help >/dev/full", subprocess.run([PROGRAM, "--help"], stdout=full, stderr=subprocess.DEVNULL).returncode, 3)
 
 
 def starts(tally, room):
@@ -192,12 +203,62 @@ def terminals(tally, room):
     ):
         wanted = Ended(3, b"", f"fault {what} read\n".encode() + why)
         tally.want(f"{words} on a terminal", on_a_terminal(room, *words), wanted)
-    words = ["check", room.put("bad", b"C 0\n"), order]
-    tally.want("a bad line on a terminal", on_a_terminal(room, *words), fault("capture line 1"))
     tally.want("a yes on a terminal", on_a_terminal(room, "check", good, order), Ended(0, YES, b""))
     found = on_a_terminal(room, "check", room.put("found", FOUND), order, "--start", "zero")
     hint = b"'nbdcheck explain' with the same words says why\n"
     tally.want("a no on a terminal", found, Ended(1, b"no content request 1 offset 0\n", hint))
+
+
+def hints(tally, room):
+    """What is said of an input beside the answer: on a terminal what is wrong with a line, and that a capture is empty."""
+    good, order, none = room.put("good", CAPTURE), room.put("order", b"1\n"), room.put("none", b"")
+    for name, line, what in (
+        ("half a byte", b"C 0\n", b"the number of hexadecimal digits is odd"),
+        ("no digit", b"S 00x1\n", b"there is another character than a hexadecimal digit, at byte 5 of the line"),
+        ("no digit at the end", b"S 001x\n", b"there is another character than a hexadecimal digit, at byte 6 of the line"),
+        ("no side", b"c 00\n", b"a line begins with C or S and one space"),
+        ("a carriage return", b"C 00\r\n", b"a carriage return ends the line"),
+        ("no line feed", b"C 00", b"no line feed ends the line"),
+    ):
+        bad = room.put("bad", CAPTURE + line)
+        number = CAPTURE.count(b"\n") + 1
+        wanted = Ended(3, b"", f"fault capture line {number}\n".encode() + what + b"\n")
+        for words in (["check", bad, order], ["explain", bad]):
+            tally.want(f"{name}: {words[0]} on a terminal", on_a_terminal(room, *words), wanted)
+        tally.want(name, room.run("check", bad, order), fault(f"capture line {number}"))
+    for name, line, what in (
+        ("no digit", b"x\n", b"there is another character than a digit, at byte 1 of the line"),
+        ("a carriage return", b"1\r\n", b"a carriage return ends the line"),
+        ("no line feed", b"1", b"no line feed ends the line"),
+        ("a leading zero", b"01\n", b"an entry is a number, or three with one space between: below 2^64 and without leading zeroes"),
+        ("2^64", b"18446744073709551616\n",
+         b"an entry is a number, or three with one space between: below 2^64 and without leading zeroes"),
+    ):
+        bad = room.put("bad", b"1\n" + line)
+        wanted = Ended(3, b"", b"fault order line 2\n" + what + b"\n")
+        tally.want(f"{name} on a terminal", on_a_terminal(room, "check", good, bad), wanted)
+        tally.want(name, room.run("check", good, bad), fault("order line 2"))
+    searched = b"this order is what a search wrote that found none: 'no' or 'gave up', and no entries\n"
+    for line in (b"no content request 1 offset 0 in any order\n", b"gave up: too many steps at request 1 offset 0\n"):
+        bad = room.put("bad", line)
+        for command in ("check", "explain"):
+            found = room.run(command, good, bad)
+            tally.want(f"{command} of a search's answer", found, Ended(3, b"", b"fault order line 1\n" + searched))
+    exchanged = b"the first bytes of C are a server's (NBDMAGIC): C and S are exchanged in this capture\n"
+    other = room.put("other", CAPTURE.translate(bytes.maketrans(b"CS", b"SC")))
+    found = room.run("check", other, order)
+    tally.want("exchanged sides", found, Ended(1, b"no at byte 1: OutOfTurn\n", exchanged))
+    found = room.run("explain", other)
+    tally.holds("exchanged sides, explained", found.out.startswith(b"no at byte 1: OutOfTurn\n") and found.err == exchanged, found)
+    upper = room.put("other", CAPTURE.translate(bytes.maketrans(b"CSabcdef", b"SCABCDEF")))
+    tally.want("exchanged sides, other digits", room.run("check", upper, order), Ended(1, b"no at byte 1: OutOfTurn\n", exchanged))
+    yes = b"yes requests 0 answered 0 improper 0\n"
+    found = on_a_terminal(room, "check", none, none)
+    tally.want("nothing on a terminal", found, Ended(0, yes, b"the capture is empty: nothing was recorded\n"))
+    pipe = room.path("pipe")
+    os.mkfifo(pipe)
+    with subprocess.Popen(["/bin/sh", "-c", 'cat "$1" > "$2"', "sh", other, pipe]):
+        tally.want("exchanged sides through a pipe", room.run("check", pipe, order), Ended(1, b"no at byte 1: OutOfTurn\n", b""))
 
 
 def memory(tally, room):
@@ -218,7 +279,7 @@ def memory(tally, room):
 
 def run(tally):
     with Room() as room:
-        for part in (examples, words, starts, lines, files, outputs, terminals, memory):
+        for part in (examples, words, starts, lines, files, outputs, terminals, hints, memory):
             part(tally, room)
 
 

@@ -4,12 +4,14 @@ explained/NAME.txt has what `explain` writes of the session NAME below, without 
 of examples/ what it writes of that recording; each was judged against docs/PROFILE.md and the session's bytes.
 """
 
+import random
+import re
 from collections import namedtuple
 from pathlib import Path
 
 from built import TOP, Ended, Room, Tally
-from messages import (DISC, FLUSH, READ, SERVER, WRITE_ZEROES, answer, begun, chunk, client_flags, content, cut, done, export_info,
-                      front, greeting, hole, option, read, request, simple, text, write)
+from messages import (CACHE, CLIENT, DISC, FLUSH, READ, SERVER, TRIM, WRITE, WRITE_ZEROES, answer, begun, chunk, client_flags, content,
+                      cut, done, export_info, front, greeting, hole, option, read, request, simple, text, write)
 from test_commands import fault
 from test_cuts import SESSIONS
 
@@ -35,16 +37,22 @@ WIRE = {
     "wrong-option": Session([*GO, answer(6, 3, export_info())]),
     "bad-reply-kind": Session([*GO, answer(7, 2, b"\0\0\0\0")]),
     "out-of-profile": Session([*HELLO, option(5), answer(5, 1)]),
+    "out-of-profile-of-metadata-contexts": Session(
+        [*HELLO, option(8), answer(8, 1), option(10, bytes(8)), answer(10, 4, b"\0\0\0\1base:allocation")]),
     "bad-reply-payload": Session([*GO, answer(7, 1, b"\0")]),
     "missing-export-info": Session([*GO, answer(7, 1)]),
     "bad-export": Session([*HELLO, option(1, b"disk"), (SERVER, (8).to_bytes(8, "big") + b"\0\0")]),
     "export-too-large": Session(begun(size=2**63)),
     "cookie-in-use": Session([*ASKED, read(1, 4, 4)]),
+    "cookie-in-use-without-done": Session([*CHUNKED, content(1, 0, b"\1\2\3\4"), write(1, 0, b"\xab")]),
     "unknown-cookie": Session([*ASKED, simple(2, bytes(4))]),
     "unknown-cookie-of-an-answered-request": Session([*ASKED, simple(1, bytes(4)), simple(1, bytes(4))]),
     "unknown-cookie-of-a-request-under-way": Session(
         [*begun(), cut(write(1, 0, b"\xab\xcd"), 29)[0], cut(simple(1), 1)[0], cut(write(1, 0, b"\xab\xcd"), 29)[1],
          cut(simple(1), 1)[1]]),
+    "unknown-cookie-of-a-short-write": Session(
+        [*begun(), cut(write(1, 0, b"\xab\xcd"), 29)[0], simple(1), read(2, 0, 2), simple(2, b"\xab\xcd")]),
+    "unknown-cookie-beside-a-request-under-way": Session([*ASKED, cut(write(2, 0, b"\xab\xcd"), 28)[0], simple(3)]),
     "simple-forbidden": Session([*CHUNKED, simple(1, bytes(4))]),
     "chunk-forbidden": Session([*ASKED, done(1)]),
     "bad-chunk": Session([*CHUNKED, hole(1, 0, 0)]),
@@ -55,6 +63,8 @@ WIRE = {
     "incomplete-read": Session([*CHUNKED, content(1, 0, b"\1\2\3"), done(1)]),
     "incomplete-read-between-chunks": Session([*CHUNKED, hole(1, 3, 1), chunk(1, 1, bytes(8) + b"\1", flags=1)]),
     "success-of-improper": Session([*begun(), read(1, 8, 4), simple(1, bytes(4))]),
+    "success-of-improper-go": Session(
+        [*HELLO, option(7, b"\0\0\0\1x\0\2\0\3"), answer(7, 3, export_info()), answer(7, 1)]),
     "bad-disconnect": Session([*begun(), request(DISC, 0, 0, 1)]),
     "unfinished": Session([*ASKED, cut(simple(1, bytes(4)), 19)[0]]),
     "unfinished-after-one-byte": Session([*ASKED, cut(simple(1, bytes(4)), 1)[0]]),
@@ -67,7 +77,15 @@ BEYOND = [*begun(), read(1, 6, 4), simple(1, error=22)]
 # Two WRITEs and a READ that are outstanding together: ab cd and 11 22 at 0, and 11 22 00 00 came.
 OVERLAPPED = [*begun(), write(1, 0, b"\xab\xcd"), write(2, 0, b"\x11\x22"), read(3, 0, 4), simple(1), simple(2),
               simple(3, b"\x11\x22\0\0")]
+# A READ of an export of 32 bytes, in three pieces that lie the other way round: known bytes, of which 4 to 7 are zeroed, 8 to 11 trimmed
+# and 12 to 15 are of a WRITE that failed, and zeroes behind them.
+PIECED = [
+    *begun(structured=True, size=32), write(1, 0, bytes(range(1, 17))), simple(1), request(WRITE_ZEROES, 2, 4, 4), simple(2),
+    request(TRIM, 3, 8, 4), simple(3), write(4, 12, b"\xff" * 4), simple(4, error=5), read(5, 1, 30), content(5, 16, b"\0\x07" * 4),
+    hole(5, 24, 7), content(5, 1, bytes(range(2, 6)) + b"\x06" + bytes(10)), done(5)]
 JUDGED = {
+    "content-of-many-bytes": Session(PIECED, "1\n2\n3\n4\n5\n"),
+    "content-of-many-bytes-in-part": Session(PIECED, "1\n2\n3\n4\n5 20 11\n5 1 19\n"),
     "yes": Session(WRITTEN, "1\n2\n"),
     "no-such-request": Session(WRITTEN, "1\n3\n"),
     "twice": Session(WRITTEN, "1\n2\n1\n"),
@@ -110,9 +128,21 @@ UNORDERED = [
     *begun(), write(1, 0, b"\1"), write(2, 0, b"\2"), read(3, 0, 1), simple(3, b"\1"), read(4, 0, 1), simple(4, b"\2"), read(5, 0, 1),
     simple(5, b"\1"), simple(1), simple(2),
 ]
+# A READ that got 01 from one of two WRITEs, and after it one that got the byte of the start.
+SILENT = [
+    *begun(), read(1, 0, 1), write(2, 0, b"\1"), write(3, 0, b"\1"), simple(1, b"\1"), read(4, 0, 1), simple(2), simple(4, b"\0"), simple(3)]
+# WRITEs that are outstanding together, and after all of them READs of 01 and of 00.
+SET = [
+    *begun(), write(1, 0, b"\1"), write(2, 0, b"\0"), write(3, 0, b"\1"), simple(1), simple(2), simple(3), read(4, 0, 1),
+    simple(4, b"\1"), read(5, 0, 1), simple(5, b"\0")]
 
 # Sessions that are explained without an order.
 ORDERLESS = {
+    "no-order-before-the-start": Session(SILENT),
+    "no-order-of-a-set": Session(SET),
+    "no-source-before-others": Session(
+        [*begun(), write(1, 0, b"\1"), simple(1), write(2, 0, b"\2"), simple(2), read(3, 0, 1), simple(3, b"\xff"),
+         write(4, 0, b"\3"), simple(4), write(5, 0, b"\xff"), simple(5)]),
     "found": Session(WRITTEN),
     "found-in-parts": Session(
         [*begun(), write(1, 0, b"\xab\xcd"), read(2, 0, 2), simple(1), simple(2, b"\xab\0")]),
@@ -128,6 +158,72 @@ ORDERLESS = {
     "no-order-of-three-reads": Session(UNORDERED),
     "image": Session(WRITTEN, start="image:9"),
     "unknown-cookie": WIRE["unknown-cookie"],
+}
+
+
+def improper(request, flags=0x6D):
+    """A request that succeeds."""
+    return [*begun(flags=flags), request, simple(1)]
+
+
+def chunked(*chunks):
+    return [*CHUNKED, *chunks]
+
+
+def opted(number, data, kind=1):
+    """An option with this data, which is granted."""
+    return [*HELLO, option(number, data), answer(number, kind)]
+
+
+# Sessions that are refused, and what is said to be wrong there: which part of its rule is broken.
+REASONS = [
+    ([*begun(), read(1, 7, 2), simple(1, bytes(2))], "its range passes the end of the export of 8 bytes"),
+    (improper(request(9, 1, 0, 0)), "its type is none of READ, WRITE, FLUSH, TRIM, CACHE and WRITE_ZEROES"),
+    (improper(request(FLUSH, 1, 0, 0), 1), "the export does not offer FLUSH: it lacks SEND_FLUSH"),
+    (improper(request(TRIM, 1, 0, 1), 1), "the export does not offer TRIM: it lacks SEND_TRIM"),
+    (improper(request(WRITE_ZEROES, 1, 0, 1), 1), "the export does not offer WRITE_ZEROES: it lacks SEND_WRITE_ZEROES"),
+    (improper(write(1, 0, b"\1"), 3), "it changes an export that is read-only: it has READ_ONLY"),
+    (improper(request(FLUSH, 1, 4, 0)), "a FLUSH has neither an offset nor a length"),
+    (improper(request(FLUSH, 1, 0, 4)), "a FLUSH has neither an offset nor a length"),
+    (improper(request(CACHE, 1, 0, 1, flags=1), 1), "it carries FUA, and the export lacks SEND_FUA"),
+    (improper(request(TRIM, 1, 0, 1, flags=2)), "it carries NO_HOLE, which only a WRITE_ZEROES may"),
+    (improper(request(TRIM, 1, 0, 1, flags=4), 0xED), "it carries DF, which only a READ may"),
+    (improper(request(CACHE, 1, 0, 1, flags=16)), "it carries FAST_ZERO, which only a WRITE_ZEROES may"),
+    (improper(request(WRITE_ZEROES, 1, 0, 1, flags=16)), "it carries FAST_ZERO, and the export lacks SEND_FAST_ZERO"),
+    (improper(request(TRIM, 1, 0, 1, flags=8)), "it carries a flag that is none of FUA, NO_HOLE, DF and FAST_ZERO"),
+    ([*begun(), request(READ, 1, 0, 1, flags=4), simple(1, b"\0")], "it carries DF, and the export lacks SEND_DF"),
+    (opted(3, b"\0"), "the option has no data, and there is some from byte 39 on"),
+    (opted(8, b"\0\0"), "the option has no data, and there is some from byte 39 on"),
+    (opted(7, b"\0\0\0"), "the data ends within the length of the name, 4 bytes from byte 39 on"),
+    (opted(6, b"\0\0\0\3ab"), "at byte 39 the name has the length 3, and the bytes behind that are 2"),
+    (opted(7, b"\0\0\0\2ab\0"), "the data ends within the count of infos, 2 bytes from byte 45 on"),
+    (opted(7, b"\0\0\0\2ab\0\1\0\3\0"), "at byte 45 the count of infos is 1, of 2 bytes each, and the bytes behind that are 3"),
+    ([*HELLO, option(3), answer(3, 2, b"\0\0\0")], "the data ends within the length of the name, 4 bytes from byte 59 on"),
+    ([*HELLO, option(3), answer(3, 2, b"\0\0\0\2a")], "at byte 59 the name has the length 2, and the bytes behind that are 1"),
+    ([*GO, answer(7, 3, b"\0")], "its data is shorter than the kind of an info, which has 2 bytes"),
+    ([*GO, answer(7, 3, export_info()[:11])], "the data of an info on the export has 12 bytes"),
+    ([*GO, answer(7, 3, b"\0\3" + bytes(11))], "the data of an info on block sizes has 14 bytes"),
+    ([*GO, answer(7, 3, export_info(flags=2))], "the info on the export lacks HAS_FLAGS (0x1)"),
+    (chunked(chunk(1, 0, b"\0", flags=1)), "a chunk of type NONE has no payload"),
+    (chunked(chunk(1, 0)), "a chunk of type NONE ends its reply, so it has DONE"),
+    (chunked(chunk(1, 1, bytes(7))), "its payload is shorter than an offset, which has 8 bytes"),
+    (chunked(chunk(1, 1, bytes(8))), "its payload has no data behind the offset"),
+    (chunked(chunk(1, 2, bytes(11))), "the payload of a hole has 12 bytes, an offset and a size"),
+    (chunked(hole(1, 0, 0)), "its hole has size 0"),
+    (chunked(chunk(1, 0x8001, bytes(5))), "its payload is shorter than an error and the length of a message, which have 6 bytes"),
+    (chunked(chunk(1, 0x8001, bytes(6))), "its error is 0"),
+    (chunked(chunk(1, 0x8001, b"\0\0\0\5\0\1")), "the length of its message passes the end of its payload"),
+    (chunked(chunk(1, 0x8002, b"\0\0\0\5\0\0" + bytes(7))),
+     "the length of its message and an offset behind it pass the end of its payload"),
+    (chunked(chunk(1, 5, bytes(12))), "its type is none of NONE, OFFSET_DATA, OFFSET_HOLE, ERROR and ERROR_OFFSET"),
+    ([*begun(structured=True), write(1, 0, b"\1"), content(1, 0, b"\1")], "content answers only a READ"),
+    (chunked(content(1, 3, b"\1\2")), "the content leaves the range of the READ"),
+    (chunked(hole(1, 4, 1)), "the content leaves the range of the READ"),
+]
+# Options that nbdcheck does not follow, and what is said in place of a rule.
+GRANTED = {
+    9: "metadata contexts, which block status needs", 10: "metadata contexts, which block status needs",
+    5: "TLS", 11: "extended headers, of 64 bits", 77: "an extension that nbdcheck has no name for",
 }
 # Every kind of message; a READ that failed, one that is pending, requests and options that proto.md has no name for.
 NAMED = [
@@ -248,6 +344,221 @@ def examples(tally, room):
         tally.holds(f"explain {capture.name} begins as check", why.startswith(line), why)
 
 
+def reasons(tally, room):
+    """Which part of its rule a message breaks: the one reason that there is."""
+    for records, reason in REASONS:
+        told = room.run("explain", room.put("reason", text(records))).out.decode()
+        tally.want(reason, [line for line in told.split("\n") if line.startswith("wrong: ")], [f"wrong: {reason}"])
+    # Each reason of a request that has several.
+    several = request(WRITE, 1, 7, 2, b"\1\2", flags=0x8017)
+    told = room.run("explain", room.put("reasons", text(improper(several, 0x83)))).out.decode()
+    tally.want("several reasons", told.count("\nwrong: "), 7)
+    for number, extension in GRANTED.items():
+        told = room.run("explain", room.put("granted", text(opted(number, b"")))).out.decode()
+        lines = told.split("\n")
+        tally.holds(f"granted {number}", lines[3].startswith("granted: ") and lines[3].endswith(f", for {extension}"), told)
+        tally.holds(f"instead of {number}", lines[4].startswith("instead: record with"), told)
+
+
+def arriving(tally, room):
+    """A WRITE of 3 bytes that is cut off behind each of its bytes, and a reply to it: how many bytes are there, and missing."""
+    whole = write(1, 0, b"\1\2\3")
+    for count in range(len(whole[1])):
+        records = [*begun(), cut(whole, count)[0], simple(1)]
+        told = room.run("explain", room.put("arriving", text(records))).out.decode()
+        if count == 0:
+            wanted = []
+        elif count < 28:
+            noun = "byte" if count == 1 else "bytes"
+            wanted = [f"arriving: {count} {noun} of the client from byte 97 on, no whole head of a message"]
+        else:
+            wanted = [f"arriving: WRITE #1, cookie 0x1, 3 bytes at 0; from byte 97 on, {count} of its 31 bytes, {31 - count} missing when "
+                      "the reply began"]
+        tally.want(f"arriving, {count} bytes", [line for line in told.split("\n") if line.startswith("arriving: ")], wanted)
+        tally.want(f"the client, {count} bytes", "or the client, if" in told, count >= 28)
+
+
+# A session of an export: what its requests are (command, offset, bytes or length, whether it succeeded), and the pieces of its one READ
+# (offset, bytes or the length of a hole), which is its last request and is asked for all of the export.
+def drawn(rng, size):
+    changes = []
+    for _ in range(rng.randrange(12)):
+        offset = rng.randrange(size)
+        length = rng.randint(1, size - offset)
+        command = rng.choice((WRITE, WRITE, WRITE, WRITE_ZEROES, TRIM))
+        data = bytes(rng.choice(b"\0\1\2") for _ in range(length))
+        changes.append((command, offset, data, rng.random() < 0.9))
+    ends = sorted({0, size, *(rng.randint(0, size) for _ in range(rng.randrange(4)))})
+    return changes, list(zip(ends, ends[1:]))
+
+
+def bytes_left(changes, start):
+    """What the export holds at last: a byte, or None where it is not known."""
+    held = list(start)
+    for command, offset, data, succeeded in changes:
+        left = {WRITE: data, WRITE_ZEROES: bytes(len(data)), TRIM: [None] * len(data)}[command]
+        held[offset : offset + len(data)] = left if succeeded else [None] * len(data)
+    return held
+
+
+def session_of(changes, came, pieces, rng, size):
+    """The records, in which each request is answered before the next; a piece of zeroes may be a hole."""
+    records = begun(structured=True, size=size)
+    for number, (command, offset, data, succeeded) in enumerate(changes, 1):
+        payload = data if command == WRITE else b""
+        records += [request(command, number, offset, len(data), payload), simple(number, error=0 if succeeded else 5)]
+    number = len(changes) + 1
+    records.append(read(number, 0, size))
+    for first, end in rng.sample(pieces, len(pieces)):
+        part = bytes(came[first:end])
+        is_hole = not any(part) and rng.random() < 0.7
+        records.append(hole(number, first, end - first) if is_hole else content(number, first, part))
+    return [*records, done(number)], number
+
+
+def row(values):
+    return " ".join(".." if value is None else f"{value:02x}" for value in values)
+
+
+def differing(tally, room):
+    """Random sessions of one READ with wrong bytes: how many they are, the first and the last of them, and sixteen beside what the
+    export held, as the session's own model has them."""
+    rng = random.Random(20)
+    for turn in range(150):
+        size = rng.choice((1, 5, 17, 40))
+        changes, pieces = drawn(rng, size)
+        start, kept = rng.choice((("zero", [0] * size), ("unknown", [None] * size), (f"image:{size}", list(range(size)))))
+        held = bytes_left(changes, kept)
+        came = [value if value is not None and rng.random() < 0.7 else rng.randrange(3) for value in held]
+        for first, end in pieces:
+            if rng.random() < 0.4:
+                came[first:end] = bytes(end - first)
+        records, number = session_of(changes, came, pieces, rng, size)
+        order = "".join(f"{k}\n" for k in range(1, number + 1)).encode()
+        told = room.run("explain", room.put("drawn.cap", text(records)), room.put("drawn.ord", order), "--start",
+                        start_of(room, "drawn", start)).out.decode()
+        wrong = [offset for offset in range(size) if held[offset] not in (None, came[offset])]
+        if not wrong:
+            tally.holds(f"differing {turn}: yes", told.startswith("yes "), told)
+            continue
+        places = f"at offset {wrong[0]}" if len(wrong) == 1 else f"from offset {wrong[0]} to {wrong[-1]}"
+        noun = "byte" if size == 1 else "bytes"
+        shown = slice(wrong[0], wrong[0] + 16)
+        wanted = (f"\ndiffer: {len(wrong)} of {size} {noun}, {places}\nfrom offset {wrong[0]}:\n  came     {row(came[shown])}\n"
+                  f"  expected {row(held[shown])}\n")
+        tally.holds(f"differing {turn}: {wanted}", wanted in told, told)
+
+
+def large(tally, room):
+    """A READ of 100,000 bytes of which each other byte has a WRITE of its own, in as many pieces: the last byte is wrong."""
+    count = 50000
+    records = begun(structured=True, size=2 * count)
+    for number in range(1, count + 1):
+        records += [write(number, 2 * number - 2, b"\1"), simple(number)]
+    number = count + 1
+    records.append(read(number, 0, 2 * count))
+    records += [content(number, 2 * k, b"\1\0" if k < count - 1 else b"\1\2") for k in range(count)]
+    capture, order = room.put("large", text([*records, done(number)])), b"".join(b"%d\n" % k for k in range(1, number + 1))
+    told = room.run("explain", capture, room.put("large.ord", order), "--start", "zero").out
+    tally.holds("large", b"\ndiffer: 1 of 100000 bytes, at offset 99999\n" in told, told)
+
+
+PARTY = re.compile(r"(?m)^(change|read): \w+ #(\d+), .*; served after byte (\d+) (?:and before byte (\d+)|or never); "
+                   r"(?:left|got) (?:([0-9a-f]{2})\b|a byte)")
+SOURCES = re.compile(r"(?m)^sources: READ #(\d+) can have its ([0-9a-f]{2}) from (.*?)(?:;.*)?$")
+STEP = re.compile(r"READ #(\d+) can have its [0-9a-f]{2} only from ([^;]*)(?:; so served before this change: ([^;]*))?"
+                  r"(?:; so served after this READ: ([^;]*))?")
+
+
+class Pencil:
+    """What a reader of `no order explains` has: each request's moments and byte, and who was served before whom."""
+
+    def __init__(self, told):
+        start = re.search(r"(?m)^start: ([0-9a-f]{2}) ", told)
+        self.start = start and start[1]
+        parties = [(kind, int(number), int(after), int(before or 0), byte) for kind, number, after, before, byte in PARTY.findall(told)]
+        self.bytes = {number: byte or None for _, number, _, _, byte in parties}
+        self.changes = [number for kind, number, *_ in parties if kind == "change"]
+        self.reads = [number for kind, number, *_ in parties if kind == "read"]
+        self.order = {(one, other) for _, one, _, before, _ in parties for _, other, after, _, _ in parties if before and before < after}
+
+    def put(self, one, other):
+        """The first was served before the other, and what follows; whether that is new."""
+        if (one, other) in self.order:
+            return False
+        firsts, lasts = [*self.changes, *self.reads], [*self.changes, *self.reads]
+        self.order |= {(a, b) for a in firsts for b in lasts
+                       if (a == one or (a, one) in self.order) and (b == other or (other, b) in self.order)}
+        return True
+
+    def sources(self, read):
+        """Where the byte of a READ can come from: changes by their numbers, the start as 0."""
+        found = []
+        for source in (0, *self.changes):
+            left = self.bytes[source] if source else self.start
+            is_hidden = any((other, read) in self.order and (source == 0 or (source, other) in self.order) for other in self.changes)
+            if left in (None, self.bytes[read]) and not is_hidden and (read, source) not in self.order:
+                found.append(source)
+        return found
+
+    def settle(self, read, source):
+        """The changes that are now known to be served before the source, and after the READ."""
+        before, after = set(), set()
+        if source:
+            self.put(source, read)
+        for other in self.changes:
+            if source and other != source and (other, read) in self.order:
+                before |= {other} if self.put(other, source) else set()
+            elif other != source and (source == 0 or (source, other) in self.order):
+                after |= {other} if self.put(read, other) else set()
+        return before, after
+
+
+def numbers_in(words):
+    return [0] * ("the start" in words) + [int(number) for number in re.findall(r"#(\d+)", words)]
+
+
+def follow(tally, name, told):
+    """Goes along the steps with what stands above them alone; whether they end at a READ whose byte can come from nothing."""
+    pencil, steps = Pencil(told), re.findall(r"(?m)^step \d+: (.*)$", told)
+    listed = {int(read): numbers_in(words) for read, _, words in SOURCES.findall(told)}
+    tally.want(f"{name}: sources", listed, {read: pencil.sources(read) for read in pencil.reads})
+    for step in steps:
+        ended = re.match(r"READ #(\d+) can have its [0-9a-f]{2} from nothing", step)
+        if ended or step.startswith("none; "):
+            tally.want(f"{name}: the last step", [step, bool(ended) and pencil.sources(int(ended[1]))], [steps[-1], [] if ended else False])
+            return bool(ended)
+        read, source, before, after = STEP.fullmatch(step).groups()
+        tally.want(f"{name}: {step}", numbers_in(source), pencil.sources(int(read)))
+        listed = tuple(set(numbers_in(words or "")) for words in (before, after))
+        tally.want(f"{name}: {step}, what follows", listed, pencil.settle(int(read), numbers_in(source)[0]))
+    tally.want(f"{name}: ten steps", len(steps), 10)
+    return False
+
+
+def deduced(tally, room):
+    """Of sessions at random that no order explains: each step follows from what stands above it, as a reader can see."""
+    rng, ends = random.Random(21), [0, 0]
+    for turn in range(300):
+        told = room.run("explain", room.put("race.cap", text(race(rng, rng.randint(3, 6)))), "--start", "zero").out.decode()
+        if told.startswith("no order explains"):
+            ends[follow(tally, f"deduced {turn}", told)] += 1
+    tally.holds("deduced: most of them end", ends[1] > 4 * ends[0], ends)
+
+
+def race(rng, count):
+    """WRITEs of one byte to one offset and READs of it, in flight together, whose READs get any byte."""
+    records, waiting = begun(), []
+    for number in range(1, 2 * count + 1):
+        is_read = rng.random() < 0.5
+        value = bytes([rng.randint(0, 2)])
+        records.append(read(number, 0, 1) if is_read else write(number, 0, value))
+        waiting.append(simple(number, value if is_read else b""))
+        while len(waiting) > 2 or waiting and rng.random() < 0.4:
+            records.append(waiting.pop(rng.randrange(len(waiting))))
+    return records + waiting
+
+
 def names(tally, room):
     capture = room.put("named", text(NAMED))
     tally.want("show --names", room.run("show", "--names", capture), Ended(0, NAMES.encode(), b""))
@@ -302,7 +613,7 @@ def faults(tally, room):
 
 def run(tally):
     with Room() as room:
-        for part in (sessions, orderless, examples, names, fronts, faults):
+        for part in (sessions, orderless, reasons, arriving, differing, large, deduced, examples, names, fronts, faults):
             part(tally, room)
 
 

@@ -1,4 +1,4 @@
-"""The table of rules in crates/nbd_names against docs/nbdcheck.1, which prints it, and against docs/PROFILE.md.
+"""The rules in crates/nbd_judge against docs/nbdcheck.1, which prints it, and against docs/PROFILE.md.
 
 `test_names.py manual` prints the manual page's section.
 """
@@ -9,12 +9,13 @@ import sys
 from built import TOP, Tally
 
 TEXT = r'"((?:[^"\\]|\\.)*)"'
-RULE = re.compile(rf"(?:Wire|Order)Fault::(\w+) =>\s*\(?\s*{TEXT},?\s*(?:(CHOICE)|{TEXT})?")
+RULE = re.compile(rf"(?:Wire|Order)Fault::(\w+) =>\s*\{{?\s*{TEXT}")
+SECTION = re.compile(rf"((?:\|?\s*WireFault::\w+\s*)+)=>\s*\{{?\s*(?:(CHOICE)|{TEXT})")
 BREAKERS = {"Client": "the client", "Server": "the server", "Sender": "the sender", "Nobody": "nobody"}
 
 
-def source(name):
-    return (TOP / "crates/nbd_names/src" / name).read_text()
+def source():
+    return (TOP / "crates/nbd_judge/src/rules.rt").read_text()
 
 
 def unquoted(text):
@@ -23,27 +24,33 @@ def unquoted(text):
 
 def breakers():
     """Who broke the rule of a wire fault; the server, where the function does not name the fault."""
-    body = source("rules.rt").split("\nfn breaker_of")[1].split("\n}\n")[0]
+    body = function("breaker_of")
     found = {}
     for faults, breaker in re.findall(r"((?:\|?\s*WireFault::\w+\s*)+)=>\s*(?:\{\s*)?Breaker::(\w+)", body):
         found.update({fault: BREAKERS[breaker] for fault in re.findall(r"WireFault::(\w+)", faults)})
     return found
 
 
+def function(name):
+    return source().split(f"fn {name}(")[1].split("\n}\n")[0]
+
+
+def sections():
+    """The section of the rule of each wire fault."""
+    choice = unquoted(re.search(rf"const CHOICE: &str = {TEXT}", source())[1])
+    return {fault: choice if is_choice else unquoted(section) for faults, is_choice, section in SECTION.findall(function("section_of"))
+            for fault in re.findall(r"WireFault::(\w+)", faults)}
+
+
 def rules():
     """Each wire fault, who broke its rule, the rule and its section."""
-    choice = unquoted(re.search(rf"const CHOICE: &str = {TEXT}", source("rules.rt"))[1])
-    body = source("rules.rt").split("pub fn wire_rule")[1].split("\nfn breaker_of")[0]
-    broke = breakers()
-    return [
-        (fault, broke.get(fault, "the server"), sentence, choice if is_choice else unquoted(section))
-        for fault, sentence, is_choice, section in RULE.findall(body)
-    ]
+    broke, stands = breakers(), sections()
+    return [(fault, broke.get(fault, "the server"), sentence, stands[fault])
+            for fault, sentence in RULE.findall(function("sentence_of"))]
 
 
 def order_rules():
-    body = source("rules.rt").split("pub fn order_rule")[1].split("\n}\n")[0]
-    return [(fault, sentence) for fault, sentence, _, _ in RULE.findall(body)]
+    return RULE.findall(function("order_rule"))
 
 
 def manual():

@@ -141,7 +141,7 @@ def terminals(tally, room):
     long = room.put("long", long_search())
     yes = Ended(0, b"yes requests 3000 answered 3000 improper 0\n", b"")
     found = on_a_terminal(room, "order", long, "--start", "zero")
-    told = re.fullmatch(rb"(\r\x1b\[K(round \d+: replaying|\d+ ranges searched))+\r\x1b\[K", found.err)
+    told = re.fullmatch(rb"(\r\x1b\[Kround \d+: \d+ searches of ranges)+\r\x1b\[K", found.err)
     tally.holds("a long search on a terminal", told, found.err[-80:])
     judged = room.run("check", long, room.put("order", found.out), "--start", "zero")
     tally.want("what a long search found", (found.status, judged), (0, yes))

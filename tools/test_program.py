@@ -1,9 +1,9 @@
 #!/usr/bin/env python3
-"""Runs the built program: its commands, sessions cut off and damaged, all that can fail, and inputs at size; and the
+"""Runs the built program: its commands, sessions as data, cut off and damaged, all that can fail, inputs at size; and the
 scripts round it: the build, the installation, the conversions of recordings and of captures, and the relay that records.
 
-The last line is `N passed, M failed`. With names as words, runs these parts alone: build, commands, conversions, cuts,
-explain, install, names, order, readme, record, record_answers, record_programs, refusals, search, sizes,
+The last line is `N passed, M failed`. With names as words, runs these parts alone: build, cases, commands, conversions,
+cuts, explain, install, names, order, readme, record, record_answers, record_programs, refusals, search, sizes, texts,
 to_pcap.
 """
 
@@ -11,6 +11,7 @@ import sys
 import time
 
 import test_build
+import test_cases
 import test_commands
 import test_conversions
 import test_cuts
@@ -25,11 +26,13 @@ import test_record_programs
 import test_refusals
 import test_search
 import test_sizes
+import test_texts
 import test_to_pcap
 from built import Tally, build
 
 PARTS = {
     "build": test_build,
+    "cases": test_cases,
     "commands": test_commands,
     "conversions": test_conversions,
     "cuts": test_cuts,
@@ -44,6 +47,7 @@ PARTS = {
     "refusals": test_refusals,
     "search": test_search,
     "sizes": test_sizes,
+    "texts": test_texts,
     "to_pcap": test_to_pcap,
 }
 

@@ -18,8 +18,8 @@ PRINTED = {
     "tools/socat-to-capture s.txt > s.cap && nbdcheck order s.cap --arrival > s.ord && nbdcheck check s.cap s.ord --start zero":
         "yes requests 2 answered 2 improper 0\n",
 }
-# These need socat and nbdsh, which the gate has not.
-RECORDING = ("socat ", "nbdsh ")
+# These need socat, nbdkit and nbdsh, which the gate has not.
+RECORDING = ("socat ", "nbdsh ", "nbdkit ", "tools/nbdcheck-record ")
 LONGEST = 150
 
 

@@ -202,6 +202,8 @@ def full(tally, folder):
 
 def interrupts(tally, folder):
     """A signal in the middle leaves whole lines, and ends the client."""
+    # Below nohup it is ignored, and programs that are begun there ignore it too.
+    signal.signal(signal.SIGHUP, signal.SIG_DFL)
     for number in (signal.SIGINT, signal.SIGTERM, signal.SIGHUP):
         with socket.create_server(("127.0.0.1", 0)) as listener:
             keep = f"{folder}/{number.name}"

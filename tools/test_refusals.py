@@ -150,15 +150,19 @@ def reads(tally, room, name, words, whole):
     if "without an order" in name:
         wanted.remove(b"fault order read\n")
     for what in ("read", "read-again"):
-        told = []
+        told, behind = [], 0
         for number, found, is_refused in room.each(words, what):
-            if is_refused:
+            if is_refused and found == whole:
+                behind += 1
+            elif is_refused:
                 tally.want(f"{name}, {what} {number}", (found.status, found.out), (3, b""))
                 told.append(found.err)
             else:
                 tally.want(f"{name}, {what} {number}", found, whole)
         # The inputs are read one after the other.
         tally.want(f"{name}, {what}", [fault for fault, _ in itertools.groupby(told)], wanted)
+        # Behind the answer `check` and `explain` look once more at the capture's first bytes; that may fail.
+        tally.want(f"{name}, {what} behind the answer", behind, 1 if words[0] in ("check", "explain") else 0)
     found, _ = room.refused(words, "bytes 1")
     tally.want(f"{name}, a byte at a time", found, whole)
 

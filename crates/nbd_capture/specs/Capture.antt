@@ -38,12 +38,15 @@ IsDigit digit v = (v < 16) × ((digit ≡ slice_index lower_digits v) ⊎ (digit
 pub data AreDigits : List ℕ → List ℕ → Type 0 where
   none : AreDigits [] []
   byte : (first second high low : ℕ) (digits bytes : List ℕ)
-      → IsDigit first high → IsDigit second low → AreDigits digits bytes → AreDigits (first ∷ second ∷ digits) ((high * 16 + low) ∷ bytes)
+      → IsDigit first high → IsDigit second low → AreDigits digits bytes
+      → AreDigits (first ∷ second ∷ digits) ((high * 16 + low) ∷ bytes)
 
--- the forms of a line: a side's letter, one space and the digits of a chunk's bytes, possibly none; nothing; a `#`, and anything after it
+-- the forms of a line: a side's letter, one space and the digits of a chunk's bytes, possibly none; nothing; a `#`, and
+-- anything after it
 pub data IsCaptureLine : List ℕ → List Chunk → Type 0 where
   chunk : (side : Side) (digits bytes : List ℕ)
-      → AreDigits digits bytes → IsCaptureLine (letter side ∷ space ∷ digits) (record { side = side; bytes = bytes } ∷ [])
+      → AreDigits digits bytes → IsCaptureLine (letter side ∷ space ∷ digits)
+      (record { side = side; bytes = bytes } ∷ [])
   blank : IsCaptureLine [] []
   comment : (anything : List ℕ) → IsCaptureLine (hash ∷ anything) []
 

@@ -12,12 +12,13 @@ IsUnbroken bytes = AllByRecursion (λ b. b ≢ line_feed) bytes
 
 -- A grammar of lines, `Form`, relates the bytes of a line, without its LF, to the values that the line stands for.
 
--- A text and the values that its lines stand for, in order. A text without bytes has no lines; any other one begins with a line
--- that has a form, and the LF that ends the line.
+-- A text and the values that its lines stand for, in order. A text without bytes has no lines; any other one begins
+-- with a line that has a form, and the LF that ends the line.
 pub data IsText {V : Type 0} (Form : List ℕ → List V → Type 0) : List ℕ → List V → Type 0 where
   empty : IsText Form [] []
   line : (bytes : List ℕ) (said : List V) (rest : List ℕ) (values : List V)
-      → IsUnbroken bytes → Form bytes said → IsText Form rest values → IsText Form (bytes ++ line_feed ∷ rest) (said ++ values)
+      → IsUnbroken bytes → Form bytes said → IsText Form rest values
+      → IsText Form (bytes ++ line_feed ∷ rest) (said ++ values)
 
 -- A text and the number, from 1, of its first bad line: a line that no form describes, or bytes with no LF after them.
 pub data IsFirstBadLine {V : Type 0} (Form : List ℕ → List V → Type 0) : List ℕ → ℕ → Type 0 where
@@ -25,4 +26,5 @@ pub data IsFirstBadLine {V : Type 0} (Form : List ℕ → List V → Type 0) : L
       → IsUnbroken bytes → ((said : List V) → Form bytes said → ⊥) → IsFirstBadLine Form (bytes ++ line_feed ∷ rest) 1
   unended : (byte : ℕ) (bytes : List ℕ) → IsUnbroken (byte ∷ bytes) → IsFirstBadLine Form (byte ∷ bytes) 1
   later : (bytes : List ℕ) (said : List V) (rest : List ℕ) (number : ℕ)
-      → IsUnbroken bytes → Form bytes said → IsFirstBadLine Form rest number → IsFirstBadLine Form (bytes ++ line_feed ∷ rest) (suc number)
+      → IsUnbroken bytes → Form bytes said → IsFirstBadLine Form rest number
+      → IsFirstBadLine Form (bytes ++ line_feed ∷ rest) (suc number)

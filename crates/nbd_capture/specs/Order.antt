@@ -15,17 +15,20 @@ BeginsPlainly digits = IsAsciiDigit (slice_index digits 0) × (slice_index digit
 
 -- the digits of a number: decimal digits and nothing else, no `0` before others, of a number below 2^64
 abbrev pub IsNumber : List ℕ → ℕ → Type 0
-IsNumber digits n = IsNumeral 10 digits × BeginsPlainly digits × (digits_value 10 digits < 2 ^ 64) × (n ≡ digits_value 10 digits)
+IsNumber digits n = IsNumeral 10 digits × BeginsPlainly digits × (digits_value 10 digits < 2 ^ 64)
+    × (n ≡ digits_value 10 digits)
 
 -- an offset and a length, with one space between them
 abbrev pub IsPart : List ℕ → Part → Type 0
-IsPart text p = (offset : List ℕ) × (len : List ℕ) × (text ≡ offset ++ space ∷ len) × IsNumber offset p.offset × IsNumber len p.length
+IsPart text p = (offset : List ℕ) × (len : List ℕ) × (text ≡ offset ++ space ∷ len) × IsNumber offset p.offset
+    × IsNumber len p.length
 
 -- the forms of a line: a request's number; or the number, a space and a part
 pub data IsOrderLine : List ℕ → List Entry → Type 0 where
   at_once : (digits : List ℕ) (k : ℕ) → IsNumber digits k → IsOrderLine digits (whole k ∷ [])
   of_part : (digits text : List ℕ) (k : ℕ) (p : Part)
-      → IsNumber digits k → IsPart text p → IsOrderLine (digits ++ space ∷ text) (record { request = k; part = Some p } ∷ [])
+      → IsNumber digits k → IsPart text p → IsOrderLine (digits ++ space ∷ text)
+      (record { request = k; part = Some p } ∷ [])
 
 -- an order text and its entries, one a line
 abbrev pub IsOrderText : List ℕ → List Entry → Type 0

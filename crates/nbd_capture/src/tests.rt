@@ -16,10 +16,10 @@ use std::test::Fail;
 #[test]
 fn reads_chunk_lines_and_skips_the_others(rt: HostRuntime) -> Result<(), Fail> {
     let chunks = parse_capture(rt.alloc(), b"C 0A\n# x\n\nS \n")?;
-    assert_eq!(rt; chunks.len(), 2);
-    assert_eq!(rt; chunks[0].0, Side::Client);
-    assert_eq!(rt; chunks[0].1.as_slice(), [10].as_slice());
-    assert_eq!(rt; chunks[1].0, Side::Server);
+    assert!(rt; chunks.len() == 2);
+    assert!(rt; chunks[0].0 == Side::Client);
+    assert!(rt; chunks[0].1.as_slice() == [10].as_slice());
+    assert!(rt; chunks[1].0 == Side::Server);
     assert!(rt; chunks[1].1.is_empty());
     assert!(rt; parse_capture(rt.alloc(), b"")?.is_empty());
     Ok(())
@@ -41,7 +41,7 @@ fn names_the_first_bad_capture_line(rt: HostRuntime) {
         ("the first of two", b"S 00\nS 0\nS\n", 2),
     ] {
         let fault = parse_capture(rt.alloc(), text).err();
-        assert_eq!(rt; fault, Some(CaptureFault::Line(line)), "{name}");
+        assert!(rt; fault == Some(CaptureFault::Line(line)), "{name}");
     }
 }
 
@@ -68,10 +68,7 @@ fn reads_order_lines(rt: HostRuntime) -> Result<(), Fail> {
         offset: 0,
         length: 8,
     };
-    assert_eq!(rt;
-        entries.as_slice(),
-        [at_once(0), at_once(u64::MAX), in_part(2, part)].as_slice()
-    );
+    assert!(rt; entries.as_slice() == [at_once(0), at_once(u64::MAX), in_part(2, part)].as_slice());
     assert!(rt; parse_order(rt.alloc(), b"")?.is_empty());
     Ok(())
 }
@@ -96,7 +93,7 @@ fn names_the_first_bad_order_line(rt: HostRuntime) {
         ("no text", b"\xff\n", 1),
     ] {
         let fault = parse_order(rt.alloc(), text).err();
-        assert_eq!(rt; fault, Some(OrderTextFault::Line(line)), "{name}");
+        assert!(rt; fault == Some(OrderTextFault::Line(line)), "{name}");
     }
 }
 
@@ -104,11 +101,11 @@ fn names_the_first_bad_order_line(rt: HostRuntime) {
 #[test]
 fn answers_want_of_memory_as_such(rt: HostRuntime) {
     match parse_capture(rt.alloc(), b"C 0A\nS 00\n") {
-        Ok(chunks) => assert_eq!(rt; chunks.len(), 2),
-        Err(fault) => assert_eq!(rt; fault, CaptureFault::Memory),
+        Ok(chunks) => assert!(rt; chunks.len() == 2),
+        Err(fault) => assert!(rt; fault == CaptureFault::Memory),
     }
     match parse_order(rt.alloc(), b"1\n2\n") {
-        Ok(entries) => assert_eq!(rt; entries.as_slice(), [at_once(1), at_once(2)].as_slice()),
-        Err(fault) => assert_eq!(rt; fault, OrderTextFault::Memory),
+        Ok(entries) => assert!(rt; entries.as_slice() == [at_once(1), at_once(2)].as_slice()),
+        Err(fault) => assert!(rt; fault == OrderTextFault::Memory),
     }
 }

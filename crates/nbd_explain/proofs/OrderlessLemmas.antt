@@ -40,7 +40,7 @@ use Rattle.nbd_explain.specs.Answering.{IsAnswerTo, answer_to}
 use Rattle.nbd_explain.specs.Explained.{BeginsWithLine}
 use Rattle.nbd_explain.specs.Orderless.{IsTold, IsToldFrom, Tells}
 use Rattle.nbd_explain.specs.Orderless.IsTold.{found, gave_up, image, unexplained, wire}
-use Rattle.nbd_explain.specs.internal.Lines.{BeginsWithLineOf, IsLineOf}
+use Rattle.nbd_explain.specs.internal.Lines.{IsLineOf, IsToldOfFound}
 
 -- the verdict on an order that explains a capture is a yes
 yes_of : (capture : List Pair) (entries : List Entry) (initial : Start) (v : Verdict) → IsExplained capture entries initial → IsChecked capture entries initial v → IsYes v
@@ -80,21 +80,26 @@ told_from capture (Some start) initial told beginning f first rest old new is_kn
     subst (λ s. IsTold capture s old new (answer_to f)) is_known (told_of capture initial told beginning f first rest old new has is_read is fits says is_line appended)
 
 -- what the search came to is told
-pub tells : (known : Option (List ℕ)) (start : Option Start) (room : ℕ) (beginning kept : Beginning) (r : SessionView) (told : Report) (finished : Result Report SessionFault) (f : Found) (text : List ℕ) (old new : Option (List ℕ)) →
+tells : (known : Option (List ℕ)) (start : Option Start) (room : ℕ) (beginning : Beginning) (r : SessionView) (told : Report) (finished : Result Report SessionFault) (answered : Answer) (old new : Option (List ℕ)) →
     IsOverText known r → finished ≡ Ok told → fault_of finished ≡ fault_at_end r → IfOk finished (IsReported r) → (begun : IsBeginningOf start room beginning) → IsReadAs (size_of told.export) begun.initial beginning →
-    ((n : ℕ) (initial : Start) → IsReadAs n initial beginning → IsReadAs n initial kept) → ((initial : Start) → IsReadAs (size_of told.export) initial beginning → IsFound told initial f) → IsWanted Any f →
-    ((initial : Start) (items : List Item) → IsReadAs (size_of told.export) initial beginning → IsRun items → report items ≡ told → Says items initial f) →
-    BeginsWithLineOf told f kept text → Appends old new text → Tells known start (answer_to f) old new
-tells known start room beginning kept r told finished f text old new session is same reported begun is_read copied is_found fits says begins appended =
+    IsToldOfFound told beginning answered old new → Tells known start answered old new
+tells known start room beginning r told finished answered old new session is same reported begun is_read of =
     let has : HasReport (flat_of session.chunks) told = subst (λ o. IfOk o (HasReport (flat_of session.chunks))) is (report_over (flat_of session.chunks) r finished session.over same reported) in
-    record {
+    subst (λ a. Tells known start a old new) (sym of.answer) (record {
       chunks = session.chunks;
       is_text = session.is_text;
-      is_told = told_from (flat_of session.chunks) start begun.initial told kept f begins.first begins.explanation old new begun.is_known has
-          (copied (size_of told.export) begun.initial is_read) (is_found begun.initial is_read) fits
-          (says begun.initial has.items is_read has.is_run (has.same_report has.items has.is_run has.has_pairs))
-          begins.is_line (subst (Appends old new) begins.parts appended);
-    }
+      is_told = told_from (flat_of session.chunks) start begun.initial told of.kept of.found of.begins.first of.begins.explanation old new begun.is_known has
+          (of.copied (size_of told.export) begun.initial is_read) (of.is_found begun.initial is_read) of.fits
+          (of.says begun.initial has.items is_read has.is_run (has.same_report has.items has.is_run has.has_pairs))
+          of.begins.is_line (subst (Appends old new) of.begins.parts of.appended);
+    })
+
+pub tells_if : (start : Option Start) (room : ℕ) (beginning : Beginning) (r : SessionView) (told : Report) (finished : Result Report SessionFault) (old new : Option (List ℕ)) (o : Result Answer RunFault) →
+    finished ≡ Ok told → fault_of finished ≡ fault_at_end r → IfOk finished (IsReported r) → (begun : IsBeginningOf start room beginning) → IsReadAs (size_of told.export) begun.initial beginning →
+    IfOk o (λ a. IsToldOfFound told beginning a old new) → IfOk o (λ a. (known : Option (List ℕ)) → IsOverText known r → Tells known start a old new)
+tells_if start room beginning r told finished old new (Err fault) is same reported begun is_read of = tt
+tells_if start room beginning r told finished old new (Ok a) is same reported begun is_read of = λ known session.
+    tells known start room beginning r told finished a old new session is same reported begun is_read of
 
 -- a session that was refused
 wired : (capture : List Pair) (start : Option Start) (at : ℕ) (fault : WireFault) (old new : Option (List ℕ)) → IsFaultOf capture (Wire at fault) → BeginsWithLine (verdict.Wire at fault) old new → IsToldFrom capture start old new No

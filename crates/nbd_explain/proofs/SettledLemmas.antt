@@ -1,5 +1,5 @@
 -- What the end of a session says of its capture.
-use Rattle.std.proofs.Common.{◌≡◌, ℕ, List, Bool, sym, ◌∙◌, ap, subst, Option, Result, Ok, Err, IfOk, IfErr}
+use Rattle.std.proofs.Common.{◌≡◌, ℕ, List, Bool, sym, ◌∙◌, ap, subst, Option, Result, Ok, Err, IfOk, IfErr, IsErrAnd, ◌⊎◌, inl, inr}
 use Rattle.nbd_wire.specs.protocol.Captures.{Pair}
 use Rattle.nbd_session.specs.declared.fault.SessionFault.{SessionFault}
 use Rattle.nbd_session.specs.Refusals.{IsComplete}
@@ -28,12 +28,6 @@ settled known r ended answer session run complete same is = record {
       (settled_by (flat_of session.chunks) (is_accepted (fault_at_end r)) _ (shown (flat_of session.chunks) r session.over run complete));
 }
 
--- the same of an answer
-pub settled_if : (known : Option (List ℕ)) (r : SessionView) (ended : Option SessionFault) (o : Result Bool RunFault) → IsOverText known r → IsOfRun r → IsComplete r →
-    ended ≡ fault_at_end r → IfOk o (λ b. b ≡ is_accepted ended) → IfOk o (Settles known)
-settled_if known r ended (Ok b) session run complete same is = settled known r ended b session run complete same is
-settled_if known r ended (Err fault) session run complete same is = tt
-
 -- what a fault of the last line says of the capture
 pub last_cause : (known : Option (List ℕ)) (r : SessionView) (ended : Option SessionFault) (old new : Option (List ℕ)) (o : Result Bool RunFault) → IsOverText known r →
     IfErr o (LeavesLast ended old new) → IfErr o (IsShowCause known)
@@ -47,3 +41,35 @@ last_cause known r ended old new (Err faults.OrderRead) session left = absurd le
 last_cause known r ended old new (Err faults.ImageRead) session left = absurd left
 last_cause known r ended old new (Err (faults.ScriptLine n)) session left = absurd left
 last_cause known r ended old new (Err faults.ScriptRead) session left = absurd left
+
+-- what a fault says of the capture where the writer failed or memory ran out
+pub told_cause : (A : Type 0) (known : Option (List ℕ)) (r : SessionView) (o : Result A RunFault) (fault : RunFault) → IsOverText known r → IsErrAnd o (λ f. f ≡ fault) →
+    (fault ≡ faults.Write) ⊎ (fault ≡ faults.Memory) → IfErr o (IsShowCause known)
+told_cause A known r (Ok a) fault session is either = tt
+told_cause A known r (Err f) fault session is (inl e) = subst (IsShowCause known) (sym (is ∙ e)) (capture_over known r session)
+told_cause A known r (Err f) fault session is (inr e) = subst (IsShowCause known) (sym (is ∙ e)) tt
+
+-- the same of each capture text whose bytes a session took
+pub settled_over : (r : SessionView) (ended : Option SessionFault) (o : Result Bool RunFault) → IsOfRun r → IsComplete r → ended ≡ fault_at_end r → IfOk o (λ b. b ≡ is_accepted ended) →
+    IfOk o (λ b. (known : Option (List ℕ)) → IsOverText known r → Settles known b)
+settled_over r ended (Ok b) run complete same is = λ known session. settled known r ended b session run complete same is
+settled_over r ended (Err fault) run complete same is = tt
+
+pub last_cause_over : (r : SessionView) (ended : Option SessionFault) (old new : Option (List ℕ)) (o : Result Bool RunFault) → IfErr o (LeavesLast ended old new) →
+    IfErr o (λ fault. (known : Option (List ℕ)) → IsOverText known r → IsShowCause known fault)
+last_cause_over r ended old new (Ok b) left = tt
+last_cause_over r ended old new (Err fault) left = λ known session. last_cause known r ended old new (Err fault) session left
+
+pub told_cause_over : (A : Type 0) (r : SessionView) (o : Result A RunFault) (fault : RunFault) → IsErrAnd o (λ f. f ≡ fault) → (fault ≡ faults.Write) ⊎ (fault ≡ faults.Memory) →
+    IfErr o (λ f. (known : Option (List ℕ)) → IsOverText known r → IsShowCause known f)
+told_cause_over A r (Ok a) fault is either = tt
+told_cause_over A r (Err f) fault is either = λ known session. told_cause A known r (Err f) fault session is either
+
+-- of the capture text whose bytes it took
+pub settled_of : (known : Option (List ℕ)) (r : SessionView) (o : Result Bool RunFault) → IsOverText known r → IfOk o (λ b. (k : Option (List ℕ)) → IsOverText k r → Settles k b) → IfOk o (Settles known)
+settled_of known r (Ok b) session settles = settles known session
+settled_of known r (Err fault) session settles = tt
+
+pub cause_of : (known : Option (List ℕ)) (r : SessionView) (o : Result Bool RunFault) → IsOverText known r → IfErr o (λ fault. (k : Option (List ℕ)) → IsOverText k r → IsShowCause k fault) → IfErr o (IsShowCause known)
+cause_of known r (Ok b) session cause = tt
+cause_of known r (Err fault) session cause = cause known session

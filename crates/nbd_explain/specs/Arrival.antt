@@ -18,7 +18,8 @@ number_lines (suc n) = number_lines n ++ (decimal (suc n) ++ codes "\n")
 -- some run has these bytes, and the numbers of its requests were written; or no run has them, and nothing was
 -- written
 pub data HasArrival (capture : List Pair) (old new : Option (List ℕ)) : Bool → Type 0 where
-  accepted : (items : List Item) → IsRun items → pairs items ≡ capture → Appends old new (number_lines (length (report items).asked))
+  accepted : (items : List Item) → IsRun items → pairs items ≡ capture
+      → Appends old new (number_lines (length (report items).asked))
       → HasArrival capture old new true
   refused : IsOfNoRun capture → Keeps old new → HasArrival capture old new false
 

@@ -15,20 +15,24 @@ use Rattle.nbd_explain.specs.Orderless.{BeginsWith, Tells}
 abbrev pub BeginsWithLine : Verdict → (old new : Option (List ℕ)) → Type 0
 BeginsWithLine verdict old new = BeginsWith (line verdict) old new
 
--- the whole line of one verdict was written, and some text behind it; yes was answered exactly where the verdict is a yes, and
--- else no
-pub record Explains (capture order : Option (List ℕ)) (initial : Option Start) (answered : Answer) (old new : Option (List ℕ)) : Type 0 where
+-- the whole line of one verdict was written, and some text behind it; yes was answered exactly where the verdict is a
+-- yes, and else no
+pub record Explains (capture order : Option (List ℕ)) (initial : Option Start) (answered : Answer)
+    (old new : Option (List ℕ)) : Type 0 where
   pub verdict : Verdict
   pub is_verdict : IsVerdictOn capture order initial verdict
   pub answer : IsAnswerTo verdict answered
   pub begins : BeginsWithLine verdict old new
 
 -- the same, where an order is given; else what looking for one came to
-abbrev pub IsExplained : {O : Type 0} → (O → Option (List ℕ)) → Option (List ℕ) → Option O → Option Start → Answer → (old new : Option (List ℕ)) → Type 0
-IsExplained remaining capture (Some order) initial answer old new = Explains capture (remaining order) initial answer old new
+abbrev pub IsExplained : {O : Type 0} → (O → Option (List ℕ)) → Option (List ℕ) → Option O → Option Start → Answer
+    → (old new : Option (List ℕ)) → Type 0
+IsExplained remaining capture (Some order) initial answer old new =
+    Explains capture (remaining order) initial answer old new
 IsExplained remaining capture None initial answer old new = Tells capture initial answer old new
 
 -- what a fault says of the inputs: as of `check`, or without an order as of `order`
-abbrev pub IsExplainCause : {O I : Type 0} → (O → Option (List ℕ)) → Option (List ℕ) → Option O → StartFrom I → RunFault → Type 0
+abbrev pub IsExplainCause : {O I : Type 0} → (O → Option (List ℕ)) → Option (List ℕ) → Option O → StartFrom I → RunFault
+    → Type 0
 IsExplainCause remaining capture (Some order) start fault = IsCause capture (remaining order) start fault
 IsExplainCause remaining capture None start fault = IsOrderingCause capture start fault

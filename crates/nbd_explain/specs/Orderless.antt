@@ -32,18 +32,22 @@ BeginsWith text old new = (explanation : List ℕ) × Appends old new (text ++ e
 
 -- the line of the verdict on an order, and that the order was found and not given
 abbrev pub found_lines : Verdict → List ℕ
-found_lines verdict = words verdict ++ codes "\norder: found, not given; 'nbdcheck order' with the same words writes it\n"
+found_lines verdict = words verdict
+    ++ codes "\norder: found, not given; 'nbdcheck order' with the same words writes it\n"
 
 -- what was written of a capture's bytes from a start, and the answer
 pub data IsTold (capture : List Pair) (initial : Start) (old new : Option (List ℕ)) : Answer → Type 0 where
   -- an order explains it: the line of the yes that is the verdict on that order, and that it was found
-  found : (entries : List Entry) (verdict : Verdict) → IsExplained capture entries initial → IsChecked capture entries initial verdict → IsYes verdict
+  found : (entries : List Entry) (verdict : Verdict) → IsExplained capture entries initial
+      → IsChecked capture entries initial verdict → IsYes verdict
       → BeginsWith (found_lines verdict) old new → IsTold capture initial old new Yes
   -- no run has these bytes: where and why
-  wire : (messages : List Message) (at : ℕ) (fault : WireFault) → IsWireFault capture messages at fault → IsOfNoRun capture
+  wire : (messages : List Message) (at : ℕ) (fault : WireFault) → IsWireFault capture messages at fault
+      → IsOfNoRun capture
       → BeginsWith (line (Wire at fault)) old new → IsTold capture initial old new No
   -- the image has another size than the export
-  image : (items : List Item) (image size : ℕ) → IsRun items → pairs items ≡ capture → IsOtherSize (report items).export initial image size
+  image : (items : List Item) (image size : ℕ) → IsRun items → pairs items ≡ capture
+      → IsOtherSize (report items).export initial image size
       → BeginsWith (line (Image image size)) old new → IsTold capture initial old new No
   -- no order explains it: in each one of these READs has a wrong byte at this offset
   unexplained : (items : List Item) (reads : List ℕ) (offset : ℕ) → IsRun items → pairs items ≡ capture
@@ -60,7 +64,8 @@ IsToldFrom capture (Some initial) old new answer = IsTold capture initial old ne
 IsToldFrom capture None old new answer = Unit {0}
 
 -- the same of a capture text
-pub record Tells (known : Option (List ℕ)) (initial : Option Start) (answer : Answer) (old new : Option (List ℕ)) : Type 0 where
+pub record Tells (known : Option (List ℕ)) (initial : Option Start) (answer : Answer)
+    (old new : Option (List ℕ)) : Type 0 where
   pub chunks : List Chunk
   pub is_text : IfSome known (λ text. IsCaptureText text chunks)
   pub is_told : IsToldFrom (flat_of chunks) initial old new answer

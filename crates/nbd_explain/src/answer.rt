@@ -8,7 +8,7 @@ use nbd_order::Found;
 use nbd_tool::{RunFault, is_yes};
 
 /// What a run of `explain` came to.
-#[derive(Clone, Copy, Debug, PartialEq, Eq, Drop)]
+#[derive(Clone, Copy, PartialEq, Eq, Drop)]
 pub enum Answer {
     /// The order that was given, or one that was found, explains the session.
     Yes,

@@ -10,7 +10,7 @@ ghost use Rattle.nbd_explain.specs.Settled.{KeepsUnread};
 
 use nbd_capture::write_whole;
 use nbd_session::SessionFault;
-use nbd_tool::{RunFault, session_over};
+use nbd_tool::{RunFault, Unseen, session_over};
 use std::alloc::Global;
 use std::io::{BufRead, Write};
 
@@ -28,7 +28,7 @@ pub fn run_arrival<C: BufRead + Drop, W: Write>(
     ensures cause { IfErr result (IsShowCause (C.remaining capture)) }
     ensures left { IfErr result (KeepsUnread (W.contents out.old) (W.contents out.new)) }
 {
-    let session = session_over(alloc, capture)?;
+    let session = session_over(alloc, capture, &mut Unseen)?;
     match session.finish() {
         Ok(transcript) => {
             write_numbers(alloc, transcript.count(), out)?;

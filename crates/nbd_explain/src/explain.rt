@@ -1,21 +1,26 @@
 //! The command `explain`, over any readers and writer.
 
-ghost use Rattle.std.specs.Prelude.{ℕ, List, Option, IfErr, IfOk, OnOk};
+ghost use Rattle.std.specs.Prelude.{◌≡◌, ◌⊎◌, ℕ, List, Option, IfErr, IfOk, IfSome, OnOk};
+ghost use Rattle.nbd_capture.specs.Order.{IsOrderText};
+ghost use Rattle.nbd_tool.specs.declared.fault.RunFault.TheVariants.{Memory, Write};
 ghost use Rattle.nbd_tool.specs.Ends.{IsOverText};
 ghost use Rattle.nbd_tool.specs.Ordering.{LeavesOrdered};
-ghost use Rattle.nbd_tool.specs.Runs.{IsCapture, IsCause};
+ghost use Rattle.nbd_tool.specs.Runs.{IsCapture, IsCause, IsOrder};
 ghost use Rattle.nbd_tool.specs.Starts.{IsStartWithinLimit, IsWithinLimit, initial_from};
 ghost use Rattle.nbd_explain.specs.Explained.{Explains, IsExplainCause, IsExplained};
+ghost use Rattle.nbd_explain.specs.internal.Lines.{IsToldOn};
 
 use crate::answer::Answer;
-use crate::explanation::Recorded;
-use crate::reading::recorded_over;
+use crate::reading::Recorder;
 use crate::searching::explain_by_search;
-use crate::writing::{copy_of, write_explained};
-use nbd_search::Limits;
-use nbd_session::Session;
+use crate::writing::{copy_of, kept_of, write_explained};
+use nbd_search::{Limits, Progress};
+use nbd_session::{Session, SessionFault, Transcript};
 use nbd_story::Story;
-use nbd_tool::{Progress, RunFault, StartFrom, conclude_from, read_order, read_start, room_of};
+use nbd_tool::{
+    Beginning, RunFault, StartFrom, conclude_from, read_order, read_start, room_of, session_over,
+};
+use nbd_wire::Entry;
 use std::alloc::Global;
 use std::io::{BufRead, Read, Write};
 
@@ -26,14 +31,14 @@ use std::io::{BufRead, Read, Write};
 ///
 /// Nothing is written unless all were read whole and are well formed. After `Write` some of it may stand written. A
 /// long search says on `progress` how far it is.
-pub fn run_explain<C: BufRead + Drop, O: Read + Drop, I: Read + Drop, W: Write, P: Write + Drop>(
+pub fn run_explain<C: BufRead + Drop, O: Read + Drop, I: Read + Drop, W: Write>(
     alloc: Global,
     capture: C,
     order: Option<O>,
     start: StartFrom<I>,
     limits: Limits,
     out: &mut W,
-    progress: &mut Progress<P>,
+    progress: &mut Progress,
 ) -> Result<Answer, RunFault>
     ensures written { IfOk result (λ answer. IsExplained O.remaining (C.remaining capture) order
         (initial_from I.remaining start) answer (W.contents out.old) (W.contents out.new)) }
@@ -43,16 +48,12 @@ pub fn run_explain<C: BufRead + Drop, O: Read + Drop, I: Read + Drop, W: Write, 
     ensures cause { IfErr result (IsExplainCause O.remaining (C.remaining capture) order start) }
     ensures left { IfErr result (LeavesOrdered (W.contents out.old) (W.contents out.new)) }
 {
-    let read = recorded_over(alloc, capture)?;
-    let (session, recording) = read;
-    let story = Story::of(alloc, session.messages(), &recording)?;
-    let recorded = Recorded {
-        story: &story,
-        recording: &recording,
-    };
+    let mut recorder = Recorder::new(alloc);
+    let session = session_over(alloc, capture, &mut recorder)?;
+    let story = &mut recorder.story;
     match order {
-        Some(order) => explain_verdict(alloc, session, recorded, order, start, out),
-        None => explain_by_search(alloc, session, recorded, start, limits, out, progress),
+        Some(order) => explain_verdict(alloc, session, story, order, start, out),
+        None => explain_by_search(alloc, session, story, start, limits, out, progress),
     }
 }
 
@@ -60,7 +61,7 @@ pub fn run_explain<C: BufRead + Drop, O: Read + Drop, I: Read + Drop, W: Write, 
 fn explain_verdict<O: Read + Drop, I: Read + Drop, W: Write>(
     alloc: Global,
     session: Session,
-    recorded: Recorded<'_>,
+    story: &mut Story,
     mut order: O,
     start: StartFrom<I>,
     out: &mut W,
@@ -73,10 +74,47 @@ fn explain_verdict<O: Read + Drop, I: Read + Drop, W: Write>(
     ensures left { IfErr result (LeavesOrdered (W.contents out.old) (W.contents out.new)) }
 {
     let order = read_order(alloc, &mut order)?;
+    let entries = order.as_slice();
+    explain_entries(alloc, session, story, entries, start, out)
+}
+
+// The verdict on the entries of an order.
+fn explain_entries<I: Read + Drop, W: Write>(
+    alloc: Global,
+    session: Session,
+    story: &mut Story,
+    entries: &[Entry],
+    start: StartFrom<I>,
+    out: &mut W,
+) -> Result<Answer, RunFault>
+    ensures written { IfOk result (λ answer. (known order : Option (List ℕ)) → IsOverText known session →
+        IfSome order (λ text. IsOrderText text entries.now) → Explains known order (initial_from I.remaining start) answer
+        (W.contents out.old) (W.contents out.new)) }
+    ensures start_limited { OnOk result (IsStartWithinLimit I.remaining start) }
+    ensures cause { IfErr result (λ fault. (known order : Option (List ℕ)) → IsCapture known → IsOrder order →
+        IsCause known order start fault) }
+    ensures left { IfErr result (LeavesOrdered (W.contents out.old) (W.contents out.new)) }
+{
+    story.tell(session.messages())?;
     let finished = session.finish();
     let start = read_start(alloc, start, room_of(&finished))?;
+    explain_from(alloc, finished, story, entries, start, out)
+}
+
+// The verdict on them from what was read of the start.
+fn explain_from<W: Write>(
+    alloc: Global,
+    finished: Result<Transcript, SessionFault>,
+    story: &Story,
+    entries: &[Entry],
+    start: Beginning,
+    out: &mut W,
+) -> Result<Answer, RunFault>
+    ensures told { IfOk result (λ answer. IsToldOn finished entries.now start answer (W.contents out.old) (W.contents out.new)) }
+    ensures fault { IfErr result (λ fault. (fault ≡ Write) ⊎ (fault ≡ Memory)) }
+    ensures left { IfErr result (LeavesOrdered (W.contents out.old) (W.contents out.new)) }
+{
     let kept = copy_of(alloc, &start)?;
-    let entries = order.as_slice();
     let verdict = conclude_from(alloc, finished, entries, start)?;
-    write_explained(alloc, verdict, recorded.with(entries, &kept), out)
+    write_explained(alloc, verdict, story.with(entries, kept_of(&kept)), out)
 }

@@ -3,21 +3,13 @@
 
 pub mod answer;
 mod arrival;
-mod content;
-mod entries;
 mod explain;
-mod explanation;
 mod found;
 mod listing;
-mod order;
 mod reading;
-mod refutation;
-mod related;
 mod searching;
-mod source;
 #[cfg(test)]
 mod tests;
-mod wire;
 mod writing;
 
 pub use answer::{Answer, explain_status};

@@ -1,17 +1,20 @@
 //! The command `show --names`, over any reader and writer.
 
-ghost use Rattle.std.specs.Prelude.{IfErr, IfOk, OnOk};
+ghost use Rattle.std.specs.Prelude.{◌≡◌, ◌⊎◌, ℕ, List, Option, IfErr, IfOk, OnOk};
+ghost use Rattle.nbd_tool.specs.declared.fault.RunFault.TheVariants.{Memory, Write};
+ghost use Rattle.nbd_tool.specs.Ends.{IsOverText};
 ghost use Rattle.nbd_tool.specs.Runs.{IsCapture};
 ghost use Rattle.nbd_tool.specs.Shown.{IsShowCause};
 ghost use Rattle.nbd_tool.specs.Starts.{IsWithinLimit};
 ghost use Rattle.nbd_explain.specs.Settled.{KeepsUnread, Settles};
 
-use crate::reading::recorded_over;
+use crate::reading::Recorder;
 use nbd_capture::write_whole;
-use nbd_story::{Outcome, Story, Told, error_of, letter_of};
-use nbd_tool::{RunFault, write_end};
-use nbd_wire::Side;
-use std::alloc::{AllocError, Global};
+use nbd_session::Session;
+use nbd_story::{Story, Told, told_line};
+use nbd_tool::{RunFault, session_over, write_end};
+use nbd_wire::Message;
+use std::alloc::Global;
 use std::io::{BufRead, Write};
 
 /// Reads a capture text to its end, and writes each message that its session accepts in words, a line each, in the order
@@ -30,32 +33,51 @@ pub fn run_names<C: BufRead + Drop, W: Write>(
     ensures cause { IfErr result (IsShowCause (C.remaining capture)) }
     ensures left { IfErr result (KeepsUnread (W.contents out.old) (W.contents out.new)) }
 {
-    let read = recorded_over(alloc, capture)?;
-    let (session, recording) = read;
-    let story = Story::of(alloc, session.messages(), &recording)?;
-    for told in &story.told {
-        let line = line_of(alloc, told, &story)?;
-        write_whole(out, line.as_bytes())?;
-    }
+    let mut recorder = Recorder::new(alloc);
+    let session = session_over(alloc, capture, &mut recorder)?;
+    write_names(alloc, session, &mut recorder.story, out)
+}
+
+// Writes the line of each message of a session, and the last line.
+fn write_names<W: Write>(
+    alloc: Global,
+    session: Session,
+    story: &mut Story,
+    out: &mut W,
+) -> Result<bool, RunFault>
+    ensures answer { IfOk result (λ yes. (known : Option (List ℕ)) → IsOverText known session → Settles known yes) }
+    ensures cause { IfErr result (λ fault. (known : Option (List ℕ)) → IsOverText known session → IsShowCause known fault) }
+    ensures left { IfErr result (KeepsUnread (W.contents out.old) (W.contents out.new)) }
+{
+    write_story(alloc, session.messages(), story, out)?;
     write_end(alloc, session.finish(), out)
 }
 
-// A message in words; a request with what became of it.
-fn line_of(alloc: Global, told: &Told, story: &Story) -> Result<String, AllocError> {
-    let (letter, words) = (letter_of(told.side), told.words);
-    let outcome = match (told.side, words.request) {
-        (Side::Client, Some(numbered)) => story
-            .request(numbered.number)
-            .map(|request| request.outcome()),
-        _ => None,
-    };
-    match outcome {
-        Some(Outcome::Pending) => format!(in alloc; "{letter} {words}: pending\n"),
-        Some(Outcome::Success) => format!(in alloc; "{letter} {words}: success\n"),
-        Some(Outcome::Failure(error)) => {
-            let error = error_of(error);
-            format!(in alloc; "{letter} {words}: failure, {error}\n")
-        }
-        None => format!(in alloc; "{letter} {words}\n"),
+// Writes the line of each message.
+fn write_story<W: Write>(
+    alloc: Global,
+    messages: &[Message],
+    story: &mut Story,
+    out: &mut W,
+) -> Result<(), RunFault>
+    ensures { IfErr result (λ fault. (fault ≡ Write) ⊎ (fault ≡ Memory)) }
+{
+    story.tell(messages)?;
+    for told in &story.told {
+        write_told(alloc, told, story, out)?;
     }
+    Ok(())
+}
+
+// Writes the line of a message.
+fn write_told<W: Write>(
+    alloc: Global,
+    told: &Told,
+    story: &Story,
+    out: &mut W,
+) -> Result<(), RunFault>
+    ensures { IfErr result (λ fault. (fault ≡ Write) ⊎ (fault ≡ Memory)) }
+{
+    let line = told_line(alloc, told, story)?;
+    Ok(write_whole(out, line.as_bytes())?)
 }

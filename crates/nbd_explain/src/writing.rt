@@ -9,10 +9,10 @@ ghost use Rattle.nbd_explain.specs.Answering.{IsAnswerTo};
 ghost use Rattle.nbd_explain.specs.Explained.{BeginsWithLine};
 
 use crate::answer::{Answer, verdict_answer};
-use crate::explanation::{Sources, explanation_of};
 use nbd_capture::write_whole;
 use nbd_export::Start;
 use nbd_judge::Verdict;
+use nbd_story::{Sources, explanation_of};
 use nbd_tool::{Beginning, Line, RunFault};
 use std::alloc::{AllocError, Global};
 use std::io::Write;
@@ -49,5 +49,13 @@ pub fn copy_of(alloc: Global, beginning: &Beginning) -> Result<Beginning, AllocE
             Ok(Beginning::Whole(Start::Image(copy)))
         }
         Beginning::Longer(image) => Ok(Beginning::Longer(*image)),
+    }
+}
+
+/// What the export held at first, where that was kept.
+pub fn kept_of(beginning: &Beginning) -> Option<&Start> {
+    match beginning {
+        Beginning::Whole(start) => Some(start),
+        Beginning::Longer(_) => None,
     }
 }

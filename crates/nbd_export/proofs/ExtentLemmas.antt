@@ -1,13 +1,17 @@
--- What is known of a byte, by the kind of its range and the byte in its page.
-use Rattle.std.proofs.Common.{◌≡◌, ℕ, List, ◌+◌, ◌-◌, ◌<◌, ◌≤◌, length, slice_index, sym, ◌∙◌, ap, Option, Some, arith, ⊎_elim, if◌then◌else◌, nat_le, nat_lt}
+-- What is known of a byte, by the kind of its range and the byte in its page, and ranges that were seen to be zeroes.
+use Rattle.std.proofs.Common.{◌≡◌, ℕ, zero, suc, List, ◌+◌, ◌-◌, ◌<◌, ◌≤◌, ◌⊎◌, inl, inr, length, slice_index, refl, sym, ◌∙◌, ap, Option, Some, Result, Ok, Err, OnErr, OnOk, arith, ⊎_elim, if◌then◌else◌, nat_le, nat_lt}
 use Rattle.std.proofs.lemmas.Bool.{and_from, and_left, and_right, cases_lt, le-leb, lt-leb, le-ltb, lt-ltb}
 use Rattle.std.proofs.lemmas.Option.{slice_get-get_or}
 use Rattle.nbd_export.specs.declared.extents.Extents.{Extents}
 use Rattle.nbd_export.specs.declared.kind.Kind.{Kind}
-use Rattle.nbd_export.specs.Extents.{byte_by_kind, byte_of}
-use Rattle.nbd_export.specs.RangeKinds.{kind_of}
+use Rattle.nbd_export.specs.declared.kind.Kind.TheVariants.{Zeroes}
+use Rattle.nbd_export.specs.declared.kinds.Kinds.{Kinds}
+use Rattle.nbd_export.specs.declared.pages.Pages.{Pages}
+use Rattle.nbd_export.specs.Extents.{byte_of}
+use Rattle.nbd_export.specs.RangeKinds.{byte_by_kind, kind_of}
 use Rattle.nbd_export.specs.Pages.{stored_byte}
-use Rattle.nbd_export.specs.Ranges.{AreSameBelow, bytes_from, overlay}
+use Rattle.nbd_export.specs.Ranges.{AreSameBelow, DiffersIn, bytes_from, overlay, zeroes}
+use Rattle.nbd_export.specs.internal.Seen.{HasZeroesAlone}
 
 -- a byte in a range of this kind
 pub byte_of-kind : (e : Extents) (x : ℕ) (kind : Kind) → kind_of e.kinds x ≡ Some kind → byte_of e x ≡ byte_by_kind (Some kind) (stored_byte e.pages x)
@@ -58,3 +62,47 @@ pub written_byte : (offset x : ℕ) (bytes : List ℕ) (stored : ℕ → ℕ) �
 written_byte offset x bytes stored h lo hi =
     ap Some (ap stored (let is : x ≡ offset + (x - offset) = omega arith in is) ∙ h (x - offset) (omega arith))
     ∙ sym (slice_get-get_or bytes (x - offset) 0 (omega arith))
+
+-- what was noted as seen changes no byte
+pub byte_of-noted : (p q : Extents) → q.kinds ≡ p.kinds → q.pages ≡ p.pages → byte_of q ≡ byte_of p
+unfolding byte_of
+byte_of-noted p q k s =
+    ap (λ (kinds : Kinds). λ x. byte_by_kind (kind_of kinds x) (stored_byte q.pages x)) k
+    ∙ ap (λ (pages : Pages). λ x. byte_by_kind (kind_of p.kinds x) (stored_byte pages x)) s
+
+-- where zeroes were seen no byte differs from them
+pub seen_same : (e : Extents) (offset len : ℕ) → offset + len ≤ e.kinds.size → ((x : ℕ) → offset ≤ x → x < offset + len → kind_of e.seen x ≡ Some Zeroes) → (n : ℕ) → DiffersIn (byte_of e) offset len zeroes n → ⊥
+unfolding byte_of
+seen_same e offset len fits seen n d = d.2.2 (ap Some (sym (e.zeroes n d.2.0 (let hi = d.1 in omega arith) (seen n d.0 d.1) d.2.1)))
+
+-- a number that cannot be other than 0
+no_other : (b : ℕ) → ((Some 0 ≡ Some b → ⊥) → ⊥) → b ≡ 0
+no_other zero h = refl
+no_other (suc n) h = absurd (h (λ e. cc))
+
+-- a range is noted, or all is as before
+noted_or_not : {T E : Type 0} (r : Result T E) (old new : Kinds) (first end size x : ℕ)
+    → OnOk r ((y : ℕ) → y < first → kind_of new y ≡ kind_of old y)
+    → OnOk r ((y : ℕ) → end ≤ y → y < size → kind_of new y ≡ kind_of old y)
+    → OnErr r ((y : ℕ) → kind_of new y ≡ kind_of old y)
+    → x < size → ((first ≤ x) × (x < end)) ⊎ (kind_of new x ≡ kind_of old x)
+noted_or_not (Ok v) old new first end size x before behind refused l = ⊎_elim
+    (λ (m : x < first). inr (before x m))
+    (λ (m : first ≤ x). ⊎_elim
+    (λ (n : x < end). inl (m, n))
+    (λ (n : end ≤ x). inr (behind x n l))
+    (cases_lt x end))
+    (cases_lt x first)
+noted_or_not (Err e) old new first end size x before behind refused l = inr (refused x)
+
+-- a range without a byte other than 0 can be noted as seen
+pub zeroes_noted : {T E : Type 0} (r : Result T E) (e : Extents) (new : Kinds) (offset len : ℕ)
+    → OnOk r ((y : ℕ) → y < offset → kind_of new y ≡ kind_of e.seen y)
+    → OnOk r ((y : ℕ) → offset + len ≤ y → y < e.seen.size → kind_of new y ≡ kind_of e.seen y)
+    → OnErr r ((y : ℕ) → kind_of new y ≡ kind_of e.seen y)
+    → ((n : ℕ) → DiffersIn (byte_of e) offset len zeroes n → ⊥) → HasZeroesAlone new e.kinds e.pages
+unfolding byte_of
+zeroes_noted r e new offset len before behind refused none x b l seen known = ⊎_elim
+    (λ (m : (offset ≤ x) × (x < offset + len)). no_other b (λ other. none x (m.0, m.1, (b, known, other))))
+    (λ (m : kind_of new x ≡ kind_of e.seen x). e.zeroes x b l (sym m ∙ seen) known)
+    (noted_or_not r e.seen new offset (offset + len) e.seen.size x before behind refused (let s = e.sizes in omega (arith, s)))

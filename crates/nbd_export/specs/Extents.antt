@@ -1,19 +1,10 @@
 -- What contents by ranges show: their size, what is known of each byte, and how many ranges they have.
-use Rattle.std.specs.Prelude.{ℕ, Option, Some, None}
+use Rattle.std.specs.Prelude.{ℕ, Option}
 use Rattle.std.specs.BTreeMap.{btree_map_len}
 use Rattle.nbd_export.specs.declared.extents.Extents.{Extents}
-use Rattle.nbd_export.specs.declared.kind.Kind.{Kind}
-use Rattle.nbd_export.specs.declared.kind.Kind.TheVariants.{Unknown, Zeroes, Bytes}
 use Rattle.nbd_export.specs.Pages.{stored_byte}
-use Rattle.nbd_export.specs.RangeKinds.{kind_of}
+use Rattle.nbd_export.specs.RangeKinds.{byte_by_kind, kind_of}
 use Rattle.nbd_export.specs.Ranges.{AreSameBelow, overlay}
-
--- what a range of this kind says of a byte, which is written down as given: nothing, 0, or that byte
-abbrev pub byte_by_kind : Option Kind → ℕ → Option ℕ
-byte_by_kind (Some Unknown) stored = None
-byte_by_kind (Some Zeroes) stored = Some 0
-byte_by_kind (Some Bytes) stored = Some stored
-byte_by_kind None stored = None
 
 -- the byte at an offset below the size, if it is known
 unfoldable pub byte_of : Extents → ℕ → Option ℕ

@@ -1,9 +1,17 @@
--- The kind of each byte of an export, where ranges of one kind cover it.
-use Rattle.std.specs.Prelude.{ℕ, Option}
+-- The kind of each byte of an export, where ranges of one kind cover it, and what it says of the byte.
+use Rattle.std.specs.Prelude.{ℕ, Option, Some, None}
 use Rattle.nbd_export.specs.declared.kind.Kind.{Kind}
+use Rattle.nbd_export.specs.declared.kind.Kind.TheVariants.{Unknown, Zeroes, Bytes}
 use Rattle.nbd_export.specs.declared.kinds.Kinds.{Kinds}
 use Rattle.nbd_export.specs.Kinds.{kind_at, kind_from}
 
 -- the kind of the byte at an offset below the size
 abbrev pub kind_of : Kinds → ℕ → Option Kind
 kind_of kinds x = kind_at (kind_from kinds.starts) x
+
+-- what a range of this kind says of a byte, which is written down as given: nothing, 0, or that byte
+abbrev pub byte_by_kind : Option Kind → ℕ → Option ℕ
+byte_by_kind (Some Unknown) stored = None
+byte_by_kind (Some Zeroes) stored = Some 0
+byte_by_kind (Some Bytes) stored = Some stored
+byte_by_kind None stored = None

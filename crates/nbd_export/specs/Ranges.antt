@@ -28,7 +28,8 @@ AreSameBelow size f g = (x : ℕ) → x < size → f x ≡ g x
 
 -- x lies in the range and has a known byte, which is not the given one
 abbrev pub DiffersIn : (byte : ℕ → Option ℕ) (offset len : ℕ) (given : ℕ → Option ℕ) → ℕ → Type 0
-DiffersIn byte offset len given x = (offset ≤ x) × (x < offset + len) × ((b : ℕ) × (byte x ≡ Some b) × (given x ≡ Some b → ⊥))
+DiffersIn byte offset len given x = (offset ≤ x) × (x < offset + len)
+    × ((b : ℕ) × (byte x ≡ Some b) × (given x ≡ Some b → ⊥))
 
 -- the least number with the property, or None where no number has it
 abbrev pub IsLeast : (ℕ → Type 0) → Option ℕ → Type 0

@@ -1,3 +1,4 @@
 pub mod Overlays
 pub mod Parts
+pub mod Seen
 pub mod Slices

@@ -56,8 +56,11 @@ pub trait Contents {
         requires { offset + length bytes.now ≤ size self.now }
         ensures { IsLeast (DiffersIn (byte self.now) offset (length bytes.now) (bytes_from offset bytes.now)) result };
 
-    /// The least offset of the range where a byte is known and is not 0; None where there is none.
-    fn differs_zero(&self, offset: u64, len: u64) -> Option<u64>
-        requires { offset + len ≤ size self.now }
-        ensures { IsLeast (DiffersIn (byte self.now) offset len zeroes) result };
+    /// The least offset of the range where a byte is known and is not 0; None where there is none. No byte changes; the
+    /// contents may note that there is none, so as not to look again.
+    fn differs_zero(&mut self, offset: u64, len: u64) -> Option<u64>
+        requires { offset + len ≤ size self.old }
+        ensures size { size self.new ≡ size self.old }
+        ensures bytes { byte self.new ≡ byte self.old }
+        ensures least { IsLeast (DiffersIn (byte self.old) offset len zeroes) result };
 }

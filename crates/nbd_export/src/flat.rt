@@ -91,7 +91,7 @@ impl Contents for Flat {
         first_other(&self.cells, offset as usize, bytes)
     }
 
-    fn differs_zero(&self, offset: u64, len: u64) -> Option<u64> {
+    fn differs_zero(&mut self, offset: u64, len: u64) -> Option<u64> {
         first_nonzero(&self.cells, offset as usize, len as usize)
     }
 }

@@ -1,7 +1,7 @@
 //! What is known of the bytes of a range.
 
 /// What is known of the bytes of a range.
-#[derive(Clone, Copy, Debug, PartialEq, Eq, Drop)]
+#[derive(Clone, Copy, PartialEq, Eq, Drop)]
 pub enum Kind {
     /// No byte is known.
     Unknown,

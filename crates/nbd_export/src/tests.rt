@@ -3,7 +3,8 @@
 mod refusals;
 mod twins;
 
-ghost use Rattle.std.specs.Prelude.{◌+◌, ◌^◌, ◌<◌, ◌≤◌};
+ghost use Rattle.std.specs.Prelude.{◌≡◌, ◌+◌, ◌^◌, ◌<◌, ◌≤◌};
+ghost use Rattle.nbd_export.specs.Extents.{size_of};
 
 use crate::pages::Pages;
 use crate::{Contents, Extents, Flat, Start};
@@ -11,7 +12,7 @@ use std::alloc::AllocError;
 use std::test::Fail;
 
 // What the calls answer on eight bytes after three changes, with offsets from the first of them on.
-#[derive(Debug, PartialEq, Drop)]
+#[derive(PartialEq, Drop)]
 struct Answers {
     bytes: [Option<u8>; 3],
     same: Option<u64>,
@@ -53,119 +54,162 @@ fn counted_from(first: u64, offset: Option<u64>) -> Option<u64> {
 #[test]
 fn flat_contents_change_and_compare(rt: HostRuntime) -> Result<(), Fail> {
     let mut flat = Flat::new(rt.alloc(), 8, Start::Zeroes)?;
-    assert_eq!(rt; change_and_ask(&mut flat, 0)?, WORKED);
+    assert!(rt; change_and_ask(&mut flat, 0)? == WORKED);
     Ok(())
 }
 
 #[test]
 fn extents_change_and_compare(rt: HostRuntime) -> Result<(), Fail> {
     let mut extents = Extents::new(rt.alloc(), 8, Start::Zeroes)?;
-    assert_eq!(rt; change_and_ask(&mut extents, 0)?, WORKED);
+    assert!(rt; change_and_ask(&mut extents, 0)? == WORKED);
     Ok(())
 }
 
 #[test]
 fn the_largest_extents_change_and_compare(rt: HostRuntime) -> Result<(), Fail> {
     let mut extents = Extents::new(rt.alloc(), LARGEST, Start::Zeroes)?;
-    assert_eq!(rt; extents.ranges(), 1);
-    assert_eq!(rt; change_and_ask(&mut extents, 1 << 62)?, WORKED);
+    assert!(rt; extents.ranges() == 1);
+    assert!(rt; change_and_ask(&mut extents, 1 << 62)? == WORKED);
     Ok(())
+}
+
+// Whether nothing is known of two bytes.
+fn are_unknown<C: Contents>(contents: &C) -> bool
+    requires { C.size contents.now ≡ 2 }
+{
+    contents.byte_at(1) == None && contents.differs(0, &[7, 8]) == None
+}
+
+// Whether the contents are two bytes, 7 and 8.
+fn are_an_image<C: Contents>(contents: &mut C) -> bool
+    requires { C.size contents.old ≡ 2 }
+    ensures { C.size contents.new ≡ 2 }
+{
+    contents.size() == 2
+        && contents.byte_at(0) == Some(7)
+        && contents.byte_at(1) == Some(8)
+        && contents.differs_zero(1, 1) == Some(1)
 }
 
 #[test]
 fn flat_contents_begin_as_their_start(rt: HostRuntime) -> Result<(), Fail> {
     let unknown = Flat::new(rt.alloc(), 2, Start::Unknown)?;
-    assert_eq!(rt; unknown.byte_at(1), None);
-    assert_eq!(rt; unknown.differs(0, &[7, 8]), None);
-    let image = Flat::new(rt.alloc(), 2, Start::Image(vec![in rt.alloc(); 7, 8]?))?;
-    assert_eq!(rt; image.byte_at(1), Some(8));
-    assert_eq!(rt; image.differs_zero(1, 1), Some(1));
-    assert_eq!(rt; image.size(), 2);
+    assert!(rt; are_unknown(&unknown));
+    let mut image = Flat::new(rt.alloc(), 2, Start::Image(vec![in rt.alloc(); 7, 8]?))?;
+    assert!(rt; are_an_image(&mut image));
     Ok(())
 }
 
 #[test]
 fn extents_begin_as_their_start(rt: HostRuntime) -> Result<(), Fail> {
     let unknown = Extents::new(rt.alloc(), 2, Start::Unknown)?;
-    assert_eq!(rt; unknown.byte_at(1), None);
-    assert_eq!(rt; unknown.differs(0, &[7, 8]), None);
+    assert!(rt; are_unknown(&unknown));
     let mut image = Extents::new(rt.alloc(), 2, Start::Image(vec![in rt.alloc(); 7, 8]?))?;
-    assert_eq!(rt; image.ranges(), 1);
+    assert!(rt; image.ranges() == 1 && are_an_image(&mut image));
     image.put(0, &[0])?;
-    assert_eq!(rt; image.byte_at(0), Some(0));
-    assert_eq!(rt; image.byte_at(1), Some(8));
-    assert_eq!(rt; image.differs_zero(0, 2), Some(1));
-    assert_eq!(rt; image.size(), 2);
+    assert!(rt; image.differs_zero(0, 2) == Some(1));
     Ok(())
+}
+
+// Whether ranges without a byte can be asked for and changed.
+fn has_empty_ranges<C: Contents>(contents: &mut C) -> Result<bool, AllocError>
+    requires { C.size contents.old ≡ 0 }
+{
+    contents.forget(0, 0)?;
+    Ok(contents.differs_zero(0, 0) == None)
 }
 
 #[test]
 fn an_empty_export_has_empty_ranges(rt: HostRuntime) -> Result<(), Fail> {
     let mut flat = Flat::new(rt.alloc(), 0, Start::Zeroes)?;
-    flat.forget(0, 0)?;
-    assert_eq!(rt; flat.differs_zero(0, 0), None);
+    assert!(rt; has_empty_ranges(&mut flat)?);
     let mut extents = Extents::new(rt.alloc(), 0, Start::Zeroes)?;
-    extents.forget(0, 0)?;
-    assert_eq!(rt; extents.differs_zero(0, 0), None);
-    assert_eq!(rt; extents.ranges(), 0);
+    assert!(rt; has_empty_ranges(&mut extents)? && extents.ranges() == 0);
     Ok(())
+}
+
+// How many ranges there are at first, and after each of four changes.
+fn counts(extents: &mut Extents) -> Result<[u64; 5], AllocError>
+    requires { size_of extents.old ≡ 8 }
+{
+    let first = extents.ranges();
+    extents.put(2, &[1, 2])?;
+    let put = extents.ranges();
+    extents.zero(3, 1)?;
+    let zeroed = extents.ranges();
+    extents.forget(6, 2)?;
+    let forgotten = extents.ranges();
+    extents.zero(2, 1)?;
+    Ok([first, put, zeroed, forgotten, extents.ranges()])
 }
 
 #[test]
 fn ranges_split_and_join(rt: HostRuntime) -> Result<(), Fail> {
     let mut extents = Extents::new(rt.alloc(), 8, Start::Zeroes)?;
-    assert_eq!(rt; extents.ranges(), 1);
-    extents.put(2, &[1, 2])?;
-    assert_eq!(rt; extents.ranges(), 3);
-    extents.zero(3, 1)?;
-    assert_eq!(rt; extents.ranges(), 3);
-    extents.forget(6, 2)?;
-    assert_eq!(rt; extents.ranges(), 4);
-    extents.zero(2, 1)?;
-    assert_eq!(rt; extents.ranges(), 2);
+    assert!(rt; counts(&mut extents)? == [1, 3, 3, 4, 2]);
     Ok(())
+}
+
+// Writes over two pages, and whether they mean nothing once all is zero.
+fn are_zeroed(extents: &mut Extents) -> Result<bool, AllocError>
+    requires { size_of extents.old ≡ 3000 }
+    ensures { size_of extents.new ≡ 3000 }
+{
+    extents.put(1020, &[9; 12])?;
+    extents.zero(0, 3000)?;
+    Ok(extents.byte_at(1023) == Some(0) && extents.ranges() == 1)
 }
 
 #[test]
 fn a_stale_page_means_nothing(rt: HostRuntime) -> Result<(), Fail> {
     let mut extents = Extents::new(rt.alloc(), 3000, Start::Zeroes)?;
-    extents.put(1020, &[9; 12])?;
-    extents.zero(0, 3000)?;
-    assert_eq!(rt; extents.byte_at(1023), Some(0));
-    assert_eq!(rt; extents.ranges(), 1);
+    assert!(rt; are_zeroed(&mut extents)?);
     extents.put(1024, &[7])?;
-    assert_eq!(rt; extents.byte_at(1023), Some(0));
-    assert_eq!(rt; extents.byte_at(1025), Some(0));
-    assert_eq!(rt; extents.differs_zero(0, 3000), Some(1024));
+    assert!(rt; is_seven_alone(&mut extents));
     Ok(())
+}
+
+// Whether a 7 at offset 1024 is all that is not zero.
+fn is_seven_alone(extents: &mut Extents) -> bool
+    requires { size_of extents.old ≡ 3000 }
+{
+    extents.byte_at(1023) == Some(0)
+        && extents.byte_at(1025) == Some(0)
+        && extents.differs_zero(0, 3000) == Some(1024)
+        && extents.differs_zero(1025, 1975) == None
 }
 
 #[test]
 fn only_written_pages_take_memory(rt: HostRuntime) -> Result<(), Fail> {
     let mut pages = Pages::new(rt.alloc(), vec![in rt.alloc(); 3; 3000]?);
-    assert_eq!(rt; pages.count(), 0);
+    assert!(rt; pages.count() == 0);
     pages.make_room(1023, 2)?;
-    assert_eq!(rt; pages.count(), 2);
-    assert_eq!(rt; pages.first_other(0, &[3; 3000]), None);
+    assert!(rt; pages.count() == 2);
+    assert!(rt; pages.first_other(0, &[3; 3000]) == None);
     pages.write(1023, &[4, 5]);
-    assert_eq!(rt; pages.first_other(0, &[3; 3000]), Some(1023));
-    assert_eq!(rt; pages.byte_at(1024), 5);
-    assert_eq!(rt; pages.count(), 2);
+    assert!(rt; pages.first_other(0, &[3; 3000]) == Some(1023));
+    assert!(rt; pages.byte_at(1024) == 5 && pages.count() == 2);
     Ok(())
 }
 
 const LARGEST: u64 = 9223372036854775807;
 
+// Whether changes of the largest export are as those of others: some ranges, and then one.
+fn changes_as_others(extents: &mut Extents) -> Result<bool, AllocError>
+    requires { size_of extents.old ≡ 9223372036854775807 }
+{
+    extents.put(LARGEST - 1, &[5])?;
+    extents.forget(0, LARGEST / 2)?;
+    let is_changed = extents.byte_at(LARGEST - 1) == Some(5)
+        && extents.differs_zero(0, LARGEST) == Some(LARGEST - 1)
+        && extents.ranges() == 3;
+    extents.zero(0, LARGEST)?;
+    Ok(is_changed && extents.differs_zero(0, LARGEST) == None && extents.ranges() == 1)
+}
+
 #[test]
 fn the_largest_export_costs_no_more(rt: HostRuntime) -> Result<(), Fail> {
     let mut extents = Extents::new(rt.alloc(), LARGEST, Start::Zeroes)?;
-    extents.put(LARGEST - 1, &[5])?;
-    extents.forget(0, LARGEST / 2)?;
-    assert_eq!(rt; extents.byte_at(LARGEST - 1), Some(5));
-    assert_eq!(rt; extents.differs_zero(0, LARGEST), Some(LARGEST - 1));
-    assert_eq!(rt; extents.ranges(), 3);
-    extents.zero(0, LARGEST)?;
-    assert_eq!(rt; extents.differs_zero(0, LARGEST), None);
-    assert_eq!(rt; extents.ranges(), 1);
+    assert!(rt; changes_as_others(&mut extents)?);
     Ok(())
 }

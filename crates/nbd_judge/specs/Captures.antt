@@ -36,13 +36,15 @@ pub record HasVerdict (capture : List Pair) (order : List Entry) (initial : Star
   pub items : List Item
   pub is_run : IsRun items
   pub has_pairs : pairs items ≡ capture
-  pub is_verdict : (others : List Item) → IsRun others → pairs others ≡ capture → IsVerdict (report others) order initial v
+  pub is_verdict : (others : List Item) → IsRun others → pairs others ≡ capture
+      → IsVerdict (report others) order initial v
   pub answers : Answers capture order initial v
 
 -- the verdict on a capture: that on its run, or where no run has its bytes its wire fault
 abbrev pub IsChecked : List Pair → List Entry → Start → Verdict → Type 0
 IsChecked capture order initial (Wire at fault) = IsFaultOf capture (session.Wire at fault)
-IsChecked capture order initial (Yes of_requests of_answered of_improper) = HasVerdict capture order initial (Yes of_requests of_answered of_improper)
+IsChecked capture order initial (Yes of_requests of_answered of_improper) =
+    HasVerdict capture order initial (Yes of_requests of_answered of_improper)
 IsChecked capture order initial (Image image size) = HasVerdict capture order initial (Image image size)
 IsChecked capture order initial (Order entry fault) = HasVerdict capture order initial (Order entry fault)
 IsChecked capture order initial (Content request offset) = HasVerdict capture order initial (Content request offset)

@@ -36,7 +36,8 @@ LeavesUnserved capture order _ = Unit {0}
 -- what a verdict says of a capture that is the bytes of a run: Yes that the order explains it, with its counts, every
 -- other that it does not; Order that no run with these bytes is served so
 abbrev pub Answers : List Pair → List Entry → Start → Verdict → Type 0
-Answers capture order initial (Yes of_requests of_answered of_improper) = IsYes capture order initial of_requests of_answered of_improper
+Answers capture order initial (Yes of_requests of_answered of_improper) =
+    IsYes capture order initial of_requests of_answered of_improper
 Answers capture order initial (Order entry fault) = IsNo capture order initial × IsUnserved capture order
 Answers capture order initial (Content request offset) = IsNo capture order initial
 Answers capture order initial (Image image size) = IsNo capture order initial
@@ -44,4 +45,5 @@ Answers capture order initial (Wire at fault) = ⊥
 
 -- the verdict on the report of a run says what holds of its bytes
 abbrev pub VerdictsAnswerRuns : Type 0
-VerdictsAnswerRuns = (items : List Item) (order : List Entry) (initial : Start) (v : Verdict) → IsRun items → IsVerdict (report items) order initial v → Answers (pairs items) order initial v
+VerdictsAnswerRuns = (items : List Item) (order : List Entry) (initial : Start) (v : Verdict) → IsRun items
+    → IsVerdict (report items) order initial v → Answers (pairs items) order initial v

@@ -12,7 +12,8 @@ contents_with_effect p None old x = old x
 -- the contents after these entries, taken one after the other
 abbrev pub contents_after : (ℕ → Option Effect) → List Entry → (ℕ → Option ℕ) → ℕ → Option ℕ
 contents_after requests [] old = old
-contents_after requests (entry ∷ order) old = contents_after requests order (contents_with_effect entry.part (requests entry.request) old)
+contents_after requests (entry ∷ order) old =
+    contents_after requests order (contents_with_effect entry.part (requests entry.request) old)
 
 -- taken forward, the contents after the entries before entry i are the bytes looked up backwards from it
 abbrev pub Folding : Type 0

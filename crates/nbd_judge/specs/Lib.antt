@@ -1,4 +1,5 @@
 pub mod Beginnings
+pub mod Breakers
 pub mod Captures
 pub mod Conclusions
 pub mod Folding

@@ -13,11 +13,13 @@ use Rattle.nbd_judge.specs.declared.verdict.Verdict.{Verdict}
 
 -- there is one verdict at most, where the export's bytes were these at first
 abbrev pub OneJudgement : Type 0
-OneJudgement = (r : Report) (order : List Entry) (initial : ℕ → Option ℕ) (v w : Verdict) → IsJudged r order initial v → IsJudged r order initial w → v ≡ w
+OneJudgement = (r : Report) (order : List Entry) (initial : ℕ → Option ℕ) (v w : Verdict) → IsJudged r order initial v
+    → IsJudged r order initial w → v ≡ w
 
 -- there is one verdict at most from a start
 abbrev pub OneVerdict : Type 0
-OneVerdict = (r : Report) (order : List Entry) (initial : Start) (v w : Verdict) → IsVerdict r order initial v → IsVerdict r order initial w → v ≡ w
+OneVerdict = (r : Report) (order : List Entry) (initial : Start) (v w : Verdict) → IsVerdict r order initial v
+    → IsVerdict r order initial w → v ≡ w
 
 -- a capture is refused in one way at most: at one byte, with one fault, after the same messages
 abbrev pub OneWireFault : Type 0
@@ -25,7 +27,8 @@ OneWireFault = (capture : List Pair) (messages more : List Message) (at place : 
     IsWireFault capture messages at fault → IsWireFault capture more place other →
     (at ≡ place) × (fault ≡ other) × (messages ≡ more)
 
--- a capture, an order and a start have one answer at most; so two lists of records with one flat capture get equal answers
+-- a capture, an order and a start have one answer at most; so two lists of records with one flat capture get equal
+-- answers
 abbrev pub OneAnswer : Type 0
 OneAnswer = (capture : List Pair) (order : List Entry) (initial : Start) (v w : Verdict) →
     IsChecked capture order initial v → IsChecked capture order initial w → v ≡ w

@@ -40,6 +40,8 @@ abbrev pub IsVerdict : Report → List Entry → Start → Verdict → Type 0
 IsVerdict r order initial (Image image size) = IsOtherSize r.export initial image size
 IsVerdict r order initial (Yes of_requests of_answered of_improper) =
     FitsImage r.export initial × IsJudged r order (start_byte initial) (Yes of_requests of_answered of_improper)
-IsVerdict r order initial (Order entry fault) = FitsImage r.export initial × IsJudged r order (start_byte initial) (Order entry fault)
-IsVerdict r order initial (Content request offset) = FitsImage r.export initial × IsJudged r order (start_byte initial) (Content request offset)
+IsVerdict r order initial (Order entry fault) =
+    FitsImage r.export initial × IsJudged r order (start_byte initial) (Order entry fault)
+IsVerdict r order initial (Content request offset) =
+    FitsImage r.export initial × IsJudged r order (start_byte initial) (Content request offset)
 IsVerdict r order initial (Wire at fault) = ⊥

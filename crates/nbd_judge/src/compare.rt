@@ -25,13 +25,15 @@ pub fn wrong<'a, C: Contents>(
     entry: Entry,
     one: &'a Asked,
     reads: &mut SortedReads<'a>,
-    contents: &C,
+    contents: &mut C,
 ) -> Result<Option<u64>, AllocError>
-    requires servable { IsServable (C.size contents.now) (report_of_request one.now) }
+    requires servable { IsServable (C.size contents.old) (report_of_request one.now) }
     requires sorted { IsSortedAt reads.old entry.request one.now.pieces.items }
     ensures least { IfOk result
-        (IsLeast (IsWrongIn entry.part (effect (report_of_request one.now)) (C.byte contents.now))) }
+        (IsLeast (IsWrongIn entry.part (effect (report_of_request one.now)) (C.byte contents.old))) }
     ensures sorted { OnOk result (AddsSorted reads.old reads.new entry.request one.now.pieces.items) }
+    ensures size { C.size contents.new ≡ C.size contents.old }
+    ensures bytes { C.byte contents.new ≡ C.byte contents.old }
 {
     if one.command == commands::READ {
         if is_success(one.outcome) {
@@ -66,11 +68,13 @@ pub fn is_success(outcome: Outcome) -> bool
 fn first_difference<C: Contents>(
     alloc: Global,
     pieces: &[Piece],
-    contents: &C,
+    contents: &mut C,
 ) -> Result<Option<u64>, AllocError>
-    requires inside { AreInside (C.size contents.now) pieces.now }
+    requires inside { AreInside (C.size contents.old) pieces.now }
     requires apart { AreApart pieces.now }
-    ensures { IfOk result (IsLeast (DiffersInOneOf (C.byte contents.now) pieces.now (length pieces.now))) }
+    ensures least { IfOk result (IsLeast (DiffersInOneOf (C.byte contents.old) pieces.now (length pieces.now))) }
+    ensures size { C.size contents.new ≡ C.size contents.old }
+    ensures bytes { C.byte contents.new ≡ C.byte contents.old }
 {
     if let [piece] = pieces {
         return Ok(piece_difference(piece, contents));
@@ -80,9 +84,11 @@ fn first_difference<C: Contents>(
 }
 
 // The least offset at which one of these pieces differs from the contents.
-fn least_difference<C: Contents>(pieces: &[&Piece], contents: &C) -> Option<u64>
-    requires { AreInside (C.size contents.now) (map (λ p. p.now) pieces.now) }
-    ensures { IsLeast (DiffersInOneOf (C.byte contents.now) (map (λ p. p.now) pieces.now) (length pieces.now)) result }
+fn least_difference<C: Contents>(pieces: &[&Piece], contents: &mut C) -> Option<u64>
+    requires { AreInside (C.size contents.old) (map (λ p. p.now) pieces.now) }
+    ensures least { IsLeast (DiffersInOneOf (C.byte contents.old) (map (λ p. p.now) pieces.now) (length pieces.now)) result }
+    ensures size { C.size contents.new ≡ C.size contents.old }
+    ensures bytes { C.byte contents.new ≡ C.byte contents.old }
 {
     let mut found = None;
     for piece in pieces {
@@ -92,9 +98,11 @@ fn least_difference<C: Contents>(pieces: &[&Piece], contents: &C) -> Option<u64>
 }
 
 // The least offset at which a piece differs from the contents: a hole is compared as zeroes.
-fn piece_difference<C: Contents>(piece: &Piece, contents: &C) -> Option<u64>
-    requires { piece_offset piece.now + piece_size piece.now ≤ C.size contents.now }
-    ensures { IsLeast (DiffersInPiece (C.byte contents.now) piece.now) result }
+fn piece_difference<C: Contents>(piece: &Piece, contents: &mut C) -> Option<u64>
+    requires { piece_offset piece.now + piece_size piece.now ≤ C.size contents.old }
+    ensures least { IsLeast (DiffersInPiece (C.byte contents.old) piece.now) result }
+    ensures size { C.size contents.new ≡ C.size contents.old }
+    ensures bytes { C.byte contents.new ≡ C.byte contents.old }
 {
     match piece {
         Piece::Bytes { offset, bytes } => contents.differs(*offset, bytes.as_slice()),
@@ -110,14 +118,16 @@ fn part_difference<'a, C: Contents>(
     pieces: &'a [Piece],
     part: Part,
     reads: &mut SortedReads<'a>,
-    contents: &C,
+    contents: &mut C,
 ) -> Result<Option<u64>, AllocError>
-    requires inside { AreInside (C.size contents.now) pieces.now }
+    requires inside { AreInside (C.size contents.old) pieces.now }
     requires apart { AreApart pieces.now }
     requires sorted { IsSortedAt reads.old request pieces.now }
     ensures least { IfOk result
-        (IsLeast (DiffersInOneWithin (C.byte contents.now) pieces.now (length pieces.now) part)) }
+        (IsLeast (DiffersInOneWithin (C.byte contents.old) pieces.now (length pieces.now) part)) }
     ensures sorted { OnOk result (AddsSorted reads.old reads.new request pieces.now) }
+    ensures size { C.size contents.new ≡ C.size contents.old }
+    ensures bytes { C.byte contents.new ≡ C.byte contents.old }
 {
     if let [piece] = pieces {
         return Ok(piece_difference_within(piece, part, contents));
@@ -132,11 +142,13 @@ fn part_difference<'a, C: Contents>(
 }
 
 // The least offset in a part at which one of these pieces differs from the contents.
-fn difference_within<C: Contents>(pieces: &[&Piece], part: Part, contents: &C) -> Option<u64>
-    requires inside { AreInside (C.size contents.now) (map (λ p. p.now) pieces.now) }
+fn difference_within<C: Contents>(pieces: &[&Piece], part: Part, contents: &mut C) -> Option<u64>
+    requires inside { AreInside (C.size contents.old) (map (λ p. p.now) pieces.now) }
     requires in_order { AreInOrder (map (λ p. p.now) pieces.now) }
-    ensures { IsLeast (DiffersInOneWithin (C.byte contents.now) (map (λ p. p.now) pieces.now) (length pieces.now) part)
+    ensures least { IsLeast (DiffersInOneWithin (C.byte contents.old) (map (λ p. p.now) pieces.now) (length pieces.now) part)
         result }
+    ensures size { C.size contents.new ≡ C.size contents.old }
+    ensures bytes { C.byte contents.new ≡ C.byte contents.old }
 {
     let met = meeting(pieces, part);
     let mut found = None;
@@ -147,9 +159,11 @@ fn difference_within<C: Contents>(pieces: &[&Piece], part: Part, contents: &C) -
 }
 
 // The least offset in a part at which a piece differs from the contents.
-fn piece_difference_within<C: Contents>(piece: &Piece, part: Part, contents: &C) -> Option<u64>
-    requires { piece_offset piece.now + piece_size piece.now ≤ C.size contents.now }
-    ensures { IsLeast (DiffersWithin (C.byte contents.now) piece.now part) result }
+fn piece_difference_within<C: Contents>(piece: &Piece, part: Part, contents: &mut C) -> Option<u64>
+    requires { piece_offset piece.now + piece_size piece.now ≤ C.size contents.old }
+    ensures least { IsLeast (DiffersWithin (C.byte contents.old) piece.now part) result }
+    ensures size { C.size contents.new ≡ C.size contents.old }
+    ensures bytes { C.byte contents.new ≡ C.byte contents.old }
 {
     let span = overlap(Span::of(piece), part);
     if span.size == 0 {

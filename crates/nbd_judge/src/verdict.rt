@@ -3,7 +3,7 @@
 use nbd_session::WireFault;
 
 /// What is wrong with an order of service (this project's choice).
-#[derive(Clone, Copy, Debug, PartialEq, Eq, Drop)]
+#[derive(Clone, Copy, PartialEq, Eq, Drop)]
 pub enum OrderFault {
     /// The entry is 0 or above the number of requests.
     NoSuchRequest,
@@ -24,7 +24,7 @@ pub enum OrderFault {
 
 /// The answer to a session, an order of service and what the export held at first. Of those that
 /// hold, the first in the order Wire, Image, Order, Content, Yes is answered.
-#[derive(Clone, Copy, Debug, PartialEq, Eq, Drop)]
+#[derive(Clone, Copy, PartialEq, Eq, Drop)]
 pub enum Verdict {
     /// The order explains the session.
     Yes {

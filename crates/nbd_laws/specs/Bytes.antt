@@ -24,7 +24,8 @@ abbrev pub of_two : Side → (client server : List ℕ) → List ℕ
 of_two Client client server = client
 of_two Server client server = server
 
--- each side's bytes in a run but for open bytes are the encodings of its completed messages, and the open ones after them
+-- each side's bytes in a run but for open bytes are the encodings of its completed messages, and the open ones after
+-- them
 abbrev pub RunsHoldEachSide : Type 0
 RunsHoldEachSide = (items : List Item) (client server : List ℕ) → IsRunBut items client server → (s : Side) →
     bytes_from s (pairs items) ≡ bytes_of s (completed_messages items) ++ of_two s client server
@@ -33,12 +34,14 @@ RunsHoldEachSide = (items : List Item) (client server : List ℕ) → IsRunBut i
 abbrev pub first_bytes : (client server : ℕ) → List Pair → List Pair
 first_bytes client server [] = []
 first_bytes client server (p ∷ ps) =
-    if same_side Client p.from then (if nat_lt 0 client then p ∷ first_bytes (client - 1) server ps else first_bytes client server ps)
+    if same_side Client p.from then
+    (if nat_lt 0 client then p ∷ first_bytes (client - 1) server ps else first_bytes client server ps)
     else (if nat_lt 0 server then p ∷ first_bytes client (server - 1) ps else first_bytes client server ps)
 
--- a run but for open bytes is worth a run: one with the same completed messages, whose bytes are those without the open ones, of each
--- side as many as its messages have
+-- a run but for open bytes is worth a run: one with the same completed messages, whose bytes are those without the open
+-- ones, of each side as many as its messages have
 abbrev pub OpenBytesEndRuns : Type 0
 OpenBytesEndRuns = (items : List Item) (client server : List ℕ) → IsRunBut items client server →
     (others : List Item) × IsRun others × (completed_messages others ≡ completed_messages items)
-    × (pairs others ≡ first_bytes (length (bytes_of Client (completed_messages items))) (length (bytes_of Server (completed_messages items))) (pairs items))
+    × (pairs others ≡ first_bytes (length (bytes_of Client (completed_messages items)))
+    (length (bytes_of Server (completed_messages items))) (pairs items))

@@ -10,20 +10,26 @@ use Rattle.nbd_wire.specs.protocol.Verdicts.{Passes, answered_count, improper_co
 
 -- where a run passes the tests, its bytes are explained
 abbrev pub PassingIsExplained : Type 0
-PassingIsExplained = (items : List Item) (order : List Entry) (initial : Start) → IsRun items → Passes (report items) order initial → IsExplained (pairs items) order initial
+PassingIsExplained = (items : List Item) (order : List Entry) (initial : Start) → IsRun items
+    → Passes (report items) order initial → IsExplained (pairs items) order initial
 
 -- where the bytes of a run are explained, it passes the tests
 abbrev pub ExplainedPasses : Type 0
-ExplainedPasses = (items : List Item) (order : List Entry) (initial : Start) → IsRun items → IsExplained (pairs items) order initial → Passes (report items) order initial
+ExplainedPasses = (items : List Item) (order : List Entry) (initial : Start) → IsRun items
+    → IsExplained (pairs items) order initial → Passes (report items) order initial
 
 -- the counts of a yes, the same for each run with these bytes
 pub record HasCounts (capture : List Pair) (of_requests of_answered of_improper : ℕ) : Type 0 where
-  pub requests_are : (items : List Item) → IsRun items → pairs items ≡ capture → request_count (report items) ≡ of_requests
-  pub answered_are : (items : List Item) → IsRun items → pairs items ≡ capture → answered_count (report items) ≡ of_answered
-  pub improper_are : (items : List Item) → IsRun items → pairs items ≡ capture → improper_count (report items) ≡ of_improper
+  pub requests_are : (items : List Item) → IsRun items → pairs items ≡ capture
+      → request_count (report items) ≡ of_requests
+  pub answered_are : (items : List Item) → IsRun items → pairs items ≡ capture
+      → answered_count (report items) ≡ of_answered
+  pub improper_are : (items : List Item) → IsRun items → pairs items ≡ capture
+      → improper_count (report items) ≡ of_improper
 
 -- the answer to a capture is yes with these counts
-pub record IsYes (capture : List Pair) (order : List Entry) (initial : Start) (of_requests of_answered of_improper : ℕ) : Type 0 where
+pub record IsYes (capture : List Pair) (order : List Entry) (initial : Start)
+    (of_requests of_answered of_improper : ℕ) : Type 0 where
   pub explained : IsExplained capture order initial
   pub counts : HasCounts capture of_requests of_answered of_improper
 

@@ -21,12 +21,15 @@ AreFairFlags offered flags =
 
 -- the second message, if it has come, is the client's flags
 abbrev pub BeginsWithFlags : ℕ → List Message → Type 0
-BeginsWithFlags offered messages = (messages ≡ []) ⊎ ((flags : ℕ) × (rest : List Message) × (messages ≡ ClientFlags flags ∷ rest) × AreFairFlags offered flags)
+BeginsWithFlags offered messages = (messages ≡ [])
+    ⊎ ((flags : ℕ) × (rest : List Message) × (messages ≡ ClientFlags flags ∷ rest) × AreFairFlags offered flags)
 
 -- a session begins with a greeting of a server that speaks fixed newstyle and the client's flags
 abbrev pub HandshakesAreFair : Type 0
 HandshakesAreFair = (items : List Item) → IsRun items →
-    (completed_messages items ≡ []) ⊎ ((flags : ℕ) × (rest : List Message) × (completed_messages items ≡ Greeting flags ∷ rest) × IsTrue (has flags handshake.FIXED_NEWSTYLE) × BeginsWithFlags flags rest)
+    (completed_messages items ≡ []) ⊎ ((flags : ℕ) × (rest : List Message)
+    × (completed_messages items ≡ Greeting flags ∷ rest) × IsTrue (has flags handshake.FIXED_NEWSTYLE)
+    × BeginsWithFlags flags rest)
 
 -- an option with its data
 pub record Chosen : Type 0 where
@@ -36,14 +39,16 @@ pub record Chosen : Type 0 where
 -- the option that was chosen last, at first this one
 abbrev pub choice_after : Option Chosen → List Message → Option Chosen
 choice_after last [] = last
-choice_after last (Choice id payload ∷ messages) = choice_after (Some (record { option = id; payload = payload })) messages
+choice_after last (Choice id payload ∷ messages) =
+    choice_after (Some (record { option = id; payload = payload })) messages
 choice_after last (m ∷ messages) = choice_after last messages
 
 -- the last info on an export since an option was chosen, at first this one
 abbrev pub info_after : Option Exporting → List Message → Option Exporting
 info_after last [] = last
 info_after last (Choice id payload ∷ messages) = info_after None messages
-info_after last (Answer option kind payload ∷ messages) = info_after (if kind == answers.INFO then last_info (info_of payload) last else last) messages
+info_after last (Answer option kind payload ∷ messages) =
+    info_after (if kind == answers.INFO then last_info (info_of payload) last else last) messages
 info_after last (m ∷ messages) = info_after last messages
 
 -- what may be acknowledged: ABORT, LIST and STRUCTURED_REPLY, and after an info on an export INFO and GO
@@ -63,5 +68,7 @@ IsAnswer asked info kind payload =
 
 -- an answer is one to the option that was chosen last
 abbrev pub AnswersFollowChoices : Type 0
-AnswersFollowChoices = (prefix back : List Item) (option kind : ℕ) (payload : List ℕ) → IsRun (prefix ++ Completes Server (Answer option kind payload) ∷ back) →
-    (asked : Chosen) × (choice_after None (completed_messages prefix) ≡ Some asked) × (asked.option ≡ option) × IsAnswer asked (info_after None (completed_messages prefix)) kind payload
+AnswersFollowChoices = (prefix back : List Item) (option kind : ℕ) (payload : List ℕ)
+    → IsRun (prefix ++ Completes Server (Answer option kind payload) ∷ back) →
+    (asked : Chosen) × (choice_after None (completed_messages prefix) ≡ Some asked) × (asked.option ≡ option)
+    × IsAnswer asked (info_after None (completed_messages prefix)) kind payload

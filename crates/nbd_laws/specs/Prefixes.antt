@@ -18,7 +18,8 @@ NoProperPrefix = (core : Core) (m n : Message) (rest : List ℕ) → side m ≡ 
 -- the messages of a side that have started, in order
 abbrev pub started_messages : Side → List Item → List Message
 started_messages s [] = []
-started_messages s (Starts t m ∷ items) = if same_side s t then m ∷ started_messages s items else started_messages s items
+started_messages s (Starts t m ∷ items) =
+    if same_side s t then m ∷ started_messages s items else started_messages s items
 started_messages s (Byte t b ∷ items) = started_messages s items
 started_messages s (Completes t m ∷ items) = started_messages s items
 started_messages s (Serves e ∷ items) = started_messages s items
@@ -46,5 +47,6 @@ StartsStandBeforeBytes = (prefix back : List Item) (s : Side) (m : Message) → 
 
 -- a message completes directly after a byte of its side
 abbrev pub CompletionsStandAfterBytes : Type 0
-CompletionsStandAfterBytes = (prefix back : List Item) (s : Side) (m : Message) → IsRun (prefix ++ Completes s m ∷ back) →
+CompletionsStandAfterBytes = (prefix back : List Item) (s : Side) (m : Message)
+    → IsRun (prefix ++ Completes s m ∷ back) →
     (first : List Item) × (b : ℕ) × (prefix ≡ first ++ Byte s b ∷ [])

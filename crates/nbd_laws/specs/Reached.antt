@@ -7,4 +7,5 @@ use Rattle.nbd_wire.specs.protocol.States.{Core, start}
 -- what completed messages lead to
 pub data IsReached : Core → Type 0 where
   at_start : IsReached start.core
-  after_message : {c : Core} (m : Message) → IsReached c → IsSendable m → MayComplete c c.phase m → IsReached (complete c m)
+  after_message : {c : Core} (m : Message) → IsReached c → IsSendable m → MayComplete c c.phase m
+      → IsReached (complete c m)

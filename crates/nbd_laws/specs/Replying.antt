@@ -20,21 +20,27 @@ abbrev pub FitsRequest : Operation → (flags kind : ℕ) (payload : List ℕ) �
 FitsRequest e flags kind payload =
     (kind ≡ chunks.NONE) × (payload ≡ []) × IsTrue (has flags chunks.DONE)
     ⊎ ((piece : Piece) × (content_of kind payload ≡ Some piece) × (e.command ≡ commands.READ))
-    ⊎ ((failure : Failure) × (failure_of kind payload ≡ Some failure) × ((x : ℕ) → failure.offset ≡ Some x → IsTrue (is_in e.offset e.length x)))
+    ⊎ ((failure : Failure) × (failure_of kind payload ≡ Some failure)
+    × ((x : ℕ) → failure.offset ≡ Some x → IsTrue (is_in e.offset e.length x)))
 
 -- a simple reply comes alone, and not to a READ where structured replies are in force; a chunk needs them
 abbrev pub IsReplyAfter : (structured : Bool) → Operation → (prefix : List Message) → Message → Type 0
-IsReplyAfter structured e prefix (Simple error cookie payload) = (prefix ≡ []) × (e.command ≡ commands.READ → structured ≡ false)
-IsReplyAfter structured e prefix (Chunk flags kind cookie payload) = (structured ≡ true) × FitsRequest e flags kind payload
+IsReplyAfter structured e prefix (Simple error cookie payload) =
+    (prefix ≡ []) × (e.command ≡ commands.READ → structured ≡ false)
+IsReplyAfter structured e prefix (Chunk flags kind cookie payload) =
+    (structured ≡ true) × FitsRequest e flags kind payload
 IsReplyAfter structured e prefix _ = ⊥
 
 -- a reply between others: it has the request's cookie, and none comes after the one that ends the reply
-pub record IsReplyBetween (structured : Bool) (e : Operation) (prefix : List Message) (m : Message) (back : List Message) : Type 0 where
+pub record IsReplyBetween (structured : Bool) (e : Operation) (prefix : List Message) (m : Message)
+    (back : List Message) : Type 0 where
   pub cookie : cookie_of m ≡ Some e.cookie
   pub ends : IsTrue (ends_reply m) → back ≡ []
   pub fits : IsReplyAfter structured e prefix m
 
 -- of each request of a run
 abbrev pub RepliesAreWhole : Type 0
-RepliesAreWhole = (items : List Item) → IsRun items → (k : ℕ) (e : Operation) (prefix back : List Message) (m : Message) →
-    operation k (operations_of items) ≡ Some e → e.replies ≡ prefix ++ m ∷ back → IsReplyBetween (ends_at start items).core.structured e prefix m back
+RepliesAreWhole = (items : List Item) → IsRun items
+    → (k : ℕ) (e : Operation) (prefix back : List Message) (m : Message) →
+    operation k (operations_of items) ≡ Some e → e.replies ≡ prefix ++ m ∷ back
+    → IsReplyBetween (ends_at start items).core.structured e prefix m back

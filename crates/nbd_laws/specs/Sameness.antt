@@ -6,12 +6,15 @@ use Rattle.nbd_wire.specs.protocol.Rules.{IsRun}
 
 -- runs with the same bytes have the same marks at the same places, but for those of service
 abbrev pub SameMarks : Type 0
-SameMarks = (items items' : List Item) → IsRun items → IsRun items' → pairs items ≡ pairs items' → without_service items ≡ without_service items'
+SameMarks = (items items' : List Item) → IsRun items → IsRun items' → pairs items ≡ pairs items'
+    → without_service items ≡ without_service items'
 
 -- runs with the same bytes have the same report
 abbrev pub SameReports : Type 0
-SameReports = (items items' : List Item) → IsRun items → IsRun items' → pairs items ≡ pairs items' → report items ≡ report items'
+SameReports = (items items' : List Item) → IsRun items → IsRun items' → pairs items ≡ pairs items'
+    → report items ≡ report items'
 
 -- the report does not depend on where requests are served
 abbrev pub ReportsIgnoreService : Type 0
-ReportsIgnoreService = (items items' : List Item) → without_service items ≡ without_service items' → report items ≡ report items'
+ReportsIgnoreService = (items items' : List Item) → without_service items ≡ without_service items'
+    → report items ≡ report items'

@@ -24,8 +24,8 @@ abbrev pub CookiesAreDistinct : Type 0
 CookiesAreDistinct = (prefix back : List Item) → IsRun (prefix ++ back) → (j k : ℕ) (d e : Operation) →
     IsOutstanding prefix j d → IsOutstanding prefix k e → d.cookie ≡ e.cookie → j ≡ k
 
--- the request that a reply answers: it is outstanding with the reply's cookie when the reply starts, it was wholly served
--- before, and it is the only one
+-- the request that a reply answers: it is outstanding with the reply's cookie when the reply starts, it was wholly
+-- served before, and it is the only one
 pub record AnswersRequest (prefix : List Item) (m : Message) (k : ℕ) (e : Operation) : Type 0 where
   pub outstanding : IsOutstanding prefix k e
   pub cookie : cookie_of m ≡ Some e.cookie
@@ -34,10 +34,12 @@ pub record AnswersRequest (prefix : List Item) (m : Message) (k : ℕ) (e : Oper
 
 -- each server message of transmission answers exactly one request, completed and wholly served before its first byte
 abbrev pub EachReplyAnswersOne : Type 0
-EachReplyAnswersOne = (prefix back : List Item) (m : Message) (export : Exporting) → IsRun (prefix ++ Starts Server m ∷ back) → export_of prefix ≡ Some export →
+EachReplyAnswersOne = (prefix back : List Item) (m : Message) (export : Exporting)
+    → IsRun (prefix ++ Starts Server m ∷ back) → export_of prefix ≡ Some export →
     (k : ℕ) × (e : Operation) × AnswersRequest prefix m k e
 
--- what is served is of a request that has completed; a part of it is inside it, not empty, and none of it was served before
+-- what is served is of a request that has completed; a part of it is inside it, not empty, and none of it was served
+-- before
 abbrev pub ServedOnceAfterCompletion : Type 0
 ServedOnceAfterCompletion = (prefix back : List Item) (e : Entry) → IsRun (prefix ++ Serves e ∷ back) →
     (0 < e.request) × (e.request ≤ length (operations_of prefix))
@@ -50,15 +52,20 @@ EmptyIsExplained = (initial : Start) → IsExplained [] [] initial
 -- a DISC is empty
 abbrev pub DisconnectsAreEmpty : Type 0
 DisconnectsAreEmpty = (prefix back : List Item) (flags cookie offset len : ℕ) (payload : List ℕ) →
-    IsRun (prefix ++ Completes Client (Request flags commands.DISC cookie offset len payload) ∷ back) → (offset ≡ 0) × (len ≡ 0)
+    IsRun (prefix ++ Completes Client (Request flags commands.DISC cookie offset len payload) ∷ back)
+    → (offset ≡ 0) × (len ≡ 0)
 
 -- the client starts nothing after a DISC
 abbrev pub NothingAfterDisconnect : Type 0
-NothingAfterDisconnect = (prefix middle back : List Item) (flags cookie offset len : ℕ) (payload : List ℕ) (m : Message) →
-    IsRun (prefix ++ Completes Client (Request flags commands.DISC cookie offset len payload) ∷ (middle ++ Starts Client m ∷ back)) → ⊥
+NothingAfterDisconnect = (prefix middle back : List Item) (flags cookie offset len : ℕ) (payload : List ℕ)
+    (m : Message) →
+    IsRun (prefix ++ Completes Client (Request flags commands.DISC cookie offset len payload) ∷ (middle
+    ++ Starts Client m ∷ back)) → ⊥
 
 -- the reply that completes next is the one that started, and it still answers the same request
 abbrev pub RepliesEndAsTheyStart : Type 0
 RepliesEndAsTheyStart = (prefix middle back : List Item) (m n : Message) (export : Exporting) →
-    IsRun (prefix ++ Starts Server m ∷ (middle ++ Completes Server n ∷ back)) → export_of prefix ≡ Some export → ended_messages Server middle ≡ [] →
-    (n ≡ m) × (request_of_reply (ends_at start (prefix ++ Starts Server m ∷ middle)).core m ≡ request_of_reply (ends_at start prefix).core m)
+    IsRun (prefix ++ Starts Server m ∷ (middle ++ Completes Server n ∷ back)) → export_of prefix ≡ Some export
+    → ended_messages Server middle ≡ [] →
+    (n ≡ m) × (request_of_reply (ends_at start (prefix ++ Starts Server m ∷ middle)).core m
+    ≡ request_of_reply (ends_at start prefix).core m)

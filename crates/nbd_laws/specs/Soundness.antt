@@ -14,8 +14,10 @@ use Rattle.nbd_wire.specs.protocol.Rules.{IsRun}
 
 -- the pieces of a READ lie in its range, and no two of them share an offset
 pub record AreLaid (offset len : ℕ) (pieces : List Piece) : Type 0 where
-  pub inside : (i : ℕ) (p : Piece) → slice_get pieces i ≡ Some p → (offset ≤ piece_offset p) × (piece_offset p + piece_size p ≤ offset + len)
-  pub apart : (i j : ℕ) (p q : Piece) (x : ℕ) → slice_get pieces i ≡ Some p → slice_get pieces j ≡ Some q → IsTrue (holds p x) → IsTrue (holds q x) → i ≡ j
+  pub inside : (i : ℕ) (p : Piece) → slice_get pieces i ≡ Some p
+      → (offset ≤ piece_offset p) × (piece_offset p + piece_size p ≤ offset + len)
+  pub apart : (i j : ℕ) (p q : Piece) (x : ℕ) → slice_get pieces i ≡ Some p → slice_get pieces j ≡ Some q
+      → IsTrue (holds p x) → IsTrue (holds q x) → i ≡ j
 
 -- of request k of a report of `count` requests to an export of this size
 pub record IsSoundAsked (size count k : ℕ) (a : Asked) : Type 0 where
@@ -33,14 +35,17 @@ pub record IsSoundAsked (size count k : ℕ) (a : Asked) : Type 0 where
   -- a proper request with DF has one piece at most
   pub single : IsTrue a.proper → IsTrue (has a.flags command_flags.DF) → length a.pieces ≤ 1
   -- the pieces of a successful READ cover its range
-  pub covered : a.command ≡ commands.READ → a.outcome ≡ Success → (x : ℕ) → IsTrue (is_in a.offset a.length x) → IsTrue (is_some (byte_at a.pieces x))
+  pub covered : a.command ≡ commands.READ → a.outcome ≡ Success → (x : ℕ) → IsTrue (is_in a.offset a.length x)
+      → IsTrue (is_some (byte_at a.pieces x))
 
 -- of a report: the export is within the limit and has flags, without an export there is no request, and each request is
 -- sound
 pub record IsSoundReport (r : Report) : Type 0 where
-  pub limit : (export : Exporting) → r.export ≡ Some export → (export.size ≤ EXPORT_SIZE) × IsTrue (has export.flags transmission.HAS_FLAGS)
+  pub limit : (export : Exporting) → r.export ≡ Some export
+      → (export.size ≤ EXPORT_SIZE) × IsTrue (has export.flags transmission.HAS_FLAGS)
   pub none : r.export ≡ None → r.asked ≡ []
-  pub each : (export : Exporting) (k : ℕ) (a : Asked) → r.export ≡ Some export → asked_at k r.asked ≡ Some a → IsSoundAsked export.size (length r.asked) k a
+  pub each : (export : Exporting) (k : ℕ) (a : Asked) → r.export ≡ Some export → asked_at k r.asked ≡ Some a
+      → IsSoundAsked export.size (length r.asked) k a
 
 -- the report of a run is sound
 abbrev pub ReportsAreSound : Type 0

@@ -32,7 +32,8 @@ Makes text old new = (messages : List Message) × IsScript text messages × Appe
 
 -- the text is a script, and the known bytes grew by a prefix of its messages' chunk lines
 abbrev pub MakesPrefix : List ℕ → Option (List ℕ) → Option (List ℕ) → Type 0
-MakesPrefix text old new = (messages : List Message) × IsScript text messages × AppendsPrefix old new (chunk_lines messages)
+MakesPrefix text old new = (messages : List Message) × IsScript text messages
+    × AppendsPrefix old new (chunk_lines messages)
 
 -- what a fault of `make` says of the text
 abbrev pub IsMakeCause : List ℕ → MakeFault → Type 0
@@ -40,7 +41,8 @@ IsMakeCause text (make_faults.Line n) = IsFirstBadScriptLine text n
 IsMakeCause text make_faults.Write = (messages : List Message) × IsScript text messages
 IsMakeCause text make_faults.Memory = Unit {0}
 
--- what stands written after a fault of `make`: nothing unless the text is a script, and then a prefix of its chunk lines
+-- what stands written after a fault of `make`: nothing unless the text is a script, and then a prefix of its chunk
+-- lines
 abbrev pub LeavesMade : List ℕ → Option (List ℕ) → Option (List ℕ) → MakeFault → Type 0
 LeavesMade text old new (make_faults.Line n) = Keeps old new
 LeavesMade text old new make_faults.Write = MakesPrefix text old new

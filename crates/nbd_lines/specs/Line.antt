@@ -49,4 +49,5 @@ end_text false bytes = []
 
 -- a message's line as it is printed
 abbrev pub message_line : Message → List ℕ
-message_line m = words (line_form m) ++ (numbers_text (fields (line_form m)) (numbers m) ++ end_text (has_payload (line_form m)) (payload_of m))
+message_line m = words (line_form m) ++ (numbers_text (fields (line_form m)) (numbers m)
+    ++ end_text (has_payload (line_form m)) (payload_of m))

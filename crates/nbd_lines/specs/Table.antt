@@ -30,7 +30,8 @@ fields ClientFlags = field names.Flags 32 ∷ []
 fields Choice = field names.Id 32 ∷ []
 fields Answer = field names.Option 32 ∷ field names.Kind 32 ∷ []
 fields Exported = field names.Size 64 ∷ field names.Flags 16 ∷ field names.Padded 1 ∷ []
-fields Request = field names.Flags 16 ∷ field names.Command 16 ∷ field names.Cookie 64 ∷ field names.Offset 64 ∷ field names.Length 32 ∷ []
+fields Request = field names.Flags 16 ∷ field names.Command 16 ∷ field names.Cookie 64 ∷ field names.Offset 64 ∷ field
+    names.Length 32 ∷ []
 fields Simple = field names.Error 32 ∷ field names.Cookie 64 ∷ []
 fields Chunk = field names.Flags 16 ∷ field names.Kind 16 ∷ field names.Cookie 64 ∷ []
 

@@ -4,7 +4,7 @@ ghost use Rattle.std.specs.Prelude.{◌≡◌, ◌↔◌, IsTrue};
 ghost use Rattle.nbd_lines.specs.Table.{fields, has_payload, field_name, words};
 
 /// A kind of line, one for each kind of message.
-#[derive(Clone, Copy, Debug, PartialEq, Eq, Drop)]
+#[derive(Clone, Copy, PartialEq, Eq, Drop)]
 pub enum Form {
     Greeting,
     ClientFlags,
@@ -17,7 +17,7 @@ pub enum Form {
 }
 
 /// The name of a field that holds a number.
-#[derive(Clone, Copy, Debug, PartialEq, Eq, Drop)]
+#[derive(Clone, Copy, PartialEq, Eq, Drop)]
 pub enum Name {
     Flags,
     Id,
@@ -33,7 +33,7 @@ pub enum Name {
 }
 
 /// A field that holds a number.
-#[derive(Clone, Copy, Debug, PartialEq, Eq, Drop)]
+#[derive(Clone, Copy, PartialEq, Eq, Drop)]
 pub struct Field {
     pub name: Name,
     /// The greatest number that the field holds.

@@ -1,5 +1,5 @@
 -- The tests of a request at one offset.
-use Rattle.std.proofs.Common.{◌≡◌, ℕ, ◌<◌, refl, sym, ◌∙◌, ap, Option, Some, None, true, false, ◌&&◌, ◌==◌, nat_lt, arith, IsTrue, is_some}
+use Rattle.std.proofs.Common.{◌≡◌, ℕ, ◌<◌, refl, ◌∙◌, ap, Option, Some, None, true, false, ◌&&◌, ◌==◌, nat_lt, arith, IsTrue, is_some}
 use Rattle.std.proofs.lemmas.Bool.{and_from, and_parts, eqb-true, ltb-true}
 use Rattle.nbd_wire.specs.declared.commands.TheConstants as commands
 use Rattle.nbd_wire.specs.protocol.ExportBytes.{effect, effect_if, is_success}

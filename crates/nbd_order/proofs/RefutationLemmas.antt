@@ -3,20 +3,18 @@ use Rattle.std.proofs.Common.{◌≡◌, ℕ, zero, suc, ◌<◌, ◌≤◌, inl
 use Rattle.std.proofs.Math.Seq.{take-length}
 use Rattle.std.proofs.lemmas.Bool.{and_from, and_parts, both_ways, cases_Bool, eqb-true, false_from_ne_true, or_cases, or_from, or_left, or_right}
 use Rattle.std.proofs.lemmas.Option.{slice_get_cases}
-use Rattle.nbd_wire.specs.declared.commands.TheConstants as commands
 use Rattle.nbd_wire.specs.declared.entry.Entry.{Entry}
 use Rattle.nbd_wire.specs.declared.entry.Part.{Part}
 use Rattle.nbd_wire.specs.protocol.Entries.{in_part, is_served}
-use Rattle.nbd_wire.specs.protocol.Explains.{start_byte}
-use Rattle.nbd_wire.specs.protocol.ExportBytes.{Effect, IsWrong, byte_before, effect_byte, effects, last_touch, serves, touch_of, touches}
+use Rattle.nbd_wire.specs.protocol.ExportBytes.{Effect, IsWrong, byte_before, effect_byte, effects, serves, touch_of, touches}
 use Rattle.nbd_wire.specs.protocol.Operations.{Exporting, is_change}
 use Rattle.nbd_wire.specs.protocol.Pieces.{is_in}
-use Rattle.nbd_wire.specs.protocol.Reports.{Report, asked_at, inside_in, known_in, report}
+use Rattle.nbd_wire.specs.protocol.Reports.{Report, asked_at, known_in}
 use Rattle.nbd_wire.specs.protocol.Verdicts.{IsFaultless}
 use Rattle.nbd_laws.specs.Explaining.{ExplainedPasses}
 use Rattle.nbd_order.specs.declared.refutation.State.{State}
 use Rattle.nbd_order.specs.Unexplained.{IsRefutedBy, RefutedIsUnexplained, has}
-use Rattle.nbd_order.specs.internal.Refutations.{Fits, IsBefore, IsChange, IsHeld, IsRefutation, Leads, is_kept}
+use Rattle.nbd_order.specs.internal.Refutations.{Fits, IsChange, IsHeld, IsRefutation, Leads, is_kept}
 use Rattle.nbd_order.proofs.ServiceLemmas.{in_range, is_inside, is_reached, not_served_before, served_before, served_once}
 use Rattle.nbd_order.proofs.TouchLemmas.{byte_more, served_more}
 

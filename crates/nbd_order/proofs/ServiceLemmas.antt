@@ -1,5 +1,5 @@
 -- What an order without a fault serves, and in which order.
-use Rattle.std.proofs.Common.{◌≡◌, ℕ, zero, suc, ◌<◌, ◌≤◌, ◌⊎◌, inl, inr, List, length, refl, sym, ◌∙◌, ap, subst, Option, Some, None, Bool, true, false, ◌&&◌, ◌||◌, ◌==◌, nat_lt, arith, slice_get, take, IsTrue}
+use Rattle.std.proofs.Common.{◌≡◌, ℕ, zero, suc, ◌<◌, ◌≤◌, inl, inr, List, length, refl, sym, ◌∙◌, ap, subst, Option, Some, None, Bool, true, false, ◌&&◌, ◌||◌, ◌==◌, nat_lt, arith, slice_get, take, IsTrue}
 use Rattle.std.proofs.lemmas.Bool.{and_from, and_parts, cases_lt, false_from_ne_true, lt-ltb, ltb-true}
 use Rattle.std.proofs.lemmas.Option.{slice_get_within}
 use Rattle.nbd_wire.specs.declared.commands.TheConstants as commands
@@ -8,12 +8,11 @@ use Rattle.nbd_wire.specs.declared.entry.Part.{Part}
 use Rattle.nbd_wire.specs.protocol.Entries.{IsAgain, IsMisplaced, in_part, is_served}
 use Rattle.nbd_wire.specs.protocol.ExportBytes.{Effect, effect, effect_if, effects, touches}
 use Rattle.nbd_wire.specs.protocol.Operations.{Exporting, has_range, is_change}
-use Rattle.nbd_wire.specs.protocol.Orders.{HasNoOrderFault}
 use Rattle.nbd_wire.specs.protocol.Pieces.{is_in}
 use Rattle.nbd_wire.specs.protocol.Reports.{Asked, Report, asked_at, inside_asked, inside_in, known_in}
 use Rattle.nbd_wire.specs.protocol.Verdicts.{IsFaultless}
-use Rattle.nbd_order.specs.internal.Refutations.{IsBefore, IsChange}
-use Rattle.nbd_order.proofs.TouchLemmas.{ServesAt, from_taken, is_served_by, names_by, number_at, served_at, taken, within}
+use Rattle.nbd_order.specs.internal.Refutations.{IsBefore}
+use Rattle.nbd_order.proofs.TouchLemmas.{from_taken, is_served_by, names_by, number_at, served_at, taken, within}
 
 -- a change has a range
 ranged : (command : ℕ) → is_change command ≡ true → has_range command ≡ true

@@ -5,7 +5,8 @@ use Rattle.std.proofs.lemmas.Option.{get_or_from_slice_get, slice_get_read, slic
 use Rattle.nbd_wire.specs.protocol.ExportBytes.{Effect, effect, effect_byte, effect_if, effects}
 use Rattle.nbd_wire.specs.protocol.Reports.{Asked, Report, asked_at}
 use Rattle.nbd_order.specs.Unexplained.{has}
-use Rattle.nbd_order.specs.internal.Refutations.{Fits, IsNoHelp, Leads}
+use Rattle.nbd_order.specs.declared.refutation.State.{State}
+use Rattle.nbd_order.specs.internal.Refutations.{AreSteps, Fits, Leads}
 
 -- the effect of a request that was found
 pub same_effect : (r : Report) (k : ℕ) (a : Asked) (e : Effect) → asked_at k r.asked ≡ Some a → effects r k ≡ Some e → effect a ≡ e
@@ -22,14 +23,20 @@ none_served changes served cs ss p q h c kept = ap (λ ns. has ns c) (sym q) ∙
 pub fits_of : (r : Report) (x : ℕ) (reads changes ss served : List ℕ) (a b : Option ℕ) → ss ≡ served → a ≡ b → Fits r x reads changes ss a → Fits r x reads changes served b
 fits_of r x reads changes ss served a b p q h = subst (λ o. Fits r x reads changes served o) q (subst (λ ns. Fits r x reads changes ns a) p h)
 
-pub leads_of : (r : Report) (x : ℕ) (reads changes ss served : List ℕ) (c : ℕ) (ns next : List ℕ) → ss ≡ served → ns ≡ next
-    → Leads r x reads changes ss c ns → Leads r x reads changes served c next
-leads_of r x reads changes ss served c ns next p q h = subst (λ ms. Leads r x reads changes served c ms) q (subst (λ ms. Leads r x reads changes ms c ns) p h)
+pub leads_of : (r : Report) (x : ℕ) (reads changes served : List ℕ) (c : ℕ) (ns next : List ℕ) → ns ≡ next
+    → Leads r x reads changes served c ns → Leads r x reads changes served c next
+leads_of r x reads changes served c ns next q h = subst (λ ms. Leads r x reads changes served c ms) q h
+
+pub steps_of : (r : Report) (x : ℕ) (reads changes : List ℕ) (states : List State) (ss served : List ℕ) → ss ≡ served
+    → AreSteps r x reads changes states ss → AreSteps r x reads changes states served
+steps_of r x reads changes states ss served p h = subst (λ ns. AreSteps r x reads changes states ns) p h
 
 -- what is found by a place in a list
+pub found_in : {X : Type 0} (xs items : List X) (i : ℕ) (x : X) → items ≡ xs → i < length items → x ≡ get_or items i x → slice_get xs i ≡ Some x
+found_in xs items i x same l is = ap (λ ys. slice_get ys i) (sym same) ∙ slice_get_read items (length items) i x refl l is
+
 pub found_at : {X : Type 0} (xs items : List X) (i : ℕ) (x : X) → items ≡ xs → true ≡ nat_lt i (length items) → x ≡ get_or items i x → slice_get xs i ≡ Some x
-found_at xs items i x same l is =
-    ap (λ ys. slice_get ys i) (sym same) ∙ slice_get_read items (length items) i x refl (ltb-true i (length items) (sym l)) is
+found_at xs items i x same l is = found_in xs items i x same (ltb-true i (length items) (sym l)) is
 
 module _ {X : Type 0} (P : X → Type 0) (xs items : List X) (i : ℕ) (same : items ≡ xs) where
   -- each of the first i states has the property

@@ -40,8 +40,9 @@ IsWanted wanted (GaveUp request offset reason) = Unit {0}
 abbrev pub FailsArrival : Report → Start → Type 0
 FailsArrival r initial = Passes r (arrival (request_count r)) initial → ⊥
 
--- what is said of a report: an order without a fault and without a wrong byte, READs of which one has a wrong byte in each order
--- without a fault, or an image of another size; of every other answer only that the order of arrival does not explain it
+-- what is said of a report: an order without a fault and without a wrong byte, READs of which one has a wrong byte in
+-- each order without a fault, or an image of another size; of every other answer only that the order of arrival does
+-- not explain it
 abbrev pub IsFound : Report → Start → Found → Type 0
 IsFound r initial (Order order) = Passes r order.items initial
 IsFound r initial (Unexplained refutation) = IsRefutedBy r (start_byte initial) refutation.offset refutation.reads.items
@@ -53,7 +54,8 @@ IsFound r initial (GaveUp request offset reason) = FailsArrival r initial
 abbrev pub IsUnexplainedByArrival : List Item → Start → Type 0
 IsUnexplainedByArrival items initial = IsExplained (pairs items) (arrival (request_count (report items))) initial → ⊥
 
--- what that says of the bytes of a run with this report: the order explains them, or no order does, or at least that of arrival does not
+-- what that says of the bytes of a run with this report: the order explains them, or no order does, or at least that of
+-- arrival does not
 abbrev pub Says : List Item → Start → Found → Type 0
 Says items initial (Order order) = IsExplained (pairs items) order.items initial
 Says items initial (Unexplained refutation) = IsUnexplained (pairs items) initial
@@ -63,4 +65,5 @@ Says items initial (GaveUp request offset reason) = IsUnexplainedByArrival items
 
 -- what is found of the report of a run is so of its bytes
 abbrev pub FoundIsSo : Type 0
-FoundIsSo = (items : List Item) (initial : Start) (found : Found) → IsRun items → IsFound (report items) initial found → Says items initial found
+FoundIsSo = (items : List Item) (initial : Start) (found : Found) → IsRun items → IsFound (report items) initial found
+    → Says items initial found

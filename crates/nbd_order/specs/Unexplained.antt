@@ -21,7 +21,8 @@ IsUnexplained capture initial = (order : List Entry) → IsExplained capture ord
 -- each order without a fault has, against these bytes at the start, a wrong byte at x of one of these READs
 abbrev pub IsRefutedBy : Report → (ℕ → Option ℕ) → (x : ℕ) → List ℕ → Type 0
 IsRefutedBy r initial x reads = (order : List Entry) → IsFaultless r order
-    → ((i : ℕ) (e : Entry) → slice_get order i ≡ Some e → has reads e.request ≡ true → IsWrong (effects r) order initial i x → ⊥) → ⊥
+    → ((i : ℕ) (e : Entry) → slice_get order i ≡ Some e → has reads e.request ≡ true
+    → IsWrong (effects r) order initial i x → ⊥) → ⊥
 
 -- where the report of a run is refuted by some READs, no order explains its bytes
 abbrev pub RefutedIsUnexplained : Type 0

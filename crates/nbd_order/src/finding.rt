@@ -1,9 +1,7 @@
 //! An order that explains a session, or why there is none.
 
-ghost use Rattle.std.specs.Prelude.{◌≡◌, List, IfOk, MatchOption};
+ghost use Rattle.std.specs.Prelude.{◌≡◌, List, IfOk};
 ghost use Rattle.nbd_judge.specs.Beginnings.{initial_of};
-ghost use Rattle.nbd_judge.specs.Images.{IsOtherSize};
-ghost use Rattle.nbd_wire.specs.protocol.Explains.{FitsImage};
 ghost use Rattle.nbd_wire.specs.protocol.Marks.{Item};
 ghost use Rattle.nbd_wire.specs.protocol.Reports.{report};
 ghost use Rattle.nbd_wire.specs.protocol.Rules.{IsRun};
@@ -12,13 +10,13 @@ ghost use Rattle.nbd_order.specs.Finding.{IsFound, IsWanted, Says, arrival};
 ghost use Rattle.nbd_order.specs.declared.finding.Wanted.{Wanted};
 ghost use Rattle.nbd_order.specs.internal.Proposals.{IsOpen};
 
-use crate::guess::by_arrival;
-use crate::judging::{Wrong, are_whole, wrong_in};
+use crate::judging::{are_whole, by_arrival, place_of, verdict_of};
 use crate::laws;
-use crate::refutation::{Refutation, refutation_of};
+use crate::refutation::{MOST_STATES, Refutation};
 use crate::refuting::is_refuted;
 use nbd_export::Start;
-use nbd_search::{Contest, Limits, Proposal, Reason, Watch, propose};
+use nbd_judge::Verdict;
+use nbd_search::{Limits, Place, Progress, Proposal, Reason, propose};
 use nbd_session::Transcript;
 use nbd_wire::Entry;
 use std::alloc::{AllocError, Global};
@@ -39,16 +37,6 @@ pub struct Scope {
     pub wanted: Wanted,
     /// What the search may cost.
     pub limits: Limits,
-}
-
-impl Scope {
-    /// Orders of any kind, within the usual limits.
-    pub fn usual() -> Scope {
-        Scope {
-            wanted: Wanted::Any,
-            limits: Limits::usual(),
-        }
-    }
 }
 
 /// What the search for an order came to.
@@ -80,13 +68,13 @@ pub enum Found {
 
 /// Looks for an order that explains the session from this start. Tried are the order of arrival and then the one that the search
 /// proposes: each is judged by the judge of `check` before it is handed out, and so is a refutation tested. An `Err` says that
-/// memory ran out. A long search tells `watch` how far it is.
-pub fn find<W: Watch>(
+/// memory ran out. A long search says on `progress` how far it is.
+pub fn find(
     alloc: Global,
     transcript: &Transcript,
     start: &Start,
     scope: Scope,
-    watch: &mut W,
+    progress: &mut Progress,
 ) -> Result<Found, AllocError>
     ensures found { IfOk result (IsFound transcript.now (initial_of start.now)) }
     ensures wanted { IfOk result (IsWanted scope.wanted) }
@@ -95,42 +83,42 @@ pub fn find<W: Watch>(
         Says items (initial_of start.now) f) }
 {
     laws::found_is_so();
-    if let Some((image, size)) = other_size(transcript, start) {
-        return Ok(Found::Image { image, size });
-    }
     let arrival = by_arrival(alloc, transcript.count())?;
-    match wrong_in(alloc, transcript, &arrival, start)? {
-        None => Ok(Found::Order(arrival)),
-        Some(wrong) => searched(alloc, transcript, start, scope, wrong, watch),
+    match verdict_of(alloc, transcript, &arrival, start)? {
+        Verdict::Yes { .. } => Ok(Found::Order(arrival)),
+        Verdict::Image { image, size } => Ok(Found::Image { image, size }),
+        verdict => {
+            let wrong = place_of(&verdict);
+            searched(alloc, transcript, start, scope, wrong, progress)
+        }
     }
 }
 
 // What the search finds, where the order of arrival has this wrong byte.
-fn searched<W: Watch>(
+fn searched(
     alloc: Global,
     transcript: &Transcript,
     start: &Start,
     scope: Scope,
-    wrong: Wrong,
-    watch: &mut W,
+    wrong: Place,
+    progress: &mut Progress,
 ) -> Result<Found, AllocError>
     requires { Passes transcript.now (arrival (request_count transcript.now)) (initial_of start.now) → ⊥ }
     ensures found { IfOk result (IsFound transcript.now (initial_of start.now)) }
     ensures wanted { IfOk result (IsWanted scope.wanted) }
 {
-    match propose(alloc, transcript, start, scope.limits, watch)? {
+    match propose(alloc, transcript, start, scope.limits, wrong, progress)? {
         Proposal::Order(order) => judged(alloc, transcript, start, scope.wanted, wrong, order),
-        Proposal::Contest(contest) => tested(alloc, transcript, start, wrong, contest),
-        Proposal::GaveUp {
-            request: 0,
-            reason,
-            ..
-        } => Ok(gave_up(wrong, reason)),
-        Proposal::GaveUp {
-            request,
-            offset,
-            reason,
-        } => Ok(gave_up(Wrong { request, offset }, reason)),
+        Proposal::Contest(offset, reads, changes) => {
+            let refutation = Refutation {
+                offset,
+                reads,
+                changes,
+                states: Vec::new(alloc),
+            };
+            tested(alloc, transcript, start, wrong, refutation)
+        }
+        Proposal::GaveUp(at, reason) => Ok(gave_up(at, reason)),
     }
 }
 
@@ -140,67 +128,54 @@ fn judged(
     transcript: &Transcript,
     start: &Start,
     wanted: Wanted,
-    wrong: Wrong,
+    wrong: Place,
     order: Vec<Entry>,
 ) -> Result<Found, AllocError>
     requires { Passes transcript.now (arrival (request_count transcript.now)) (initial_of start.now) → ⊥ }
     ensures found { IfOk result (IsFound transcript.now (initial_of start.now)) }
     ensures wanted { IfOk result (IsWanted wanted) }
 {
-    match wrong_in(alloc, transcript, &order, start)? {
-        Some(_) => Ok(gave_up(wrong, Reason::Mistake)),
-        None => Ok(if wanted == Wanted::Whole && !are_whole(&order) {
+    match verdict_of(alloc, transcript, &order, start)? {
+        Verdict::Yes { .. } => Ok(if wanted == Wanted::Whole && !are_whole(&order) {
             Found::NoneWhole
         } else {
             Found::Order(order)
         }),
+        _ => Ok(gave_up(wrong, Reason::Mistake)),
     }
 }
 
-// The refutation of these requests, where it is one.
+// The refutation, with all states that its requests can come to, where it is one.
 fn tested(
     alloc: Global,
     transcript: &Transcript,
     start: &Start,
-    wrong: Wrong,
-    contest: Contest,
+    wrong: Place,
+    mut refutation: Refutation,
 ) -> Result<Found, AllocError>
     requires { Passes transcript.now (arrival (request_count transcript.now)) (initial_of start.now) → ⊥ }
     ensures found { IfOk result (IsFound transcript.now (initial_of start.now)) }
     ensures wanted { (wanted : Wanted) → IfOk result (IsWanted wanted) }
 {
-    match refutation_of(alloc, transcript, start, contest)? {
-        None => Ok(gave_up(wrong, Reason::States)),
-        Some(refutation) => Ok(if is_refuted(transcript, start, &refutation) {
-            Found::Unexplained(refutation)
-        } else {
-            gave_up(wrong, Reason::Mistake)
-        }),
+    if refutation.fill(alloc, transcript, start) {
+        return Err(AllocError);
     }
+    Ok(if is_refuted(transcript, start, &refutation) {
+        Found::Unexplained(refutation)
+    } else if refutation.states.len() < MOST_STATES {
+        gave_up(wrong, Reason::Mistake)
+    } else {
+        gave_up(wrong, Reason::States)
+    })
 }
 
-// The answer where there is none: told at the byte that was looked at, or at the first wrong one of the order of arrival.
-fn gave_up(at: Wrong, reason: Reason) -> Found
+// The answer where there is none, told at the byte that was looked at.
+fn gave_up(at: Place, reason: Reason) -> Found
     ensures { IsOpen result }
 {
     Found::GaveUp {
         request: at.request,
         offset: at.offset,
         reason,
-    }
-}
-
-// The sizes of the image and of the export, where the start is an image that does not fit.
-fn other_size(transcript: &Transcript, start: &Start) -> Option<(u64, u64)>
-    ensures { MatchOption result (FitsImage transcript.now.export (initial_of start.now))
-        (λ p. IsOtherSize transcript.now.export (initial_of start.now) p.0 p.1) }
-{
-    let (size, _) = transcript.export()?;
-    match start {
-        Start::Image(image) => {
-            let len = image.len() as u64;
-            if len != size { Some((len, size)) } else { None }
-        }
-        Start::Unknown | Start::Zeroes => None,
     }
 }

@@ -1,50 +1,51 @@
-//! Whether an order explains a session, by the judge of `check`.
+//! The order of arrival, and whether an order explains a session, by the judge of `check`.
 
-ghost use Rattle.std.specs.Prelude.{◌≡◌, All, IfOk, MatchBool, MatchOption, None};
+ghost use Rattle.std.specs.Prelude.{◌≡◌, All, IfOk, MatchBool, None};
 ghost use Rattle.nbd_judge.specs.Beginnings.{initial_of};
-ghost use Rattle.nbd_wire.specs.protocol.Verdicts.{Passes};
-ghost use Rattle.nbd_order.specs.Finding.{AreWhole};
+ghost use Rattle.nbd_judge.specs.Verdicts.{IsVerdict};
+ghost use Rattle.nbd_order.specs.Finding.{AreWhole, arrival};
 
 use nbd_export::Start;
 use nbd_judge::{Verdict, verdict_on};
+use nbd_search::Place;
 use nbd_session::Transcript;
 use nbd_wire::Entry;
 use std::alloc::{AllocError, Global};
 
-/// A byte that a READ got and that the order does not explain.
-#[derive(Clone, Copy, Debug, PartialEq, Eq, Drop)]
-pub struct Wrong {
-    /// The READ's number, counted from 1.
-    pub request: u64,
-    /// In bytes from the export's start.
-    pub offset: u64,
+/// The order of arrival, which most servers keep: the requests by their numbers, each at once.
+pub fn by_arrival(alloc: Global, count: u64) -> Result<Vec<Entry>, AllocError>
+    ensures { IfOk result (λ order. order.items ≡ arrival count) }
+{
+    let mut order = Vec::new(alloc);
+    for i in 0..count {
+        order.push(Entry {
+            request: i + 1,
+            part: None,
+        })?;
+    }
+    Ok(order)
 }
 
-/// The first wrong byte of the order from this start: `None` where the order explains the session. Of an order with a fault it is
-/// told of the faulty entry, at offset 0.
-pub fn wrong_in(
+/// The verdict of `check` on an order from this start.
+pub fn verdict_of(
     alloc: Global,
     transcript: &Transcript,
     order: &[Entry],
     start: &Start,
-) -> Result<Option<Wrong>, AllocError>
-    ensures { IfOk result (λ wrong. MatchOption wrong (Passes transcript.now order.now (initial_of start.now))
-        (λ place. Passes transcript.now order.now (initial_of start.now) → ⊥)) }
+) -> Result<Verdict, AllocError>
+    ensures { IfOk result (IsVerdict transcript.now order.now (initial_of start.now)) }
 {
-    match verdict_on(alloc, transcript, order, copy_of(alloc, start)?)? {
-        Verdict::Yes { .. } => Ok(None),
-        verdict => Ok(Some(place_of(&verdict))),
-    }
+    verdict_on(alloc, transcript, order, copy_of(alloc, start)?)
 }
 
-// The byte that a verdict on an order tells.
-fn place_of(verdict: &Verdict) -> Wrong {
+/// The byte that a verdict on an order tells. Of an order with a fault that is the faulty entry, at offset 0.
+pub fn place_of(verdict: &Verdict) -> Place {
     let (request, offset) = match verdict {
         Verdict::Content { request, offset } => (*request, *offset),
         Verdict::Order { entry, .. } => (*entry, 0),
         Verdict::Yes { .. } | Verdict::Image { .. } | Verdict::Wire { .. } => (0, 0),
     };
-    Wrong { request, offset }
+    Place { request, offset }
 }
 
 // The same start.
@@ -54,11 +55,7 @@ fn copy_of(alloc: Global, start: &Start) -> Result<Start, AllocError>
     match start {
         Start::Unknown => Ok(Start::Unknown),
         Start::Zeroes => Ok(Start::Zeroes),
-        Start::Image(image) => {
-            let mut copy = Vec::new(alloc);
-            copy.extend_from_slice(image)?;
-            Ok(Start::Image(copy))
-        }
+        Start::Image(image) => { Ok(Start::Image(image.as_slice().to_vec(alloc)?)) }
     }
 }
 

@@ -2,7 +2,6 @@
 #![tactic(auto)]
 
 pub mod finding;
-mod guess;
 mod judging;
 pub mod laws;
 mod offsets;

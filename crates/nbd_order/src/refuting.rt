@@ -6,9 +6,9 @@ ghost use Rattle.nbd_wire.specs.protocol.Explains as explains;
 ghost use Rattle.nbd_order.specs.Unexplained.{IsRefutedBy, has};
 ghost use Rattle.nbd_order.specs.internal.Refutations.{EachSteps, HasBeginning, HelpsNone, IsBefore, IsChangeAt, IsNoHelp, IsReadAt, NoneIsLast};
 
-use crate::offsets::{byte_left, is_before, is_change_at, is_other, is_read_at, touches};
+use crate::offsets::{is_before, is_change_at, is_other, is_read_at};
 use crate::refutation::Refutation;
-use crate::states::{begins, ends, has, steps};
+use crate::states::has;
 use nbd_export::Start;
 use nbd_session::Transcript;
 
@@ -17,110 +17,99 @@ use nbd_session::Transcript;
 pub fn is_refuted(transcript: &Transcript, start: &Start, refutation: &Refutation) -> bool
     ensures { IsTrue result → IsRefutedBy transcript.now (explains.start_byte (initial_of start.now)) refutation.now.offset refutation.now.reads.items }
 {
-    are_its_requests(transcript, refutation) && are_its_states(transcript, start, refutation)
+    refutation.are_its_requests(transcript) && refutation.are_its_states(transcript, start)
 }
 
-// Whether the READs and changes are such of the offset, and no other change is a help.
-fn are_its_requests(transcript: &Transcript, refutation: &Refutation) -> bool
-    ensures reads { let f = refutation.now in IsTrue result → (k : ℕ) → has f.reads.items k ≡ true → IsReadAt transcript.now f.offset k }
-    ensures changes { let f = refutation.now in IsTrue result → (c : ℕ) → has f.changes.items c ≡ true → IsChangeAt transcript.now f.offset c }
-    ensures others { let f = refutation.now in IsTrue result → (w : ℕ) → HelpsNone transcript.now f.offset f.reads.items f.changes.items w }
-{
-    are_reads(transcript, refutation)
-        && are_changes(transcript, refutation)
-        && covered(transcript, refutation)
-}
+impl Refutation {
+    // Whether the READs and changes are such of the offset, and no other change is a help.
+    fn are_its_requests(&self, transcript: &Transcript) -> bool
+        ensures reads { let f = self.now in IsTrue result → (k : ℕ) → has f.reads.items k ≡ true → IsReadAt transcript.now f.offset k }
+        ensures changes { let f = self.now in IsTrue result → (c : ℕ) → has f.changes.items c ≡ true → IsChangeAt transcript.now f.offset c }
+        ensures others { let f = self.now in IsTrue result → (w : ℕ) → HelpsNone transcript.now f.offset f.reads.items f.changes.items w }
+    {
+        self.are_reads(transcript) && self.are_changes(transcript) && self.covered(transcript)
+    }
 
-// Whether the states begin as they have to, lead to one another, and end nowhere.
-fn are_its_states(transcript: &Transcript, start: &Start, refutation: &Refutation) -> bool
-    ensures beginning { let f = refutation.now in IsTrue result → HasBeginning transcript.now (explains.start_byte (initial_of start.now)) f.offset f.reads.items f.changes.items f.states.items }
-    ensures stepping { let f = refutation.now in IsTrue result → EachSteps transcript.now f.offset f.reads.items f.changes.items f.states.items }
-    ensures ending { let f = refutation.now in IsTrue result → NoneIsLast f.reads.items f.states.items }
-{
-    begins(transcript, start, refutation) && steps(transcript, refutation) && ends(refutation)
-}
+    // Whether the states begin as they have to, lead to one another, and end nowhere.
+    fn are_its_states(&self, transcript: &Transcript, start: &Start) -> bool
+        ensures beginning { let f = self.now in IsTrue result → HasBeginning transcript.now (explains.start_byte (initial_of start.now)) f.offset f.reads.items f.changes.items f.states.items }
+        ensures stepping { let f = self.now in IsTrue result → EachSteps transcript.now f.offset f.reads.items f.changes.items f.states.items }
+        ensures ending { let f = self.now in IsTrue result → NoneIsLast f.reads.items f.states.items }
+    {
+        self.begins(transcript, start) && self.steps(transcript) && self.ends()
+    }
 
-// Whether each of the refutation's READs is one of its offset.
-fn are_reads(transcript: &Transcript, refutation: &Refutation) -> bool
-    ensures { let f = refutation.now in IsTrue result → (k : ℕ) → has f.reads.items k ≡ true → IsReadAt transcript.now f.offset k }
-{
-    for k in &refutation.reads {
-        if !is_read_at(transcript, *k, refutation.offset) {
-            return false;
+    // Whether each of the refutation's READs is one of its offset.
+    fn are_reads(&self, transcript: &Transcript) -> bool
+        ensures { let f = self.now in IsTrue result → (k : ℕ) → has f.reads.items k ≡ true → IsReadAt transcript.now f.offset k }
+    {
+        for k in &self.reads {
+            if !is_read_at(transcript, *k, self.offset) {
+                return false;
+            }
+        }
+        true
+    }
+
+    // Whether each of the refutation's changes is one of its offset.
+    fn are_changes(&self, transcript: &Transcript) -> bool
+        ensures { let f = self.now in IsTrue result → (c : ℕ) → has f.changes.items c ≡ true → IsChangeAt transcript.now f.offset c }
+    {
+        for c in &self.changes {
+            if !is_change_at(transcript, *c, self.offset) {
+                return false;
+            }
+        }
+        true
+    }
+
+    // Whether no other change of the offset is a help to one of the READs.
+    fn covered(&self, transcript: &Transcript) -> bool
+        ensures { let f = self.now in IsTrue result → (w : ℕ) → HelpsNone transcript.now f.offset f.reads.items f.changes.items w }
+    {
+        for i in 0..transcript.count() {
+            if !self.helps_none(transcript, i + 1) {
+                return false;
+            }
+        }
+        true
+    }
+
+    // Whether request w, if it is another change of the offset, is no help to any READ.
+    fn helps_none(&self, transcript: &Transcript, w: u64) -> bool
+        ensures { let f = self.now in IsTrue result → HelpsNone transcript.now f.offset f.reads.items f.changes.items w }
+    {
+        match transcript.asked(w) {
+            Some(one) => {
+                !one.touches(self.offset)
+                    || has(&self.changes, w)
+                    || self.are_not_helped(transcript, w, one.byte_left(self.offset))
+            }
+            None => true,
         }
     }
-    true
-}
 
-// Whether each of the refutation's changes is one of its offset.
-fn are_changes(transcript: &Transcript, refutation: &Refutation) -> bool
-    ensures { let f = refutation.now in IsTrue result → (c : ℕ) → has f.changes.items c ≡ true → IsChangeAt transcript.now f.offset c }
-{
-    for c in &refutation.changes {
-        if !is_change_at(transcript, *c, refutation.offset) {
-            return false;
+    // Whether the change w, which leaves this byte, is no help to any READ.
+    fn are_not_helped(&self, transcript: &Transcript, w: u64, byte: Option<u8>) -> bool
+        ensures { let f = self.now in IsTrue result
+            → (k : ℕ) → has f.reads.items k ≡ true → IsNoHelp transcript.now f.offset f.changes.items w byte k }
+    {
+        for k in &self.reads {
+            if !self.is_no_help(transcript, w, byte, *k) {
+                return false;
+            }
         }
+        true
     }
-    true
-}
 
-// Whether no other change of the offset is a help to one of the READs.
-fn covered(transcript: &Transcript, refutation: &Refutation) -> bool
-    ensures { let f = refutation.now in IsTrue result → (w : ℕ) → HelpsNone transcript.now f.offset f.reads.items f.changes.items w }
-{
-    for i in 0..transcript.count() {
-        if !helps_none(transcript, refutation, i + 1) {
-            return false;
-        }
+    // Whether it is no help to READ k.
+    fn is_no_help(&self, transcript: &Transcript, w: u64, byte: Option<u8>, k: u64) -> bool
+        ensures { let f = self.now in IsTrue result → IsNoHelp transcript.now f.offset f.changes.items w byte k }
+    {
+        is_before(transcript, k, w)
+            || is_overwritten(transcript, &self.changes, w, k)
+            || is_other(transcript, k, self.offset, byte)
     }
-    true
-}
-
-// Whether request w, if it is another change of the offset, is no help to any READ.
-fn helps_none(transcript: &Transcript, refutation: &Refutation, w: u64) -> bool
-    ensures { let f = refutation.now in IsTrue result → HelpsNone transcript.now f.offset f.reads.items f.changes.items w }
-{
-    match transcript.asked(w) {
-        Some(one) => {
-            !touches(one, refutation.offset)
-                || has(&refutation.changes, w)
-                || are_not_helped(transcript, refutation, w, byte_left(one, refutation.offset))
-        }
-        None => true,
-    }
-}
-
-// Whether the change w, which leaves this byte, is no help to any READ.
-fn are_not_helped(
-    transcript: &Transcript,
-    refutation: &Refutation,
-    w: u64,
-    byte: Option<u8>,
-) -> bool
-    ensures { let f = refutation.now in IsTrue result
-        → (k : ℕ) → has f.reads.items k ≡ true → IsNoHelp transcript.now f.offset f.changes.items w byte k }
-{
-    for k in &refutation.reads {
-        if !is_no_help(transcript, refutation, w, byte, *k) {
-            return false;
-        }
-    }
-    true
-}
-
-// Whether it is no help to READ k.
-fn is_no_help(
-    transcript: &Transcript,
-    refutation: &Refutation,
-    w: u64,
-    byte: Option<u8>,
-    k: u64,
-) -> bool
-    ensures { let f = refutation.now in IsTrue result → IsNoHelp transcript.now f.offset f.changes.items w byte k }
-{
-    is_before(transcript, k, w)
-        || is_overwritten(transcript, &refutation.changes, w, k)
-        || is_other(transcript, k, refutation.offset, byte)
 }
 
 // Whether one of these changes surely comes between requests w and k.

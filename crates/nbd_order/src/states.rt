@@ -6,8 +6,8 @@ ghost use Rattle.nbd_wire.specs.protocol.Explains as explains;
 ghost use Rattle.nbd_order.specs.Unexplained.{has};
 ghost use Rattle.nbd_order.specs.internal.Refutations.{AreSteps, EachSteps, Fits, HasBeginning, IsBefore, IsFitting, IsHeld, IsStep, IsUnfinished, Leads, LeadsOn, NoneIsLast};
 
-use crate::offsets::{byte_left, is_before, is_other, start_byte};
-use crate::refutation::{Refutation, State};
+use crate::offsets::{is_before, is_other, start_byte};
+use crate::refutation::Refutation;
 use nbd_export::Start;
 use nbd_session::Transcript;
 
@@ -15,25 +15,130 @@ use nbd_session::Transcript;
 pub fn has(numbers: &[u64], k: u64) -> bool
     ensures { result ≡ has numbers.now k }
 {
-    numbers.iter().any(|n| *n == k)
+    numbers.contains(&k)
 }
 
-/// Whether the first state is one in which no change is served, and in which each READ fits the start.
-pub fn begins(transcript: &Transcript, start: &Start, refutation: &Refutation) -> bool
-    ensures { let f = refutation.now in IsTrue result
-        → HasBeginning transcript.now (explains.start_byte (initial_of start.now)) f.offset f.reads.items f.changes.items f.states.items }
-{
-    match refutation.states.get(0) {
-        Some(state) => {
-            has_none(&refutation.changes, &state.served)
-                && fits(
-                    transcript,
-                    refutation,
-                    &state.served,
-                    start_byte(start, refutation.offset),
-                )
+impl Refutation {
+    /// Whether the first state is one in which no change is served, and in which each READ fits the start.
+    pub(crate) fn begins(&self, transcript: &Transcript, start: &Start) -> bool
+        ensures { let f = self.now in IsTrue result
+            → HasBeginning transcript.now (explains.start_byte (initial_of start.now)) f.offset f.reads.items f.changes.items f.states.items }
+    {
+        match self.states.get(0) {
+            Some(state) => {
+                has_none(&self.changes, &state.served)
+                    && self.fits(transcript, &state.served, start_byte(start, self.offset))
+            }
+            None => false,
         }
-        None => false,
+    }
+
+    /// Whether in each state each change is served, can't be served yet, or leads to a state.
+    pub(crate) fn steps(&self, transcript: &Transcript) -> bool
+        ensures { let f = self.now in IsTrue result → EachSteps transcript.now f.offset f.reads.items f.changes.items f.states.items }
+    {
+        for state in &self.states {
+            if !self.are_steps(transcript, &state.served) {
+                return false;
+            }
+        }
+        true
+    }
+
+    // The same of one state.
+    fn are_steps(&self, transcript: &Transcript, served: &[u64]) -> bool
+        ensures { let f = self.now in IsTrue result
+            → AreSteps transcript.now f.offset f.reads.items f.changes.items f.states.items served.now }
+    {
+        for c in &self.changes {
+            if !self.is_step(transcript, served, *c) {
+                return false;
+            }
+        }
+        true
+    }
+
+    /// The same of one change.
+    pub(crate) fn is_step(&self, transcript: &Transcript, served: &[u64], c: u64) -> bool
+        ensures { let f = self.now in IsTrue result
+            → IsStep transcript.now f.offset f.reads.items f.changes.items f.states.items served.now c }
+    {
+        has(served, c)
+            || self.is_held(transcript, served, c)
+            || self.leads_on(transcript, served, c)
+    }
+
+    // Whether the change leads to one of the states.
+    fn leads_on(&self, transcript: &Transcript, served: &[u64], c: u64) -> bool
+        ensures { let f = self.now in IsTrue result
+            → LeadsOn transcript.now f.offset f.reads.items f.changes.items f.states.items served.now c }
+    {
+        for next in &self.states {
+            if self.leads(transcript, served, c, &next.served) {
+                return true;
+            }
+        }
+        false
+    }
+
+    // Whether change c leads from what is served to what is served next.
+    fn leads(&self, transcript: &Transcript, served: &[u64], c: u64, next: &[u64]) -> bool
+        ensures { let f = self.now in IsTrue result → Leads transcript.now f.offset f.reads.items f.changes.items served.now c next.now }
+    {
+        match transcript.asked(c) {
+            Some(one) => {
+                adds_alone(&self.changes, served, c, next)
+                    && keeps(&self.reads, served, next)
+                    && self.fits(transcript, next, one.byte_left(self.offset))
+            }
+            None => false,
+        }
+    }
+
+    // Whether each READ is served, or can't be served where the offset holds this byte.
+    fn fits(&self, transcript: &Transcript, served: &[u64], byte: Option<u8>) -> bool
+        ensures { let f = self.now in IsTrue result → Fits transcript.now f.offset f.reads.items f.changes.items served.now byte }
+    {
+        for k in &self.reads {
+            if !self.is_fitting(transcript, served, byte, *k) {
+                return false;
+            }
+        }
+        true
+    }
+
+    /// The same of one READ.
+    pub(crate) fn is_fitting(
+        &self,
+        transcript: &Transcript,
+        served: &[u64],
+        byte: Option<u8>,
+        k: u64,
+    ) -> bool
+        ensures { let f = self.now in IsTrue result → IsFitting transcript.now f.offset f.reads.items f.changes.items served.now byte k }
+    {
+        has(served, k)
+            || self.is_held(transcript, served, k)
+            || is_other(transcript, k, self.offset, byte)
+    }
+
+    // Whether request k can't be served yet: a READ or change of the refutation surely comes before it, and was not served.
+    fn is_held(&self, transcript: &Transcript, served: &[u64], k: u64) -> bool
+        ensures { let f = self.now in IsTrue result → IsHeld transcript.now f.reads.items f.changes.items served.now k }
+    {
+        waits(transcript, &self.reads, served, k) || waits(transcript, &self.changes, served, k)
+    }
+
+    /// Whether in no state all READs are served.
+    pub(crate) fn ends(&self) -> bool
+        ensures { let f = self.now in IsTrue result → NoneIsLast f.reads.items f.states.items }
+    {
+        for state in &self.states {
+            if !is_unfinished(&self.reads, &state.served) {
+                return false;
+            }
+        }
+        true
     }
 }
 
@@ -47,92 +152,6 @@ fn has_none(changes: &[u64], served: &[u64]) -> bool
         }
     }
     true
-}
-
-/// Whether in each state each change is served, can't be served yet, or leads to a state.
-pub fn steps(transcript: &Transcript, refutation: &Refutation) -> bool
-    ensures { let f = refutation.now in IsTrue result → EachSteps transcript.now f.offset f.reads.items f.changes.items f.states.items }
-{
-    for state in &refutation.states {
-        if !are_steps(transcript, refutation, state) {
-            return false;
-        }
-    }
-    true
-}
-
-// The same of one state.
-fn are_steps(transcript: &Transcript, refutation: &Refutation, state: &State) -> bool
-    ensures { let f = refutation.now in IsTrue result
-        → AreSteps transcript.now f.offset f.reads.items f.changes.items f.states.items state.now.served.items }
-{
-    for (place, c) in refutation.changes.iter().enumerate() {
-        if !is_step(transcript, refutation, state, place, *c) {
-            return false;
-        }
-    }
-    true
-}
-
-// The same of one change, which is at this place of the refutation's.
-fn is_step(
-    transcript: &Transcript,
-    refutation: &Refutation,
-    state: &State,
-    place: usize,
-    c: u64,
-) -> bool
-    ensures { let f = refutation.now in IsTrue result
-        → IsStep transcript.now f.offset f.reads.items f.changes.items f.states.items state.now.served.items c }
-{
-    has(&state.served, c)
-        || is_held(transcript, refutation, &state.served, c)
-        || leads_on(transcript, refutation, state, place, c)
-}
-
-// Whether the change leads to the state that stands beside it.
-fn leads_on(
-    transcript: &Transcript,
-    refutation: &Refutation,
-    state: &State,
-    place: usize,
-    c: u64,
-) -> bool
-    ensures { let f = refutation.now in IsTrue result
-        → LeadsOn transcript.now f.offset f.reads.items f.changes.items f.states.items state.now.served.items c }
-{
-    let Some(at) = state.next.get(place) else {
-        return false;
-    };
-    match refutation.states.get(*at) {
-        Some(next) => leads(transcript, refutation, &state.served, c, &next.served),
-        None => false,
-    }
-}
-
-// Whether change c leads from what is served to what is served next.
-fn leads(
-    transcript: &Transcript,
-    refutation: &Refutation,
-    served: &[u64],
-    c: u64,
-    next: &[u64],
-) -> bool
-    ensures { let f = refutation.now in IsTrue result → Leads transcript.now f.offset f.reads.items f.changes.items served.now c next.now }
-{
-    match transcript.asked(c) {
-        Some(one) => {
-            adds_alone(&refutation.changes, served, c, next)
-                && keeps(&refutation.reads, served, next)
-                && fits(
-                    transcript,
-                    refutation,
-                    next,
-                    byte_left(one, refutation.offset),
-                )
-        }
-        None => false,
-    }
 }
 
 // Whether of these changes just c is added to those that are served.
@@ -159,46 +178,6 @@ fn keeps(reads: &[u64], served: &[u64], next: &[u64]) -> bool
     true
 }
 
-/// Whether each READ is served, or can't be served where the offset holds this byte.
-pub fn fits(
-    transcript: &Transcript,
-    refutation: &Refutation,
-    served: &[u64],
-    byte: Option<u8>,
-) -> bool
-    ensures { let f = refutation.now in IsTrue result → Fits transcript.now f.offset f.reads.items f.changes.items served.now byte }
-{
-    for k in &refutation.reads {
-        if !is_fitting(transcript, refutation, served, byte, *k) {
-            return false;
-        }
-    }
-    true
-}
-
-/// The same of one READ.
-pub fn is_fitting(
-    transcript: &Transcript,
-    refutation: &Refutation,
-    served: &[u64],
-    byte: Option<u8>,
-    k: u64,
-) -> bool
-    ensures { let f = refutation.now in IsTrue result → IsFitting transcript.now f.offset f.reads.items f.changes.items served.now byte k }
-{
-    has(served, k)
-        || is_held(transcript, refutation, served, k)
-        || is_other(transcript, k, refutation.offset, byte)
-}
-
-/// Whether request k can't be served yet: a READ or change of the refutation surely comes before it, and was not served.
-pub fn is_held(transcript: &Transcript, refutation: &Refutation, served: &[u64], k: u64) -> bool
-    ensures { let f = refutation.now in IsTrue result → IsHeld transcript.now f.reads.items f.changes.items served.now k }
-{
-    waits(transcript, &refutation.reads, served, k)
-        || waits(transcript, &refutation.changes, served, k)
-}
-
 // Whether one of these surely comes before request k, and was not served.
 fn waits(transcript: &Transcript, among: &[u64], served: &[u64], k: u64) -> bool
     ensures { IsTrue result → (p : ℕ) × (has among.now p ≡ true) × (has served.now p ≡ false) × IsBefore transcript.now p k }
@@ -209,18 +188,6 @@ fn waits(transcript: &Transcript, among: &[u64], served: &[u64], k: u64) -> bool
         }
     }
     false
-}
-
-/// Whether in no state all READs are served.
-pub fn ends(refutation: &Refutation) -> bool
-    ensures { let f = refutation.now in IsTrue result → NoneIsLast f.reads.items f.states.items }
-{
-    for state in &refutation.states {
-        if !is_unfinished(&refutation.reads, &state.served) {
-            return false;
-        }
-    }
-    true
 }
 
 // Whether some of these READs is not served.

@@ -1,8 +1,4 @@
-//! Sessions, and what is found for them.
+//! Refutations by hand. tools/test_search.py has sessions at random.
 
-mod brute;
-mod dice;
-mod random;
 mod recordings;
 mod refutations;
-mod server;

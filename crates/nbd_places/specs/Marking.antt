@@ -9,14 +9,15 @@ use Rattle.nbd_wire.specs.protocol.Rules.{IsRun}
 use Rattle.nbd_wire.specs.protocol.Splits.{HoldsAt, IsClear, IsPlace, IsSplit, IsUnderWay, IsWholeAt}
 use Rattle.nbd_wire.specs.protocol.Within.{Begins, BeginsNoRun, within}
 
--- in a run no row holds before any byte: open bytes of which one holds, fewer than a whole message, begin no message that the run
--- can take. Of a message's last byte CompletionsAreClear speaks
+-- in a run no row holds before any byte: open bytes of which one holds, fewer than a whole message, begin no message
+-- that the run can take. Of a message's last byte CompletionsAreClear speaks
 abbrev pub RunsAreClear : Type 0
 RunsAreClear = (items : List Item) → IsRun items → ArePairs (pairs items) → IsClear items
 
 -- with the last byte of a message of a run its side's open bytes are whole, and no row holds of them
 abbrev pub CompletionsAreClear : Type 0
-CompletionsAreClear = (items : List Item) → IsRun items → ArePairs (pairs items) → (before more : List Item) (s : Side) (b : ℕ) (m : Message) →
+CompletionsAreClear = (items : List Item) → IsRun items → ArePairs (pairs items)
+    → (before more : List Item) (s : Side) (b : ℕ) (m : Message) →
     items ≡ before ++ Byte s b ∷ Completes s m ∷ more →
     IsWholeAt (before ++ Byte s b ∷ []) × ((fault : WireFault) → HoldsAt fault (before ++ Byte s b ∷ []) → ⊥)
 
@@ -28,16 +29,19 @@ BeginningsAreClear = (items : List Item) (ps : List Pair) → IsRun items → Ar
 -- two splits of bytes, at neither of which a row holds before a byte, agree on what completed before the last one
 abbrev pub SplitsAgree : Type 0
 SplitsAgree = (prefix : List Pair) (last : Pair) (items others : List Item) (messages more : List Message) →
-    IsSplit items (prefix ++ last ∷ []) messages → IsSplit others (prefix ++ last ∷ []) more → IsClear items → IsClear others →
+    IsSplit items (prefix ++ last ∷ []) messages → IsSplit others (prefix ++ last ∷ []) more → IsClear items
+    → IsClear others →
     within (length prefix) items ≡ within (length prefix) others
 
 -- two sessions under way of the same bytes have the same messages
 abbrev pub UnderWayAgree : Type 0
-UnderWayAgree = (ps : List Pair) (messages more : List Message) → IsUnderWay ps messages → IsUnderWay ps more → messages ≡ more
+UnderWayAgree = (ps : List Pair) (messages more : List Message) → IsUnderWay ps messages → IsUnderWay ps more
+    → messages ≡ more
 
 -- no run begins with bytes that have a place
 abbrev pub PlacesBeginNoRun : Type 0
-PlacesBeginNoRun = (ps : List Pair) (messages : List Message) (fault : WireFault) → IsPlace ps messages fault → BeginsNoRun ps
+PlacesBeginNoRun = (ps : List Pair) (messages : List Message) (fault : WireFault) → IsPlace ps messages fault
+    → BeginsNoRun ps
 
 -- bytes have one place at most
 abbrev pub HaveOnePlace : Type 0

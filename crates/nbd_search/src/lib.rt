@@ -5,14 +5,15 @@
 mod columns;
 mod contest;
 mod order;
+mod progress;
 pub mod proposal;
-mod ranges;
 mod register;
 mod scene;
 mod search;
 mod sweep;
-pub mod work;
+mod work;
 
-pub use proposal::{Contest, Proposal, Reason};
+pub use progress::Progress;
+pub use proposal::{Place, Proposal, Reason};
 pub use search::propose;
-pub use work::{Limits, Stage, Watch};
+pub use work::{Limits, keep};

@@ -1,139 +1,141 @@
-//! The search of ranges, one after the other.
+//! The ranges that the same requests touch, one after the other: those that the present order leaves wrong are searched.
 
-use crate::proposal::Contest;
-use crate::ranges::Ranges;
-use crate::scene::{NEVER, Patch};
-use crate::sweep::{Operation, Sweep, UNKNOWN};
-use crate::work::{Stage, Stop, Watch, Work};
-use std::alloc::{AllocError, Global};
-use std::collections::BTreeMap;
+use crate::proposal::Reason;
+use crate::scene::{NEVER, Patch, Scene, Source};
+use crate::sweep::{Kept, Outcome, Sweep};
+use crate::work::{End, Work, keep};
+use std::alloc::Global;
 
 /// A range whose bytes are taken as one value.
 #[derive(Drop)]
-pub struct Register<'a> {
-    /// What holds its first offset, by the moments of the requests.
-    pub active: Vec<Patch<'a>>,
+pub struct Register {
+    // What holds its first offset, by the moments of the requests.
+    active: Vec<Patch>,
     // The place of the patch that may begin next.
     next: usize,
-    values: BTreeMap<Option<Option<&'a [u8]>>, usize>,
     /// What is done in it, by the numbers of the requests.
-    pub operations: Vec<Operation>,
+    pub operations: Vec<Patch>,
     /// Its search.
     pub sweep: Sweep,
-    /// Requests of a byte that has no order.
-    pub contest: Contest,
+    /// What is served in the ranges that were searched: it binds the order of all requests.
+    pub kept: Vec<Kept>,
 }
 
-impl<'a> Register<'a> {
-    /// Nothing is done in it.
-    pub fn new(alloc: Global) -> Register<'a> {
+impl Register {
+    /// Nothing is searched.
+    pub fn new(alloc: Global, work: Work) -> Register {
         Register {
             active: Vec::new(alloc),
             next: 0,
-            values: BTreeMap::new(alloc),
             operations: Vec::new(alloc),
-            sweep: Sweep::new(alloc),
-            contest: Contest {
-                offset: 0,
-                reads: Vec::new(alloc),
-                changes: Vec::new(alloc),
-            },
+            sweep: Sweep::new(alloc, work),
+            kept: Vec::new(alloc),
         }
     }
 
-    /// Goes back before the first offset.
-    pub fn rewind(&mut self) {
+    /// Goes through the ranges that the same requests touch, and searches those that the present order leaves wrong; whether another
+    /// order has to be made.
+    pub fn survey(&mut self, source: &Source, scene: &mut Scene) -> bool {
         self.active.clear();
         self.next = 0;
-    }
-
-    /// Goes on to an offset; the requests have these moments.
-    pub fn enter(
-        &mut self,
-        offset: u64,
-        patches: &[Patch<'a>],
-        moments: &[(usize, usize)],
-    ) -> Result<(), AllocError> {
-        self.active.retain(|patch| patch.hi > offset);
-        for patch in patches.get(self.next..).unwrap_or(&[]) {
-            if patch.lo > offset || patch.request >= moments.len() {
+        let mut is_wrong = false;
+        for i in 1..scene.cuts.len() {
+            let ((lo, searched), (hi, _)) = (scene.cuts[i - 1], scene.cuts[i]);
+            self.enter(lo, scene);
+            let request = self.wrong_read(source, lo, hi);
+            if self.sweep.work.is_over() {
                 break;
             }
-            let mut patch = *patch;
-            patch.moment = moments[patch.request];
-            self.active.push(patch)?;
-            self.next = self.next.saturating_add(1);
+            if request > 0 && searched == hi {
+                scene.is_torn = true;
+            } else if request > 0 {
+                is_wrong = true;
+                scene.cuts[i - 1].1 = hi;
+                self.sweep.work.place.request = request as u64;
+                self.settle(source, lo, hi, &mut scene.is_torn);
+            }
         }
-        self.active
-            .sort_unstable_by_key(|patch| (patch.moment, patch.request));
-        Ok(())
+        self.kept.sort_unstable();
+        is_wrong && !self.sweep.work.is_over()
     }
 
-    /// The first READ that gets wrong bytes from `lo` to before `hi`; 0 where there is none.
-    pub fn wrong_read(&self, lo: u64, hi: u64) -> usize {
+    // Goes on to an offset.
+    fn enter(&mut self, offset: u64, scene: &Scene) {
+        self.active.retain(|patch| patch.hi > offset);
+        let first = self.next;
+        for i in first..scene.patches.len() {
+            let mut patch = scene.patches[i];
+            if patch.lo > offset || patch.request >= scene.requests.len() {
+                break;
+            }
+            patch.moment = scene.requests[patch.request].moment;
+            keep(&mut self.active, patch, &mut self.sweep.work.is_lost);
+            self.next = i + 1;
+        }
+        if self.next > first {
+            self.active
+                .sort_unstable_by_key(|patch| (patch.moment, patch.request));
+        }
+        self.sweep.work.spend(self.active.len().saturating_mul(8));
+    }
+
+    // The first READ that gets wrong bytes from `lo` to before `hi`; 0 where there is none.
+    fn wrong_read(&self, source: &Source, lo: u64, hi: u64) -> usize {
         let mut now = None;
         for patch in &self.active {
-            let content = patch.content(lo, hi);
             if patch.moment.0 == NEVER {
                 break;
-            } else if !patch.is_read {
-                now = content;
-            } else if now.is_some() && now != content {
+            }
+            let value = source.value(patch, lo, hi);
+            if !patch.is_read {
+                now = value;
+            } else if now.is_some() && now != value {
                 return patch.request;
             }
         }
         0
     }
 
-    /// Looks for an order from `lo` to before `hi`: of all as one value, else of shorter ranges, each for itself.
-    pub fn settle<W: Watch>(
-        &mut self,
-        work: &mut Work<W>,
-        ranges: &mut Ranges,
-        lo: u64,
-        hi: u64,
-    ) -> Result<(), Stop> {
+    // Looks for an order from `lo` to before `hi`: of all as one value, else of shorter ranges, each for itself, and then the range is
+    // torn.
+    fn settle(&mut self, source: &Source, lo: u64, hi: u64, is_torn: &mut bool) {
         let (mut at, mut end) = (lo, hi);
         for _ in lo..u64::MAX {
-            work.offset = at;
-            work.stage = Stage::Ranges(ranges.all.len() as u64);
-            self.number(at, end)?;
-            match self.sweep.run(work, &self.operations)? {
-                None => {
-                    ranges.add(at, end, &self.sweep)?;
+            self.sweep.work.place.offset = at;
+            self.number(source, at, end);
+            match self.sweep.run(&self.operations) {
+                Outcome::Order => {
+                    self.sweep.trace(at, end, &mut self.kept);
                     if end >= hi {
                         break;
                     }
                     (at, end) = (end, hi);
                 }
-                Some(slot) => {
-                    ranges.is_torn = true;
+                Outcome::NoOrder(slot) => {
+                    *is_torn = true;
                     end = at.saturating_add(end.saturating_sub(at) / 2);
                     if end <= at {
-                        return self.refute(work, slot);
+                        self.refute(slot);
+                        break;
                     }
+                }
+                Outcome::BrokenOff => {
+                    let end = End::GaveUp(Reason::States);
+                    self.sweep.work.end.get_or_insert(end);
+                    break;
                 }
             }
         }
-        Ok(())
     }
 
     // Numbers what is done from `lo` to before `hi`: the same bytes have the same number.
-    fn number(&mut self, lo: u64, hi: u64) -> Result<(), AllocError> {
+    fn number(&mut self, source: &Source, lo: u64, hi: u64) {
         self.operations.clear();
-        self.values.clear();
-        self.values.insert(None, UNKNOWN)?;
         for patch in &self.active {
-            let content = patch.content(lo, hi);
-            let value = match self.values.get(&content) {
-                Some(value) => *value,
-                None => self.values.len(),
-            };
-            self.values.insert(content, value)?;
-            let one = Operation::new(patch.request, patch.due, patch.is_read, value);
-            self.operations.push(one)?;
+            let value = source.value(patch, lo, hi);
+            let one = Patch { value, ..*patch };
+            keep(&mut self.operations, one, &mut self.sweep.work.is_lost);
         }
         self.operations.sort_unstable_by_key(|one| one.request);
-        Ok(())
     }
 }

@@ -1,101 +1,61 @@
 //! The search as a whole: an order, or requests that refute each.
 
-use crate::order::Order;
-use crate::proposal::Proposal;
-use crate::ranges::Ranges;
+use crate::contest::contest_of;
+use crate::order::entries_of;
+use crate::progress::Progress;
+use crate::proposal::{Place, Proposal};
 use crate::register::Register;
-use crate::scene::Scene;
-use crate::work::{Limits, Stage, Stop, Watch, Work};
+use crate::scene::{Scene, Source};
+use crate::work::{End, Limits, Work};
 use nbd_export::Start;
 use nbd_session::Transcript;
 use std::alloc::{AllocError, Global};
 
-/// Looks for an order that explains the session from this start, or for requests that refute each. `watch` is told how far it is,
-/// several times a second. An `Err` says that memory ran out.
-pub fn propose<W: Watch>(
+/// Looks for an order that explains the session from this start, or for requests that refute each, where the order of arrival has this
+/// wrong byte. Several times a second it says on `progress` how far it is. An `Err` says that memory ran out.
+pub fn propose<'a>(
     alloc: Global,
-    transcript: &Transcript,
-    start: &Start,
+    transcript: &'a Transcript,
+    start: &'a Start,
     limits: Limits,
-    watch: &mut W,
+    wrong: Place,
+    progress: &mut Progress,
 ) -> Result<Proposal, AllocError> {
-    let mut work = Work::new(alloc, limits, watch);
-    match searched(&mut work, transcript, start) {
-        Ok(proposal) => Ok(proposal),
-        Err(Stop::Memory | Stop::Refuted) => Err(AllocError),
-        Err(Stop::GaveUp(reason)) => Ok(Proposal::GaveUp {
-            request: work.request as u64,
-            offset: work.offset,
-            reason,
-        }),
-    }
+    let source = Source { transcript, start };
+    let mut register = Register::new(alloc, Work::new(limits, wrong, *progress));
+    let mut scene = Scene::new(alloc, &mut register.sweep.work, &source);
+    refine(&source, &mut register, &mut scene);
+    *progress = register.sweep.work.progress;
+    proposal_of(alloc, &mut register, &scene)
 }
 
-fn searched<W: Watch>(
-    work: &mut Work<W>,
-    transcript: &Transcript,
-    start: &Start,
-) -> Result<Proposal, Stop> {
-    let mut scene = Scene::new(work.alloc);
-    scene.fill(transcript, start)?;
-    proposal_of(work, &scene)
-}
-
-fn proposal_of<W: Watch>(work: &mut Work<W>, scene: &Scene) -> Result<Proposal, Stop> {
-    let mut order = Order::new(work.alloc);
-    let mut register = Register::new(work.alloc);
-    match refine(work, scene, &mut order, &mut register) {
-        Ok(()) => Ok(Proposal::Order(order.entries)),
-        Err(Stop::Refuted) => Ok(Proposal::Contest(register.contest)),
-        Err(stop) => Err(stop),
+// What the search came to.
+fn proposal_of(
+    alloc: Global,
+    register: &mut Register,
+    scene: &Scene,
+) -> Result<Proposal, AllocError> {
+    let work = &mut register.sweep.work;
+    let proposal = match work.end {
+        None => Proposal::Order(entries_of(alloc, work, scene, &register.kept)),
+        Some(End::Refuted) => contest_of(alloc, work, &register.operations),
+        Some(End::GaveUp(reason)) => Proposal::GaveUp(work.place, reason),
+    };
+    if work.is_lost {
+        Err(AllocError)
+    } else {
+        Ok(proposal)
     }
 }
 
 // The requests are ordered as the ranges want it; each range that this leaves wrong is searched and binds the order from then on,
-// until none is wrong. The first order is that of arrival. Where whole requests have none, they are served in parts.
-fn refine<'a, W: Watch>(
-    work: &mut Work<W>,
-    scene: &Scene<'a>,
-    order: &mut Order,
-    register: &mut Register<'a>,
-) -> Result<(), Stop> {
-    let mut ranges = Ranges::new(work.alloc);
+// until none is wrong, or whole requests have no order. The first order is that of arrival.
+fn refine(source: &Source, register: &mut Register, scene: &mut Scene) {
     for round in 1..u64::MAX {
-        work.stage = Stage::Round(round);
-        ranges.begin();
-        if ranges.is_torn || !order.arrange(work, &scene.requests, &ranges.all)? {
+        register.sweep.work.progress.rounds = round;
+        scene.arrange(&mut register.sweep.work, &register.kept);
+        if scene.is_torn || !register.survey(source, scene) {
             break;
         }
-        survey(work, scene, order, &mut ranges, register)?;
-        if ranges.is_right {
-            return Ok(());
-        }
     }
-    Ok(order.serve_in_parts(&scene.requests, &ranges.all)?)
-}
-
-// Goes through the ranges that the same requests touch, and searches those that the present order leaves wrong.
-fn survey<'a, W: Watch>(
-    work: &mut Work<W>,
-    scene: &Scene<'a>,
-    order: &Order,
-    ranges: &mut Ranges,
-    register: &mut Register<'a>,
-) -> Result<(), Stop> {
-    register.rewind();
-    let mut lo = 0;
-    for hi in &scene.ends {
-        work.spend(register.active.len().saturating_add(8))?;
-        let request = register.wrong_read(lo, *hi);
-        if request > 0 && ranges.has(lo) {
-            ranges.is_torn = true;
-        } else if request > 0 {
-            work.request = request;
-            ranges.is_right = false;
-            register.settle(work, ranges, lo, *hi)?;
-        }
-        register.enter(*hi, &scene.patches, &order.moments)?;
-        lo = *hi;
-    }
-    Ok(())
 }

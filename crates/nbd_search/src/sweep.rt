@@ -4,176 +4,156 @@
 //! to its value or hidden directly before the last switch; a READ in its last slot takes an open change of its value with it, in the
 //! same way.
 
-use crate::columns::Columns;
-use crate::proposal::Reason;
-use crate::scene::NEVER;
-use crate::work::{Stop, Watch, Work};
-use std::alloc::{AllocError, Global};
+use crate::columns::{COUNT, Columns};
+use crate::scene::{NEVER, Patch};
+use crate::work::{Work, keep};
+use std::alloc::Global;
+use std::mem;
 
-/// The value of unknown bytes.
-pub const UNKNOWN: usize = 0;
+/// What is served in a range: its first offset and the one behind it, the turn and the place in that, and the request. So they are
+/// sorted by ranges, and in a range as they are served.
+pub type Kept = (u64, u64, usize, usize, usize);
 
-/// What of a request concerns a range.
+/// What a search comes to.
 #[derive(Clone, Copy, Drop)]
-pub struct Operation {
-    /// Its number, counted from 1; 0 for the start.
-    pub request: usize,
-    /// The last slot in which it may be served, or `NEVER`.
-    pub due: usize,
-    /// It reads.
-    pub is_read: bool,
-    /// What it reads or leaves, by its number among the values of the range.
-    pub value: usize,
-    /// It is left out.
-    pub is_out: bool,
-    /// It is left out for good.
-    pub is_gone: bool,
-    // Its column while it is open.
-    column: usize,
+pub enum Outcome {
+    /// There is an order.
+    Order,
+    /// There is none, as came out in this slot.
+    NoOrder(usize),
+    /// There were too many states, or the search as a whole is over.
+    BrokenOff,
 }
 
-impl Operation {
-    /// What a request does.
-    pub fn new(request: usize, due: usize, is_read: bool, value: usize) -> Operation {
-        Operation {
-            request,
-            due,
-            is_read,
-            value,
-            is_out: false,
-            is_gone: false,
-            column: 0,
-        }
-    }
-
-    /// Whether it is a READ that can find this where that was left.
-    pub fn reads(&self, left: usize) -> bool {
-        self.is_read && (left == UNKNOWN || left == self.value)
-    }
-}
-
-/// An operation that was served.
+// A request that was served.
 #[derive(Clone, Copy, Drop)]
-pub struct Served {
-    /// What was served.
-    pub operation: Operation,
+struct Served {
+    request: usize,
     // What one state has served is in order where it is by turns, and then by places in the log.
     turn: usize,
-    // The place of what the state served before in the log, behind it; 0 for nothing.
-    place: usize,
+    // The place of what the state served before it in the log, behind that; 0 for nothing.
+    before: usize,
 }
 
 // One way in which the operations so far can have been served.
 #[derive(Clone, Copy, Drop)]
 struct State {
-    value: usize,
+    value: Option<u64>,
     // The slot of the last switch.
     last: usize,
     // Twice as many as there were switches.
     turn: usize,
     // The place of what was served last in the log, behind it.
     log: usize,
-    // Of the open operations those that were served.
-    used: Columns,
-    // How many changes it has used, and READs it has not.
-    distance: u32,
+    // What stands against it: of the open operations the changes that it has served, and the READs that it has not. In the column of
+    // one that is closed all states are alike.
+    debt: Columns,
+}
+
+impl State {
+    // Whether it has served an open operation.
+    fn has_served(&self, one: &Patch) -> bool {
+        self.debt.has(one.column) != one.is_read
+    }
+
+    // Serves an operation, before its last switch or behind it.
+    fn serve(&mut self, one: &Patch, behind: usize, log: &mut Vec<Served>, is_lost: &mut bool) {
+        let served = Served {
+            request: one.request,
+            turn: self.turn.saturating_add(behind),
+            before: self.log,
+        };
+        keep(log, served, is_lost);
+        self.log = log.len();
+        self.debt.flip(one.column);
+    }
 }
 
 /// A search that goes on slot by slot.
 #[derive(Drop)]
 pub struct Sweep {
-    // The operations that have arrived and are not due yet.
-    open: Vec<Operation>,
-    // Their columns, and those of the READs among them.
-    taken: Columns,
-    reads: Columns,
+    alloc: Global,
+    /// What it may cost.
+    pub work: Work,
+    // The operations that have arrived and are not due yet, by their columns; what is closed has no request.
+    open: Vec<Patch>,
     states: Vec<State>,
     log: Vec<Served>,
     // The last slot that was gone through.
     slot: usize,
-    // Steps that were not counted yet.
-    steps: usize,
+    // There were too many states or columns.
+    is_wide: bool,
 }
 
 impl Sweep {
     /// A search that has not begun.
-    pub fn new(alloc: Global) -> Sweep {
+    pub fn new(alloc: Global, work: Work) -> Sweep {
         Sweep {
+            alloc,
+            work,
             open: Vec::new(alloc),
-            taken: Columns::new(),
-            reads: Columns::new(),
             states: Vec::new(alloc),
             log: Vec::new(alloc),
             slot: 0,
-            steps: 0,
+            is_wide: false,
         }
     }
 
-    /// Serves these operations, which stand by their numbers; the slot in which that was impossible, if it was.
-    pub fn run<W: Watch>(
-        &mut self,
-        work: &mut Work<W>,
-        operations: &[Operation],
-    ) -> Result<Option<usize>, Stop> {
-        self.begin()?;
+    /// Serves these operations, which stand by their numbers.
+    pub fn run(&mut self, operations: &[Patch]) -> Outcome {
+        self.begin();
         for one in operations {
-            if self.states.is_empty() {
-                break;
-            }
-            if !one.is_out {
-                self.go_on(work, one.request)?;
-                self.arrive(one)?;
+            if !one.is_out && !self.has_ended() {
+                self.go_on(one.request);
+                self.arrive(one);
             }
         }
-        self.go_on(work, NEVER)?;
-        Ok(if self.states.is_empty() {
-            Some(self.slot)
+        self.go_on(NEVER);
+        if self.is_wide || self.work.is_over() {
+            Outcome::BrokenOff
+        } else if self.states.is_empty() {
+            Outcome::NoOrder(self.slot)
         } else {
-            None
-        })
+            Outcome::Order
+        }
     }
 
     // Nothing has arrived and nothing is known.
-    fn begin(&mut self) -> Result<(), AllocError> {
+    fn begin(&mut self) {
+        self.work.progress.searches = self.work.progress.searches.saturating_add(1);
         self.open.clear();
-        self.taken = Columns::new();
-        self.reads = Columns::new();
         self.log.clear();
         self.states.clear();
-        self.states.push(State {
-            value: UNKNOWN,
+        self.is_wide = false;
+        let state = State {
+            value: None,
             last: 0,
             turn: 0,
             log: 0,
-            used: Columns::new(),
-            distance: 0,
-        })?;
-        Ok(())
+            debt: Columns::new(),
+        };
+        keep(&mut self.states, state, &mut self.work.is_lost);
+    }
+
+    // Whether it is of no use to go on.
+    fn has_ended(&self) -> bool {
+        self.states.is_empty() || self.is_wide || self.work.is_over()
     }
 
     // Goes through the slots before the arrival of a request, while there are states.
-    fn go_on<W: Watch>(&mut self, work: &mut Work<W>, request: usize) -> Result<(), Stop> {
-        work.spend(self.states.len().saturating_add(32))?;
+    fn go_on(&mut self, request: usize) {
+        self.work.spend(self.states.len().saturating_add(32));
         for _ in 0..self.open.len() {
-            let Some(one) = self.next_due(request) else {
-                break;
-            };
-            if self.states.is_empty() {
-                break;
+            match self.next_due(request) {
+                Some(one) if !self.has_ended() => self.fall_due(&one),
+                _ => break,
             }
-            self.slot = one.due;
-            self.steps = self.states.len();
-            self.fall_due(&one)?;
-            work.spend(self.steps)?;
-            if self.states.len() as u64 > work.limits.states {
-                return Err(Stop::GaveUp(Reason::States));
-            }
+            self.is_wide |= self.states.len() as u64 > self.work.limits.states;
         }
-        Ok(())
     }
 
     // Of the open operations that are due before the arrival of a request the first.
-    fn next_due(&self, request: usize) -> Option<Operation> {
+    fn next_due(&self, request: usize) -> Option<Patch> {
         let (mut found, mut due) = (None, request);
         for one in &self.open {
             if one.due < due {
@@ -184,96 +164,97 @@ impl Sweep {
     }
 
     // An operation arrives: a READ is served where it matches.
-    fn arrive(&mut self, one: &Operation) -> Result<(), Stop> {
-        let Some(column) = self.taken.free() else {
-            return Err(Stop::GaveUp(Reason::States));
-        };
-        let one = Operation { column, ..*one };
-        self.taken.add(column);
-        if one.is_read {
-            self.reads.add(column);
-        }
-        for state in self.states.iter_mut() {
-            if one.reads(state.value) {
-                serve(&mut self.log, state, 1, &one)?;
+    fn arrive(&mut self, one: &Patch) {
+        let mut column = self.open.len();
+        for place in 0..self.open.len() {
+            if self.open[place].request == NEVER {
+                column = place;
             }
         }
-        self.open.push(one)?;
-        Ok(())
+        let one = Patch { column, ..*one };
+        if column < self.open.len() {
+            self.open[column] = one;
+        } else {
+            keep(&mut self.open, one, &mut self.work.is_lost);
+        }
+        self.is_wide |= column >= COUNT;
+        self.begin_with(&one);
+    }
+
+    // No state has served what arrives; a READ is served where it matches.
+    fn begin_with(&mut self, one: &Patch) {
+        for state in self.states.iter_mut() {
+            if state.has_served(one) {
+                state.debt.flip(one.column);
+            }
+            if one.reads(state.value) {
+                state.serve(one, 1, &mut self.log, &mut self.work.is_lost);
+            }
+        }
     }
 
     // An operation is in its last slot: each state that has not served it does so, in each way.
-    fn fall_due(&mut self, one: &Operation) -> Result<(), AllocError> {
-        for place in 0..self.states.len() {
-            if let Some(state) = self.states.get(place).copied() {
-                if !state.used.has(one.column) {
-                    self.branch(state, one)?;
-                }
+    fn fall_due(&mut self, one: &Patch) {
+        self.slot = one.due;
+        let states = mem::replace(&mut self.states, Vec::new(self.alloc));
+        for state in &states {
+            if state.has_served(one) {
+                keep(&mut self.states, *state, &mut self.work.is_lost);
+            } else {
+                self.branch(state, one);
             }
         }
-        self.close(one.column);
+        if let Some(open) = self.open.get_mut(one.column) {
+            (open.request, open.due) = (NEVER, NEVER);
+        }
         self.prune();
-        Ok(())
     }
 
     // Adds what a state becomes by serving what is due: by a switch in this slot to a change with which it is served, or where that
     // change is hidden directly before the last switch.
-    fn branch(&mut self, state: State, one: &Operation) -> Result<(), AllocError> {
-        for value in [one.value, UNKNOWN] {
-            self.put(state, one, value, self.slot, true)?;
+    fn branch(&mut self, state: &State, one: &Patch) {
+        for value in [one.value, None] {
+            self.put(state, one, value, true);
             if state.turn > 0 {
-                self.put(state, one, value, state.last, false)?;
+                self.put(state, one, value, false);
             }
             if !one.is_read {
                 break;
             }
         }
-        Ok(())
     }
 
-    // Adds the state with what is due served by such a change to this value in a slot, and with the open READs that match it and had
-    // arrived there; if there is such a change.
-    fn put(
-        &mut self,
-        state: State,
-        one: &Operation,
-        value: usize,
-        slot: usize,
-        is_switch: bool,
-    ) -> Result<(), AllocError> {
-        self.steps = self
-            .steps
-            .saturating_add(self.open.len())
-            .saturating_add(32);
-        let Some(change) = self.change(&state, one, value, slot) else {
-            return Ok(());
+    // Adds the state with what is due served by such a change to this value, by a switch or hidden, and with the open READs that match
+    // it and had arrived there; if there is such a change.
+    fn put(&mut self, state: &State, one: &Patch, value: Option<u64>, is_switch: bool) {
+        self.work.spend(self.open.len().saturating_add(32));
+        let slot = if is_switch { self.slot } else { state.last };
+        let Some(change) = self.change(state, one, value, slot) else {
+            return;
         };
-        let mut state = state;
+        let mut state = *state;
         if is_switch {
             state.value = value;
             state.last = slot;
             state.turn = state.turn.saturating_add(2);
         }
-        let behind = usize::from(is_switch);
-        serve(&mut self.log, &mut state, behind, &change)?;
+        self.serve_all(&mut state, &change, slot, usize::from(is_switch));
+        keep(&mut self.states, state, &mut self.work.is_lost);
+    }
+
+    // A state serves a change in this slot, and with it the open READs that match it and had arrived there.
+    fn serve_all(&mut self, state: &mut State, change: &Patch, slot: usize, behind: usize) {
+        state.serve(change, behind, &mut self.log, &mut self.work.is_lost);
         for open in &self.open {
-            if open.reads(value) && open.request <= slot && !state.used.has(open.column) {
-                serve(&mut self.log, &mut state, behind, open)?;
+            if open.reads(change.value) && open.request <= slot && !state.has_served(open) {
+                state.serve(open, behind, &mut self.log, &mut self.work.is_lost);
             }
         }
-        self.states.push(state)?;
-        Ok(())
     }
 
     // The change with which what is due is served, if it had arrived at this slot: itself, or of the open changes to this value that
     // had arrived then and that the state has not served the one with the earliest last slot.
-    fn change(
-        &self,
-        state: &State,
-        one: &Operation,
-        value: usize,
-        slot: usize,
-    ) -> Option<Operation> {
+    fn change(&self, state: &State, one: &Patch, value: Option<u64>, slot: usize) -> Option<Patch> {
         if one.request > slot {
             return None;
         }
@@ -282,61 +263,35 @@ impl Sweep {
         }
         let (mut found, mut due) = (None, NEVER);
         for open in &self.open {
-            if !open.is_read
-                && open.value == value
-                && open.request <= slot
-                && open.due <= due
-                && !state.used.has(open.column)
-            {
+            let is_such = !open.is_read && open.value == value && open.request <= slot;
+            if is_such && open.due <= due && !state.has_served(open) {
                 (found, due) = (Some(*open), open.due);
             }
         }
         found
     }
 
-    // Leaves the states that have served what was due in this column.
-    fn close(&mut self, column: usize) {
-        self.states.retain(|state| state.used.has(column));
-        self.open.retain(|open| open.column != column);
-        self.taken.remove(column);
-        self.reads.remove(column);
-        for state in self.states.iter_mut() {
-            state.used.remove(column);
-            state.distance = state.used.distance(&self.reads);
-        }
-    }
-
     // Drops each state for which another one can stand.
     fn prune(&mut self) {
-        self.states.sort_unstable_by_key(|state| (
-            state.value,
-            usize::MAX - state.last,
-            state.distance,
-        ));
-        let (mut first, mut kept, mut value) = (0, 0, UNKNOWN);
-        for place in 0..self.states.len() {
-            let Some(state) = self.states.get(place).copied() else {
-                break;
-            };
+        let mut states = mem::replace(&mut self.states, Vec::new(self.alloc));
+        states.sort_unstable_by_key(|state| (state.value, NEVER - state.last, state.debt.words));
+        let (mut first, mut value) = (0, None);
+        for state in &states {
             if state.value != value {
-                (first, value) = (kept, state.value);
+                (first, value) = (self.states.len(), state.value);
             }
-            self.steps = self.steps.saturating_add(kept).saturating_sub(first);
-            if !self.is_dominated(&state, first, kept) {
-                if let Some(at) = self.states.get_mut(kept) {
-                    *at = state;
-                }
-                kept = kept.saturating_add(1);
+            self.work.spend(self.states.len().saturating_sub(first));
+            if !self.is_dominated(state, first) {
+                keep(&mut self.states, *state, &mut self.work.is_lost);
             }
         }
-        self.states.truncate(kept);
     }
 
-    // Whether one of the states from `first` to before `behind` has served all READs that this one has, and of the changes none
-    // besides, and can still hide the changes that this one has served besides: they had arrived before its last switch.
-    fn is_dominated(&self, state: &State, first: usize, behind: usize) -> bool {
-        for other in self.states.get(first..behind).unwrap_or(&[]) {
-            if other.used.is_ahead_of(&state.used, &self.reads) && self.can_hide(other, state) {
+    // Whether one of the states from `first` on has no more against it than this one, and can still hide the changes that this one
+    // has served besides: they had arrived before its last switch.
+    fn is_dominated(&self, state: &State, first: usize) -> bool {
+        for other in self.states.get(first..).unwrap_or(&[]) {
+            if other.debt.are_among(&state.debt) && self.can_hide(other, state) {
                 return true;
             }
         }
@@ -345,20 +300,16 @@ impl Sweep {
 
     fn can_hide(&self, other: &State, state: &State) -> bool {
         for one in &self.open {
-            if !one.is_read
-                && one.request > other.last
-                && state.used.has(one.column)
-                && !other.used.has(one.column)
-            {
+            let is_late = !one.is_read && one.request > other.last;
+            if is_late && state.has_served(one) && !other.has_served(one) {
                 return false;
             }
         }
         true
     }
 
-    /// What was served, in its order.
-    pub fn order(&self, alloc: Global) -> Result<Vec<Served>, AllocError> {
-        let mut order = Vec::new(alloc);
+    /// Adds what was served in this range to a list.
+    pub fn trace(&mut self, lo: u64, hi: u64, list: &mut Vec<Kept>) {
         let mut place = match self.states.get(0) {
             Some(state) => state.log,
             None => 0,
@@ -367,27 +318,9 @@ impl Sweep {
             let Some(one) = self.log.get(place.wrapping_sub(1)) else {
                 break;
             };
-            order.push(Served { place, ..*one })?;
-            place = one.place;
+            let kept = (lo, hi, one.turn, place, one.request);
+            keep(list, kept, &mut self.work.is_lost);
+            place = one.before;
         }
-        order.sort_unstable_by_key(|one| (one.turn, one.place));
-        Ok(order)
     }
-}
-
-// A state serves an operation, before its last switch or behind it.
-fn serve(
-    log: &mut Vec<Served>,
-    state: &mut State,
-    behind: usize,
-    operation: &Operation,
-) -> Result<(), AllocError> {
-    log.push(Served {
-        operation: *operation,
-        turn: state.turn.saturating_add(behind),
-        place: state.log,
-    })?;
-    state.log = log.len();
-    state.used.add(operation.column);
-    Ok(())
 }

@@ -1,9 +1,9 @@
-//! What a search may cost, who is told of it, and why it ends early.
+//! What a search may cost, and why it is over.
 
-use crate::proposal::Reason;
-use std::alloc::{AllocError, AllocFailed, Global};
+use crate::progress::Progress;
+use crate::proposal::{Place, Reason};
 
-/// How many steps pass before the watch is told again.
+/// How many steps pass before it is told again how far a search is.
 const PAUSE: u64 = 1 << 23;
 
 /// What a search may cost.
@@ -26,89 +26,62 @@ impl Limits {
     }
 }
 
-/// What a search is at.
+/// Why a search is over before it has an order.
 #[derive(Clone, Copy, Drop)]
-pub enum Stage {
-    /// All requests are put into an order and replayed, for this time, counted from 1.
-    Round(u64),
-    /// Ranges that the order leaves wrong are searched one by one; so many have an order.
-    Ranges(u64),
-    /// A byte has no order, and of its requests so many are left to show it.
-    Shrinking(u64),
-}
-
-/// Who is told how far a search is.
-pub trait Watch {
-    /// The search is at this stage.
-    fn see(&mut self, stage: Stage);
-}
-
-/// Why a search ends early.
-#[derive(Clone, Copy, Drop)]
-pub enum Stop {
-    /// Memory ran out.
-    Memory,
+pub enum End {
     /// It is broken off.
     GaveUp(Reason),
     /// There is no order, as the contest shows that was found.
     Refuted,
 }
 
-impl From<AllocError> for Stop {
-    fn from(_error: AllocError) -> Stop {
-        Stop::Memory
-    }
-}
-
-impl<T: Drop> From<AllocFailed<T>> for Stop {
-    fn from(_error: AllocFailed<T>) -> Stop {
-        Stop::Memory
-    }
-}
-
 /// The steps that are left, and where the search is.
 #[derive(Drop)]
-pub struct Work<'a, W> {
-    /// Where memory comes from.
-    pub alloc: Global,
-    /// What the search may cost.
+pub struct Work {
+    /// What the search may cost; of the steps those that are left.
     pub limits: Limits,
-    /// The READ that is looked at, counted from 1; 0 until a range is searched.
-    pub request: usize,
-    /// The offset that is looked at, in bytes from the export's start.
-    pub offset: u64,
-    /// What the search is at.
-    pub stage: Stage,
-    left: u64,
-    told: u64,
-    watch: &'a mut W,
+    /// What is looked at.
+    pub place: Place,
+    /// Why it is over, if it is.
+    pub end: Option<End>,
+    /// Memory was refused: what the search has come to is of no use.
+    pub is_lost: bool,
+    /// Where it is told how far the search is.
+    pub progress: Progress,
 }
 
-impl<'a, W: Watch> Work<'a, W> {
-    /// A search that begins.
-    pub fn new(alloc: Global, limits: Limits, watch: &'a mut W) -> Work<'a, W> {
+impl Work {
+    /// A search that begins, and looks at this.
+    pub fn new(limits: Limits, place: Place, progress: Progress) -> Work {
         Work {
-            alloc,
             limits,
-            request: 0,
-            offset: 0,
-            stage: Stage::Round(1),
-            left: limits.steps,
-            told: limits.steps,
-            watch,
+            place,
+            end: None,
+            is_lost: false,
+            progress,
         }
     }
 
-    /// Takes so many steps; an error where fewer are left.
-    pub fn spend(&mut self, steps: usize) -> Result<(), Stop> {
-        let Some(left) = self.left.checked_sub(steps as u64) else {
-            return Err(Stop::GaveUp(Reason::Steps));
+    /// Takes so many steps; the search is over where fewer are left.
+    pub fn spend(&mut self, steps: usize) {
+        let left = self.limits.steps;
+        let Some(rest) = left.checked_sub(steps as u64) else {
+            self.end = Some(End::GaveUp(Reason::Steps));
+            return;
         };
-        self.left = left;
-        if self.told.saturating_sub(left) >= PAUSE {
-            self.told = left;
-            self.watch.see(self.stage);
+        self.limits.steps = rest;
+        if rest / PAUSE < left / PAUSE {
+            self.progress.show();
         }
-        Ok(())
     }
+
+    /// Whether the search is over.
+    pub fn is_over(&self) -> bool {
+        self.is_lost || self.end.is_some()
+    }
+}
+
+/// Adds an item to a list, or notes that memory was refused.
+pub fn keep<T: Drop>(list: &mut Vec<T>, item: T, is_lost: &mut bool) {
+    *is_lost |= list.push(item).is_err();
 }

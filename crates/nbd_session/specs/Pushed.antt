@@ -1,4 +1,5 @@
--- What a session holds of the bytes that it was given: each side's messages and what came after them, and how the two sides alternated.
+-- What a session holds of the bytes that it was given: each side's messages and what came after them, and how the two
+-- sides alternated.
 use Rattle.std.specs.Prelude.{◌≡◌, ◌+◌, ℕ, List, [], ◌∷◌, ◌++◌, take, drop, length, if◌then◌else◌}
 use Rattle.nbd_wire.specs.declared.message.Side.{Side}
 use Rattle.nbd_wire.specs.declared.message.Side.TheVariants.{Client, Server}
@@ -25,15 +26,17 @@ mixture (stretch ∷ stretches) client server =
 
 -- the pushed pairs: each side's bytes are its messages' encodings and a rest, mixed as the stretches say
 abbrev pub pushed_pairs : List Message → (client server : List ℕ) → List Stretch → List Pair
-pushed_pairs messages client server stretches = mixture stretches (bytes_of Client messages ++ client) (bytes_of Server messages ++ server)
+pushed_pairs messages client server stretches =
+    mixture stretches (bytes_of Client messages ++ client) (bytes_of Server messages ++ server)
 
 -- how many bytes the stretches give to a side
 abbrev pub stretch_bytes : Side → List Stretch → ℕ
 stretch_bytes s [] = 0
-stretch_bytes s (stretch ∷ stretches) = if same_side s stretch.from then stretch.length + stretch_bytes s stretches else stretch_bytes s stretches
+stretch_bytes s (stretch ∷ stretches) = if same_side s stretch.from then stretch.length
+    + stretch_bytes s stretches else stretch_bytes s stretches
 
--- where the stretches give each side as many bytes as it has, each side's bytes in the pushed pairs are its messages' encodings and
--- its rest
+-- where the stretches give each side as many bytes as it has, each side's bytes in the pushed pairs are its messages'
+-- encodings and its rest
 abbrev pub PushedHoldsEachSide : Type 0
 PushedHoldsEachSide = (messages : List Message) (client server : List ℕ) (stretches : List Stretch) (s : Side) →
     stretch_bytes s stretches ≡ length (bytes_of s messages ++ of_two s client server) →

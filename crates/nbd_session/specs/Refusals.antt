@@ -12,8 +12,8 @@ use Rattle.nbd_session.specs.declared.fault.SessionFault.{SessionFault}
 use Rattle.nbd_session.specs.declared.fault.SessionFault.TheVariants.{Memory, Wire}
 use Rattle.nbd_session.specs.Sessions.{SessionView, pairs_of, bytes_taken}
 
--- a fault at the last of these bytes, which is the place that the rules name, with these messages: no run begins with them, and
--- before the last one exactly these messages complete in each run that begins so
+-- a fault at the last of these bytes, which is the place that the rules name, with these messages: no run begins with
+-- them, and before the last one exactly these messages complete in each run that begins so
 pub record IsRefusal (ps : List Pair) (messages : List Message) (fault : WireFault) : Type 0 where
   pub place : IsPlace ps messages fault
   pub none : BeginsNoRun ps
@@ -21,10 +21,11 @@ pub record IsRefusal (ps : List Pair) (messages : List Message) (fault : WireFau
 
 -- no prefix of these bytes has a place
 abbrev pub HasNoPlace : List Pair → Type 0
-HasNoPlace ps = (prefix rest : List Pair) (messages : List Message) (fault : WireFault) → prefix ++ rest ≡ ps → IsPlace prefix messages fault → ⊥
+HasNoPlace ps = (prefix rest : List Pair) (messages : List Message) (fault : WireFault) → prefix ++ rest ≡ ps
+    → IsPlace prefix messages fault → ⊥
 
--- bytes taken without a fault, and their messages: the session is under way with these messages, no prefix of the bytes has a
--- place, and these messages complete in each run that begins with them
+-- bytes taken without a fault, and their messages: the session is under way with these messages, no prefix of the bytes
+-- has a place, and these messages complete in each run that begins with them
 pub record IsAccepted (ps : List Pair) (messages : List Message) : Type 0 where
   pub under_way : IsUnderWay ps messages
   pub placeless : HasNoPlace ps
@@ -34,7 +35,8 @@ pub record IsAccepted (ps : List Pair) (messages : List Message) : Type 0 where
 abbrev pub LeavesOpen : List Item → Type 0
 LeavesOpen items = (open_bytes Client items ≢ []) ⊎ (open_bytes Server items ≢ [])
 
--- an end within a message: the bytes were taken without a fault, some are open at their end, and no run has exactly these bytes
+-- an end within a message: the bytes were taken without a fault, some are open at their end, and no run has exactly
+-- these bytes
 pub record IsOpenEnd (ps : List Pair) (messages : List Message) : Type 0 where
   pub accepted : IsAccepted ps messages
   pub leaves_open : LeavesOpen accepted.under_way.items

@@ -41,7 +41,8 @@ abbrev pub IsOfRun : SessionView → Type 0
 IsOfRun r = HasRun (pairs_of r) r.messages r.client r.server
 
 -- of a side's piece all but `left` was taken, and more messages may have been accepted
-pub record Adds (before after : List Pair) (earlier later : List Message) (s : Side) (piece left : List ℕ) : Type 0 where
+pub record Adds (before after : List Pair) (earlier later : List Message) (s : Side)
+    (piece left : List ℕ) : Type 0 where
   pub prefix : List ℕ
   pub more : List Message
   pub parts : prefix ++ left ≡ piece

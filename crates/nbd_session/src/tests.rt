@@ -8,7 +8,6 @@ use crate::{Session, SessionFault};
 use nbd_wire::Side;
 use nbd_wire::Side::{Client, Server};
 use std::alloc::{AllocError, Global};
-use std::process::Abort;
 
 /// A piece of a capture: its sender, and its bytes as hexadecimal digits.
 type Sent = (Side, &'static str);
@@ -64,31 +63,41 @@ fn value_of(digit: u8) -> u8 {
     }
 }
 
-/// Pushes a piece, whole.
-fn push(
-    rt: &impl Abort,
-    session: &mut Session,
-    side: Side,
-    piece: &[u8],
-) -> Result<(), SessionFault> {
-    assert!(rt; session.taken() < 1_000_000);
-    assert!(rt; piece.len() < 1_000_000);
+/// Pushes a piece, whole. No session of these tests is as long as a million bytes.
+fn push(session: &mut Session, side: Side, piece: &[u8]) -> Result<(), SessionFault> {
+    if session.taken() >= 1_000_000 || piece.len() >= 1_000_000 {
+        return Err(SessionFault::Memory);
+    }
     session.push(side, piece)
 }
 
 /// Pushes pieces one after the other, each in parts of at most so many bytes.
 fn push_all(
-    rt: &impl Abort,
     alloc: Global,
     session: &mut Session,
     pieces: &[Sent],
     most: usize,
 ) -> Result<(), SessionFault> {
-    assert!(rt; most > 0);
     for (side, digits) in pieces {
-        for part in bytes_of(alloc, digits)?.as_slice().chunks(most) {
-            push(rt, session, *side, part)?;
-        }
+        push_in_parts(session, *side, bytes_of(alloc, digits)?.as_slice(), most)?;
     }
     Ok(())
+}
+
+/// Pushes a piece in parts of at most so many bytes.
+fn push_in_parts(
+    session: &mut Session,
+    side: Side,
+    piece: &[u8],
+    most: usize,
+) -> Result<(), SessionFault> {
+    for part in piece.chunks(most.max(1)) {
+        push(session, side, part)?;
+    }
+    Ok(())
+}
+
+/// Whether the session has taken so many bytes, and so many of its messages are whole.
+fn has(session: &Session, taken: u64, messages: usize) -> bool {
+    session.taken() == taken && session.messages().len() == messages
 }

@@ -23,4 +23,5 @@ pub record MayTake (state : State) (message : Message) : Type 0 where
 
 -- where the message is a reply, the request that it answers has its exchange at this place
 abbrev pub Answers : State → Message → ℕ → Type 0
-Answers state message place = (cookie : ℕ) → cookie_of message ≡ Some cookie → get nat_cmp state.outstanding cookie ≡ Some place
+Answers state message place = (cookie : ℕ) → cookie_of message ≡ Some cookie
+    → get nat_cmp state.outstanding cookie ≡ Some place

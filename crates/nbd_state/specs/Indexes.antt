@@ -29,7 +29,8 @@ HasMore old new offset size = (old offset ≡ None) × ((x : ℕ) → new x ≡ 
 -- what lies apart from the pieces in the index is what lies apart from these pieces
 pub record IsIndex (sizes : ℕ → Option ℕ) (pieces : List Piece) : Type 0 where
   pub free : (p : Piece) → IsFree sizes (piece_offset p) (piece_size p) → is_apart_from p pieces ≡ true
-  pub meets : (p : Piece) (k n : ℕ) → sizes k ≡ Some n → (IsApart (piece_offset p) (piece_size p) k n → ⊥) → is_apart_from p pieces ≡ false
+  pub meets : (p : Piece) (k n : ℕ) → sizes k ≡ Some n → (IsApart (piece_offset p) (piece_size p) k n → ⊥)
+      → is_apart_from p pieces ≡ false
 
 -- an index that holds pieces is one of these
 abbrev pub Indexes : BTreeMap ℕ ℕ → List Piece → Type 0

@@ -27,4 +27,5 @@ known_here None n k later = later
 -- the count of the first of these messages that answers request k
 abbrev pub known_by : Core → ℕ → List LogEntry → Option ℕ
 known_by core k [] = None
-known_by core k (l ∷ log) = known_here (request_of_reply core l.message) l.known k (known_by (complete core l.message) k log)
+known_by core k (l ∷ log) = known_here (request_of_reply core l.message) l.known k
+    (known_by (complete core l.message) k log)

@@ -29,7 +29,8 @@ phase_shown definitions.Flags = Flags
 phase_shown definitions.Choosing = Choosing
 phase_shown definitions.Naming = Naming
 phase_shown definitions.Aborting = Aborting
-phase_shown (definitions.Answering option payload info) = Answering (record { option = option; proper = is_proper_option option payload; info = export_shown_if info })
+phase_shown (definitions.Answering option payload info) =
+    Answering (record { option = option; proper = is_proper_option option payload; info = export_shown_if info })
 phase_shown definitions.Ended = Ended
 phase_shown (definitions.Transmission export) = Transmission (export_shown export)
 
@@ -56,4 +57,5 @@ pub record Shows (state : State) (core : Core) : Type 0 where
 
 -- each exchange knows what the log says of its request
 abbrev pub AreKnown : List LogEntry → List Exchange → Type 0
-AreKnown log exchanges = (place : ℕ) (x : Exchange) → slice_get exchanges place ≡ Some x → x.asked.known_at ≡ known_by start.core (place + 1) log
+AreKnown log exchanges = (place : ℕ) (x : Exchange) → slice_get exchanges place ≡ Some x
+    → x.asked.known_at ≡ known_by start.core (place + 1) log

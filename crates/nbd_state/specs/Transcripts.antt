@@ -37,7 +37,10 @@ size_and_flags None = None
 
 -- the report of this export and these exchanges
 abbrev pub transcript_report : Option Export → List Exchange → Report
-transcript_report export exchanges = record { export = exporting_if export; asked = map (λ x. report_of_request x.asked) exchanges }
+transcript_report export exchanges = record {
+  export = exporting_if export;
+  asked = map (λ x. report_of_request x.asked) exchanges;
+}
 
 -- the export of transmission, if it was reached
 abbrev pub export_of : Phase → Option Export

@@ -6,7 +6,7 @@ use crate::index::SpanIndex;
 use nbd_wire::{Bytes, Piece};
 
 /// What became of a request.
-#[derive(Clone, Copy, Debug, PartialEq, Eq, Drop)]
+#[derive(Clone, Copy, PartialEq, Eq, Drop)]
 pub enum Outcome {
     Success,
     Failure,

@@ -8,6 +8,7 @@ mod apart;
 mod asked;
 mod completing;
 mod index;
+mod offsets;
 mod options;
 mod proper;
 mod recording;
@@ -17,6 +18,7 @@ mod transcript;
 
 pub use asked::{Asked, Exchange, Outcome};
 pub use index::SpanIndex;
+pub use offsets::byte_read;
 pub use proper::{ends_by, has_range};
 pub use span::Span;
 pub use state::{Chosen, Export, Phase, State};

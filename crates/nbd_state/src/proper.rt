@@ -46,8 +46,8 @@ pub fn has_range(command: u16) -> bool
         || command == commands::WRITE_ZEROES
 }
 
-// Requests of this type change the export.
-fn is_change(command: u16) -> bool
+/// Requests of this type change the export.
+pub fn is_change(command: u16) -> bool
     ensures { result ≡ operations.is_change command }
 {
     command == commands::WRITE || command == commands::TRIM || command == commands::WRITE_ZEROES

@@ -6,7 +6,7 @@ use std::alloc::Global;
 use std::collections::BTreeMap;
 
 /// An export as the server described it: its size in bytes and its transmission flags.
-#[derive(Clone, Copy, Debug, PartialEq, Eq, Drop)]
+#[derive(Clone, Copy, PartialEq, Eq, Drop)]
 pub struct Export {
     pub size: u64,
     pub flags: u16,
@@ -14,7 +14,7 @@ pub struct Export {
 
 /// An option that the client chose, whether its data had its form, and the last EXPORT info that came
 /// since.
-#[derive(Clone, Copy, Debug, PartialEq, Eq, Drop)]
+#[derive(Clone, Copy, PartialEq, Eq, Drop)]
 pub struct Chosen {
     pub option: u32,
     pub proper: bool,
@@ -22,7 +22,7 @@ pub struct Chosen {
 }
 
 /// Where the session stands (proto.md, "Newstyle negotiation", "Transmission").
-#[derive(Clone, Copy, Debug, PartialEq, Eq, Drop)]
+#[derive(Clone, Copy, PartialEq, Eq, Drop)]
 pub enum Phase {
     /// Nothing has come.
     Greet,

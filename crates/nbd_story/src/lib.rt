@@ -1,18 +1,39 @@
-//! A session in words: its messages with their places in the capture, what became of its requests, and the bytes round
-//! a place.
+//! A session in words: the messages with their places in the capture, what became of its requests, the bytes round a place, and why
+//! the answer was no.
+//!
+//! All of it is told by a `Text`, which takes what is said and notes that memory was refused. Nothing here is proved but that each call
+//! returns. The names of the protocol's numbers stand in `nbd_wire`, the rules in `nbd_judge`.
 #![tactic(auto)]
 
-mod begun;
+mod arriving;
 mod brief;
+mod content;
+mod deduced;
+mod differing;
+mod explanation;
+mod granted;
+mod improper;
+mod layers;
+mod malformed;
+mod messages;
+mod order;
 mod parts;
+mod reading;
 mod recording;
+mod refutation;
+mod related;
+mod source;
+mod steps;
 mod story;
+mod text;
 mod window;
+mod wire;
 mod words;
+mod worth;
 
-pub use brief::{Brief, Brought};
-pub use parts::{first_gap, first_outside, has_offset, shared};
+pub use explanation::{Sources, explanation_of};
+pub use messages::told_line;
 pub use recording::Recording;
-pub use story::{Outcome, Request, Story, Told};
-pub use window::{add_window, letter_of};
-pub use words::{Count, Export, Numbered, Places, Range, Words, bytes, error_of, requests};
+pub use refutation::Contest;
+pub use story::{Story, Told};
+pub use text::Text;

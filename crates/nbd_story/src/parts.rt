@@ -1,14 +1,13 @@
 //! Where parts of an export lie to one another.
 
-use nbd_state::Span;
-use nbd_wire::Part;
-use std::alloc::AllocError;
+use crate::story::Request;
+use nbd_state::has_range;
+use nbd_wire::{Entry, Part};
+use std::alloc::{AllocError, Global};
 
 /// Whether an offset lies in a part.
 pub fn has_offset(part: Part, offset: u64) -> bool {
-    offset
-        .checked_sub(part.offset)
-        .is_some_and(|index| index < part.length)
+    offset >= part.offset && offset - part.offset < part.length
 }
 
 /// The least offset that two parts share.
@@ -21,13 +20,25 @@ pub fn shared(part: Part, other: Part) -> Option<u64> {
     }
 }
 
-/// The first offset of a part that lies outside a span.
-pub fn first_outside(part: Part, span: Span) -> Option<u64> {
-    let room = part
+/// The offsets that two parts share, where they share some.
+pub fn common(part: Part, other: Part) -> Option<Part> {
+    let offset = part.offset.max(other.offset);
+    let end = part
         .offset
-        .checked_sub(span.offset)
-        .and_then(|skipped| span.size.checked_sub(skipped))
-        .unwrap_or(0);
+        .saturating_add(part.length)
+        .min(other.offset.saturating_add(other.length));
+    gap(offset, end)
+}
+
+/// The first offset of a part that lies outside a range.
+pub fn first_outside(part: Part, range: Part) -> Option<u64> {
+    let room = if has_offset(range, part.offset) {
+        range
+            .length
+            .saturating_sub(part.offset.saturating_sub(range.offset))
+    } else {
+        0
+    };
     if part.length > room {
         Some(part.offset.saturating_add(room))
     } else {
@@ -35,17 +46,87 @@ pub fn first_outside(part: Part, span: Span) -> Option<u64> {
     }
 }
 
-/// The first bytes of a span that none of these parts has, which share no offset.
-pub fn first_gap(mut parts: Vec<Part>, span: Span) -> Result<Option<Part>, AllocError> {
-    parts.sort_by_key(|part| part.offset)?;
-    let mut next = span.offset;
-    for part in &parts {
+/// What of a request's range lies in an export of this size; nothing where its type has no range.
+pub fn inside(request: &Request, size: u64) -> Part {
+    let offset = request.head.offset;
+    if has_range(request.head.command) && offset < size {
+        Part {
+            offset,
+            length: u64::from(request.head.length).min(size - offset),
+        }
+    } else {
+        Part {
+            offset: 0,
+            length: 0,
+        }
+    }
+}
+
+/// Parts that share no offset. Once memory was refused their gaps are not known.
+#[derive(Drop)]
+pub struct Parts {
+    parts: Vec<Part>,
+    is_refused: bool,
+}
+
+impl Parts {
+    /// No part; takes no memory.
+    pub fn new(alloc: Global) -> Parts {
+        Parts {
+            parts: Vec::new(alloc),
+            is_refused: false,
+        }
+    }
+
+    /// Those that entries serve of a request.
+    pub fn served(alloc: Global, request: &Request, order: &[Entry]) -> Parts {
+        let mut parts = Parts {
+            parts: Vec::new(alloc),
+            is_refused: false,
+        };
+        for entry in order {
+            parts = parts.with(part_in(entry, request));
+        }
+        parts
+    }
+
+    /// These and another one, if there is one.
+    pub fn with(mut self, part: Option<Part>) -> Parts {
+        if let Some(part) = part {
+            self.is_refused |= self.parts.push(part).is_err();
+        }
+        self
+    }
+
+    /// The first bytes of a range that none of them has.
+    pub fn first_gap(mut self, range: Part) -> Result<Option<Part>, AllocError> {
+        if self.is_refused {
+            return Err(AllocError);
+        }
+        self.parts.sort_by_key(|part| part.offset)?;
+        Ok(gap_between(&self.parts, range))
+    }
+}
+
+// The part that an entry serves of a request.
+fn part_in(entry: &Entry, request: &Request) -> Option<Part> {
+    if entry.request == request.number {
+        entry.part
+    } else {
+        None
+    }
+}
+
+// The first bytes of a range that none of these parts has, which stand in the order of their offsets.
+fn gap_between(parts: &[Part], range: Part) -> Option<Part> {
+    let mut next = range.offset;
+    for part in parts {
         if part.offset > next {
-            return Ok(gap(next, part.offset));
+            return gap(next, part.offset);
         }
         next = part.offset.saturating_add(part.length);
     }
-    Ok(gap(next, span.offset.saturating_add(span.size)))
+    gap(next, range.offset.saturating_add(range.length))
 }
 
 // The bytes from one offset up to another, where there are some.

@@ -6,54 +6,28 @@ use std::alloc::{AllocError, Global};
 /// Bytes of a side that came one after the other.
 #[derive(Clone, Copy)]
 struct Stretch {
-    /// How many bytes of the side stand before them.
-    before: u64,
-    /// The place of the first one in the capture, counted from 1.
-    place: u64,
+    side: Side,
+    /// How many bytes of the client stand before them.
+    client: u64,
+    /// How many of the server.
+    server: u64,
 }
 
-/// The bytes of one side.
-#[derive(Drop)]
-struct Track {
-    bytes: Vec<u8>,
-    stretches: Vec<Stretch>,
-}
-
-impl Track {
-    fn new(alloc: Global) -> Track {
-        Track {
-            bytes: Vec::new(alloc),
-            stretches: Vec::new(alloc),
+impl Stretch {
+    // How many bytes of this side stand before them, or of both.
+    fn count(&self, side: Option<Side>) -> u64 {
+        match side {
+            Some(Side::Client) => self.client,
+            Some(Side::Server) => self.server,
+            None => self.client.saturating_add(self.server),
         }
     }
 
-    /// The place of the byte that has so many of the side before it; 0 where the side has none.
-    fn place(&self, before: u64) -> u64 {
-        let stretches = self.stretches.as_slice();
-        let after = stretches.partition_point(|stretch| stretch.before <= before);
-        match stretches.get(after.saturating_sub(1)) {
-            Some(stretch) => stretch
-                .place
-                .saturating_add(before.saturating_sub(stretch.before)),
-            None => 0,
-        }
-    }
-
-    /// How many bytes of the side stand before this place.
-    fn count_before(&self, place: u64) -> u64 {
-        let stretches = self.stretches.as_slice();
-        let after = stretches.partition_point(|stretch| stretch.place < place);
-        let end = match stretches.get(after) {
-            Some(stretch) => stretch.before,
-            None => self.bytes.len() as u64,
-        };
-        match after.checked_sub(1).and_then(|last| stretches.get(last)) {
-            Some(stretch) => end.min(
-                stretch
-                    .before
-                    .saturating_add(place.saturating_sub(stretch.place)),
-            ),
-            None => 0,
+    // How many bytes of the other side stand before them.
+    fn count_of_other(&self, side: Side) -> u64 {
+        match side {
+            Side::Client => self.server,
+            Side::Server => self.client,
         }
     }
 }
@@ -61,95 +35,111 @@ impl Track {
 /// The bytes of a capture.
 #[derive(Drop)]
 pub struct Recording {
-    client: Track,
-    server: Track,
-    last: Option<Side>,
-    length: u64,
+    client: Vec<u8>,
+    server: Vec<u8>,
+    stretches: Vec<Stretch>,
 }
 
 impl Recording {
     /// One without a byte; takes no memory.
     pub fn new(alloc: Global) -> Recording {
         Recording {
-            client: Track::new(alloc),
-            server: Track::new(alloc),
-            last: None,
-            length: 0,
-        }
-    }
-
-    fn track(&self, side: Side) -> &Track {
-        match side {
-            Side::Client => &self.client,
-            Side::Server => &self.server,
+            client: Vec::new(alloc),
+            server: Vec::new(alloc),
+            stretches: Vec::new(alloc),
         }
     }
 
     /// Takes the next bytes, which this side sent.
     pub fn add(&mut self, side: Side, bytes: &[u8]) -> Result<(), AllocError> {
-        if bytes.is_empty() {
-            return Ok(());
+        if self.begins(side) {
+            self.stretches.push(Stretch {
+                side,
+                client: self.client.len() as u64,
+                server: self.server.len() as u64,
+            })?;
         }
-        let place = self.length.saturating_add(1);
-        let begins = self.last != Some(side);
-        let track = match side {
-            Side::Client => &mut self.client,
-            Side::Server => &mut self.server,
-        };
-        if begins {
-            let before = track.bytes.len() as u64;
-            track.stretches.push(Stretch { before, place })?;
+        match side {
+            Side::Client => self.client.extend_from_slice(bytes),
+            Side::Server => self.server.extend_from_slice(bytes),
         }
-        track.bytes.extend_from_slice(bytes)?;
-        self.last = Some(side);
-        self.length = self.length.saturating_add(bytes.len() as u64);
-        Ok(())
+    }
+
+    // Whether the bytes that came last are not of this side.
+    fn begins(&self, side: Side) -> bool {
+        match self.stretches.last() {
+            Some(stretch) => stretch.side != side,
+            None => true,
+        }
     }
 
     /// How many bytes there are, of both sides.
     pub fn len(&self) -> u64 {
-        self.length
+        (self.client.len() as u64).saturating_add(self.server.len() as u64)
+    }
+
+    // All bytes of a side.
+    fn bytes(&self, side: Side) -> &[u8] {
+        match side {
+            Side::Client => self.client.as_slice(),
+            Side::Server => self.server.as_slice(),
+        }
+    }
+
+    /// The bytes of a side that have so many of this side before them.
+    pub fn bytes_from(&self, side: Side, before: u64) -> &[u8] {
+        self.bytes(side).get(before as usize..).unwrap_or(&[])
+    }
+
+    /// The byte of a side that has so many of this side before it.
+    pub fn byte_of(&self, side: Side, before: u64) -> Option<u8> {
+        self.bytes(side).get(before as usize).copied()
+    }
+
+    // The last stretch before which at most so many bytes of a side stand, or of both.
+    fn stretch(&self, side: Option<Side>, most: u64) -> Option<&Stretch> {
+        let after = self
+            .stretches
+            .partition_point(|stretch| stretch.count(side) <= most);
+        self.stretches.get(after.saturating_sub(1))
     }
 
     /// The place in the capture, from 1, of the byte of a side that has so many of this side before it.
     pub fn place(&self, side: Side, before: u64) -> u64 {
-        self.track(side).place(before)
-    }
-
-    /// The bytes of a side from one count on, up to this place of the capture and with the byte there.
-    pub fn bytes_up_to(&self, side: Side, from: u64, place: u64) -> &[u8] {
-        let track = self.track(side);
-        let end = track.count_before(place.saturating_add(1));
-        track
-            .bytes
-            .as_slice()
-            .get(from as usize..end as usize)
-            .unwrap_or(&[])
-    }
-
-    /// So many bytes of a side behind a count of them, where there are as many.
-    pub fn bytes_at(&self, side: Side, from: u64, count: u64) -> Option<&[u8]> {
-        let end = from.checked_add(count)?;
-        self.track(side)
-            .bytes
-            .as_slice()
-            .get(from as usize..end as usize)
+        match self.stretch(Some(side), before) {
+            Some(stretch) => before
+                .saturating_add(stretch.count_of_other(side))
+                .saturating_add(1),
+            None => 0,
+        }
     }
 
     /// The byte at this place of the capture, and its sender.
     pub fn byte(&self, place: u64) -> Option<(Side, u8)> {
-        self.byte_of(Side::Client, place)
-            .or(self.byte_of(Side::Server, place))
+        let before = place.saturating_sub(1);
+        match self.stretch(None, before) {
+            Some(stretch) => self.byte_in(stretch, before),
+            None => None,
+        }
     }
 
-    // The byte at this place, where this side sent it.
-    fn byte_of(&self, side: Side, place: u64) -> Option<(Side, u8)> {
-        let track = self.track(side);
-        let before = track.count_before(place);
-        if track.place(before) != place {
-            return None;
+    // The byte of a stretch that has so many bytes of both sides before it, and its sender.
+    fn byte_in(&self, stretch: &Stretch, before: u64) -> Option<(Side, u8)> {
+        let others = stretch.count_of_other(stretch.side);
+        match self.byte_of(stretch.side, before.saturating_sub(others)) {
+            Some(byte) => Some((stretch.side, byte)),
+            None => None,
         }
-        let byte = track.bytes.as_slice().get(before as usize)?;
-        Some((side, *byte))
+    }
+
+    /// How many bytes of a side stand up to this place of the capture, with the byte there.
+    pub fn count_up_to(&self, side: Side, place: u64) -> u64 {
+        match self.stretch(None, place.saturating_sub(1)) {
+            Some(stretch) if stretch.side == side => place
+                .saturating_sub(stretch.count_of_other(side))
+                .min(self.bytes(side).len() as u64),
+            Some(stretch) => stretch.count(Some(side)),
+            None => 0,
+        }
     }
 }

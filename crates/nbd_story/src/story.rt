@@ -1,10 +1,14 @@
 //! The messages of a session with their places, and what became of its requests.
 
-use crate::brief::{Brief, Brought, length_of};
+use crate::brief::Brief;
+use crate::parts::{has_offset, shared};
 use crate::recording::Recording;
-use crate::words::{Export, Numbered, Places, Words};
-use nbd_wire::flags::has;
-use nbd_wire::{Info, Message, RequestHead, Side, answers, chunks, commands, options, side_of};
+use nbd_state::Export;
+use nbd_wire::flags::has_wide;
+use nbd_wire::{
+    AnswerHead, Info, Message, Part, RequestHead, Side, answers, commands, handshake, head_lengths,
+    options, side_of,
+};
 use std::alloc::{AllocError, Global};
 use std::collections::BTreeMap;
 
@@ -13,10 +17,14 @@ use std::collections::BTreeMap;
 pub struct Told {
     /// Its sender.
     pub side: Side,
-    /// The message, and the request.
-    pub words: Words,
+    /// The message.
+    pub brief: Brief,
+    /// The number of that request.
+    pub request: Option<u64>,
     /// How many bytes of its side stand before it.
     pub before: u64,
+    /// How many bytes it has.
+    pub length: u64,
     /// The place of its first byte, from 1.
     pub first: u64,
     /// The place of its last one.
@@ -24,78 +32,80 @@ pub struct Told {
 }
 
 impl Told {
-    /// Its places.
-    pub fn places(&self) -> Places {
-        Places {
-            first: self.first,
-            last: self.last,
+    /// Where the content lies that it brings to the request with this number.
+    pub fn content_to(&self, request: u64) -> Option<Part> {
+        match self.request {
+            Some(number) if number == request => self.brief.content(),
+            _ => None,
         }
     }
 
-    /// Whether it answers this request.
-    pub fn answers(&self, request: &Request) -> bool {
-        self.side == Side::Server
-            && self
-                .words
-                .request
-                .is_some_and(|numbered| numbered.number == request.numbered.number)
+    // Whether that shares an offset with a part.
+    fn brings(&self, request: u64, part: Part) -> bool {
+        match self.content_to(request) {
+            Some(content) => shared(content, part).is_some(),
+            None => false,
+        }
     }
-}
-
-/// What became of a request.
-#[derive(Clone, Copy)]
-pub enum Outcome {
-    /// Its reply is not finished.
-    Pending,
-    /// It succeeded.
-    Success,
-    /// It failed with this error.
-    Failure(u32),
 }
 
 /// A numbered request.
 #[derive(Clone, Copy)]
 pub struct Request {
-    /// Its type and its number.
-    pub numbered: Numbered,
+    /// From 1, in the order of arrival.
+    pub number: u64,
     /// What it asks for.
     pub head: RequestHead,
-    /// The message that asks it.
-    pub asked: Told,
+    /// How many bytes of the client stand before it.
+    pub before: u64,
+    /// The place of its first byte, from 1.
+    pub first: u64,
+    /// The place of its last one.
+    pub last: u64,
     /// The place of the first byte of its reply.
     pub replied: Option<u64>,
     /// The place of the last byte of its reply.
     pub finished: Option<u64>,
-    /// The error that its reply told, if it told one.
-    pub error: Option<u32>,
+    /// The error that its reply told; 0 where it told none.
+    pub error: u32,
 }
 
 impl Request {
-    /// Whether an offset of the export lies in its range.
-    pub fn asks(&self, offset: u64) -> bool {
-        offset
-            .checked_sub(self.head.offset)
-            .is_some_and(|index| index < u64::from(self.head.length))
+    /// Whether it changes the export at an offset.
+    pub fn changes(&self, offset: u64) -> bool {
+        is_change(self.head.command) && has_offset(range(&self.head), offset)
     }
 
     /// Whether it was surely served before another one: its reply began before that one had come whole.
     pub fn is_before(&self, other: &Request) -> bool {
-        self.replied.is_some_and(|began| began < other.asked.last)
-    }
-
-    /// What became of it.
-    pub fn outcome(&self) -> Outcome {
-        match (self.finished, self.error) {
-            (None, _) => Outcome::Pending,
-            (Some(_), None) => Outcome::Success,
-            (Some(_), Some(error)) => Outcome::Failure(error),
+        match self.replied {
+            Some(first) => first < other.last,
+            None => false,
         }
+    }
+}
+
+/// Whether requests of this type change the export.
+pub fn is_change(command: u16) -> bool {
+    matches!(
+        command,
+        commands::WRITE | commands::TRIM | commands::WRITE_ZEROES
+    )
+}
+
+/// The part of the export that a request names.
+pub fn range(head: &RequestHead) -> Part {
+    Part {
+        offset: head.offset,
+        length: u64::from(head.length),
     }
 }
 
 /// The messages of a session, and its requests.
 #[derive(Drop)]
 pub struct Story {
+    /// The bytes of the capture.
+    pub recording: Recording,
     /// The messages, in the order of their completion.
     pub told: Vec<Told>,
     /// By their numbers.
@@ -110,16 +120,17 @@ pub struct Story {
     pub export: Option<Export>,
     /// Whether the negotiation is over.
     pub is_transmission: bool,
+    /// The option that the client chose last; 0 before the first.
+    pub option: u32,
+    /// How many zeroes the answer to EXPORT_NAME ends with.
+    pub padding: u64,
 }
 
 impl Story {
-    /// These messages, of which the recording has the bytes.
-    pub fn of(
-        alloc: Global,
-        messages: &[Message],
-        recording: &Recording,
-    ) -> Result<Story, AllocError> {
-        let mut story = Story {
+    /// One without a byte and without a message; takes no memory.
+    pub fn new(alloc: Global) -> Story {
+        Story {
+            recording: Recording::new(alloc),
             told: Vec::new(alloc),
             requests: Vec::new(alloc),
             outstanding: BTreeMap::new(alloc),
@@ -127,35 +138,104 @@ impl Story {
             server: 0,
             export: None,
             is_transmission: false,
-        };
-        for message in messages {
-            story.tell(message, recording)?;
+            option: 0,
+            padding: head_lengths::PADDING as u64,
         }
-        Ok(story)
     }
 
-    // Adds the next message.
-    fn tell(&mut self, message: &Message, recording: &Recording) -> Result<(), AllocError> {
-        let (side, brief, length) = (side_of(message), Brief::of(message), length_of(message));
-        let before = self.count(side);
-        let end = before.saturating_add(length);
-        let told = Told {
-            side,
-            words: Words {
-                brief,
-                request: self.request_of(&brief),
-            },
-            before,
-            first: recording.place(side, before),
-            last: recording.place(side, end.saturating_sub(1)),
-        };
-        match side {
+    /// Tells messages, of which the recording has the bytes: all but who sent them is read from there.
+    pub fn tell(&mut self, messages: &[Message]) -> Result<(), AllocError> {
+        for message in messages {
+            if let Some(told) = self.begun(side_of(message)) {
+                self.note(&told)?;
+                self.told.push(told)?;
+            }
+        }
+        Ok(())
+    }
+
+    // What a message changes: the phase, and what is known of a request.
+    fn note(&mut self, told: &Told) -> Result<(), AllocError> {
+        let end = told.before.saturating_add(told.length);
+        match told.side {
             Side::Client => self.client = end,
             Side::Server => self.server = end,
         }
-        self.note(&told)?;
-        self.told.push(told)?;
+        match (&told.brief, told.request) {
+            (Brief::Request(head), Some(number)) => return self.ask(told, *head, number),
+            (_, Some(number)) => self.answer(told, number),
+            (brief, None) => self.negotiate(brief),
+        }
         Ok(())
+    }
+
+    // What a message of the negotiation changes.
+    fn negotiate(&mut self, brief: &Brief) {
+        match brief {
+            Brief::ClientFlags(flags) if has_wide(*flags, handshake::C_NO_ZEROES) => self.padding =
+                0,
+            Brief::Choice(head) => self.option = head.id,
+            Brief::Answer(head, info) => self.settle(head, info),
+            Brief::Exported(export) => {
+                self.export = Some(*export);
+                self.is_transmission = true;
+            }
+            _ => {}
+        }
+    }
+
+    // What a reply to an option changes.
+    fn settle(&mut self, head: &AnswerHead, info: &Option<Info>) {
+        if let Some(Info::Export { size, flags }) = info {
+            self.export = Some(Export {
+                size: *size,
+                flags: *flags,
+            });
+        }
+        if head.option == options::GO && head.kind == answers::ACK {
+            self.is_transmission = true;
+        }
+    }
+
+    // A request has come.
+    fn ask(&mut self, told: &Told, head: RequestHead, number: u64) -> Result<(), AllocError> {
+        self.requests.push(Request {
+            number,
+            head,
+            before: told.before,
+            first: told.first,
+            last: told.last,
+            replied: None,
+            finished: None,
+            error: 0,
+        })?;
+        self.outstanding.insert(head.cookie, number)?;
+        Ok(())
+    }
+
+    // A message of its reply has come; after the last one its cookie is free.
+    fn answer(&mut self, told: &Told, number: u64) {
+        let place = number.saturating_sub(1) as usize;
+        if let Some(request) = self.requests.get_mut(place) {
+            request.replied = request.replied.or(Some(told.first));
+            if request.error == 0 {
+                request.error = told.brief.error();
+            }
+            if told.brief.is_last() {
+                request.finished = Some(told.last);
+                self.outstanding.remove(&request.head.cookie);
+            }
+        }
+    }
+
+    /// The first message that brings the request with this number content with an offset of a part.
+    pub fn bringer(&self, request: u64, part: Part) -> Option<&Told> {
+        for told in &self.told {
+            if told.brings(request, part) {
+                return Some(told);
+            }
+        }
+        None
     }
 
     /// How many bytes the messages of a side have.
@@ -168,121 +248,42 @@ impl Story {
 
     /// The size of the export; 0 before it is known.
     pub fn size(&self) -> u64 {
-        self.export.map_or(0, |export| export.size)
+        match self.export {
+            Some(export) => export.size,
+            None => 0,
+        }
     }
 
-    /// The request with this number, from 1.
+    /// The request with this number, from 1; 0 wraps to a place that is not there.
     pub fn request(&self, number: u64) -> Option<&Request> {
-        self.requests.get(number.checked_sub(1)? as usize)
+        self.requests.get(number.wrapping_sub(1) as usize)
     }
 
-    /// The request that a message asks or answers.
-    pub fn request_of(&self, brief: &Brief) -> Option<Numbered> {
-        match brief {
-            Brief::Request(head) if head.command != commands::DISC => Some(Numbered {
-                number: (self.requests.len() as u64).saturating_add(1),
-                command: head.command,
-            }),
-            Brief::Simple(_) | Brief::Chunk { .. } => self.answered(brief.cookie()?),
-            _ => None,
+    /// The request that a message asks or answers, if it has been told.
+    pub fn request_in(&self, told: &Told) -> Option<&Request> {
+        match told.request {
+            Some(number) => self.request(number),
+            None => None,
         }
     }
 
     /// The outstanding request with this cookie.
-    pub fn answered(&self, cookie: u64) -> Option<Numbered> {
-        let number = self.outstanding.get(&cookie)?;
-        Some(self.request(*number)?.numbered)
-    }
-
-    // What a message changes: the phase, and what is known of a request.
-    fn note(&mut self, told: &Told) -> Result<(), AllocError> {
-        match (&told.words.brief, told.words.request) {
-            (Brief::Exported { size, flags }, _) => {
-                self.export = Some(Export {
-                    size: *size,
-                    flags: *flags,
-                });
-                self.is_transmission = true;
-            }
-            (
-                Brief::Answer {
-                    option,
-                    kind,
-                    info,
-                    ..
-                },
-                _,
-            ) => {
-                self.export = export_in(*info).or(self.export);
-                self.is_transmission |= *option == options::GO && *kind == answers::ACK;
-            }
-            (Brief::Request(head), Some(numbered)) => self.ask(told, head, numbered)?,
-            (Brief::Simple(head), Some(numbered)) => {
-                let error = if head.error == 0 {
-                    None
-                } else {
-                    Some(head.error)
-                };
-                self.reply(numbered, told, error, true);
-            }
-            (Brief::Chunk { flags, brought, .. }, Some(numbered)) => {
-                self.reply(
-                    numbered,
-                    told,
-                    error_in(*brought),
-                    has(*flags, chunks::DONE),
-                );
-            }
-            _ => {}
-        }
-        Ok(())
-    }
-
-    // A request has come.
-    fn ask(
-        &mut self,
-        told: &Told,
-        head: &RequestHead,
-        numbered: Numbered,
-    ) -> Result<(), AllocError> {
-        self.requests.push(Request {
-            numbered,
-            head: *head,
-            asked: *told,
-            replied: None,
-            finished: None,
-            error: None,
-        })?;
-        self.outstanding.insert(head.cookie, numbered.number)?;
-        Ok(())
-    }
-
-    // A message of its reply has come; after the last one its cookie is free.
-    fn reply(&mut self, numbered: Numbered, told: &Told, error: Option<u32>, is_last: bool) {
-        let place = numbered.number.saturating_sub(1) as usize;
-        if let Some(request) = self.requests.get_mut(place) {
-            request.replied = request.replied.or(Some(told.first));
-            request.error = request.error.or(error);
-            if is_last {
-                request.finished = Some(told.last);
-                self.outstanding.remove(&request.head.cookie);
-            }
+    pub fn answered(&self, cookie: u64) -> Option<&Request> {
+        match self.outstanding.get(&cookie) {
+            Some(number) => self.request(*number),
+            None => None,
         }
     }
-}
 
-// The export that an info states, if it is one on the export.
-fn export_in(info: Option<Info>) -> Option<Export> {
-    match info? {
-        Info::Export { size, flags } => Some(Export { size, flags }),
-        Info::BlockSize { .. } | Info::Other { .. } => None,
-    }
-}
-
-// The error that a chunk tells, if it tells one.
-fn error_in(brought: Option<Brought>) -> Option<u32> {
-    match brought? {
-        Brought::Failure(failure) => Some(failure.error),
-        Brought::Content(_) => None,
+    /// The number of the request that a message asks or answers.
+    pub fn request_of(&self, brief: &Brief) -> Option<u64> {
+        match brief {
+            Brief::Request(head) if head.command == commands::DISC => None,
+            Brief::Request(_) => Some((self.requests.len() as u64).saturating_add(1)),
+            _ => match brief.cookie() {
+                Some(cookie) => self.outstanding.get(&cookie).copied(),
+                None => None,
+            },
+        }
     }
 }

@@ -58,15 +58,21 @@ pub has_all : (old mid new : Option (List ℕ)) (count room : ℕ) (text last : 
     → IfSome old (λ bytes. h.bytes ≡ bytes)
 has_all old mid new count room text last h given none end = all_read old mid new h.bytes last h.consumed given none end
 
-pub all_kept : (old now : Option (List ℕ)) (count room : ℕ) (text : Vec ℕ Global) (o : Text) (h : HasRead old now count room text.items) → IfSome old (λ bytes. h.bytes ≡ bytes) → count ≤ room → o ≡ Whole text
-    → IfSome old (IsText room o)
-all_kept None now count room text o h all l e = tt
-all_kept (Some bytes) now count room text o h all l e = subst (λ t. IsText room t bytes) (sym e) (h.kept l ∙ all)
+-- that many bytes are known, and where there is room for them, they are the text
+abbrev IsAll : (known : Option (List ℕ)) → (count room : ℕ) → (text : List ℕ) → Type 0
+IsAll known count room text = IfSome known (λ bytes. (count ≡ length bytes) × (count ≤ room → text ≡ bytes))
 
-pub all_counted : (old now : Option (List ℕ)) (count room : ℕ) (text : List ℕ) (o : Text) (h : HasRead old now count room text) → IfSome old (λ bytes. h.bytes ≡ bytes) → room < count → o ≡ Longer count
-    → IfSome old (IsText room o)
-all_counted None now count room text o h all l e = tt
-all_counted (Some bytes) now count room text o h all l e = subst (λ t. IsText room t bytes) (sym e) (sym h.counted ∙ ap length all, l)
+pub all_into : (old now : Option (List ℕ)) (count room : ℕ) (text : List ℕ) (h : HasRead old now count room text) → IfSome old (λ bytes. h.bytes ≡ bytes) → IsAll old count room text
+all_into None now count room text h all = tt
+all_into (Some bytes) now count room text h all = (sym h.counted ∙ ap length all, λ l. h.kept l ∙ all)
+
+pub all_kept : (known : Option (List ℕ)) (count room : ℕ) (text : Vec ℕ Global) (o : Text) → IsAll known count room text.items → count ≤ room → o ≡ Whole text → IfSome known (IsText room o)
+all_kept None count room text o all l e = tt
+all_kept (Some bytes) count room text o all l e = subst (λ t. IsText room t bytes) (sym e) (all.1 l)
+
+pub all_counted : (known : Option (List ℕ)) (count room : ℕ) (text : List ℕ) (o : Text) → IsAll known count room text → room < count → o ≡ Longer count → IfSome known (IsText room o)
+all_counted None count room text o all l e = tt
+all_counted (Some bytes) count room text o all l e = subst (λ t. IsText room t bytes) (sym e) (all.0, l)
 
 pub counted_within : (known : Option (List ℕ)) (bytes : List ℕ) (count : ℕ) → IfSome known (λ all. bytes ≡ all) → length bytes ≡ count → count ≤ 2 ^ 40 → IsWithinLimit known
 counted_within known bytes count all len few = limited_by known bytes all (subst (λ n. n ≤ 2 ^ 40) (sym len) few)

@@ -1,14 +1,24 @@
 -- The verdict on the texts and the start that were read.
-use Rattle.std.proofs.Common.{◌≡◌, ℕ, List, sym, subst, Option, Some, None, Result, Ok, Err, IfErr, IfSome, IsErrAnd}
+use Rattle.std.proofs.Common.{◌≡◌, ℕ, List, ◌≢◌, ◌↔◌, ◌⊎◌, inl, inr, Bool, refl, sym, subst, Option, Some, None, Result, Ok, Err, IfErr, IfOk, IfSome, IsTrue, OnOk}
+use Rattle.std.specs.Io.KnownBytes.{Appends, Keeps}
 use Rattle.nbd_wire.specs.declared.entry.Entry.{Entry}
 use Rattle.nbd_wire.specs.protocol.Explains.{Start}
 use Rattle.nbd_capture.specs.Capture.{Chunk, IsCaptureText}
 use Rattle.nbd_capture.specs.Order.{IsOrderText}
+use Rattle.nbd_capture.specs.Writing.{AppendsPrefix}
 use Rattle.nbd_judge.specs.declared.verdict.Verdict.{Verdict}
+use Rattle.nbd_wire.specs.protocol.Reports.{Report}
+use Rattle.nbd_session.specs.declared.fault.SessionFault.{SessionFault}
+use Rattle.nbd_session.specs.Refusals.{EndsIn}
+use Rattle.nbd_session.specs.Sessions.{IsReported, SessionView, fault_at_end, fault_of}
 use Rattle.nbd_judge.specs.Captures.{IsChecked}
+use Rattle.nbd_tool.specs.Ends.{IsOverText}
+use Rattle.nbd_tool.specs.internal.Outcomes.{IsConcluded}
+use Rattle.nbd_tool.proofs.OverLemmas.{checked_over}
 use Rattle.nbd_tool.specs.declared.fault.RunFault.{RunFault}
-use Rattle.nbd_tool.specs.declared.fault.RunFault.TheVariants.{Write}
-use Rattle.nbd_tool.specs.Runs.{IsVerdictOn, flat_of}
+use Rattle.nbd_tool.specs.declared.fault.RunFault.TheVariants.{CaptureLine, CaptureRead, OrderLine, OrderRead, ImageRead, ScriptLine, ScriptRead, Write, Memory}
+use Rattle.nbd_tool.specs.Runs.{IsVerdictOn, LeavesWritten, Tells, flat_of}
+use Rattle.nbd_tool.specs.Verdicts.{IsYes, line}
 
 pub verdict_on : (capture order : Option (List ℕ)) (known : Option Start) (chunks : List Chunk) (entries : List Entry) (initial : Start) (v : Verdict) →
     IfSome capture (λ text. IsCaptureText text chunks) → IfSome order (λ text. IsOrderText text entries) → IfSome known (λ start. initial ≡ start) →
@@ -18,7 +28,30 @@ verdict_on None order known chunks entries initial v c o s checked = tt
 verdict_on (Some text) None known chunks entries initial v c o s checked = tt
 verdict_on (Some text) (Some order) None chunks entries initial v c o s checked = tt
 
--- a failed write is the only fault
-pub write_alone : (A : Type 0) (r : Result A RunFault) (Q : RunFault → Type 0) → IsErrAnd r (λ fault. fault ≡ Write) → Q Write → IfErr r Q
-write_alone A (Ok a) Q e q = tt
-write_alone A (Err fault) Q e q = subst Q (sym e) q
+-- the order's entries are those of its text
+pub with_entries : (order : Option (List ℕ)) (known : Option Start) (finished : Result Report SessionFault) (entries slice : List Entry) (o : Result Verdict RunFault) → slice ≡ entries →
+    IfSome order (λ text. IsOrderText text entries) → IfOk o (IsConcluded known finished slice) →
+    IfOk o (λ v. (entries : List Entry) × IfSome order (λ text. IsOrderText text entries) × IsConcluded known finished entries v)
+with_entries order known finished entries slice (Ok v) same is_text concluded = (entries, is_text, subst (λ e. IsConcluded known finished e v) same concluded)
+with_entries order known finished entries slice (Err fault) same is_text concluded = tt
+
+-- the conclusion from a session over a capture text is the verdict on its texts
+pub concluded : (capture order : Option (List ℕ)) (known : Option Start) (r : SessionView) (finished : Result Report SessionFault) (entries : List Entry) (v : Verdict) → IsOverText capture r →
+    fault_of finished ≡ fault_at_end r → IfOk finished (IsReported r) → IfErr finished (EndsIn r) → IfSome order (λ text. IsOrderText text entries) → IsConcluded known finished entries v →
+    IsVerdictOn capture order known v
+concluded capture order known r finished entries v over same reported ends is_text c =
+    verdict_on capture order known over.chunks entries c.initial v over.is_text is_text c.is_known
+    (checked_over (flat_of over.chunks) r entries c.initial finished v over.over same reported ends c.is_conclusion c.answers)
+
+-- its line was written
+pub tells : (capture order : Option (List ℕ)) (known : Option Start) (old new : Option (List ℕ)) (v : Verdict) (o : Result Bool RunFault) → IsVerdictOn capture order known v →
+    IfOk o (λ said. IsTrue said ↔ IsYes v) → OnOk o (Appends old new (line v)) → IfOk o (λ said. Tells capture order known said old new)
+tells capture order known old new v (Ok answered) is answer written = record { verdict = v; is_verdict = is; answer = answer; appended = written }
+tells capture order known old new v (Err fault) is answer written = tt
+
+-- it was not, or not all of it
+pub leaves : (capture order : Option (List ℕ)) (known : Option Start) (old new : Option (List ℕ)) (v : Verdict) (o : Result Bool RunFault) → IsVerdictOn capture order known v →
+    IfErr o (λ fault. (fault ≡ Write) × AppendsPrefix old new (line v) ⊎ (fault ≡ Memory) × Keeps old new) → IfErr o (LeavesWritten capture order known old new)
+leaves capture order known old new v (Ok answered) is left = tt
+leaves capture order known old new v (Err fault) is (inl e) = subst (LeavesWritten capture order known old new) (sym e.0) (record { verdict = v; is_verdict = is; appended = e.1 })
+leaves capture order known old new v (Err fault) is (inr e) = subst (LeavesWritten capture order known old new) (sym e.0) e.1

@@ -1,4 +1,5 @@
 pub mod EndLemmas
+pub mod FaultLemmas
 pub mod JudgedLemmas
 pub mod LastLineLemmas
 pub mod OrderingLemmas

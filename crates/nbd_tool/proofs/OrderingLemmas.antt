@@ -31,7 +31,11 @@ use Rattle.nbd_tool.specs.Ordering.{IsOrdered, IsOrderedFrom, IsUnexplainedBy, O
 use Rattle.nbd_tool.specs.Ordering.IsOrdered.{gave_up, image, none_whole, order, unexplained, wire}
 use Rattle.nbd_tool.specs.declared.ordering.Ordered.TheVariants.{Refuted}
 use Rattle.nbd_tool.specs.declared.start.Beginning.{Beginning}
-use Rattle.nbd_tool.specs.Beginnings.{IsBeginningOf}
+use Rattle.nbd_tool.specs.Beginnings.{IsBeginningOf, room_in}
+use Rattle.nbd_tool.specs.internal.Outcomes.{IsToldFrom, IsToldOf}
+use Rattle.nbd_tool.specs.internal.Outcomes.IsToldOf.{of_refusal, of_report}
+use Rattle.nbd_tool.specs.declared.fault.RunFault.{RunFault}
+use Rattle.nbd_tool.specs.declared.ordering.Ordered.{Ordered}
 use Rattle.nbd_tool.specs.Runs.{flat_of}
 use Rattle.nbd_tool.specs.Verdicts.{line, words}
 use Rattle.nbd_tool.proofs.OverLemmas.{fault_over, report_over}
@@ -124,6 +128,48 @@ pub refuses : (known : Option (List ℕ)) (start : Option Start) (wanted : Wante
 refuses known start wanted r at fault finished old new session is same ends appended =
     let why = subst (λ o. IfErr o (IsFaultOf (flat_of session.chunks))) is (fault_over (flat_of session.chunks) r finished session.over same ends) in
     record { chunks = session.chunks; is_text = session.is_text; is_ordered = wired (flat_of session.chunks) start wanted at fault old new why appended }
+
+-- what is said of a report, and of a refused session
+pub told_found : (beginning : Beginning) (wanted : Wanted) (finished : Result Report SessionFault) (told : Report) (f : Found) (answer : Ordered) (text : List ℕ) → finished ≡ Ok told →
+    ((initial : Start) → IsReadAs (size_of told.export) initial beginning → IsFound told initial f) → IsWanted wanted f →
+    ((initial : Start) (items : List Item) → IsReadAs (size_of told.export) initial beginning → IsRun items → report items ≡ told → Says items initial f) →
+    answer ≡ ordered_of f → text ≡ found_text f → IsToldOf beginning wanted finished answer text
+told_found beginning wanted finished told f answer text is is_found fits says same lines =
+    subst (λ q. IsToldOf beginning wanted q answer text) (sym is)
+    (subst (λ a. IsToldOf beginning wanted (Ok told) a text) (sym same)
+    (subst (IsToldOf beginning wanted (Ok told) (ordered_of f)) (sym lines) (of_report told f is_found fits says)))
+
+pub told_refused : (beginning : Beginning) (wanted : Wanted) (at : ℕ) (fault : WireFault) (finished : Result Report SessionFault) (text : List ℕ) → finished ≡ Err (Wire at fault) →
+    text ≡ line (verdict.Wire at fault) → IsToldOf beginning wanted finished Refuted text
+told_refused beginning wanted at fault finished text is same =
+    subst (λ q. IsToldOf beginning wanted q Refuted text) (sym is)
+    (subst (IsToldOf beginning wanted (Err (Wire at fault)) Refuted) (sym same) (of_refusal at fault))
+
+-- what was said of a session that has ended
+told_from : (known : Option (List ℕ)) (start : Option Start) (beginning : Beginning) (wanted : Wanted) (r : SessionView) (finished : Result Report SessionFault) (answer : Ordered) (text : List ℕ)
+    (old new : Option (List ℕ)) →
+    IsOverText known r → fault_of finished ≡ fault_at_end r → IfOk finished (IsReported r) → IfErr finished (EndsIn r) → IsBeginningOf start (room_in finished) beginning →
+    IsToldOf beginning wanted finished answer text → Appends old new text → Orders known start wanted answer old new
+told_from known start beginning wanted r _ _ _ old new session same reported ends begun (of_report told f is_found fits says) appended =
+    orders known start (size_of told.export) beginning wanted r told (Ok told) f old new session refl same reported begun begun.is_read is_found fits says appended
+told_from known start beginning wanted r _ _ _ old new session same reported ends begun (of_refusal at fault) appended =
+    refuses known start wanted r at fault (Err (Wire at fault)) old new session refl same ends appended
+
+orders_told : (known : Option (List ℕ)) (start : Option Start) (wanted : Wanted) (r : SessionView) (finished : Result Report SessionFault) (answer : Ordered) (text : List ℕ)
+    (old new : Option (List ℕ)) →
+    IsOverText known r → fault_of finished ≡ fault_at_end r → IfOk finished (IsReported r) → IfErr finished (EndsIn r) →
+    IsToldFrom start wanted finished answer text → Appends old new text → Orders known start wanted answer old new
+orders_told known start wanted r finished answer text old new session same reported ends told appended =
+    told_from known start told.0 wanted r finished answer text old new session same reported ends told.1 told.2 appended
+
+-- and was written
+pub orders_written : (known : Option (List ℕ)) (start : Option Start) (wanted : Wanted) (r : SessionView) (finished : Result Report SessionFault) (answer : Ordered) (text : List ℕ)
+    (old new : Option (List ℕ)) (o : Result Ordered RunFault) →
+    IsOverText known r → fault_of finished ≡ fault_at_end r → IfOk finished (IsReported r) → IfErr finished (EndsIn r) →
+    IsToldFrom start wanted finished answer text → IfOk o (λ ordered. (ordered ≡ answer) × Appends old new text) → IfOk o (λ ordered. Orders known start wanted ordered old new)
+orders_written known start wanted r finished answer text old new (Ok said) session same reported ends told written =
+    subst (λ ordered. Orders known start wanted ordered old new) (sym written.0) (orders_told known start wanted r finished answer text old new session same reported ends told written.1)
+orders_written known start wanted r finished answer text old new (Err fault) session same reported ends told written = tt
 
 -- the line of one READ, and that of another count of them
 pub one_line : (reads : List ℕ) (offset : ℕ) → length reads ≡ 1 → words (verdict.Content (slice_index reads 0) offset) ++ codes " in any order\n" ≡ unexplained_line reads offset

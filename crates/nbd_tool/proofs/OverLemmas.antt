@@ -1,5 +1,6 @@
 -- A session over a capture's chunks: what it took, and how it stands at its end.
-use Rattle.std.proofs.Common.{◌≡◌, ℕ, ◌≤◌, List, [], ◌∷◌, ◌++◌, length, refl, sym, ◌∙◌, ap, subst, arith, length-append, append_assoc, append-nil, Option, Some, None, IfSome, Result, Ok, Err, IfOk, IfErr, OnOk, inl}
+use Rattle.std.proofs.Common.{◌≡◌, ℕ, ◌≤◌, List, [], ◌∷◌, ◌++◌, length, refl, sym, ◌∙◌, ap, subst, arith, length-append, append_assoc, append-nil, Option, Some, None, IfSome, Result, Ok, Err, IfOk, IfErr, OnErr, OnOk, inl}
+use Rattle.std.specs.Result.{result_and}
 use Rattle.nbd_wire.specs.declared.entry.Entry.{Entry}
 use Rattle.nbd_wire.specs.declared.fault.WireFault.{WireFault}
 use Rattle.nbd_wire.specs.declared.message.Side.{Side}
@@ -145,3 +146,29 @@ pub checked_over : (capture : List Pair) (r : SessionView) (order : List Entry) 
     ((items : List Item) → IsRun items → IsReportOf items finished → Answers (pairs items) order initial v) → IsChecked capture order initial v
 checked_over capture r order initial finished v over same reported ends =
     checked capture order initial finished v (report_over capture r finished over same reported) (fault_over capture r finished over same ends)
+
+-- a value behind a result that may have a fault
+pub joined : {A B E : Type 0} (P : B → Type 0) (o : Result A E) (b : B) (both : Result B E) → both ≡ result_and o (Ok b) → OnOk o (P b) → IfOk both P
+joined P (Ok a) b both e holds = subst (λ r. IfOk r P) (sym e) holds
+joined P (Err fault) b both e holds = subst (λ r. IfOk r P) (sym e) tt
+
+pub joined_on : {A B E : Type 0} (P : Type 0) (o : Result A E) (b : B) (both : Result B E) → both ≡ result_and o (Ok b) → OnOk o P → OnOk both P
+joined_on P (Ok a) b both e holds = subst (λ r. OnOk r P) (sym e) holds
+joined_on P (Err fault) b both e holds = subst (λ r. OnOk r P) (sym e) tt
+
+pub joined_err : {A B E : Type 0} (P : E → Type 0) (o : Result A E) (b : B) (both : Result B E) → both ≡ result_and o (Ok b) → IfErr o P → IfErr both P
+joined_err P (Ok a) b both e holds = subst (λ r. IfErr r P) (sym e) tt
+joined_err P (Err fault) b both e holds = subst (λ r. IfErr r P) (sym e) holds
+
+-- what such a pair says of its parts
+pub both_ok : {A B E : Type 0} (o : Result A E) (b second : B) → Ok second ≡ result_and o (Ok b) → second ≡ b
+both_ok (Ok a) b second e = cc
+both_ok (Err fault) b second e = absurd (cc)
+
+pub both_on : {A B E P : Type 0} (o : Result A E) (b second : B) → Ok second ≡ result_and o (Ok b) → OnOk o P → P
+both_on (Ok a) b second e holds = holds
+both_on (Err fault) b second e holds = absurd (cc)
+
+pub first_on : {A B E P : Type 0} (o : Result A E) (b : B) (fault : E) → Err fault ≡ result_and o (Ok b) → OnErr o P → P
+first_on (Ok a) b fault e holds = absurd (cc)
+first_on (Err other) b fault e holds = holds

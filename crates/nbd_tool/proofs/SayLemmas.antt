@@ -1,7 +1,7 @@
 -- What a line that begins with `yes` says.
-use Rattle.std.proofs.Common.{◌≡◌, ℕ, List, [], ◌∷◌, ◌++◌, refl, sym, ◌∙◌, ap, append_assoc, append-nil, codes, arith, Option, Some, None}
+use Rattle.std.proofs.Common.{◌≡◌, ℕ, List, [], ◌∷◌, ◌++◌, refl, sym, ◌∙◌, ap, append_assoc, append-nil, codes, arith, Option, Some, None, ◌⊎◌, inl, inr, Bool, Result, Ok, Err, IfErr, OnOk}
 use Rattle.std.proofs.lemmas.List.{append_cancel_left}
-use Rattle.std.specs.Io.KnownBytes.{Appends}
+use Rattle.std.specs.Io.KnownBytes.{Appends, Keeps}
 use Rattle.nbd_capture.specs.Capture.{Chunk, IsCaptureText}
 use Rattle.nbd_capture.specs.Order.{IsOrderText}
 use Rattle.nbd_capture.specs.Writing.{AppendsPrefix}
@@ -10,6 +10,8 @@ use Rattle.nbd_wire.specs.protocol.Explains.{IsExplained, Start}
 use Rattle.nbd_judge.specs.declared.verdict.Verdict.{Verdict}
 use Rattle.nbd_judge.specs.declared.verdict.Verdict.TheVariants.{Yes, Wire, Image, Order, Content}
 use Rattle.nbd_tool.specs.Runs.{IsVerdictOn, SaysYes, flat_of}
+use Rattle.nbd_tool.specs.declared.fault.RunFault.{RunFault}
+use Rattle.nbd_tool.specs.declared.fault.RunFault.TheVariants.{Memory, Write}
 use Rattle.nbd_tool.specs.Verdicts.{line}
 
 abbrev IsExplainedOn : (text order_text : List ℕ) → Start → Type 0
@@ -56,9 +58,22 @@ nothing_begins : {A : Type 0} (rest : List ℕ) → [] ≡ codes "yes" ++ rest �
 nothing_begins rest e = let q : 0 ≡ 121 = ap first e in absurd (omega (arith, q))
 
 -- nothing was written
+says_kept : (capture order : Option (List ℕ)) (initial : Option Start) (old new : Option (List ℕ)) → Keeps old new → SaysYes capture order initial old new
+says_kept (Some text) (Some order_text) (Some initial) (Some old) (Some new) kept = λ written at begins.
+    (let e : [] ≡ codes "yes" ++ begins.0 = sym (none_added old written (sym kept ∙ at)) ∙ begins.1 in nothing_begins begins.0 e)
+says_kept (Some text) (Some order_text) (Some initial) (Some old) None kept = tt
+says_kept (Some text) (Some order_text) (Some initial) None new kept = tt
+says_kept (Some text) (Some order_text) None old new kept = tt
+says_kept (Some text) None initial old new kept = tt
+says_kept None order initial old new kept = tt
+
 pub says_nothing : (capture order : Option (List ℕ)) (initial : Option Start) (old : Option (List ℕ)) → SaysYes capture order initial old old
-says_nothing (Some text) (Some order_text) (Some initial) (Some old) = λ written at begins. (let e : [] ≡ codes "yes" ++ begins.0 = sym (none_added old written at) ∙ begins.1 in nothing_begins begins.0 e)
-says_nothing (Some text) (Some order_text) (Some initial) None = tt
-says_nothing (Some text) (Some order_text) None old = tt
-says_nothing (Some text) None initial old = tt
-says_nothing None order initial old = tt
+says_nothing capture order initial None = says_kept capture order initial None None tt
+says_nothing capture order initial (Some old) = says_kept capture order initial (Some old) (Some old) refl
+
+-- a verdict's line was written, or was to be written
+pub says_written : (capture order : Option (List ℕ)) (initial : Option Start) (old new : Option (List ℕ)) (v : Verdict) (o : Result Bool RunFault) → IsVerdictOn capture order initial v →
+    OnOk o (Appends old new (line v)) → IfErr o (λ fault. (fault ≡ Write) × AppendsPrefix old new (line v) ⊎ (fault ≡ Memory) × Keeps old new) → SaysYes capture order initial old new
+says_written capture order initial old new v (Ok answered) is written left = says_line capture order initial old new v is written
+says_written capture order initial old new v (Err fault) is written (inl e) = says_prefix capture order initial old new v is e.1
+says_written capture order initial old new v (Err fault) is written (inr e) = says_kept capture order initial old new e.1

@@ -63,7 +63,8 @@ reason_words Mistake = codes "a mistake of its own"
 
 -- the line of a search that was broken off
 abbrev pub gave_up_line : (request offset : ℕ) → Reason → List ℕ
-gave_up_line request offset reason = codes "gave up: " ++ (reason_words reason ++ (codes " at request " ++ (decimal request ++
+gave_up_line request offset reason = codes "gave up: "
+    ++ (reason_words reason ++ (codes " at request " ++ (decimal request ++
     (codes " offset " ++ (decimal offset ++ codes "\n")))))
 
 -- the text of what was found
@@ -94,15 +95,19 @@ abbrev pub IsUnexplainedBy : List Pair → Start → List Entry → Type 0
 IsUnexplainedBy capture initial order = IsExplained capture order initial → ⊥
 
 -- what was written of a capture's bytes from a start, and the answer
-pub data IsOrdered (capture : List Pair) (initial : Start) (wanted : Wanted) (old new : Option (List ℕ)) : Ordered → Type 0 where
+pub data IsOrdered (capture : List Pair) (initial : Start) (wanted : Wanted) (old new : Option (List ℕ)) : Ordered
+    → Type 0 where
   -- an order that explains it, and is one of those that are wanted
-  order : (entries : List Entry) → IsExplained capture entries initial → IsWantedOrder wanted entries → Appends old new (entry_lines entries)
+  order : (entries : List Entry) → IsExplained capture entries initial → IsWantedOrder wanted entries
+      → Appends old new (entry_lines entries)
       → IsOrdered capture initial wanted old new IsFound
   -- no run has these bytes: where and why
-  wire : (messages : List Message) (at : ℕ) (fault : WireFault) → IsWireFault capture messages at fault → IsOfNoRun capture
+  wire : (messages : List Message) (at : ℕ) (fault : WireFault) → IsWireFault capture messages at fault
+      → IsOfNoRun capture
       → Appends old new (line (Wire at fault)) → IsOrdered capture initial wanted old new Refuted
   -- the image has another size than the export
-  image : (items : List Item) (image size : ℕ) → IsRun items → pairs items ≡ capture → IsOtherSize (report items).export initial image size
+  image : (items : List Item) (image size : ℕ) → IsRun items → pairs items ≡ capture
+      → IsOtherSize (report items).export initial image size
       → Appends old new (line (verdict.Image image size)) → IsOrdered capture initial wanted old new Refuted
   -- no order explains it: in each one of these READs has a wrong byte at this offset
   unexplained : (items : List Item) (reads : List ℕ) (offset : ℕ) → IsRun items → pairs items ≡ capture
@@ -123,7 +128,8 @@ IsOrderedFrom capture (Some initial) wanted old new ordered = IsOrdered capture 
 IsOrderedFrom capture None wanted old new ordered = Unit {0}
 
 -- the same of a capture text
-pub record Orders (known : Option (List ℕ)) (initial : Option Start) (wanted : Wanted) (ordered : Ordered) (old new : Option (List ℕ)) : Type 0 where
+pub record Orders (known : Option (List ℕ)) (initial : Option Start) (wanted : Wanted) (ordered : Ordered)
+    (old new : Option (List ℕ)) : Type 0 where
   pub chunks : List Chunk
   pub is_text : IfSome known (λ text. IsCaptureText text chunks)
   pub is_ordered : IsOrderedFrom (flat_of chunks) initial wanted old new ordered

@@ -44,17 +44,20 @@ flat_of chunks = flat (map (λ (c : Chunk). (c.side, c.bytes)) chunks)
 -- the verdict on known texts and a known start: that on the capture's chunks and the order's entries
 abbrev pub IsVerdictOn : (capture order : Option (List ℕ)) → Option Start → Verdict → Type 0
 IsVerdictOn (Some text) (Some order_text) (Some initial) verdict =
-    (chunks : List Chunk) × (entries : List Entry) × IsCaptureText text chunks × IsOrderText order_text entries × IsChecked (flat_of chunks) entries initial verdict
+    (chunks : List Chunk) × (entries : List Entry) × IsCaptureText text chunks × IsOrderText order_text entries
+    × IsChecked (flat_of chunks) entries initial verdict
 IsVerdictOn capture order initial verdict = Unit {0}
 
 -- the whole line of one verdict was written, and true was answered exactly where it is a yes
-pub record Tells (capture order : Option (List ℕ)) (initial : Option Start) (yes : Bool) (old new : Option (List ℕ)) : Type 0 where
+pub record Tells (capture order : Option (List ℕ)) (initial : Option Start) (yes : Bool)
+    (old new : Option (List ℕ)) : Type 0 where
   pub verdict : Verdict
   pub is_verdict : IsVerdictOn capture order initial verdict
   pub answer : IsTrue yes ↔ IsYes verdict
   pub appended : Appends old new (line verdict)
 
--- what a fault says of the known bytes of the capture and of the order, and of the start: the capture is judged first, then the order
+-- what a fault says of the known bytes of the capture and of the order, and of the start: the capture is judged first,
+-- then the order
 abbrev pub IsCause : {I : Type 0} → (capture order : Option (List ℕ)) → StartFrom I → RunFault → Type 0
 IsCause capture order start (CaptureLine n) = IfSome capture (λ text. IsFirstBadCaptureLine text n)
 IsCause capture order start CaptureRead = Unit {0}
@@ -66,13 +69,15 @@ IsCause capture order start ImageRead = IsCapture capture × IsOrder order × Ha
 IsCause capture order start _ = ⊥
 
 -- a prefix of a verdict's line was written
-pub record TellsPrefix (capture order : Option (List ℕ)) (initial : Option Start) (old new : Option (List ℕ)) : Type 0 where
+pub record TellsPrefix (capture order : Option (List ℕ)) (initial : Option Start)
+    (old new : Option (List ℕ)) : Type 0 where
   pub verdict : Verdict
   pub is_verdict : IsVerdictOn capture order initial verdict
   pub appended : AppendsPrefix old new (line verdict)
 
 -- what stands written after a fault: a prefix of a verdict's line where the writer failed, else nothing
-abbrev pub LeavesWritten : (capture order : Option (List ℕ)) → Option Start → (old new : Option (List ℕ)) → RunFault → Type 0
+abbrev pub LeavesWritten : (capture order : Option (List ℕ)) → Option Start → (old new : Option (List ℕ)) → RunFault
+    → Type 0
 LeavesWritten capture order initial old new Write = TellsPrefix capture order initial old new
 LeavesWritten capture order initial old new _ = Keeps old new
 
@@ -80,10 +85,11 @@ LeavesWritten capture order initial old new _ = Keeps old new
 abbrev pub BeginsYes : List ℕ → Type 0
 BeginsYes text = (rest : List ℕ) × (text ≡ codes "yes" ++ rest)
 
--- where what was written begins with `yes`, whether all of its line was written or not, the capture text has chunks and the
--- order text has entries, and these are explained from the start that was read
+-- where what was written begins with `yes`, whether all of its line was written or not, the capture text has chunks and
+-- the order text has entries, and these are explained from the start that was read
 abbrev pub SaysYes : (capture order : Option (List ℕ)) → Option Start → (old new : Option (List ℕ)) → Type 0
 SaysYes (Some text) (Some order_text) (Some initial) (Some old) (Some new) =
     (written : List ℕ) → new ≡ old ++ written → BeginsYes written →
-    (chunks : List Chunk) × (entries : List Entry) × IsCaptureText text chunks × IsOrderText order_text entries × IsExplained (flat_of chunks) entries initial
+    (chunks : List Chunk) × (entries : List Entry) × IsCaptureText text chunks × IsOrderText order_text entries
+    × IsExplained (flat_of chunks) entries initial
 SaysYes capture order initial old new = Unit {0}

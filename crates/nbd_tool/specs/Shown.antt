@@ -16,8 +16,8 @@ use Rattle.nbd_tool.specs.declared.fault.RunFault.TheVariants.{Write, Memory}
 use Rattle.nbd_tool.specs.Runs.{IsCapture, IsCaptureCause, flat_of}
 use Rattle.nbd_tool.specs.Verdicts.{line}
 
--- the prefix of a capture's bytes is that of a run, but for bytes after each side's last message, and these messages complete in
--- that run, in this order
+-- the prefix of a capture's bytes is that of a run, but for bytes after each side's last message, and these messages
+-- complete in that run, in this order
 pub record Leads (capture prefix : List Pair) (messages : List Message) : Type 0 where
   pub rest : List Pair
   pub client : List ℕ
@@ -25,10 +25,12 @@ pub record Leads (capture prefix : List Pair) (messages : List Message) : Type 0
   pub parts : prefix ++ rest ≡ capture
   pub run : HasRun prefix messages client server
 
--- what is to be written of a capture's bytes, and the answer. A run has exactly these bytes: the lines of all its messages and
--- `ok`. Or no run has them: the lines of the messages that completed before the fault, and the line of the wire fault.
+-- what is to be written of a capture's bytes, and the answer. A run has exactly these bytes: the lines of all its
+-- messages and `ok`. Or no run has them: the lines of the messages that completed before the fault, and the line of the
+-- wire fault.
 pub data IsOutput (capture : List Pair) : Bool → List ℕ → Type 0 where
-  accepted : (messages : List Message) → HasRun capture messages [] [] → IsOutput capture true (message_lines messages ++ codes "ok\n")
+  accepted : (messages : List Message) → HasRun capture messages [] []
+      → IsOutput capture true (message_lines messages ++ codes "ok\n")
   refused : (prefix : List Pair) (messages : List Message) (fault : WireFault)
       → Leads capture prefix messages → IsWireFault capture messages (length prefix) fault → IsOfNoRun capture
       → IsOutput capture false (message_lines messages ++ line (Wire (length prefix) fault))
@@ -65,8 +67,8 @@ abbrev pub IsShowCause : Option (List ℕ) → RunFault → Type 0
 IsShowCause known Write = IsCapture known
 IsShowCause known fault = IsCaptureCause known fault
 
--- what stands written after a fault: a prefix of what is to be shown where the writer failed, a prefix of the message lines or
--- nothing after out of memory, else nothing
+-- what stands written after a fault: a prefix of what is to be shown where the writer failed, a prefix of the message
+-- lines or nothing after out of memory, else nothing
 abbrev pub LeavesShown : (known old new : Option (List ℕ)) → RunFault → Type 0
 LeavesShown known old new Write = WritesSome known old new
 LeavesShown known old new Memory = Keeps old new ⊎ WritesMessages known old new

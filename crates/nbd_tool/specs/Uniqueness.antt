@@ -9,7 +9,8 @@ use Rattle.nbd_tool.specs.Shown.{IsOutput}
 -- a capture text, an order text and a start have one verdict at most, and so one line
 abbrev pub OneLine : Type 0
 OneLine = (text order_text : List ℕ) (initial : Start) (v w : Verdict) →
-    IsVerdictOn (Some text) (Some order_text) (Some initial) v → IsVerdictOn (Some text) (Some order_text) (Some initial) w → v ≡ w
+    IsVerdictOn (Some text) (Some order_text) (Some initial) v
+    → IsVerdictOn (Some text) (Some order_text) (Some initial) w → v ≡ w
 
 -- a capture has one output at most: the same message lines and the same last line
 abbrev pub OneOutput : Type 0

@@ -49,7 +49,8 @@ order_fault_name NotCovered = codes "NotCovered"
 -- the words of a verdict's line; numbers are decimal without leading zeros
 abbrev pub words : Verdict → List ℕ
 words (Yes requests answered improper) =
-    codes "yes requests " ++ decimal requests ++ codes " answered " ++ decimal answered ++ codes " improper " ++ decimal improper
+    codes "yes requests " ++ decimal requests ++ codes " answered " ++ decimal answered ++ codes " improper "
+    ++ decimal improper
 words (Wire at fault) = codes "no at byte " ++ decimal at ++ codes ": " ++ fault_name fault
 words (Image image size) = codes "no image " ++ decimal image ++ codes " size " ++ decimal size
 words (Order entry fault) = codes "no order entry " ++ decimal entry ++ codes ": " ++ order_fault_name fault

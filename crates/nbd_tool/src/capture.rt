@@ -1,36 +1,107 @@
 //! A session over a capture that is read chunk by chunk.
 
-ghost use Rattle.std.specs.Prelude.{IfErr, IfOk, OnOk};
+ghost use Rattle.std.specs.Prelude.{◌≡◌, ◌+◌, ◌<◌, ◌^◌, ◌++◌, List, IfErr, IfOk, OnOk, length};
+ghost use Rattle.nbd_wire.specs.protocol.Captures.{Pair, side_pairs};
+ghost use Rattle.nbd_capture.specs.Reading.{at_start};
+ghost use Rattle.nbd_tool.specs.declared.input.TheConstants.{READ_LIMIT};
+ghost use Rattle.nbd_session.specs.Sessions.{bytes_taken, empty_session};
 ghost use Rattle.nbd_tool.specs.Runs.{IsCaptureCause};
 ghost use Rattle.nbd_tool.specs.Starts.{IsWithinLimit};
-ghost use Rattle.nbd_tool.specs.Ends.{IsOverText};
+ghost use Rattle.nbd_tool.specs.Ends.{IsOver, IsOverText};
 
 use crate::fault::RunFault;
 use crate::input::READ_LIMIT;
 use nbd_capture::CaptureReader;
 use nbd_session::{Session, SessionFault};
-use std::alloc::Global;
+use nbd_wire::Side;
+use std::alloc::{AllocError, Global};
 use std::io::BufRead;
 
+/// Who is shown the bytes of a capture as they are read.
+pub trait Witness {
+    /// These bytes came next, from this side. An `Err` says that memory ran out.
+    fn see(&mut self, side: Side, bytes: &[u8]) -> Result<(), AllocError>;
+}
+
+/// Nobody.
+#[derive(Drop)]
+pub struct Unseen;
+
+impl Witness for Unseen {
+    fn see(&mut self, _side: Side, _bytes: &[u8]) -> Result<(), AllocError> {
+        Ok(())
+    }
+}
+
 /// A session over the capture text that this reader has, up to the byte at which it is refused. A chunk is
-/// dropped once it was pushed.
+/// dropped once it was shown to the witness and pushed.
 ///
 /// The text is read to its end, also after a refused byte, so that a fault of the text or of its reader
 /// comes before any verdict; out of memory is answered at once.
-pub fn session_over<C: BufRead + Drop>(alloc: Global, capture: C) -> Result<Session, RunFault>
+pub fn session_over<C: BufRead + Drop, S: Witness>(
+    alloc: Global,
+    capture: C,
+    witness: &mut S,
+) -> Result<Session, RunFault>
     ensures over { IfOk result (IsOverText (C.remaining capture)) }
     ensures limited { OnOk result (IsWithinLimit (C.remaining capture)) }
     ensures cause { IfErr result (IsCaptureCause (C.remaining capture)) }
 {
-    let mut reader = CaptureReader::new(alloc, capture, READ_LIMIT as u64);
     let mut session = Session::new(alloc);
+    push_all(alloc, capture, &mut session, witness).and(Ok(session))
+}
+
+// Pushes all chunks of a capture text into a session that has taken nothing.
+fn push_all<C: BufRead + Drop, S: Witness>(
+    alloc: Global,
+    capture: C,
+    session: &mut Session,
+    witness: &mut S,
+) -> Result<(), RunFault>
+    requires { session.old ≡ empty_session }
+    ensures over { OnOk result (IsOverText (C.remaining capture) session.new) }
+    ensures limited { OnOk result (IsWithinLimit (C.remaining capture)) }
+    ensures cause { IfErr result (IsCaptureCause (C.remaining capture)) }
+{
+    let mut reader = CaptureReader::new(alloc, capture, READ_LIMIT as u64);
+    push_read(alloc, &mut reader, session, witness)
+}
+
+// Pushes all chunks that a new reader has into a session that has taken nothing.
+fn push_read<C: BufRead, S: Witness>(
+    alloc: Global,
+    reader: &mut CaptureReader<C>,
+    session: &mut Session,
+    witness: &mut S,
+) -> Result<(), RunFault>
+    requires new { reader.old ≡ at_start reader.old.rest READ_LIMIT }
+    requires empty { session.old ≡ empty_session }
+    ensures over { OnOk result (IsOverText reader.old.rest session.new) }
+    ensures limited { OnOk result (IsWithinLimit reader.old.rest) }
+    ensures cause { IfErr result (IsCaptureCause reader.old.rest) }
+{
     let mut bytes = Vec::new(alloc);
     while let Some(side) = reader.next_into(&mut bytes)? {
-        match session.push(side, bytes.as_slice()) {
-            Ok(()) => {}
-            Err(SessionFault::Wire { .. }) => {}
-            Err(SessionFault::Memory) => return Err(RunFault::Memory),
-        }
+        push_shown(session, witness, side, bytes.as_slice())?;
     }
-    Ok(session)
+    Ok(())
+}
+
+// Shows a piece of a capture to the witness, and pushes it into a session.
+fn push_shown<S: Witness>(
+    session: &mut Session,
+    witness: &mut S,
+    side: Side,
+    piece: &[u8],
+) -> Result<(), AllocError>
+    requires { bytes_taken session.old + length piece.now < 2 ^ 63 }
+    ensures { OnOk result ((capture : List Pair) → IsOver capture session.old →
+        IsOver (capture ++ side_pairs side piece.now) session.new) }
+{
+    witness.see(side, piece)?;
+    match session.push(side, piece) {
+        Ok(()) => Ok(()),
+        Err(SessionFault::Wire { .. }) => Ok(()),
+        Err(SessionFault::Memory) => Err(AllocError),
+    }
 }

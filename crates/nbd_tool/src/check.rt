@@ -1,16 +1,21 @@
 //! The command `check`, over any readers and writer.
-ghost use Rattle.std.specs.Prelude.{◌≡◌, OnOk, IfErr, IfOk, IfSome};
+ghost use Rattle.std.specs.Prelude.{◌≡◌, ◌≢◌, ◌⊎◌, ℕ, List, OnOk, IfErr, IfOk, IfSome, Option};
 ghost use Rattle.nbd_capture.specs.Order.{IsOrderText};
+ghost use Rattle.nbd_wire.specs.declared.entry.Entry.{Entry};
 ghost use Rattle.nbd_tool.specs.Runs.{IsCapture, IsOrder, IsCause, IsOrderCause, LeavesWritten, SaysYes, Tells};
-ghost use Rattle.nbd_tool.specs.Starts.{IsStartWithinLimit, IsWithinLimit, initial_from};
+ghost use Rattle.nbd_tool.specs.declared.fault.RunFault.TheVariants.{ImageRead, Memory, Write};
+ghost use Rattle.nbd_tool.specs.internal.Outcomes.{IsConcluded};
+ghost use Rattle.nbd_tool.specs.Starts.{HasImage, IsStartWithinLimit, IsWithinLimit, initial_from};
 
-use crate::capture::session_over;
+use crate::capture::{Unseen, session_over};
 use crate::concluding::conclude_from;
 use crate::fault::RunFault;
 use crate::input::{ReadFault, read_whole};
 use crate::start::{StartFrom, read_start, room_of};
-use crate::verdict::{Line, is_yes};
-use nbd_capture::{parse_order, write_whole};
+use crate::verdict::write_verdict;
+use nbd_capture::parse_order;
+use nbd_judge::Verdict;
+use nbd_session::{SessionFault, Transcript};
 use nbd_wire::Entry;
 use std::alloc::Global;
 use std::io::{BufRead, Read, Write};
@@ -40,14 +45,43 @@ pub fn run_check<C: BufRead + Drop, O: Read + Drop, I: Read + Drop, W: Write>(
     ensures left { IfErr result (LeavesWritten (C.remaining capture) (O.remaining order)
         (initial_from I.remaining start) (W.contents out.old) (W.contents out.new)) }
 {
-    let session = session_over(alloc, capture)?;
-    let order = read_order(alloc, &mut order)?;
-    let finished = session.finish();
+    let session = session_over(alloc, capture, &mut Unseen)?;
+    let verdict = verdict_over(alloc, session.finish(), &mut order, start)?;
+    write_verdict(alloc, verdict, out)
+}
+
+// The verdict on a finished session, from the order and the image that are read.
+fn verdict_over<O: Read, I: Read + Drop>(
+    alloc: Global,
+    finished: Result<Transcript, SessionFault>,
+    order: &mut O,
+    start: StartFrom<I>,
+) -> Result<Verdict, RunFault>
+    ensures verdict { IfOk result (λ v. (entries : List Entry) × IfSome (O.remaining order.old)
+        (λ text. IsOrderText text entries) × IsConcluded (initial_from I.remaining start) finished entries v) }
+    ensures well_formed { OnOk result (IsOrder (O.remaining order.old)) }
+    ensures limited { OnOk result (IsWithinLimit (O.remaining order.old) × IsStartWithinLimit I.remaining start) }
+    ensures cause { IfErr result (λ fault. (known : Option (List ℕ)) → IsCapture known →
+        IsCause known (O.remaining order.old) start fault) }
+    ensures reading { IfErr result (λ fault. fault ≢ Write) }
+{
+    let order = read_order(alloc, order)?;
+    verdict_from(alloc, finished, order.as_slice(), start)
+}
+
+// The verdict on a finished session and an order, from the image that is read.
+fn verdict_from<I: Read + Drop>(
+    alloc: Global,
+    finished: Result<Transcript, SessionFault>,
+    order: &[Entry],
+    start: StartFrom<I>,
+) -> Result<Verdict, RunFault>
+    ensures verdict { IfOk result (IsConcluded (initial_from I.remaining start) finished order.now) }
+    ensures limited { OnOk result (IsStartWithinLimit I.remaining start) }
+    ensures cause { IfErr result (λ fault. (fault ≡ ImageRead) × HasImage start ⊎ (fault ≡ Memory)) }
+{
     let start = read_start(alloc, start, room_of(&finished))?;
-    let verdict = conclude_from(alloc, finished, order.as_slice(), start)?;
-    let line = format!(in alloc; "{}\n", Line { verdict })?;
-    write_whole(out, line.as_bytes())?;
-    Ok(is_yes(&verdict))
+    Ok(conclude_from(alloc, finished, order, start)?)
 }
 
 /// Reads an order text whole, and answers its entries.
@@ -57,9 +91,9 @@ pub fn read_order<O: Read>(alloc: Global, order: &mut O) -> Result<Vec<Entry>, R
     ensures limited { OnOk result (IsWithinLimit (O.remaining order.old)) }
     ensures cause { IfErr result (IsOrderCause (O.remaining order.old)) }
 {
-    let text = read_whole(alloc, order).map_err(|fault| match fault {
-        ReadFault::Read => RunFault::OrderRead,
-        ReadFault::Memory => RunFault::Memory,
-    })?;
-    Ok(parse_order(alloc, text.as_slice())?)
+    match read_whole(alloc, order) {
+        Ok(text) => Ok(parse_order(alloc, text.as_slice())?),
+        Err(ReadFault::Read) => Err(RunFault::OrderRead),
+        Err(ReadFault::Memory) => Err(RunFault::Memory),
+    }
 }

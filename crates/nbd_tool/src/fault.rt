@@ -1,6 +1,7 @@
 //! Why a run of the program has no answer.
 ghost use Rattle.std.specs.Prelude.{◌≡◌};
 ghost use Rattle.nbd_tool.specs.Faults.{of_capture, of_make, of_order, of_output, status};
+ghost use Rattle.nbd_tool.specs.internal.FaultWords.{line_of, name_of};
 
 use nbd_capture::{CaptureFault, OrderTextFault, WriteFault};
 use nbd_lines::{MakeFault, OutputFault};
@@ -45,6 +46,35 @@ impl RunFault {
             _ => 3,
         }
     }
+
+    // What the fault was met in.
+    fn name(&self) -> &'static str
+        ensures { result.now ≡ name_of self.now }
+    {
+        match self {
+            RunFault::CaptureLine(_) => "capture",
+            RunFault::CaptureRead => "capture read",
+            RunFault::OrderLine(_) => "order",
+            RunFault::OrderRead => "order read",
+            RunFault::ImageRead => "image read",
+            RunFault::ScriptLine(_) => "script",
+            RunFault::ScriptRead => "script read",
+            RunFault::Write => "write",
+            RunFault::Memory => "memory",
+        }
+    }
+
+    // The number of the malformed line, of a fault that has one.
+    fn line(&self) -> Option<u64>
+        ensures { result ≡ line_of self.now }
+    {
+        match self {
+            RunFault::CaptureLine(number) => Some(*number),
+            RunFault::OrderLine(number) => Some(*number),
+            RunFault::ScriptLine(number) => Some(*number),
+            _ => None,
+        }
+    }
 }
 
 impl fmt::Display for RunFault {
@@ -54,16 +84,10 @@ impl fmt::Display for RunFault {
     ghost output = { λ fault. Some (words fault) };
 
     fn fmt<W: fmt::Write>(&self, f: &mut fmt::Formatter<W>) -> fmt::Result {
-        match self {
-            RunFault::CaptureLine(number) => write!(f, "fault capture line {number}"),
-            RunFault::CaptureRead => write!(f, "fault capture read"),
-            RunFault::OrderLine(number) => write!(f, "fault order line {number}"),
-            RunFault::OrderRead => write!(f, "fault order read"),
-            RunFault::ImageRead => write!(f, "fault image read"),
-            RunFault::ScriptLine(number) => write!(f, "fault script line {number}"),
-            RunFault::ScriptRead => write!(f, "fault script read"),
-            RunFault::Write => write!(f, "fault write"),
-            RunFault::Memory => write!(f, "fault memory"),
+        let name = self.name();
+        match self.line() {
+            Some(number) => write!(f, "fault {name} line {number}"),
+            None => write!(f, "fault {name}"),
         }
     }
 }

@@ -1,5 +1,5 @@
 //! Reading an input whole.
-ghost use Rattle.std.specs.Prelude.{◌≡◌, ◌<◌, ℕ, IfOk, IfSome, Ok, OnOk};
+ghost use Rattle.std.specs.Prelude.{◌≡◌, ◌<◌, ◌≤◌, ℕ, [], IfOk, IfSome, Ok, OnOk, length};
 ghost use Rattle.nbd_tool.specs.declared.input.Text.TheVariants.{Longer};
 ghost use Rattle.nbd_tool.specs.Starts.{IsWithinLimit};
 ghost use Rattle.nbd_tool.specs.internal.Texts.{IsText};
@@ -63,6 +63,26 @@ pub(crate) fn read_within<R: Read>(
     ensures longer { (n : ℕ) → result ≡ Ok (Longer n) → room < n }
 {
     let mut text = Vec::new(alloc);
+    let count = read_into(alloc, reader, room, &mut text)?;
+    Ok(if count <= room {
+        Text::Whole(text)
+    } else {
+        Text::Longer(count)
+    })
+}
+
+// Reads to the end, and answers how many bytes these were. Where there is room for them, they stand in the text, which was empty.
+fn read_into<R: Read>(
+    alloc: Global,
+    reader: &mut R,
+    room: u64,
+    text: &mut Vec<u8>,
+) -> Result<u64, ReadFault>
+    requires { text.old.items ≡ [] }
+    ensures read { IfOk result (λ count. IfSome (R.remaining reader.old)
+        (λ bytes. (count ≡ length bytes) × (count ≤ room → text.new.items ≡ bytes))) }
+    ensures limited { OnOk result (IsWithinLimit (R.remaining reader.old)) }
+{
     let mut portion = vec![in alloc; 0u8; PORTION]?;
     let mut count = 0;
     while count <= READ_LIMIT {
@@ -70,17 +90,13 @@ pub(crate) fn read_within<R: Read>(
             return Err(ReadFault::Read);
         };
         if more == 0 {
-            return Ok(if count as u64 <= room {
-                Text::Whole(text)
-            } else {
-                Text::Longer(count as u64)
-            });
+            return Ok(count as u64);
         }
         count += more;
         if count as u64 <= room {
             text.extend_from_slice(&portion.as_slice()[..more])?;
         } else {
-            text = Vec::new(alloc);
+            *text = Vec::new(alloc);
         }
     }
     Err(ReadFault::Read)

@@ -12,14 +12,13 @@ pub mod laws;
 mod make;
 pub mod opening;
 pub mod ordering;
-mod progress;
 pub mod show;
 pub mod start;
 #[cfg(test)]
 mod tests;
 pub mod verdict;
 
-pub use capture::session_over;
+pub use capture::{Unseen, Witness, session_over};
 pub use check::{read_order, run_check};
 pub use command_line::{StartWord, exit_status, start_of};
 pub use concluding::conclude_from;
@@ -29,7 +28,6 @@ pub use input::READ_LIMIT;
 pub use make::run_make;
 pub use opening::{Inputs, Opener, open_inputs, open_start};
 pub use ordering::{Ordered, find_order, found_text_of, order_status, run_order};
-pub use progress::Progress;
 pub use show::{run_show, write_end};
 pub use start::{Beginning, StartFrom, read_start, room_of};
 pub use verdict::{Line, is_yes};

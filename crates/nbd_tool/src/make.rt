@@ -36,8 +36,9 @@ fn read_script<S: BufRead>(alloc: Global, script: &mut S) -> Result<Vec<u8>, Run
     ensures limited { OnOk result (IsWithinLimit (S.remaining script.old)) }
     ensures cause { IfErr result (λ fault. (fault ≡ ScriptRead) ⊎ (fault ≡ Memory)) }
 {
-    read_whole(alloc, script).map_err(|fault| match fault {
-        ReadFault::Read => RunFault::ScriptRead,
-        ReadFault::Memory => RunFault::Memory,
-    })
+    match read_whole(alloc, script) {
+        Ok(text) => Ok(text),
+        Err(ReadFault::Read) => Err(RunFault::ScriptRead),
+        Err(ReadFault::Memory) => Err(RunFault::Memory),
+    }
 }

@@ -49,8 +49,12 @@ pub fn open_inputs<O: Opener>(
     ensures cause { IfErr result
         (IsOpeningCause (O.asked opener.old) (O.asked opener.new) capture.now order.now start.entry) }
 {
-    let capture = opener.open(capture).map_err(|_| RunFault::CaptureRead)?;
-    let order = opener.open(order).map_err(|_| RunFault::OrderRead)?;
+    let Ok(capture) = opener.open(capture) else {
+        return Err(RunFault::CaptureRead);
+    };
+    let Ok(order) = opener.open(order) else {
+        return Err(RunFault::OrderRead);
+    };
     let start = open_start(opener, start)?;
     Ok(Inputs {
         capture,
@@ -71,9 +75,9 @@ pub fn open_start<O: Opener>(
     match start {
         StartWord::Unknown => Ok(StartFrom::Unknown),
         StartWord::Zero => Ok(StartFrom::Zeroes),
-        StartWord::Image(path) => {
-            let image = opener.open(path).map_err(|_| RunFault::ImageRead)?;
-            Ok(StartFrom::Image(image))
-        }
+        StartWord::Image(path) => match opener.open(path) {
+            Ok(image) => Ok(StartFrom::Image(image)),
+            Err(_) => Err(RunFault::ImageRead),
+        },
     }
 }

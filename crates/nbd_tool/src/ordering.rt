@@ -1,6 +1,6 @@
 //! The command `order`, over any readers and writer.
 
-ghost use Rattle.std.specs.Prelude.{◌≡◌, List, IfErr, IfOk, OnOk};
+ghost use Rattle.std.specs.Prelude.{◌≡◌, ◌⊎◌, ◌++◌, ◌∷◌, List, [], Err, IfErr, IfOk, Ok, OnOk};
 ghost use Rattle.std.specs.Io.KnownBytes.{Appends};
 ghost use Rattle.nbd_wire.specs.protocol.Explains as definitions;
 ghost use Rattle.nbd_wire.specs.protocol.Marks.{Item};
@@ -8,27 +8,32 @@ ghost use Rattle.nbd_wire.specs.protocol.Reports.{report};
 ghost use Rattle.nbd_wire.specs.protocol.Rules.{IsRun};
 ghost use Rattle.nbd_judge.specs.Beginnings.{initial_of};
 ghost use Rattle.nbd_judge.specs.Servable.{size_of};
+ghost use Rattle.nbd_capture.specs.Lines.{line_feed};
+ghost use Rattle.nbd_capture.specs.Order.{entry_text};
 ghost use Rattle.nbd_order.specs.Finding.{IsFound, IsWanted, Says};
+ghost use Rattle.nbd_order.specs.declared.finding.Wanted.{Wanted};
 ghost use Rattle.nbd_tool.specs.Beginnings.{IsReadAs};
-ghost use Rattle.nbd_tool.specs.Ordering.{IsOrderingCause, LeavesOrdered, Orders, entry_lines, found_text, ordered_of, reason_words, spaced_numbers, status_of, unexplained_line};
-ghost use Rattle.nbd_tool.specs.Starts.{IsStartWithinLimit, IsWithinLimit, initial_from};
+ghost use Rattle.nbd_tool.specs.declared.start.Beginning.{Beginning};
+ghost use Rattle.nbd_tool.specs.Ordering.{IsOrderingCause, LeavesOrdered, Orders, entry_lines, found_text, gave_up_line, ordered_of, reason_words, spaced_numbers, status_of, unexplained_line};
+ghost use Rattle.nbd_tool.specs.Starts.{HasImage, IsStartWithinLimit, IsWithinLimit, initial_from};
+ghost use Rattle.nbd_tool.specs.declared.fault.RunFault.TheVariants as faults;
+ghost use Rattle.nbd_tool.specs.internal.Outcomes.{IsToldFrom, IsToldOf};
 
-use crate::capture::session_over;
+use crate::capture::{Unseen, session_over};
 use crate::fault::RunFault;
-use crate::progress::Progress;
 use crate::start::{Beginning, StartFrom, read_start, room_of};
-use crate::verdict::Line;
+use crate::verdict::{Line, line_of};
 use nbd_capture::write_whole;
 use nbd_judge::Verdict;
 use nbd_order::{Found, Scope, find};
-use nbd_search::Reason;
+use nbd_search::{Progress, Reason};
 use nbd_session::{SessionFault, Transcript};
 use nbd_wire::Entry;
 use std::alloc::{AllocError, Global};
 use std::io::{BufRead, Read, Write};
 
 /// What a run of `order` came to.
-#[derive(Clone, Copy, Debug, PartialEq, Eq, Drop)]
+#[derive(Clone, Copy, PartialEq, Eq, Drop)]
 pub enum Ordered {
     /// An order was written, and it explains the session.
     Found,
@@ -55,13 +60,13 @@ pub fn order_status(answer: &Result<Ordered, RunFault>) -> u8
 ///
 /// Nothing is written unless all were read whole and are well formed. After `Write` some of it may stand written. A long search
 /// says on `progress` how far it is.
-pub fn run_order<C: BufRead + Drop, I: Read + Drop, W: Write, P: Write + Drop>(
+pub fn run_order<C: BufRead + Drop, I: Read + Drop, W: Write>(
     alloc: Global,
     capture: C,
     start: StartFrom<I>,
     scope: Scope,
     out: &mut W,
-    progress: &mut Progress<P>,
+    progress: &mut Progress,
 ) -> Result<Ordered, RunFault>
     ensures written { IfOk result (λ ordered. Orders (C.remaining capture) (initial_from I.remaining start) scope.wanted ordered
         (W.contents out.old) (W.contents out.new)) }
@@ -70,33 +75,91 @@ pub fn run_order<C: BufRead + Drop, I: Read + Drop, W: Write, P: Write + Drop>(
     ensures cause { IfErr result (IsOrderingCause (C.remaining capture) start) }
     ensures left { IfErr result (LeavesOrdered (W.contents out.old) (W.contents out.new)) }
 {
-    let session = session_over(alloc, capture)?;
-    let finished = session.finish();
+    let session = session_over(alloc, capture, &mut Unseen)?;
+    let told = told_over(alloc, session.finish(), start, scope, progress)?;
+    write_told(told, out)
+}
+
+// Writes the text, and gives the answer.
+fn write_told<W: Write>(told: (String, Ordered), out: &mut W) -> Result<Ordered, RunFault>
+    ensures written { IfOk result (λ ordered. (ordered ≡ told.1)
+        × Appends (W.contents out.old) (W.contents out.new) told.0.bytes.items) }
+    ensures fault { IfErr result (λ fault. fault ≡ faults.Write) }
+{
+    let (text, ordered) = told;
+    write_whole(out, text.as_bytes())?;
+    Ok(ordered)
+}
+
+// What is written of a finished session from the start that is read, and the answer.
+fn told_over<I: Read + Drop>(
+    alloc: Global,
+    finished: Result<Transcript, SessionFault>,
+    start: StartFrom<I>,
+    scope: Scope,
+    progress: &mut Progress,
+) -> Result<(String, Ordered), RunFault>
+    ensures told { IfOk result (λ told. IsToldFrom (initial_from I.remaining start) scope.wanted finished
+        told.1 told.0.bytes.items) }
+    ensures limited { OnOk result (IsStartWithinLimit I.remaining start) }
+    ensures cause { IfErr result (λ fault. (fault ≡ faults.ImageRead) × HasImage start ⊎ (fault ≡ faults.Memory)) }
+{
     let start = read_start(alloc, start, room_of(&finished))?;
+    Ok(told_of(alloc, finished, start, scope, progress)?)
+}
+
+// What is written of a finished session, and the answer.
+fn told_of(
+    alloc: Global,
+    finished: Result<Transcript, SessionFault>,
+    start: Beginning,
+    scope: Scope,
+    progress: &mut Progress,
+) -> Result<(String, Ordered), AllocError>
+    ensures { IfOk result (λ told. IsToldOf start scope.wanted finished told.1 told.0.bytes.items) }
+{
     match finished {
-        Ok(transcript) => {
-            let found = find_order(alloc, &transcript, start, scope, progress)?;
-            let text = found_text_of(alloc, &found)?;
-            write_whole(out, text.as_bytes())?;
-            Ok(ordered_as(&found))
+        Ok(transcript) => told_of_report(alloc, &transcript, start, scope, progress),
+        Err(fault) => told_of_fault(alloc, fault),
+    }
+}
+
+// The same of a session's report.
+fn told_of_report(
+    alloc: Global,
+    transcript: &Transcript,
+    start: Beginning,
+    scope: Scope,
+    progress: &mut Progress,
+) -> Result<(String, Ordered), AllocError>
+    ensures { IfOk result (λ told. IsToldOf start scope.wanted (Ok transcript.now) told.1 told.0.bytes.items) }
+{
+    let found = find_order(alloc, transcript, start, scope, progress)?;
+    let text = found_text_of(alloc, &found)?;
+    Ok((text, ordered_as(&found)))
+}
+
+// The same of the fault that a session ended with.
+fn told_of_fault(alloc: Global, fault: SessionFault) -> Result<(String, Ordered), AllocError>
+    ensures { IfOk result (λ told. (beginning : Beginning) (wanted : Wanted) →
+        IsToldOf beginning wanted (Err fault) told.1 told.0.bytes.items) }
+{
+    match fault {
+        SessionFault::Wire { at, fault } => {
+            let text = line_of(alloc, Verdict::Wire { at, fault })?;
+            Ok((text, Ordered::Refuted))
         }
-        Err(SessionFault::Wire { at, fault }) => {
-            let verdict = Verdict::Wire { at, fault };
-            let line = format!(in alloc; "{}\n", Line { verdict })?;
-            write_whole(out, line.as_bytes())?;
-            Ok(Ordered::Refuted)
-        }
-        Err(SessionFault::Memory) => Err(RunFault::Memory),
+        SessionFault::Memory => Err(AllocError),
     }
 }
 
 /// Looks for an order that explains the session from what was read of the start. An `Err` says that memory ran out.
-pub fn find_order<P: Write + Drop>(
+pub fn find_order(
     alloc: Global,
     transcript: &Transcript,
     beginning: Beginning,
     scope: Scope,
-    progress: &mut Progress<P>,
+    progress: &mut Progress,
 ) -> Result<Found, AllocError>
     ensures found { IfOk result (λ f. (initial : definitions.Start) →
         IsReadAs (size_of transcript.now.export) initial beginning → IsFound transcript.now initial f) }
@@ -142,19 +205,23 @@ pub fn found_text_of(alloc: Global, found: &Found) -> Result<String, AllocError>
         }
         Found::Image { image, size } => {
             let (image, size) = (*image, *size);
-            let verdict = Verdict::Image { image, size };
-            Ok(format!(in alloc; "{}\n", Line { verdict })?)
+            line_of(alloc, Verdict::Image { image, size })
         }
-        Found::NoneWhole => Ok(format!(in alloc; "no order of whole requests found\n")?),
+        Found::NoneWhole => format!(in alloc; "no order of whole requests found\n"),
         Found::GaveUp {
             request,
             offset,
             reason,
-        } => {
-            let (reason, request, offset) = (reason_name(*reason), *request, *offset);
-            Ok(format!(in alloc; "gave up: {reason} at request {request} offset {offset}\n")?)
-        }
+        } => gave_up(alloc, *request, *offset, *reason),
     }
+}
+
+// The line of a search that was broken off.
+fn gave_up(alloc: Global, request: u64, offset: u64, reason: Reason) -> Result<String, AllocError>
+    ensures { IfOk result (λ text. text.bytes.items ≡ gave_up_line request offset reason) }
+{
+    let reason = reason_name(reason);
+    format!(in alloc; "gave up: {reason} at request {request} offset {offset}\n")
 }
 
 // The lines of entries.
@@ -163,16 +230,19 @@ fn lines_of(alloc: Global, entries: &[Entry]) -> Result<String, AllocError>
 {
     let mut text = String::new(alloc);
     for entry in entries {
-        match entry.part {
-            None => writeln!(&mut text, "{}", entry.request)?,
-            Some(part) => writeln!(
-                &mut text,
-                "{} {} {}",
-                entry.request, part.offset, part.length
-            )?,
-        }
+        push_entry(&mut text, entry)?;
     }
     Ok(text)
+}
+
+// Adds an entry's line.
+fn push_entry(text: &mut String, entry: &Entry) -> Result<(), AllocError>
+    ensures { OnOk result (text.new.bytes.items ≡ text.old.bytes.items ++ (entry_text entry.now ++ line_feed ∷ [])) }
+{
+    match entry.part {
+        None => writeln!(text, "{}", entry.request),
+        Some(part) => writeln!(text, "{} {} {}", entry.request, part.offset, part.length),
+    }
 }
 
 // The line of READs of which each order has one wrong at this offset.
@@ -181,11 +251,11 @@ fn unexplained(alloc: Global, reads: &[u64], offset: u64) -> Result<String, Allo
 {
     if reads.len() != 1 {
         let reads = numbers_of(alloc, reads)?;
-        return Ok(format!(in alloc; "no order explains requests{reads} at offset {offset}\n")?);
+        return format!(in alloc; "no order explains requests{reads} at offset {offset}\n");
     }
     let request = reads[0];
     let verdict = Verdict::Content { request, offset };
-    Ok(format!(in alloc; "{} in any order\n", Line { verdict })?)
+    format!(in alloc; "{} in any order\n", Line { verdict })
 }
 
 // Numbers, each behind a space.

@@ -1,20 +1,19 @@
 //! The command `show`, over any reader and writer.
-ghost use Rattle.std.specs.Prelude.{◌≡◌, IfErr, IfOk, OnOk, None, Some, false, true};
+ghost use Rattle.std.specs.Prelude.{◌≡◌, IfErr, IfOk, OnOk, None, true};
 ghost use Rattle.std.specs.Io.KnownBytes.{Appends};
-ghost use Rattle.nbd_session.specs.declared.fault.SessionFault.TheVariants.{Wire};
 ghost use Rattle.nbd_session.specs.Sessions.{fault_of};
 ghost use Rattle.nbd_tool.specs.Runs.{IsCapture};
 ghost use Rattle.nbd_tool.specs.Ends.{LeavesLast, is_accepted, last_line};
 ghost use Rattle.nbd_tool.specs.Starts.{IsWithinLimit};
 ghost use Rattle.nbd_tool.specs.Shown.{IsShowCause, LeavesShown, WritesAll};
 
-use crate::capture::session_over;
+use crate::capture::{Unseen, session_over};
 use crate::fault::RunFault;
-use crate::verdict::Line;
+use crate::verdict::write_verdict;
 use nbd_capture::write_whole;
 use nbd_judge::Verdict;
 use nbd_lines::show;
-use nbd_session::{SessionFault, Transcript, WireFault};
+use nbd_session::{SessionFault, Transcript};
 use std::alloc::Global;
 use std::io::{BufRead, Write};
 
@@ -36,9 +35,9 @@ pub fn run_show<C: BufRead + Drop, W: Write>(
     ensures cause { IfErr result (IsShowCause (C.remaining capture)) }
     ensures left { IfErr result (LeavesShown (C.remaining capture) (W.contents out.old) (W.contents out.new)) }
 {
-    let session = session_over(alloc, capture)?;
-    show(alloc, session.messages(), out)?;
-    write_end(alloc, session.finish(), out)
+    let session = session_over(alloc, capture, &mut Unseen)?;
+    let finished = show(alloc, session.messages(), out).and(Ok(session.finish()))?;
+    write_end(alloc, finished, out)
 }
 
 /// Writes how the session ended: `ok`, or where and why it was refused. Answers true where it was
@@ -56,7 +55,9 @@ pub fn write_end<W: Write>(
 {
     match finished {
         Ok(_) => write_accepted(out),
-        Err(SessionFault::Wire { at, fault }) => write_refused(alloc, at, fault, out),
+        Err(SessionFault::Wire { at, fault }) => {
+            write_verdict(alloc, Verdict::Wire { at, fault }, out)
+        }
         Err(SessionFault::Memory) => Err(RunFault::Memory),
     }
 }
@@ -69,22 +70,4 @@ fn write_accepted<W: Write>(out: &mut W) -> Result<bool, RunFault>
 {
     write_whole(out, b"ok\n")?;
     Ok(true)
-}
-
-/// Writes where and why the session was refused.
-fn write_refused<W: Write>(
-    alloc: Global,
-    at: u64,
-    fault: WireFault,
-    out: &mut W,
-) -> Result<bool, RunFault>
-    ensures answer { IfOk result (λ yes. yes ≡ false) }
-    ensures written { OnOk result (Appends (W.contents out.old) (W.contents out.new)
-        (last_line (Some (Wire at fault)))) }
-    ensures left { IfErr result (LeavesLast (Some (Wire at fault)) (W.contents out.old) (W.contents out.new)) }
-{
-    let verdict = Verdict::Wire { at, fault };
-    let line = format!(in alloc; "{}\n", Line { verdict })?;
-    write_whole(out, line.as_bytes())?;
-    Ok(false)
 }

@@ -75,8 +75,9 @@ fn read_image<I: Read>(alloc: Global, image: &mut I, room: u64) -> Result<Text, 
     ensures limited { OnOk result (IsWithinLimit (I.remaining image.old)) }
     ensures cause { IfErr result (λ fault. (fault ≡ ImageRead) ⊎ (fault ≡ Memory)) }
 {
-    read_within(alloc, image, room).map_err(|fault| match fault {
-        ReadFault::Read => RunFault::ImageRead,
-        ReadFault::Memory => RunFault::Memory,
-    })
+    match read_within(alloc, image, room) {
+        Ok(text) => Ok(text),
+        Err(ReadFault::Read) => Err(RunFault::ImageRead),
+        Err(ReadFault::Memory) => Err(RunFault::Memory),
+    }
 }

@@ -1,16 +1,47 @@
 //! The line that states a verdict.
-ghost use Rattle.std.specs.Prelude.{◌≡◌, ◌↔◌, IsTrue};
-ghost use Rattle.nbd_tool.specs.Verdicts.{IsYes, fault_name, order_fault_name};
+ghost use Rattle.std.specs.Prelude.{◌≡◌, ◌↔◌, ◌⊎◌, IfErr, IfOk, IsTrue, OnOk};
+ghost use Rattle.std.specs.Io.KnownBytes.{Appends, Keeps};
+ghost use Rattle.nbd_capture.specs.Writing.{AppendsPrefix};
+ghost use Rattle.nbd_tool.specs.Verdicts.{IsYes, fault_name, line, order_fault_name};
+ghost use Rattle.nbd_tool.specs.declared.fault.RunFault.TheVariants.{Memory, Write};
 
+use crate::fault::RunFault;
+use nbd_capture::write_whole;
 use nbd_judge::{OrderFault, Verdict};
 use nbd_session::WireFault;
+use std::alloc::{AllocError, Global};
 use std::fmt;
+use std::io::Write;
 
 /// Whether a verdict is yes.
 pub fn is_yes(verdict: &Verdict) -> bool
     ensures { IsTrue result ↔ IsYes verdict.now }
 {
     matches!(verdict, Verdict::Yes { .. })
+}
+
+/// Writes a verdict's line, and answers whether the verdict is yes. After `Write` a prefix of the line stands written, after
+/// `Memory` nothing of it.
+pub(crate) fn write_verdict<W: Write>(
+    alloc: Global,
+    verdict: Verdict,
+    out: &mut W,
+) -> Result<bool, RunFault>
+    ensures answer { IfOk result (λ yes. IsTrue yes ↔ IsYes verdict) }
+    ensures written { OnOk result (Appends (W.contents out.old) (W.contents out.new) (line verdict)) }
+    ensures left { IfErr result (λ fault. (fault ≡ Write) × AppendsPrefix (W.contents out.old) (W.contents out.new) (line verdict)
+        ⊎ (fault ≡ Memory) × Keeps (W.contents out.old) (W.contents out.new)) }
+{
+    let line = line_of(alloc, verdict)?;
+    write_whole(out, line.as_bytes())?;
+    Ok(is_yes(&verdict))
+}
+
+/// A verdict's line. An `Err` says that memory ran out.
+pub(crate) fn line_of(alloc: Global, verdict: Verdict) -> Result<String, AllocError>
+    ensures { IfOk result (λ text. text.bytes.items ≡ line verdict) }
+{
+    format!(in alloc; "{}\n", Line { verdict })
 }
 
 /// A verdict as its line has it, without the line feed.

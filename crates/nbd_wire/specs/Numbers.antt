@@ -1,4 +1,5 @@
--- The numbers of proto.md as literals: the definitions take them from the code's constants, so they are said once more here.
+-- The numbers of proto.md as literals: the definitions take them from the code's constants, so they are said once more
+-- here.
 use Rattle.std.specs.Prelude.{◌≡◌}
 use Rattle.nbd_wire.specs.declared.answers.TheConstants as answers
 use Rattle.nbd_wire.specs.declared.chunks.TheConstants as chunks
@@ -12,7 +13,8 @@ use Rattle.nbd_wire.specs.declared.magics.TheConstants as magics
 use Rattle.nbd_wire.specs.declared.options.TheConstants as options
 use Rattle.nbd_wire.specs.declared.transmission.TheConstants as transmission
 
--- what messages begin with (proto.md, "Newstyle negotiation", "Request message", "Simple reply message", "Structured reply chunk message")
+-- what messages begin with (proto.md, "Newstyle negotiation", "Request message", "Simple reply message", "Structured
+-- reply chunk message")
 abbrev pub MagicsAreLiteral : Type 0
 MagicsAreLiteral =
     (magics.GREETING_MAGIC ≡ 0x4e42444d41474943)

@@ -9,7 +9,7 @@ use crate::head_bytes::{
     request_bytes, simple_bytes,
 };
 use crate::{Message, head_lengths};
-use std::alloc::{AllocError, Allocator};
+use std::alloc::AllocError;
 
 /// What follows an export's size and flags where the client did not agree to leave it out
 /// (proto.md, "Newstyle negotiation").
@@ -19,18 +19,8 @@ static PADDING: [u8; head_lengths::PADDING] = [0; head_lengths::PADDING];
 ///
 /// The one growth comes first: after an error, which says that memory was refused, `out` holds
 /// what it held before.
-pub fn append(out: &mut Vec<u8>, message: &Message) -> Result<(), AllocError>
-    requires { FitsItsHead message.now }
-    ensures ok { OnOk result (out.new.items ≡ out.old.items ++ enc message.now) }
-    ensures err { OnErr result (out.new.items ≡ out.old.items) }
-    ensures full { OnErr result (vec_capacity out.old < vec_len out.old + length (enc message.now)) }
-{
-    append_in(out, message)
-}
-
-// The same for a vector of any allocator.
 #[tactic(auto, unfolding(crate::specs::protocol::Encoding::enc, crate::specs::protocol::Encoding::head, crate::specs::protocol::Encoding::tail))]
-fn append_in<A: Allocator>(out: &mut Vec<u8, A>, message: &Message) -> Result<(), AllocError>
+pub fn append(out: &mut Vec<u8>, message: &Message) -> Result<(), AllocError>
     requires { FitsItsHead message.now }
     ensures ok { OnOk result (out.new.items ≡ out.old.items ++ enc message.now) }
     ensures err { OnErr result (out.new.items ≡ out.old.items) }
@@ -89,7 +79,7 @@ fn tail_of(message: &Message) -> &[u8]
 }
 
 // Adds a head and what follows it. The room is made first, so an error comes before any byte.
-fn put<A: Allocator>(out: &mut Vec<u8, A>, head: &[u8], tail: &[u8]) -> Result<(), AllocError>
+fn put(out: &mut Vec<u8>, head: &[u8], tail: &[u8]) -> Result<(), AllocError>
     requires { length head.now + length tail.now < 2 ^ 64 }
     ensures ok { OnOk result (out.new.items ≡ out.old.items ++ (head.now ++ tail.now)) }
     ensures err { OnErr result (out.new.items ≡ out.old.items) }
@@ -99,6 +89,3 @@ fn put<A: Allocator>(out: &mut Vec<u8, A>, head: &[u8], tail: &[u8]) -> Result<(
     out.extend_from_slice(head)?;
     out.extend_from_slice(tail)
 }
-
-#[cfg(test)]
-mod tests;

@@ -3,14 +3,14 @@
 use crate::Bytes;
 
 /// An end of the connection.
-#[derive(Clone, Copy, Debug, PartialEq, Eq, Drop)]
+#[derive(Clone, Copy, PartialEq, Eq, Drop)]
 pub enum Side {
     Client,
     Server,
 }
 
 /// A whole message of the fixed newstyle negotiation or of transmission.
-#[derive(Debug, PartialEq, Eq, Drop)]
+#[derive(Drop)]
 pub enum Message {
     /// The server's first message (proto.md, "Newstyle negotiation").
     Greeting {

@@ -3,7 +3,7 @@
 use crate::Bytes;
 
 /// What an INFO answer states of an export (proto.md, "Option reply types").
-#[derive(Clone, Copy, Debug, PartialEq, Eq, Drop)]
+#[derive(Clone, Copy, PartialEq, Eq, Drop)]
 pub enum Info {
     /// The export itself.
     Export {
@@ -29,7 +29,7 @@ pub enum Info {
 }
 
 /// What a content chunk carries (proto.md, "Structured reply types").
-#[derive(Clone, Copy, Debug, PartialEq, Eq, Drop)]
+#[derive(Clone, Copy, PartialEq, Eq, Drop)]
 pub enum Content<'a> {
     /// Bytes of the export.
     Bytes {
@@ -48,7 +48,7 @@ pub enum Content<'a> {
 }
 
 /// A piece of what a READ was answered, as `Content` that owns its bytes.
-#[derive(Debug, PartialEq, Eq, Drop)]
+#[derive(Drop)]
 pub enum Piece {
     /// Bytes of the export.
     Bytes {
@@ -67,7 +67,7 @@ pub enum Piece {
 }
 
 /// What an error chunk states (proto.md, "Structured reply types").
-#[derive(Clone, Copy, Debug, PartialEq, Eq, Drop)]
+#[derive(Clone, Copy, PartialEq, Eq, Drop)]
 pub struct Failure {
     /// The error, not 0.
     pub error: u32,

@@ -2,10 +2,9 @@
 
 use crate::*;
 use std::alloc::{AllocError, Global};
-use std::process::Abort;
-use std::test::Fail;
 
 mod chunk_payloads;
+mod names;
 mod negotiation;
 mod option_payloads;
 mod transmission;
@@ -15,20 +14,17 @@ fn payload(alloc: Global, bytes: &[u8]) -> Result<Bytes, AllocError> {
     Ok(Bytes::new(bytes.to_vec(alloc)?))
 }
 
-// The head in the bytes, of which it has so many, after a test that they are the message's encoding.
-fn head_in<'a>(
-    rt: &impl Abort,
-    alloc: Global,
-    message: &Message,
-    side: Side,
-    bytes: &'a [u8],
-    head: usize,
-) -> Result<&'a [u8], Fail> {
-    assert_eq!(rt; side_of(message), side, "{message:?}");
-    assert!(rt; fits(message), "{message:?}");
+// Whether these bytes are the encoding of a message of this side.
+fn encodes(alloc: Global, message: &Message, side: Side, bytes: &[u8]) -> Result<bool, AllocError> {
+    if !fits(message) || side_of(message) != side {
+        return Ok(false);
+    }
     let mut out = Vec::new(alloc);
     append(&mut out, message)?;
-    assert_eq!(rt; out.as_slice(), bytes, "{message:?}");
-    assert!(rt; head <= bytes.len(), "{message:?}");
-    Ok(&bytes[..head])
+    Ok(out.as_slice() == bytes)
+}
+
+// So many of the first bytes, where there are as many.
+fn front(bytes: &[u8], count: usize) -> &[u8] {
+    bytes.get(..count).unwrap_or(&[])
 }

@@ -2,6 +2,10 @@
 #![tactic(auto)]
 
 mod command;
+mod files;
+mod hints;
+mod saying;
+mod words;
 
 use std::process::ExitCode;
 

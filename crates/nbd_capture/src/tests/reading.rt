@@ -1,7 +1,9 @@
 //! Captures read chunk by chunk.
 
 use super::examples::EXAMPLES;
-use super::readers::{After, Endless, Told, by_chunks, cut, into_one, parsed, parsed_up_to};
+use super::readers::{
+    After, Endless, Pieces, Told, by_chunks, cut, into_one, parsed, parsed_up_to,
+};
 use super::whole::{count_bytes, read_capture};
 use crate::{CaptureFault, CaptureReader, write_chunk};
 use nbd_wire::Side;
@@ -42,31 +44,36 @@ fn agree(found: &Told, want: &Told) -> bool {
     found.end == want.end && found.lines.as_slice() == want.lines.as_slice()
 }
 
+// Whether this is told of a reader, chunk by chunk.
+fn is_told(alloc: Global, pieces: Pieces<'_>, limit: u64, want: &Told) -> Result<bool, Fail> {
+    Ok(agree(&by_chunks(alloc, pieces, limit)?, want))
+}
+
+// Whether this is told of a text in pieces of any width, each chunk by itself and all into one vector.
+fn is_told_in_pieces(alloc: Global, text: &[u8], want: &Told) -> Result<bool, Fail> {
+    for width in WIDTHS {
+        let one = into_one(alloc, cut(text, width, After::Ends), NO_LIMIT)?;
+        if !agree(&one, want) || !is_told(alloc, cut(text, width, After::Ends), NO_LIMIT, want)? {
+            return Ok(false);
+        }
+    }
+    Ok(true)
+}
+
 #[test]
 fn tells_in_any_pieces_what_parse_capture_does(rt: HostRuntime) -> Result<(), Fail> {
-    let alloc = rt.alloc();
     for text in TEXTS {
-        let want = parsed(alloc, text)?;
-        for width in WIDTHS {
-            let chunks = by_chunks(alloc, cut(text, width, After::Ends), NO_LIMIT)?;
-            assert!(rt; agree(&chunks, &want), "{text:?} by {width}");
-            let one = into_one(alloc, cut(text, width, After::Ends), NO_LIMIT)?;
-            assert!(rt; agree(&one, &want), "{text:?} by {width}");
-        }
+        let want = parsed(rt.alloc(), text)?;
+        assert!(rt; is_told_in_pieces(rt.alloc(), text, &want)?, "{text:?}");
     }
     Ok(())
 }
 
 #[test]
 fn tells_the_examples(rt: HostRuntime) -> Result<(), Fail> {
-    let alloc = rt.alloc();
     for text in EXAMPLES {
-        let want = parsed(alloc, text)?;
-        assert_eq!(rt; want.end, Ok(()));
-        for width in WIDTHS {
-            let chunks = by_chunks(alloc, cut(text, width, After::Ends), NO_LIMIT)?;
-            assert!(rt; agree(&chunks, &want), "{text:?} by {width}");
-        }
+        let want = parsed(rt.alloc(), text)?;
+        assert!(rt; want.end == Ok(()) && is_told_in_pieces(rt.alloc(), text, &want)?);
     }
     Ok(())
 }
@@ -75,75 +82,81 @@ fn tells_the_examples(rt: HostRuntime) -> Result<(), Fail> {
 // them off: chunks of lines whose LF stands before the cut are given first.
 #[test]
 fn tells_what_stands_before_a_cut(rt: HostRuntime) -> Result<(), Fail> {
-    let alloc = rt.alloc();
     for text in TEXTS {
         for count in 0..=text.len() {
-            let want = parsed_up_to(alloc, text, count)?;
-            for width in WIDTHS {
-                for after in [After::Fails, After::Interrupted] {
-                    let found = by_chunks(alloc, cut(&text[..count], width, after), NO_LIMIT)?;
-                    assert!(rt; agree(&found, &want), "{text:?} by {width} up to {count}");
-                }
-                if count < text.len() {
-                    let found = by_chunks(alloc, cut(text, width, After::Ends), count as u64)?;
-                    assert!(rt; agree(&found, &want), "{text:?} by {width}, limit {count}");
-                }
-            }
+            assert!(rt;
+                is_told_up_to(rt.alloc(), text, count)?,
+                "{text:?} up to {count}"
+            );
         }
     }
     Ok(())
 }
 
+// Whether what stands before a cut is told, where a reader fails there or is interrupted, and where the limit stands there.
+fn is_told_up_to(alloc: Global, text: &[u8], count: usize) -> Result<bool, Fail> {
+    let want = parsed_up_to(alloc, text, count)?;
+    for width in WIDTHS {
+        if !is_cut_at(alloc, text, count, width, &want)? {
+            return Ok(false);
+        }
+    }
+    Ok(true)
+}
+
+fn is_cut_at(
+    alloc: Global,
+    text: &[u8],
+    count: usize,
+    width: usize,
+    want: &Told,
+) -> Result<bool, Fail> {
+    let read = text.get(..count).unwrap_or(&[]);
+    for after in [After::Fails, After::Interrupted] {
+        if !is_told(alloc, cut(read, width, after), NO_LIMIT, want)? {
+            return Ok(false);
+        }
+    }
+    let limited = cut(text, width, After::Ends);
+    Ok(count >= text.len() || is_told(alloc, limited, count as u64, want)?)
+}
+
 #[test]
 fn reads_as_many_bytes_as_the_limit(rt: HostRuntime) -> Result<(), Fail> {
-    let alloc = rt.alloc();
     for width in WIDTHS {
-        let text = b"C 00\nC 01\n";
-        let mut capture = CaptureReader::new(alloc, cut(text, width, After::Ends), 10);
-        for byte in 0..2u8 {
-            match capture.next_chunk()? {
-                Some((side, bytes)) => {
-                    assert_eq!(rt; side, Side::Client);
-                    assert_eq!(rt; bytes.as_slice(), [byte].as_slice());
-                }
-                None => return Err("no chunk".into()),
-            }
-        }
-        assert!(rt; matches!(capture.next_chunk(), Ok(None)));
-        assert!(rt; matches!(capture.next_chunk(), Ok(None)));
+        let pieces = cut(b"C 00\nC 01\n", width, After::Ends);
+        let told = by_chunks(rt.alloc(), pieces, 10)?;
+        assert!(rt; told.end == Ok(()) && told.lines.as_slice() == b"C 00\nC 01\n".as_slice());
     }
     Ok(())
 }
 
 #[test]
 fn reads_a_whole_capture(rt: HostRuntime) -> Result<(), Fail> {
-    let alloc = rt.alloc();
     let text = b"C 0A\n# x\n\nS \n".as_slice();
-    let chunks = read_capture(alloc, text, 13)?;
-    assert_eq!(rt; count_bytes(alloc, text, 13)?, 1);
-    assert_eq!(rt; chunks.len(), 2);
-    assert_eq!(rt; chunks[0].1.as_slice(), [10].as_slice());
-    assert_eq!(rt;
-        read_capture(alloc, text, 12).err(),
-        Some(CaptureFault::Read)
-    );
-    assert_eq!(rt;
-        read_capture(alloc, b"\nC 0\n".as_slice(), 14).err(),
-        Some(CaptureFault::Line(2))
-    );
+    let chunks = read_capture(rt.alloc(), text, 13)?;
+    assert!(rt; chunks.len() == 2 && chunks[0].1.as_slice() == [10].as_slice());
+    assert!(rt; count_bytes(rt.alloc(), text, 13)? == 1);
     Ok(())
 }
 
 #[test]
+fn reads_no_capture(rt: HostRuntime) {
+    let long = read_capture(rt.alloc(), b"C 0A\n# x\n\nS \n".as_slice(), 12).err();
+    assert!(rt; long == Some(CaptureFault::Read));
+    let bad = read_capture(rt.alloc(), b"\nC 0\n".as_slice(), 14).err();
+    assert!(rt; bad == Some(CaptureFault::Line(2)));
+}
+
+#[test]
 fn fails_for_good_past_the_limit(rt: HostRuntime) -> Result<(), Fail> {
-    let alloc = rt.alloc();
     for width in WIDTHS {
-        let text = b"C 00\nC 01\n";
-        let mut capture = CaptureReader::new(alloc, cut(text, width, After::Ends), 9);
-        assert!(rt; matches!(capture.next_chunk(), Ok(Some(_))));
-        for _ in 0..3 {
-            assert!(rt; matches!(capture.next_chunk(), Err(CaptureFault::Read)));
-        }
+        let pieces = cut(b"C 00\nC 01\n", width, After::Ends);
+        // It asks twice more.
+        let told = by_chunks(rt.alloc(), pieces, 9)?;
+        assert!(rt;
+            told.end == Err(CaptureFault::Read) && told.lines.as_slice() == b"C 00\n".as_slice()
+        );
     }
     Ok(())
 }
@@ -159,39 +172,52 @@ fn cuts_off_readers_that_never_end(rt: HostRuntime) -> Result<(), Fail> {
         (b"00", 0),
     ] {
         let told = by_chunks(alloc, Endless { line, at: 0 }, 10_000)?;
-        assert_eq!(rt; told.end, Err(CaptureFault::Read));
-        assert_eq!(rt; told.lines.len(), 5 * chunks, "{line:?}");
+        assert!(rt; told.end == Err(CaptureFault::Read));
+        assert!(rt; told.lines.len() == 5 * chunks, "{line:?}");
     }
     Ok(())
 }
 
-#[test]
-fn reads_lines_longer_than_any_piece(rt: HostRuntime) -> Result<(), Fail> {
-    let alloc = rt.alloc();
+// Lines of many sizes, some longer than any piece.
+fn long_lines(alloc: Global) -> Result<Vec<u8>, Fail> {
     let mut text = Vec::new(alloc);
     for (side, count) in [
-        (Side::Client, 40_000u32),
+        (Side::Client, 40_000),
         (Side::Server, 2),
         (Side::Server, 32_766),
         (Side::Client, 0),
         (Side::Server, 100_000),
     ] {
-        let mut bytes = Vec::new(alloc);
-        for i in 0..count {
-            bytes.push((i % 251) as u8)?;
-        }
-        write_chunk(&mut text, side, bytes.as_slice())?;
+        write_chunk(&mut text, side, counted(alloc, count)?.as_slice())?;
     }
+    Ok(text)
+}
+
+// So many bytes, of which neighbours differ.
+fn counted(alloc: Global, count: u32) -> Result<Vec<u8>, Fail> {
+    let mut bytes = Vec::new(alloc);
+    for i in 0..count {
+        bytes.push((i % 251) as u8)?;
+    }
+    Ok(bytes)
+}
+
+#[test]
+fn reads_lines_longer_than_any_piece(rt: HostRuntime) -> Result<(), Fail> {
+    let text = long_lines(rt.alloc())?;
     for width in WIDTHS {
-        let told = into_one(
-            alloc,
-            cut(text.as_slice(), width, After::Ends),
-            text.len() as u64,
-        )?;
-        assert_eq!(rt; told.end, Ok(()));
-        assert!(rt; told.lines.as_slice() == text.as_slice(), "by {width}");
+        assert!(rt;
+            is_read_whole(rt.alloc(), text.as_slice(), width)?,
+            "by {width}"
+        );
     }
     Ok(())
+}
+
+// Whether a text of chunk lines alone is told as it stands.
+fn is_read_whole(alloc: Global, text: &[u8], width: usize) -> Result<bool, Fail> {
+    let told = into_one(alloc, cut(text, width, After::Ends), text.len() as u64)?;
+    Ok(told.end == Ok(()) && told.lines.as_slice() == text)
 }
 
 // Where `rt try --test --fail-alloc N` refuses the Nth allocation, none is asked for here.

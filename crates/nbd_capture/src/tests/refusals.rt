@@ -28,19 +28,13 @@ const CHUNKS: [(Side, &[u8]); 4] = [
 ];
 
 /// All chunks come, or out of memory is returned from then on.
-fn reads_or_stays_refused(rt: &impl Abort, mut reader: CaptureReader<Pieces<'_>>) {
+fn reads_or_stays_refused(rt: &impl Abort, reader: &mut CaptureReader<Pieces<'_>>) {
     for (side, bytes) in CHUNKS {
         match reader.next_chunk() {
-            Ok(Some((found, read))) => {
-                assert_eq!(rt; found, side);
-                assert_eq!(rt; read.as_slice(), bytes);
-            }
-            Ok(None) => assert!(rt; false, "a chunk is missing"),
+            Ok(chunk) => assert!(rt; is_chunk(&chunk, side, bytes)),
             Err(fault) => {
-                assert_eq!(rt; fault, CaptureFault::Memory);
-                for _ in 0..2 {
-                    assert!(rt; matches!(reader.next_chunk(), Err(CaptureFault::Memory)));
-                }
+                assert!(rt; fault == CaptureFault::Memory);
+                assert!(rt; is_refused(reader) && is_refused(reader));
                 return;
             }
         }
@@ -48,10 +42,24 @@ fn reads_or_stays_refused(rt: &impl Abort, mut reader: CaptureReader<Pieces<'_>>
     assert!(rt; matches!(reader.next_chunk(), Ok(None)));
 }
 
+/// Whether the reader is out of memory.
+fn is_refused(reader: &mut CaptureReader<Pieces<'_>>) -> bool {
+    matches!(reader.next_chunk(), Err(CaptureFault::Memory))
+}
+
+/// Whether a chunk has come, and has this side and these bytes.
+fn is_chunk(chunk: &Option<(Side, Vec<u8>)>, side: Side, bytes: &[u8]) -> bool {
+    match chunk {
+        Some((found, read)) => *found == side && read.as_slice() == bytes,
+        None => false,
+    }
+}
+
 #[test]
 fn refused_memory(rt: HostRuntime) {
     for width in [1, 7, 1 << 20] {
         let pieces = cut(TEXT, width, After::Ends);
-        reads_or_stays_refused(&rt, CaptureReader::new(rt.alloc(), pieces, 1 << 20));
+        let mut reader = CaptureReader::new(rt.alloc(), pieces, 1 << 20);
+        reads_or_stays_refused(&rt, &mut reader);
     }
 }

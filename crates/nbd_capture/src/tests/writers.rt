@@ -60,7 +60,7 @@ fn writes_lower_case_lines(rt: HostRuntime) -> Result<(), Fail> {
     write_chunk(&mut out, Side::Server, b"NBDMAGICIHAVEOPT\x00\x03")?;
     write_chunk(&mut out, Side::Client, &[])?;
     let want = b"S 4e42444d4147494349484156454f50540003\nC \n";
-    assert_eq!(rt; out.as_slice(), want.as_slice());
+    assert!(rt; out.as_slice() == want.as_slice());
     Ok(())
 }
 
@@ -70,9 +70,9 @@ fn reads_again_what_a_narrow_writer_took(rt: HostRuntime) -> Result<(), Fail> {
     let mut out = narrow_writer(rt.alloc(), 4000, 7, Full::Fails);
     write_chunk(&mut out, Side::Client, bytes.as_slice())?;
     let chunks = parse_capture(rt.alloc(), out.taken.as_slice())?;
-    assert_eq!(rt; chunks.len(), 1);
-    assert_eq!(rt; chunks[0].0, Side::Client);
-    assert_eq!(rt; chunks[0].1.as_slice(), bytes.as_slice());
+    assert!(rt; chunks.len() == 1);
+    assert!(rt; chunks[0].0 == Side::Client);
+    assert!(rt; chunks[0].1.as_slice() == bytes.as_slice());
     Ok(())
 }
 
@@ -84,7 +84,7 @@ fn leaves_a_front_of_the_line_after_a_fault(rt: HostRuntime) {
             let mut out = narrow_writer(rt.alloc(), room, 3, full);
             let written = write_chunk(&mut out, Side::Client, &[10, 11, 12, 13]);
             assert!(rt; written.is_err(), "with room for {room}");
-            assert_eq!(rt; out.taken.as_slice(), &line[..room]);
+            assert!(rt; out.taken.as_slice() == &line[..room]);
         }
     }
 }

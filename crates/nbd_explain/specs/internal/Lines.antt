@@ -1,16 +1,23 @@
 -- The text that is made of what looking for an order came to.
-use Rattle.std.specs.Prelude.{◌≡◌, ℕ, List, ◌++◌, Ok}
+use Rattle.std.specs.Prelude.{◌≡◌, ℕ, List, ◌++◌, Option, Result, Ok}
+use Rattle.std.specs.Io.KnownBytes.{Appends}
 use Rattle.nbd_wire.specs.protocol.Explains.{Start}
 use Rattle.nbd_wire.specs.protocol.Marks.{Item, pairs}
-use Rattle.nbd_wire.specs.protocol.Reports.{Report}
+use Rattle.nbd_wire.specs.protocol.Reports.{Report, report}
 use Rattle.nbd_wire.specs.protocol.Rules.{IsRun}
+use Rattle.nbd_session.specs.declared.fault.SessionFault.{SessionFault}
 use Rattle.nbd_judge.specs.Conclusions.{Answers, IsConclusion, IsReportOf}
 use Rattle.nbd_judge.specs.declared.verdict.Verdict.{Verdict}
 use Rattle.nbd_judge.specs.Servable.{size_of}
+use Rattle.nbd_order.specs.Finding.{IsFound, IsWanted, Says}
 use Rattle.nbd_order.specs.declared.finding.Found.{Found}
 use Rattle.nbd_order.specs.declared.finding.Found.TheVariants.{GaveUp, Image, NoneWhole, Order, Unexplained}
-use Rattle.nbd_tool.specs.Beginnings.{IsReadAs}
+use Rattle.nbd_order.specs.declared.finding.Wanted.TheVariants.{Any}
+use Rattle.nbd_tool.specs.Beginnings.{IsReadAs, room_in}
 use Rattle.nbd_tool.specs.Ordering.{found_text}
+use Rattle.nbd_explain.specs.declared.answer.Answer.{Answer}
+use Rattle.nbd_explain.specs.Answering.{IsAnswerTo, answer_to}
+use Rattle.nbd_explain.specs.Explained.{BeginsWithLine}
 use Rattle.nbd_explain.specs.Orderless.{found_lines}
 use Rattle.nbd_tool.specs.declared.start.Beginning.{Beginning}
 use Rattle.nbd_wire.specs.declared.entry.Entry.{Entry}
@@ -19,8 +26,10 @@ use Rattle.nbd_wire.specs.declared.entry.Entry.{Entry}
 pub record HasVerdictLine (told : Report) (entries : List Entry) (beginning : Beginning) (text : List ℕ) : Type 0 where
   pub verdict : Verdict
   pub is_line : text ≡ found_lines verdict
-  pub concludes : (initial : Start) → IsReadAs (size_of told.export) initial beginning → IsConclusion (Ok told) entries initial verdict
-  pub answers : (initial : Start) (items : List Item) → IsReadAs (size_of told.export) initial beginning → IsRun items → IsReportOf items (Ok told)
+  pub concludes : (initial : Start) → IsReadAs (size_of told.export) initial beginning
+      → IsConclusion (Ok told) entries initial verdict
+  pub answers : (initial : Start) (items : List Item) → IsReadAs (size_of told.export) initial beginning → IsRun items
+      → IsReportOf items (Ok told)
       → Answers (pairs items) entries initial verdict
 
 -- the line of what was found: of an order that of the verdict on it, else that of `order`
@@ -37,3 +46,31 @@ pub record BeginsWithLineOf (told : Report) (found : Found) (beginning : Beginni
   pub explanation : List ℕ
   pub is_line : IsLineOf told found beginning first
   pub parts : text ≡ first ++ explanation
+
+-- the verdict on the entries, from each start that was read so, is answered, and written with an explanation
+pub record IsToldOn (finished : Result Report SessionFault) (entries : List Entry) (beginning : Beginning)
+    (answered : Answer) (old new : Option (List ℕ)) : Type 0 where
+  pub verdict : Verdict
+  pub concludes : (initial : Start) → IsReadAs (room_in finished) initial beginning
+      → IsConclusion finished entries initial verdict
+  pub answers : (initial : Start) (items : List Item) → IsReadAs (room_in finished) initial beginning → IsRun items
+      → IsReportOf items finished
+      → Answers (pairs items) entries initial verdict
+  pub answer : IsAnswerTo verdict answered
+  pub begins : BeginsWithLine verdict old new
+
+-- what looking for an order came to, from each start that was read so, is answered, and written with what it says
+pub record IsToldOfFound (told : Report) (beginning : Beginning) (answered : Answer)
+    (old new : Option (List ℕ)) : Type 0 where
+  pub found : Found
+  pub kept : Beginning
+  pub text : List ℕ
+  pub copied : (n : ℕ) (initial : Start) → IsReadAs n initial beginning → IsReadAs n initial kept
+  pub is_found : (initial : Start) → IsReadAs (size_of told.export) initial beginning → IsFound told initial found
+  pub fits : IsWanted Any found
+  pub says : (initial : Start) (items : List Item) → IsReadAs (size_of told.export) initial beginning → IsRun items
+      → report items ≡ told
+      → Says items initial found
+  pub begins : BeginsWithLineOf told found kept text
+  pub appended : Appends old new text
+  pub answer : answered ≡ answer_to found

@@ -70,7 +70,7 @@ pub fn are_same(rt: &impl Abort, extents: &Extents, flat: &Flat, from: u64, end:
     requires flat { end ≤ length flat.now }
 {
     for x in from..end {
-        assert_eq!(rt; extents.byte_at(x), flat.byte_at(x), "at {x}");
+        assert!(rt; extents.byte_at(x) == flat.byte_at(x), "at {x}");
     }
 }
 
@@ -94,9 +94,8 @@ fn step(
     let from = draws.below(SIZE - len + 1) as usize;
     let bytes = &pool[from..from + len as usize];
     let answer = done(extents, deed, offset, bytes)?;
-    assert_eq!(rt;
-        answer,
-        done(flat, deed, offset, bytes)?,
+    assert!(rt;
+        answer == done(flat, deed, offset, bytes)?,
         "{deed} at {offset}"
     );
     let end = (offset + len + 1).min(SIZE);

@@ -15,7 +15,8 @@ DiffersInPiece byte piece x = IsTrue (holds piece x) × Differs byte (λ y. Some
 
 -- one of the first n pieces differs at x
 abbrev pub DiffersInOneOf : (ℕ → Option ℕ) → List Piece → ℕ → ℕ → Type 0
-DiffersInOneOf byte pieces n x = (i : ℕ) × (p : Piece) × (i < n) × (slice_get pieces i ≡ Some p) × DiffersInPiece byte p x
+DiffersInOneOf byte pieces n x = (i : ℕ) × (p : Piece) × (i < n) × (slice_get pieces i ≡ Some p)
+    × DiffersInPiece byte p x
 
 -- each piece lies inside the export
 abbrev pub AreInside : ℕ → List Piece → Type 0
@@ -32,7 +33,8 @@ DiffersInOneWithin byte pieces n part x = DiffersInOneOf byte pieces n x × IsTr
 -- no two of the pieces hold the same offset
 abbrev pub AreApart : List Piece → Type 0
 AreApart pieces =
-    (i j : ℕ) (p q : Piece) (x : ℕ) → slice_get pieces i ≡ Some p → slice_get pieces j ≡ Some q → IsTrue (holds p x) → IsTrue (holds q x) → i ≡ j
+    (i j : ℕ) (p q : Piece) (x : ℕ) → slice_get pieces i ≡ Some p → slice_get pieces j ≡ Some q → IsTrue (holds p x)
+    → IsTrue (holds q x) → i ≡ j
 
 -- the piece is one of these
 abbrev pub IsOneOf : List Piece → Piece → Type 0
@@ -47,7 +49,8 @@ pub record AreThose (P : ℕ → Type 0) (pieces chosen : List Piece) : Type 0 w
 -- no piece is empty, and each ends where a later one begins, or before
 pub record AreInOrder (pieces : List Piece) : Type 0 where
   pub filled : (i : ℕ) (p : Piece) → slice_get pieces i ≡ Some p → 0 < piece_size p
-  pub apart : (i j : ℕ) (p q : Piece) → i < j → slice_get pieces i ≡ Some p → slice_get pieces j ≡ Some q → piece_offset p + piece_size p ≤ piece_offset q
+  pub apart : (i j : ℕ) (p q : Piece) → i < j → slice_get pieces i ≡ Some p → slice_get pieces j ≡ Some q
+      → piece_offset p + piece_size p ≤ piece_offset q
 
 -- the pieces that hold an offset, in the order of their offsets
 pub record AreSorted (pieces sorted : List Piece) : Type 0 where
@@ -56,7 +59,8 @@ pub record AreSorted (pieces sorted : List Piece) : Type 0 where
 
 -- what a map has of request k are these pieces in order
 abbrev pub IsSortedAt : {A : Type 0} → BTreeMap ℕ (Vec (Bor Piece) A) → ℕ → List Piece → Type 0
-IsSortedAt {A} reads k pieces = (v : Vec (Bor Piece) A) → get nat_cmp reads k ≡ Some v → AreSorted pieces (map (λ p. p.now) v.items)
+IsSortedAt {A} reads k pieces = (v : Vec (Bor Piece) A) → get nat_cmp reads k ≡ Some v
+    → AreSorted pieces (map (λ p. p.now) v.items)
 
 -- the new map has what the old one has, and of request k it may have these pieces in order
 abbrev pub AddsSorted : {A : Type 0} → (old new : BTreeMap ℕ (Vec (Bor Piece) A)) → ℕ → List Piece → Type 0

@@ -14,7 +14,8 @@ pub record IsServable (size : ℕ) (a : Asked) : Type 0 where
   pub write_inside : a.command ≡ commands.WRITE → is_success a.outcome ≡ true → a.offset + a.length ≤ size
   pub zeroes_inside : a.command ≡ commands.WRITE_ZEROES → is_success a.outcome ≡ true → a.offset + a.length ≤ size
   pub laid : AreLaid a.offset a.length a.pieces
-  pub covered : a.command ≡ commands.READ → is_success a.outcome ≡ true → (x : ℕ) → IsTrue (is_in a.offset a.length x) → IsTrue (is_some (byte_at a.pieces x))
+  pub covered : a.command ≡ commands.READ → is_success a.outcome ≡ true → (x : ℕ) → IsTrue (is_in a.offset a.length x)
+      → IsTrue (is_some (byte_at a.pieces x))
 
 -- the part lies in the request's range, if there is a part
 abbrev pub IsPartIn : Option Part → Asked → Type 0

@@ -33,11 +33,12 @@ parts_of (e ∷ entries) k = (if e.request == k then part_pieces e.part else [])
 abbrev pub LieApart : Span → List Piece → Type 0
 LieApart span [] = Unit {0}
 LieApart span (p ∷ ps) =
-    (span.offset ≤ piece_offset p) × (piece_offset p + piece_size p ≤ span.offset + span.size) × (0 < piece_size p) × SharesNone p ps
+    (span.offset ≤ piece_offset p) × (piece_offset p + piece_size p ≤ span.offset + span.size) × (0 < piece_size p)
+    × SharesNone p ps
     × LieApart span ps
 
--- the parts of request k that the entries name, in an index, and how many bytes of the span they leave; no entry serves the request
--- at once
+-- the parts of request k that the entries name, in an index, and how many bytes of the span they leave; no entry serves
+-- the request at once
 pub record AreParts (sizes : ℕ → Option ℕ) (left : ℕ) (span : Span) (entries : List Entry) (k : ℕ) : Type 0 where
   pub in_parts : NamesWhole entries k → ⊥
   pub index : IsIndex sizes (parts_of entries k)
@@ -63,17 +64,20 @@ IsFaultAfter within before e _ = ⊥
 -- the service of a request after one more entry, which may be served, or the entry's fault
 abbrev pub IsNext : Span → (within : ℕ → Bool) → List Entry → Entry → Result Service OrderFault → Type 0
 IsNext span within before e after =
-    MatchResult after (λ s. MayServe within before e × IsServiceOf s span (before ++ e ∷ []) e.request) (IsFaultAfter within before e)
+    MatchResult after (λ s. MayServe within before e × IsServiceOf s span (before ++ e ∷ []) e.request)
+    (IsFaultAfter within before e)
 
 -- the same, whatever the entries before
 abbrev pub IsServiceAfter : Service → Span → Option Part → Result Service OrderFault → Type 0
 IsServiceAfter old span p after =
-    (within : ℕ → Bool) (before : List Entry) (k : ℕ) → IsSpanOf span within → IsServiceOf old span before k → IsNext span within before (record { request = k; part = p }) after
+    (within : ℕ → Bool) (before : List Entry) (k : ℕ) → IsSpanOf span within → IsServiceOf old span before k
+    → IsNext span within before (record { request = k; part = p }) after
 
 -- the same of a request that is served in parts, or not yet
 abbrev pub IsPartsAfter : (ℕ → Option ℕ) → ℕ → Span → Part → Result Service OrderFault → Type 0
 IsPartsAfter sizes left span p after =
-    (within : ℕ → Bool) (before : List Entry) (k : ℕ) → IsSpanOf span within → AreParts sizes left span before k → IsNext span within before (record { request = k; part = Some p }) after
+    (within : ℕ → Bool) (before : List Entry) (k : ℕ) → IsSpanOf span within → AreParts sizes left span before k
+    → IsNext span within before (record { request = k; part = Some p }) after
 
 -- the fault of a request that is answered, by what the entries serve of it: none where it is wholly served
 abbrev pub IsFaultOfService : (within : ℕ → Bool) → List Entry → ℕ → Option OrderFault → Type 0
@@ -85,7 +89,8 @@ IsFaultOfService within entries k (Some _) = ⊥
 -- the same, whatever the entries
 abbrev pub TellsFault : Service → Option OrderFault → Type 0
 TellsFault service found =
-    (span : Span) (within : ℕ → Bool) (entries : List Entry) (k : ℕ) → IsSpanOf span within → IsServiceOf service span entries k → IsFaultOfService within entries k found
+    (span : Span) (within : ℕ → Bool) (entries : List Entry) (k : ℕ) → IsSpanOf span within
+    → IsServiceOf service span entries k → IsFaultOfService within entries k found
 
 -- a range from an offset on, as far as a size goes; nowhere where the condition fails
 abbrev pub span_if : Bool → (offset len size : ℕ) → Span
@@ -105,7 +110,8 @@ export_size None = 0
 abbrev pub span_of_asked : Option Exporting → Asked → Span
 span_of_asked export a = span_in (export_size export) a.command a.offset a.length
 
--- the table has a cell for each request, that of request k at k - 1; each says what the first n entries serve, none of which is bad
+-- the table has a cell for each request, that of request k at k - 1; each says what the first n entries serve, none of
+-- which is bad
 pub record AreServices (r : Report) (order : List Entry) (n : ℕ) (table : List Service) : Type 0 where
   pub len : length table ≡ length r.asked
   pub none_bad : (i : ℕ) → i < n → IsBad (length r.asked) (inside_in r) order i → ⊥
@@ -116,13 +122,15 @@ pub record AreServices (r : Report) (order : List Entry) (n : ℕ) (table : List
 abbrev pub IsBadAt : Report → List Entry → ℕ → OrderFault → Type 0
 IsBadAt r order i NoSuchRequest = NamesNone (length r.asked) order i
 IsBadAt r order i Twice = NamesAgain order i
-IsBadAt r order i BadPart = IsBadPart (inside_in r) order i × (NamesNone (length r.asked) order i → ⊥) × (NamesAgain order i → ⊥)
+IsBadAt r order i BadPart = IsBadPart (inside_in r) order i × (NamesNone (length r.asked) order i → ⊥)
+    × (NamesAgain order i → ⊥)
 IsBadAt r order i _ = ⊥
 
 -- the first bad entry, counted from 1, and its fault
 abbrev pub IsFirstBad : Report → List Entry → ℕ → OrderFault → Type 0
 IsFirstBad r order entry fault =
-    (i : ℕ) × (entry ≡ i + 1) × IsBadAt r order i fault × ((j : ℕ) → j < i → IsBad (length r.asked) (inside_in r) order j → ⊥)
+    (i : ℕ) × (entry ≡ i + 1) × IsBadAt r order i fault
+    × ((j : ℕ) → j < i → IsBad (length r.asked) (inside_in r) order j → ⊥)
 
 -- the table of the whole order, or its first bad entry
 abbrev pub IsTable : {A : Type 0} → Report → List Entry → Result (Vec Service A) (ℕ × OrderFault) → Type 0
@@ -137,10 +145,13 @@ IsUnservedBy r order k _ = ⊥
 
 -- each answered request is wholly served, or this is the least one that is not, with its fault
 abbrev pub IsLeastUnserved : Report → List Entry → Option (ℕ × OrderFault) → Type 0
-IsLeastUnserved r order None = (k : ℕ) → HasReplyStarted (length r.asked) (known_in r) k → IsWhollyServed (inside_in r k) order k
+IsLeastUnserved r order None = (k : ℕ) → HasReplyStarted (length r.asked) (known_in r) k
+    → IsWhollyServed (inside_in r k) order k
 IsLeastUnserved r order (Some found) =
-    IsUnservedBy r order found.0 found.1 × ((k : ℕ) → k < found.0 → IsUnserved (length r.asked) (known_in r) (inside_in r) order k → ⊥)
+    IsUnservedBy r order found.0 found.1 × ((k : ℕ) → k < found.0
+    → IsUnserved (length r.asked) (known_in r) (inside_in r) order k → ⊥)
 
 -- the same, for each order of which the table holds what is served
 abbrev pub TellsUnserved : Report → List Service → Option (ℕ × OrderFault) → Type 0
-TellsUnserved r table found = (order : List Entry) → AreServices r order (length order) table → IsLeastUnserved r order found
+TellsUnserved r table found = (order : List Entry) → AreServices r order (length order) table
+    → IsLeastUnserved r order found

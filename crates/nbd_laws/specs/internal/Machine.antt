@@ -49,7 +49,11 @@ old_of core rest = old_by rest.bytes core rest.since
 abbrev pub settle : Machine → Side → Rest → Reading → Result Machine WireFault
 settle machine s rest More = Ok (record machine { rests = put machine.rests s rest })
 settle machine s rest (Whole m) =
-    Ok (record { core = complete machine.core m; rests = put machine.rests s (record rest { bytes = [] }); messages = machine.messages ++ m ∷ [] })
+    Ok (record {
+      core = complete machine.core m;
+      rests = put machine.rests s (record rest { bytes = [] });
+      messages = machine.messages ++ m ∷ [];
+    })
 settle machine s rest (Bad fault) = Err fault
 
 abbrev pub Judge : Type 0
@@ -73,4 +77,11 @@ reads judge machine (p ∷ ps) = on_ok (step judge machine p.from p.byte) (λ ne
 
 -- before the first byte
 abbrev pub fresh : Machine
-fresh = record { core = start.core; rests = record { client = record { bytes = []; since = start.core }; server = record { bytes = []; since = start.core } }; messages = [] }
+fresh = record {
+  core = start.core;
+  rests = record {
+    client = record { bytes = []; since = start.core };
+    server = record { bytes = []; since = start.core };
+  };
+  messages = [];
+}

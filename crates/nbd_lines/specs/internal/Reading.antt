@@ -33,4 +33,5 @@ pub record BeginsNumbers (fs : List Field) (ns : List ℕ) (text behind : List �
 -- the numbers that were read are those with which the text begins, in whichever way it is split
 pub record ReadsNumbers (fs : List Field) (ns : List ℕ) (text behind : List ℕ) : Type 0 where
   pub begins : BeginsNumbers fs ns text behind
-  pub only : (others rest : List ℕ) → EndsWord rest → BeginsNumbers fs others text rest → (others ≡ ns) × (rest ≡ behind)
+  pub only : (others rest : List ℕ) → EndsWord rest → BeginsNumbers fs others text rest
+      → (others ≡ ns) × (rest ≡ behind)

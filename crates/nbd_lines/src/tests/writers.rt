@@ -1,6 +1,7 @@
 //! Writers over memory that take little, or fail.
 
 use crate::{MakeFault, OutputFault, make, parse_script, show};
+use nbd_wire::Message;
 use std::alloc::Global;
 use std::io;
 use std::io::{ErrorKind, Write};
@@ -60,10 +61,20 @@ fn leaves_a_front_of_the_chunk_lines_after_a_fault(rt: HostRuntime) {
         for room in 0..CAPTURE.len() {
             let mut out = narrow_writer(rt.alloc(), room, full);
             let made = make(rt.alloc(), SCRIPT, &mut out);
-            assert_eq!(rt; made, Err(MakeFault::Write), "with room for {room}");
-            assert_eq!(rt; out.taken.as_slice(), &CAPTURE[..room]);
+            let is_front = out.taken.as_slice() == &CAPTURE[..room];
+            assert!(rt;
+                is_front && made == Err(MakeFault::Write),
+                "with room for {room}"
+            );
         }
     }
+}
+
+// Whether these messages are shown up to so many bytes, and then the writer fails.
+fn shows_front(alloc: Global, messages: &[Message], room: usize, full: Full) -> bool {
+    let mut out = narrow_writer(alloc, room, full);
+    let shown = show(alloc, messages, &mut out);
+    shown == Err(OutputFault::Write) && SCRIPT.get(..room) == Some(out.taken.as_slice())
 }
 
 #[test]
@@ -71,10 +82,10 @@ fn leaves_a_front_of_the_message_lines_after_a_fault(rt: HostRuntime) -> Result<
     let messages = parse_script(rt.alloc(), SCRIPT)?;
     for full in [Full::Fails, Full::TakesNothing] {
         for room in 0..SCRIPT.len() {
-            let mut out = narrow_writer(rt.alloc(), room, full);
-            let shown = show(rt.alloc(), messages.as_slice(), &mut out);
-            assert_eq!(rt; shown, Err(OutputFault::Write), "with room for {room}");
-            assert_eq!(rt; out.taken.as_slice(), &SCRIPT[..room]);
+            assert!(rt;
+                shows_front(rt.alloc(), &messages, room, full),
+                "with room for {room}"
+            );
         }
     }
     Ok(())
@@ -84,6 +95,6 @@ fn leaves_a_front_of_the_message_lines_after_a_fault(rt: HostRuntime) -> Result<
 fn a_narrow_writer_takes_all(rt: HostRuntime) -> Result<(), Fail> {
     let mut out = narrow_writer(rt.alloc(), 4000, Full::Fails);
     make(rt.alloc(), SCRIPT, &mut out)?;
-    assert_eq!(rt; out.taken.as_slice(), CAPTURE);
+    assert!(rt; out.taken.as_slice() == CAPTURE);
     Ok(())
 }

@@ -16,4 +16,5 @@ differs (Some b) (Some c) = not (b == c)
 -- a READ that succeeded, with x inside it, to which a reply began
 abbrev pub reads_at : Option Exporting → Asked → ℕ → Bool
 reads_at export a x =
-    (a.command == commands.READ) && (is_success a.outcome && (is_some a.known_at && (is_in a.offset a.length x && nat_lt x (size_of export))))
+    (a.command == commands.READ) && (is_success a.outcome
+    && (is_some a.known_at && (is_in a.offset a.length x && nat_lt x (size_of export))))

@@ -1,5 +1,5 @@
--- Why no order explains a report at one offset: READs that get their byte there in no order of some changes, and no other change
--- can help.
+-- Why no order explains a report at one offset: READs that get their byte there in no order of some changes, and no
+-- other change can help.
 use Rattle.std.specs.Prelude.{ℕ, List, ◌≡◌, ◌<◌, ◌⊎◌, ◌==◌, ◌||◌, Bool, true, false, Option, Some, None, IsTrue, slice_get}
 use Rattle.nbd_order.specs.declared.refutation.State.{State}
 use Rattle.nbd_wire.specs.declared.commands.TheConstants as commands
@@ -7,7 +7,8 @@ use Rattle.nbd_wire.specs.protocol.ExportBytes.{Differs, Effect, effect_byte, ef
 use Rattle.nbd_wire.specs.protocol.Reports.{Report, inside_in, known_in}
 use Rattle.nbd_order.specs.Unexplained.{has}
 
--- each entry of request j stands before each of request k, where an order is not late: a reply to j began before k was complete
+-- each entry of request j stands before each of request k, where an order is not late: a reply to j began before k was
+-- complete
 abbrev pub IsBefore : Report → (j k : ℕ) → Type 0
 IsBefore r j k = (n : ℕ) × (known_in r j ≡ Some n) × (n < k)
 
@@ -61,19 +62,23 @@ Leads r x reads changes served c next =
     × ((e : Effect) → effects r c ≡ Some e → Fits r x reads changes next (effect_byte e x))
 
 -- change c leads from what is served to one of the states
-abbrev pub LeadsOn : Report → (x : ℕ) → (reads changes : List ℕ) → (states : List State) → (served : List ℕ) → (c : ℕ) → Type 0
-LeadsOn r x reads changes states served c = (j : ℕ) × (t : State) × (slice_get states j ≡ Some t) × Leads r x reads changes served c t.served.items
+abbrev pub LeadsOn : Report → (x : ℕ) → (reads changes : List ℕ) → (states : List State) → (served : List ℕ) → (c : ℕ)
+    → Type 0
+LeadsOn r x reads changes states served c = (j : ℕ) × (t : State) × (slice_get states j ≡ Some t)
+    × Leads r x reads changes served c t.served.items
 
 -- change c is served, can't be served yet, or leads to one of the states
-abbrev pub IsStep : Report → (x : ℕ) → (reads changes : List ℕ) → (states : List State) → (served : List ℕ) → (c : ℕ) → Type 0
-IsStep r x reads changes states served c = (has served c ≡ true) ⊎ IsHeld r reads changes served c ⊎ LeadsOn r x reads changes states served c
+abbrev pub IsStep : Report → (x : ℕ) → (reads changes : List ℕ) → (states : List State) → (served : List ℕ) → (c : ℕ)
+    → Type 0
+IsStep r x reads changes states served c = (has served c ≡ true) ⊎ IsHeld r reads changes served c
+    ⊎ LeadsOn r x reads changes states served c
 
 -- the same of each change
 abbrev pub AreSteps : Report → (x : ℕ) → (reads changes : List ℕ) → (states : List State) → (served : List ℕ) → Type 0
 AreSteps r x reads changes states served = (c : ℕ) → has changes c ≡ true → IsStep r x reads changes states served c
 
--- the change w, which leaves this byte, is no help to READ k: k gave another byte, or surely came before, or one of the changes
--- surely comes between the two
+-- the change w, which leaves this byte, is no help to READ k: k gave another byte, or surely came before, or one of the
+-- changes surely comes between the two
 abbrev pub IsNoHelp : Report → (x : ℕ) → (changes : List ℕ) → (w : ℕ) → (byte : Option ℕ) → (k : ℕ) → Type 0
 IsNoHelp r x changes w byte k =
     IsOther r x k byte ⊎ IsBefore r k w ⊎ ((o : ℕ) × (has changes o ≡ true) × IsBefore r w o × IsBefore r o k)
@@ -81,11 +86,13 @@ IsNoHelp r x changes w byte k =
 -- if w is another change of x, it is no help to any READ
 abbrev pub HelpsNone : Report → (x : ℕ) → (reads changes : List ℕ) → (w : ℕ) → Type 0
 HelpsNone r x reads changes w =
-    (e : Effect) → IsChange r w x e → has changes w ≡ false → (k : ℕ) → has reads k ≡ true → IsNoHelp r x changes w (effect_byte e x) k
+    (e : Effect) → IsChange r w x e → has changes w ≡ false → (k : ℕ) → has reads k ≡ true
+    → IsNoHelp r x changes w (effect_byte e x) k
 
 -- the same of each state
 abbrev pub EachSteps : Report → (x : ℕ) → (reads changes : List ℕ) → (states : List State) → Type 0
-EachSteps r x reads changes states = (i : ℕ) (s : State) → slice_get states i ≡ Some s → AreSteps r x reads changes states s.served.items
+EachSteps r x reads changes states = (i : ℕ) (s : State) → slice_get states i ≡ Some s
+    → AreSteps r x reads changes states s.served.items
 
 -- in this state no change is served, and each READ fits the byte at the start
 abbrev pub IsBeginning : Report → (initial : ℕ → Option ℕ) → (x : ℕ) → (reads changes served : List ℕ) → Type 0
@@ -93,7 +100,8 @@ IsBeginning r initial x reads changes served =
     ((c : ℕ) → has changes c ≡ true → has served c ≡ false) × Fits r x reads changes served (initial x)
 
 -- one of the states is such a beginning
-abbrev pub HasBeginning : Report → (initial : ℕ → Option ℕ) → (x : ℕ) → (reads changes : List ℕ) → (states : List State) → Type 0
+abbrev pub HasBeginning : Report → (initial : ℕ → Option ℕ) → (x : ℕ) → (reads changes : List ℕ) → (states : List State)
+    → Type 0
 HasBeginning r initial x reads changes states =
     (i : ℕ) × (s : State) × (slice_get states i ≡ Some s) × IsBeginning r initial x reads changes s.served.items
 
@@ -105,9 +113,10 @@ IsUnfinished reads served = (k : ℕ) × (has reads k ≡ true) × (has served k
 abbrev pub NoneIsLast : (reads : List ℕ) → (states : List State) → Type 0
 NoneIsLast reads states = (i : ℕ) (s : State) → slice_get states i ≡ Some s → IsUnfinished reads s.served.items
 
--- at x the READs get their bytes in no order of the changes: one of the states is the beginning, each change leads from a state
--- to a state, and in no state all READs are served; and no other change is a help to one of them
-pub record IsRefutation (r : Report) (initial : ℕ → Option ℕ) (x : ℕ) (reads changes : List ℕ) (states : List State) : Type 0 where
+-- at x the READs get their bytes in no order of the changes: one of the states is the beginning, each change leads from
+-- a state to a state, and in no state all READs are served; and no other change is a help to one of them
+pub record IsRefutation (r : Report) (initial : ℕ → Option ℕ) (x : ℕ) (reads changes : List ℕ)
+    (states : List State) : Type 0 where
   pub are_reads : (k : ℕ) → has reads k ≡ true → IsReadAt r x k
   pub are_changes : (c : ℕ) → has changes c ≡ true → IsChangeAt r x c
   pub covered : (w : ℕ) → HelpsNone r x reads changes w

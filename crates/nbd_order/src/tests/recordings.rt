@@ -17,10 +17,6 @@ pub enum Sent<'a> {
     Reply(u64, u32),
     /// A chunk with bytes at an offset; it ends the reply where it says so.
     Data(u64, u64, &'a [u8], bool),
-    /// A chunk with a hole at an offset.
-    Hole(u64, u64, u32),
-    /// A chunk without bytes that ends a reply.
-    Done(u64),
     /// A chunk with an error that ends a reply.
     Failed(u64, u32),
 }
@@ -74,18 +70,8 @@ impl Recording {
             },
             Sent::Data(cookie, offset, bytes, ends) => {
                 let flags = if ends { chunks::DONE } else { 0 };
-                self.content(flags, chunks::OFFSET_DATA, cookie, offset, bytes)?
+                self.content(flags, cookie, offset, bytes)?
             }
-            Sent::Hole(cookie, offset, size) => {
-                let size = size.to_be_bytes();
-                self.content(0, chunks::OFFSET_HOLE, cookie, offset, size.as_slice())?
-            }
-            Sent::Done(cookie) => Message::Chunk {
-                flags: chunks::DONE,
-                kind: chunks::NONE,
-                cookie,
-                payload: self.payload(b"")?,
-            },
             Sent::Failed(cookie, error) => self.failure(cookie, error)?,
         };
         self.say(rt, message)
@@ -157,7 +143,6 @@ impl Recording {
     fn content(
         &self,
         flags: u16,
-        kind: u16,
         cookie: u64,
         offset: u64,
         content: &[u8],
@@ -166,7 +151,7 @@ impl Recording {
         bytes.extend_from_slice(content)?;
         Ok(Message::Chunk {
             flags,
-            kind,
+            kind: chunks::OFFSET_DATA,
             cookie,
             payload: Bytes::new(bytes),
         })

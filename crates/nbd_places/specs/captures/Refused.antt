@@ -1,4 +1,5 @@
--- Captures of small sessions that are refused: the sender of each message, how many bytes it has, and the bytes as one number.
+-- Captures of small sessions that are refused: the sender of each message, how many bytes it has, and the bytes as one
+-- number.
 use Rattle.std.specs.Prelude.{◌∷◌, ◌++◌, []}
 use Rattle.nbd_laws.specs.captures.Openings.{Chunks, client, opening, server}
 

@@ -21,7 +21,8 @@ fault_if false fault next = next
 -- at its first byte
 abbrev pub awaited_length_by : Option Decision → List ℕ → ℕ
 awaited_length_by None bytes = 1
-awaited_length_by (Some d) bytes = if nat_lt (length bytes) d.head_length then d.head_length else d.head_length + d.payload_length
+awaited_length_by (Some d) bytes = if nat_lt (length bytes) d.head_length then d.head_length else d.head_length
+    + d.payload_length
 
 -- no reply message has come
 abbrev pub is_none_yet : List Message → Bool

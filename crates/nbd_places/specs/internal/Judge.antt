@@ -23,7 +23,8 @@ decision_with Flags to now Client bytes = Some (client_flags now.offered bytes)
 decision_with Choosing to now Client bytes = Some (choice bytes)
 decision_with Naming to now Server bytes = Some (export_answer (has now.client_flags handshake.C_NO_ZEROES) bytes)
 decision_with Aborting to now Server bytes = Some (abort_answer bytes)
-decision_with (Answering option given info) to now Server bytes = Some (answer option (is_proper_option option given) info bytes)
+decision_with (Answering option given info) to now Server bytes =
+    Some (answer option (is_proper_option option given) info bytes)
 decision_with (Transmission export) to now Client bytes = request_unless now.disconnected now bytes
 decision_with (Transmission export) to now Server bytes = Some (reply_with export to now bytes)
 decision_with phase to now s bytes = None

@@ -114,12 +114,14 @@ ack_fault kind len next = fault_if ((kind == answers.ACK) && not (len == 0)) Bad
 
 -- at the head of the answer to ABORT, by its kind
 abbrev pub abort_fault : (kind len : ℕ) → Option WireFault
-abort_fault kind len = fault_if (not (is_error kind) && not (kind == answers.ACK)) BadReplyKind (ack_fault kind len None)
+abort_fault kind len = fault_if (not (is_error kind) && not (kind == answers.ACK)) BadReplyKind
+    (ack_fault kind len None)
 
 abbrev pub abort_answer : List ℕ → Decision
 abort_answer bytes = record {
   head_length = 20;
-  head_fault = answer_fault options.ABORT (number_at 0 8 bytes) (number_at 8 4 bytes) (abort_fault (number_at 12 4 bytes) (number_at 16 4 bytes));
+  head_fault = answer_fault options.ABORT (number_at 0 8 bytes) (number_at 8 4 bytes)
+      (abort_fault (number_at 12 4 bytes) (number_at 16 4 bytes));
   payload_length = number_at 16 4 bytes;
   last_fault = None;
   message = answer_of bytes;
@@ -127,18 +129,22 @@ abort_answer bytes = record {
 
 -- this project follows the option
 abbrev pub is_followed : ℕ → Bool
-is_followed option = (option == options.LIST) || ((option == options.INFO) || ((option == options.GO) || (option == options.STRUCTURED_REPLY)))
+is_followed option = (option == options.LIST)
+    || ((option == options.INFO) || ((option == options.GO) || (option == options.STRUCTURED_REPLY)))
 
 -- a kind of success that an option takes
 abbrev pub answers_option : (option kind : ℕ) → Bool
 answers_option option kind =
     (kind == answers.ACK)
-    || (((option == options.LIST) && (kind == answers.SERVER)) || (((option == options.INFO) || (option == options.GO)) && (kind == answers.INFO)))
+    || (((option == options.LIST) && (kind == answers.SERVER))
+    || (((option == options.INFO) || (option == options.GO)) && (kind == answers.INFO)))
 
 -- at an ACK, by the last EXPORT info before it
 abbrev pub info_fault : (option : ℕ) (proper : Bool) → Option Exporting → Option WireFault
-info_fault option proper None = fault_if (((option == options.INFO) || (option == options.GO)) && proper) MissingExportInfo None
-info_fault option proper (Some export) = fault_if ((option == options.GO) && nat_lt EXPORT_SIZE export.size) ExportTooLarge None
+info_fault option proper None = fault_if (((option == options.INFO) || (option == options.GO))
+    && proper) MissingExportInfo None
+info_fault option proper (Some export) = fault_if
+    ((option == options.GO) && nat_lt EXPORT_SIZE export.size) ExportTooLarge None
 
 abbrev pub at_ack : Bool → Option WireFault → Option WireFault
 at_ack true fault = fault
@@ -165,7 +171,8 @@ is_good_info (Some (Other kind)) = true
 
 abbrev pub is_bad_payload : (kind : ℕ) → List ℕ → Bool
 is_bad_payload kind payload =
-    ((kind == answers.SERVER) && not (is_listed payload)) || ((kind == answers.INFO) && not (is_good_info (info_of payload)))
+    ((kind == answers.SERVER) && not (is_listed payload))
+    || ((kind == answers.INFO) && not (is_good_info (info_of payload)))
 
 -- at the last byte of an answer that is no error
 abbrev pub payload_fault : (proper : Bool) (kind : ℕ) → List ℕ → Option WireFault
@@ -178,8 +185,10 @@ abbrev pub answer : (option : ℕ) (proper : Bool) (info : Option Exporting) →
 answer option proper info bytes = record {
   head_length = 20;
   head_fault = answer_fault option (number_at 0 8 bytes) (number_at 8 4 bytes)
-      (unless_error (is_error (number_at 12 4 bytes)) (success_fault option proper info (number_at 12 4 bytes) (number_at 16 4 bytes)));
+      (unless_error (is_error (number_at 12 4 bytes))
+      (success_fault option proper info (number_at 12 4 bytes) (number_at 16 4 bytes)));
   payload_length = number_at 16 4 bytes;
-  last_fault = unless_error (is_error (number_at 12 4 bytes)) (payload_fault proper (number_at 12 4 bytes) (drop 20 bytes));
+  last_fault = unless_error (is_error (number_at 12 4 bytes))
+      (payload_fault proper (number_at 12 4 bytes) (drop 20 bytes));
   message = answer_of bytes;
 }

@@ -35,7 +35,8 @@ abbrev pub cookie_fault : (command : ℕ) (outstanding : Option ℕ) → Option 
 cookie_fault command outstanding = fault_if (not (command == commands.DISC) && is_some outstanding) CookieInUse None
 
 abbrev pub request_of : List ℕ → Message
-request_of bytes = Request (number_at 4 2 bytes) (number_at 6 2 bytes) (number_at 8 8 bytes) (number_at 16 8 bytes) (number_at 24 4 bytes) (drop 28 bytes)
+request_of bytes = Request (number_at 4 2 bytes) (number_at 6 2 bytes) (number_at 8 8 bytes) (number_at 16 8 bytes)
+    (number_at 24 4 bytes) (drop 28 bytes)
 
 abbrev pub request : Core → List ℕ → Decision
 request now bytes = record {
@@ -57,7 +58,8 @@ operation_of old now cookie = operation_if (target cookie old.entries) now.entri
 -- at the head of a simple reply
 abbrev pub simple_fault : (structured : Bool) → Option Operation → Option WireFault
 simple_fault structured None = Some UnknownCookie
-simple_fault structured (Some e) = fault_if (not (is_none_yet e.replies) || ((e.command == commands.READ) && structured)) SimpleForbidden None
+simple_fault structured (Some e) = fault_if (not (is_none_yet e.replies)
+    || ((e.command == commands.READ) && structured)) SimpleForbidden None
 
 -- how many bytes follow the head of a simple reply
 abbrev pub simple_payload_length : Option Operation → (error : ℕ) → ℕ
@@ -83,7 +85,8 @@ simple_to export now to bytes = record {
 
 -- the pieces stand side by side
 abbrev pub is_apart : Piece → Piece → Bool
-is_apart p q = nat_le (piece_offset p + piece_size p) (piece_offset q) || nat_le (piece_offset q + piece_size q) (piece_offset p)
+is_apart p q = nat_le (piece_offset p + piece_size p) (piece_offset q)
+    || nat_le (piece_offset q + piece_size q) (piece_offset p)
 
 abbrev pub is_apart_from : Piece → List Piece → Bool
 is_apart_from p [] = true
@@ -94,7 +97,8 @@ is_no_piece [] = true
 is_no_piece (p ∷ pieces) = false
 
 abbrev pub is_inside : Operation → Piece → Bool
-is_inside e piece = nat_le e.offset (piece_offset piece) && nat_le (piece_offset piece + piece_size piece) (e.offset + e.length)
+is_inside e piece = nat_le e.offset (piece_offset piece)
+    && nat_le (piece_offset piece + piece_size piece) (e.offset + e.length)
 
 -- the piece may join those of the request
 abbrev pub fits_read : Exporting → Operation → Piece → Bool
@@ -115,7 +119,8 @@ fits_failure e None = true
 fits_failure e (Some x) = is_in e.offset e.length x
 
 -- at the last byte of a chunk that is no NONE, by its payload; `next` is the fault after these
-abbrev pub content_fault : Exporting → Operation → Option Piece → Option Failure → (next : Option WireFault) → Option WireFault
+abbrev pub content_fault : Exporting → Operation → Option Piece → Option Failure → (next : Option WireFault)
+    → Option WireFault
 content_fault export e (Some piece) failure next = fault_if (not (fits_read export e piece)) BadContent next
 content_fault export e None (Some failure) next = fault_if (not (fits_failure e failure.offset)) BadContent next
 content_fault export e None None next = Some BadChunk
@@ -132,11 +137,14 @@ done_fault false export e = None
 done_fault true export e = finish_fault export e (has_failed e) (pieces e)
 
 -- at the last byte of a chunk to request e, which is `with_chunk` after it
-abbrev pub chunk_fault : (is_none : Bool) → Exporting → (e with_chunk : Operation) → (flags kind : ℕ) → List ℕ → Option WireFault
+abbrev pub chunk_fault : (is_none : Bool) → Exporting → (e with_chunk : Operation) → (flags kind : ℕ) → List ℕ
+    → Option WireFault
 chunk_fault true export e with_chunk flags kind payload =
-    fault_if (not (length payload == 0) || not (has flags chunks.DONE)) BadChunk (done_fault (has flags chunks.DONE) export with_chunk)
+    fault_if (not (length payload == 0) || not (has flags chunks.DONE)) BadChunk
+    (done_fault (has flags chunks.DONE) export with_chunk)
 chunk_fault false export e with_chunk flags kind payload =
-    content_fault export e (content_of kind payload) (failure_of kind payload) (done_fault (has flags chunks.DONE) export with_chunk)
+    content_fault export e (content_of kind payload) (failure_of kind payload)
+    (done_fault (has flags chunks.DONE) export with_chunk)
 
 -- at the head of a chunk
 abbrev pub chunk_head_fault : (structured : Bool) → Option Operation → Option WireFault
@@ -149,7 +157,8 @@ chunk_of bytes = Chunk (number_at 4 2 bytes) (number_at 6 2 bytes) (number_at 8 
 abbrev pub chunk_last_fault : Exporting → Option Operation → List ℕ → Option WireFault
 chunk_last_fault export None bytes = None
 chunk_last_fault export (Some e) bytes =
-    chunk_fault (number_at 6 2 bytes == chunks.NONE) export e (with_reply e (chunk_of bytes)) (number_at 4 2 bytes) (number_at 6 2 bytes) (drop 20 bytes)
+    chunk_fault (number_at 6 2 bytes == chunks.NONE) export e (with_reply e (chunk_of bytes)) (number_at 4 2 bytes)
+    (number_at 6 2 bytes) (drop 20 bytes)
 
 abbrev pub chunk_to : Exporting → Core → Option Operation → List ℕ → Decision
 chunk_to export now to bytes = record {
@@ -162,7 +171,13 @@ chunk_to export now to bytes = record {
 
 -- before its fourth byte, and after that where it begins with neither number
 abbrev pub no_reply : List ℕ → Decision
-no_reply bytes = record { head_length = 4; head_fault = Some BadMagic; payload_length = 0; last_fault = None; message = simple_of bytes }
+no_reply bytes = record {
+  head_length = 4;
+  head_fault = Some BadMagic;
+  payload_length = 0;
+  last_fault = None;
+  message = simple_of bytes;
+}
 
 -- the bytes have four that are this number
 abbrev pub begins : (magic : ℕ) → List ℕ → Bool
@@ -175,7 +190,8 @@ reply_by false false export now to bytes = no_reply bytes
 
 -- a server's bytes in transmission; `to` finds the request that a cookie names
 abbrev pub reply_with : Exporting → (to : ℕ → Option Operation) → (now : Core) → List ℕ → Decision
-reply_with export to now bytes = reply_by (begins CHUNK_MAGIC bytes) (begins SIMPLE_MAGIC bytes) export now (to (number_at 8 8 bytes)) bytes
+reply_with export to now bytes = reply_by (begins CHUNK_MAGIC bytes) (begins SIMPLE_MAGIC bytes) export now
+    (to (number_at 8 8 bytes)) bytes
 
 abbrev pub reply : Exporting → (old now : Core) → List ℕ → Decision
 reply export old now bytes = reply_with export (operation_of old now) now bytes

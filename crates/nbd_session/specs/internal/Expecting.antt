@@ -1,5 +1,5 @@
--- What is expected of a message whose head has come: which message it is with the bytes after its head, how many those are, and what
--- its last byte shows to be wrong.
+-- What is expected of a message whose head has come: which message it is with the bytes after its head, how many those
+-- are, and what its last byte shows to be wrong.
 use Rattle.std.specs.Prelude.{◌≡◌, ◌⊎◌, ◌<◌, ◌≤◌, ◌+◌, ◌==◌, ◌++◌, ℕ, suc, List, Bool, true, false, Option, Some, None, length, if◌then◌else◌, slice_get}
 use Rattle.nbd_wire.specs.declared.chunks.TheConstants as chunks
 use Rattle.nbd_wire.specs.declared.fault.WireFault.{WireFault}
@@ -60,14 +60,16 @@ padding_fault_if false payload = None
 abbrev pub chunk_fault_to : Exporting → Option Operation → (flags kind cookie : ℕ) → List ℕ → Option WireFault
 chunk_fault_to export None flags kind cookie payload = None
 chunk_fault_to export (Some e) flags kind cookie payload =
-    chunk_fault (kind == chunks.NONE) export e (with_reply e (messages.Chunk flags kind cookie payload)) flags kind payload
+    chunk_fault (kind == chunks.NONE) export e
+    (with_reply e (messages.Chunk flags kind cookie payload)) flags kind payload
 
 -- what its last byte shows to be wrong, where so much has completed
 abbrev pub last_fault_by : definitions.Phase → Core → Expected → List ℕ → Option WireFault
 last_fault_by phase core (Answer head proper) payload = success_fault_if proper head.kind payload
 last_fault_by phase core (Exported size flags padded) payload = padding_fault_if padded payload
 last_fault_by phase core (Request head) payload = cookie_fault head.command (target head.cookie core.entries)
-last_fault_by (Transmission export) core (Simple head place len) payload = simple_last_fault export (operation (place + 1) core.entries) head.error
+last_fault_by (Transmission export) core (Simple head place len) payload =
+    simple_last_fault export (operation (place + 1) core.entries) head.error
 last_fault_by (Transmission export) core (Chunk head place) payload =
     chunk_fault_to export (operation (place + 1) core.entries) head.flags head.kind head.cookie payload
 last_fault_by phase core expected payload = None
@@ -105,32 +107,39 @@ abbrev pub IsExpectedOf : (counted : ℕ) → Core → Side → (head : List ℕ
 IsExpectedOf counted core s head expected = (payload : List ℕ) →
     decision_by_count counted core s (head ++ payload) ≡ Some (expected_decision core expected (length head) payload)
 
--- the place of the request that a cookie names, of those up to the count, where an exchange shows it; none where it names none
+-- the place of the request that a cookie names, of those up to the count, where an exchange shows it; none where it
+-- names none
 abbrev pub IsPlaceOf : Exporting → Core → (counted cookie : ℕ) → List Exchange → Option ℕ → Type 0
 IsPlaceOf export core counted cookie exchanges None = operation_counted counted core cookie ≡ None
-IsPlaceOf export core counted cookie exchanges (Some place) = (e : Operation) × (x : Exchange) × (operation_counted counted core cookie ≡ Some e)
+IsPlaceOf export core counted cookie exchanges (Some place) =
+    (e : Operation) × (x : Exchange) × (operation_counted counted core cookie ≡ Some e)
     × (operation (place + 1) core.entries ≡ Some e) × (slice_get exchanges place ≡ Some x) × IsShown export e x
     × (target cookie core.entries ≡ Some (suc place))
 
 -- what is decided of a simple reply with these fields, to the request that it names
-pub record IsSimpleOf (export : Exporting) (core : Core) (to : Option Operation) (error cookie : ℕ) (expected : Expected) : Type 0 where
+pub record IsSimpleOf (export : Exporting) (core : Core) (to : Option Operation) (error cookie : ℕ)
+    (expected : Expected) : Type 0 where
   pub no_fault : simple_fault core.structured to ≡ None
   pub length_is : payload_length_of expected ≡ simple_payload_length to error
-  pub last_is : (payload : List ℕ) → last_fault_by (Transmission export) core expected payload ≡ simple_last_fault export to error
+  pub last_is : (payload : List ℕ) → last_fault_by (Transmission export) core expected payload
+      ≡ simple_last_fault export to error
   pub message_is : (payload : List ℕ) → message_of expected payload ≡ messages.Simple error cookie payload
   pub placed : IsPlaced core expected
 
 -- what is decided of a chunk with these fields, to the request that it names
-pub record IsChunkOf (export : Exporting) (core : Core) (to : Option Operation) (h : ChunkHead) (expected : Expected) : Type 0 where
+pub record IsChunkOf (export : Exporting) (core : Core) (to : Option Operation) (h : ChunkHead)
+    (expected : Expected) : Type 0 where
   pub no_fault : chunk_head_fault core.structured to ≡ None
   pub length_is : payload_length_of expected ≡ h.length
-  pub last_is : (payload : List ℕ) → last_fault_by (Transmission export) core expected payload ≡ chunk_fault_to export to h.flags h.kind h.cookie payload
+  pub last_is : (payload : List ℕ) → last_fault_by (Transmission export) core expected payload
+      ≡ chunk_fault_to export to h.flags h.kind h.cookie payload
   pub message_is : (payload : List ℕ) → message_of expected payload ≡ messages.Chunk h.flags h.kind h.cookie payload
   pub placed : IsPlaced core expected
 
 -- the whole head of a reply, by the number that it begins with
 abbrev pub IsReplyHead : List ℕ → Type 0
-IsReplyHead head = (begins SIMPLE_MAGIC head ≡ true) × (length head ≡ 16) ⊎ (begins CHUNK_MAGIC head ≡ true) × (length head ≡ 20)
+IsReplyHead head = (begins SIMPLE_MAGIC head ≡ true) × (length head ≡ 16)
+    ⊎ (begins CHUNK_MAGIC head ≡ true) × (length head ≡ 20)
 
 -- the whole head of the message that may come in a phase; none where the side may not send
 abbrev pub whole_head_by : Phase → (disconnected : Bool) → Side → List ℕ → Type 0
@@ -161,9 +170,11 @@ HasReplyLength head n = (length head < 4) × (n ≡ 4)
 
 -- bytes begin with another number than a reply's
 abbrev pub IsNoReply : List ℕ → WireFault → Type 0
-IsNoReply head fault = (fault ≡ BadMagic) × (4 ≤ length head) × (begins SIMPLE_MAGIC head ≡ false) × (begins CHUNK_MAGIC head ≡ false)
+IsNoReply head fault = (fault ≡ BadMagic) × (4 ≤ length head) × (begins SIMPLE_MAGIC head ≡ false)
+    × (begins CHUNK_MAGIC head ≡ false)
 
 -- this is the length of the head that the judge sees in the bytes, and bytes of this length are whole
 pub record HasHeadLength (state : State) (s : Side) (head : List ℕ) (n : ℕ) : Type 0 where
-  pub decided : (core : Core) (counted : ℕ) → Shows state core → (d : Decision) × (decision_by_count counted core s head ≡ Some d) × (d.head_length ≡ n)
+  pub decided : (core : Core) (counted : ℕ) → Shows state core
+      → (d : Decision) × (decision_by_count counted core s head ≡ Some d) × (d.head_length ≡ n)
   pub whole : length head ≡ n → IsWholeHead state s head

@@ -15,7 +15,8 @@ decided machine s bytes = decision machine.core.phase (old_of machine.core (get 
 
 -- the next length at which something is decided of a side's bytes
 abbrev pub awaited : Machine → Side → ℕ
-awaited machine s = awaited_length (old_of machine.core (get machine.rests s)) machine.core s (get machine.rests s).bytes
+awaited machine s = awaited_length (old_of machine.core (get machine.rests s)) machine.core s
+    (get machine.rests s).bytes
 
 -- the head is whole, and this is decided of it and any bytes after it
 pub record IsExpected (decided : List ℕ → Option Decision) (core : Core) (head : List ℕ) (x : Expected) : Type 0 where
@@ -27,7 +28,8 @@ pub record IsExpected (decided : List ℕ → Option Decision) (core : Core) (he
 abbrev pub IsShort : (decided : List ℕ → Option Decision) → (head : List ℕ) → Type 0
 IsShort decided head = (d : Decision) → decided head ≡ Some d → length head < d.head_length
 
-abbrev pub is_known_by : (decided : List ℕ → Option Decision) → Core → (head payload : List ℕ) → Option Expected → Type 0
+abbrev pub is_known_by : (decided : List ℕ → Option Decision) → Core → (head payload : List ℕ) → Option Expected
+    → Type 0
 is_known_by decided core head payload (Some x) = IsExpected decided core head x
 is_known_by decided core head payload None = (payload ≡ []) × IsShort decided head
 
@@ -37,7 +39,8 @@ IsKnown decided core v = is_known_by decided core v.head v.payload v.expected
 
 abbrev pub is_come_by : (decided : List ℕ → Option Decision) → Core → (head payload : List ℕ) → Option Expected → Type 0
 is_come_by decided core head payload (Some x) = IsExpected decided core head x × (length payload ≤ payload_length_of x)
-is_come_by decided core head payload None = (payload ≡ []) × ((d : Decision) → decided head ≡ Some d → length head ≤ d.head_length)
+is_come_by decided core head payload None = (payload ≡ [])
+    × ((d : Decision) → decided head ≡ Some d → length head ≤ d.head_length)
 
 -- where bytes were taken up to the awaited length
 abbrev pub IsCome : (decided : List ℕ → Option Decision) → Core → IncomingView → Type 0

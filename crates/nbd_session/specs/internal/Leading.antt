@@ -21,15 +21,21 @@ unless_fault None value = Ok value
 
 -- a greeting's flags (proto.md, "Newstyle negotiation")
 abbrev pub greeting_flags_of : List ℕ → Option ℕ
-greeting_flags_of bytes = some_if ((number_at 0 8 bytes == GREETING_MAGIC) && (number_at 8 8 bytes == OPTION_MAGIC)) (number_at 16 2 bytes)
+greeting_flags_of bytes = some_if ((number_at 0 8 bytes == GREETING_MAGIC) && (number_at 8 8 bytes == OPTION_MAGIC))
+    (number_at 16 2 bytes)
 
 -- an option's head (proto.md, "Newstyle negotiation")
 abbrev pub choice_head_of : List ℕ → Option ChoiceHead
-choice_head_of bytes = some_if (number_at 0 8 bytes == OPTION_MAGIC) (record { id = number_at 8 4 bytes; length = number_at 12 4 bytes })
+choice_head_of bytes = some_if (number_at 0 8 bytes == OPTION_MAGIC)
+    (record { id = number_at 8 4 bytes; length = number_at 12 4 bytes })
 
 -- the fields of an answer's head (proto.md, "Fixed newstyle negotiation")
 abbrev pub answer_fields_of : List ℕ → AnswerHead
-answer_fields_of bytes = record { option = number_at 8 4 bytes; kind = number_at 12 4 bytes; length = number_at 16 4 bytes }
+answer_fields_of bytes = record {
+  option = number_at 8 4 bytes;
+  kind = number_at 12 4 bytes;
+  length = number_at 16 4 bytes;
+}
 
 abbrev pub answer_head_of : List ℕ → Option AnswerHead
 answer_head_of bytes = some_if (number_at 0 8 bytes == ANSWER_MAGIC) (answer_fields_of bytes)
@@ -37,13 +43,27 @@ answer_head_of bytes = some_if (number_at 0 8 bytes == ANSWER_MAGIC) (answer_fie
 -- a request's head (proto.md, "Request message")
 abbrev pub request_head_of : List ℕ → Option RequestHead
 request_head_of bytes =
-    some_if (number_at 0 4 bytes == REQUEST_MAGIC) (record { flags = number_at 4 2 bytes; command = number_at 6 2 bytes; cookie = number_at 8 8 bytes; offset = number_at 16 8 bytes; length = number_at 24 4 bytes })
+    some_if (number_at 0 4 bytes == REQUEST_MAGIC)
+    (record {
+      flags = number_at 4 2 bytes;
+      command = number_at 6 2 bytes;
+      cookie = number_at 8 8 bytes;
+      offset = number_at 16 8 bytes;
+      length = number_at 24 4 bytes;
+    })
 
 -- a simple reply's head (proto.md, "Simple reply message")
 abbrev pub simple_head_of : List ℕ → Option SimpleHead
-simple_head_of bytes = some_if (number_at 0 4 bytes == SIMPLE_MAGIC) (record { error = number_at 4 4 bytes; cookie = number_at 8 8 bytes })
+simple_head_of bytes = some_if (number_at 0 4 bytes == SIMPLE_MAGIC)
+    (record { error = number_at 4 4 bytes; cookie = number_at 8 8 bytes })
 
 -- a chunk's head (proto.md, "Structured reply chunk message")
 abbrev pub chunk_head_of : List ℕ → Option ChunkHead
 chunk_head_of bytes =
-    some_if (number_at 0 4 bytes == CHUNK_MAGIC) (record { flags = number_at 4 2 bytes; kind = number_at 6 2 bytes; cookie = number_at 8 8 bytes; length = number_at 16 4 bytes })
+    some_if (number_at 0 4 bytes == CHUNK_MAGIC)
+    (record {
+      flags = number_at 4 2 bytes;
+      kind = number_at 6 2 bytes;
+      cookie = number_at 8 8 bytes;
+      length = number_at 16 4 bytes;
+    })

@@ -20,4 +20,5 @@ abbrev pub log_of_pairs : Judge → Machine → List Pair → List LogEntry
 log_of_pairs judge machine [] = []
 log_of_pairs judge machine (p ∷ ps) =
     let rest : Rest = rest_with machine.core (get machine.rests p.from) p.byte in
-    log_with rest (judge rest.since machine.core p.from rest.bytes) ++ log_of_rest (step judge machine p.from p.byte) (λ next. log_of_pairs judge next ps)
+    log_with rest (judge rest.since machine.core p.from rest.bytes)
+    ++ log_of_rest (step judge machine p.from p.byte) (λ next. log_of_pairs judge next ps)

@@ -13,7 +13,8 @@ use Rattle.nbd_laws.specs.internal.Machine.{Machine, get, reads, fresh, IsFilled
 -- the stretches' bytes of a side
 abbrev pub stretch_total : Side → List Stretch → ℕ
 stretch_total s [] = 0
-stretch_total s (stretch ∷ stretches) = (if same_side s stretch.from then stretch.length else 0) + stretch_total s stretches
+stretch_total s (stretch ∷ stretches) = (if same_side s stretch.from then stretch.length else 0)
+    + stretch_total s stretches
 
 -- the stretches are of exactly these bytes
 pub record AreStretchesOf (stretches : List Stretch) (client server : List ℕ) : Type 0 where
@@ -43,13 +44,17 @@ pub record IsReadTo (h : Holding) (machine : Machine) : Type 0 where
   pub messages_are : machine.messages ≡ h.messages
   pub rests_are : (s : Side) → (get machine.rests s).bytes ≡ rest_of h s
   pub count_is : IsFilled h.server → h.counted ≡ length (get machine.rests Server).since.entries
-  pub are_stretches : AreStretchesOf h.stretches (bytes_of Client h.messages ++ h.client) (bytes_of Server h.messages ++ h.server)
+  pub are_stretches : AreStretchesOf h.stretches (bytes_of Client h.messages ++ h.client)
+      (bytes_of Server h.messages ++ h.server)
 
 -- the stretches with so many more bytes of a side
 abbrev pub stretches_with : List Stretch → Side → ℕ → List Stretch
 stretches_with [] s n = record { from = s; length = n } ∷ []
 stretches_with (stretch ∷ []) s n =
-    if same_side s stretch.from then record { from = stretch.from; length = stretch.length + n } ∷ [] else stretch ∷ record { from = s; length = n } ∷ []
+    if same_side s stretch.from then record {
+      from = stretch.from;
+      length = stretch.length + n;
+    } ∷ [] else stretch ∷ record { from = s; length = n } ∷ []
 stretches_with (stretch ∷ next ∷ stretches) s n = stretch ∷ stretches_with (next ∷ stretches) s n
 
 -- a side's bytes with more

@@ -62,15 +62,19 @@ pub record IsTaken (held : Held) (s : Side) : Type 0 where
 
 abbrev pub knows_by : (decided : List ℕ → Option Decision) → Core → (head payload : List ℕ) → Option Expected → Type 0
 knows_by decided core head payload (Some x) = IsExpected decided core head x × (length payload ≤ payload_length_of x)
-knows_by decided core head payload None = (payload ≡ []) × (d : Decision) × (decided head ≡ Some d) × (length head < d.head_length)
+knows_by decided core head payload None = (payload ≡ []) × (d : Decision) × (decided head ≡ Some d)
+    × (length head < d.head_length)
 
 -- after bytes were taken: this is what their head says, or it is not whole
 abbrev pub Knows : Held → Side → Option Expected → Type 0
-Knows held s expected = (t : IsTaken held s) → knows_by (decided t.machine s) t.machine.core (incoming_of held s).head (incoming_of held s).payload expected
+Knows held s expected = (t : IsTaken held s) → knows_by (decided t.machine s) t.machine.core (incoming_of held s).head
+    (incoming_of held s).payload expected
 
 -- after bytes were taken: those of the head are refused
 abbrev pub IsHeadRefused : Held → Side → WireFault → Type 0
-IsHeadRefused held s fault = (t : IsTaken held s) → ((incoming_of held s).payload ≡ []) × (reading_by_decision (decided t.machine s (incoming_of held s).head) (incoming_of held s).head ≡ Bad fault)
+IsHeadRefused held s fault = (t : IsTaken held s)
+    → ((incoming_of held s).payload ≡ [])
+    × (reading_by_decision (decided t.machine s (incoming_of held s).head) (incoming_of held s).head ≡ Bad fault)
 
 -- bytes were taken, and this is what their head says
 pub record IsExpecting (held : Held) (s : Side) (x : Expected) : Type 0 where
@@ -83,11 +87,13 @@ pub record IsExpecting (held : Held) (s : Side) (x : Expected) : Type 0 where
 pub record IsWhole (held : Held) (s : Side) (x : Expected) : Type 0 where
   pub expecting : IsExpecting held s x
   pub whole : length (incoming_of held s).payload ≡ payload_length_of x
-  pub no_fault : last_fault_by expecting.taken.machine.core.phase expecting.taken.machine.core x (incoming_of held s).payload ≡ None
+  pub no_fault : last_fault_by expecting.taken.machine.core.phase expecting.taken.machine.core x
+      (incoming_of held s).payload ≡ None
 
 -- of a side's piece all but `left` was taken
 abbrev pub AddsHeld : (old new : Held) → Side → (piece left : List ℕ) → Type 0
-AddsHeld old new s piece left = Adds (held_pairs (holding_of old)) (held_pairs (holding_of new)) old.messages.items new.messages.items s piece left
+AddsHeld old new s piece left = Adds (held_pairs (holding_of old))
+    (held_pairs (holding_of new)) old.messages.items new.messages.items s piece left
 
 -- a piece was refused after its prefix
 pub record IsRefused (old new : Held) (s : Side) (piece : List ℕ) (fault : SessionFault) : Type 0 where

@@ -1,14 +1,15 @@
 //! What a finished session says of its export and its requests.
 
 use super::{BEGUN, BEGUN_STRUCTURED, Sent, push_all};
-use crate::{Asked, Outcome, Session};
+use crate::{Asked, Outcome, Session, SessionFault, Transcript};
 use nbd_wire::Side::{Client, Server};
 use nbd_wire::commands::{READ, WRITE};
+use std::alloc::Global;
 use std::process::Abort;
 use std::test::Fail;
 
 /// What is told of a request, and how many pieces it was answered.
-#[derive(Clone, Copy, Debug, PartialEq, Eq, Drop)]
+#[derive(Clone, Copy, PartialEq, Eq, Drop)]
 struct Told {
     command: u16,
     cookie: u64,
@@ -66,30 +67,52 @@ fn tells<R: Abort + AllocGlobal>(
     want: &[Told],
 ) -> Result<(), Fail> {
     for most in [usize::MAX, 1] {
-        let alloc = rt.alloc();
-        let mut session = Session::new(alloc);
-        push_all(rt, alloc, &mut session, begun, most)?;
-        push_all(rt, alloc, &mut session, pieces, most)?;
-        let transcript = session.finish()?;
-        assert_eq!(rt; transcript.export(), Some((8, 0x6d)));
-        assert_eq!(rt; transcript.count(), want.len() as u64);
-        let mut k = 0u64;
-        for wanted in want {
-            k = k.wrapping_add(1);
-            let found = transcript.asked(k).map(told_of);
-            assert_eq!(rt; found, Some(*wanted), "request {k}");
-        }
-        assert!(rt; transcript.asked(0).is_none());
-        assert!(rt; transcript.asked(k.wrapping_add(1)).is_none());
+        let transcript = finished(rt.alloc(), begun, pieces, most)?;
+        assert!(rt; is_told(&transcript, want));
     }
     Ok(())
+}
+
+/// What a session of these pieces says, each pushed in parts of at most so many bytes.
+fn finished(
+    alloc: Global,
+    begun: &[Sent],
+    pieces: &[Sent],
+    most: usize,
+) -> Result<Transcript, SessionFault> {
+    let mut session = Session::new(alloc);
+    push_all(alloc, &mut session, begun, most)?;
+    push_all(alloc, &mut session, pieces, most)?;
+    session.finish()
+}
+
+/// Whether the transcript has the export of the beginning and just these requests.
+fn is_told(transcript: &Transcript, want: &[Told]) -> bool {
+    let count = want.len() as u64;
+    if transcript.export() != Some((8, 0x6d)) || transcript.count() != count {
+        return false;
+    }
+    for (place, wanted) in want.iter().enumerate() {
+        if !is_request(transcript, place as u64, *wanted) {
+            return false;
+        }
+    }
+    transcript.asked(0).is_none() && transcript.asked(count.wrapping_add(1)).is_none()
+}
+
+/// Whether so many requests stand before one that is as wanted.
+fn is_request(transcript: &Transcript, before: u64, wanted: Told) -> bool {
+    match transcript.asked(before.wrapping_add(1)) {
+        Some(asked) => told_of(asked) == wanted,
+        None => false,
+    }
 }
 
 #[test]
 fn a_session_without_bytes(rt: HostRuntime) -> Result<(), Fail> {
     let transcript = Session::new(rt.alloc()).finish()?;
-    assert_eq!(rt; transcript.export(), None);
-    assert_eq!(rt; transcript.count(), 0);
+    assert!(rt; transcript.export() == None);
+    assert!(rt; transcript.count() == 0);
     assert!(rt; transcript.asked(1).is_none());
     Ok(())
 }

@@ -11,7 +11,8 @@ IsTransmitting phase = (export : Export) × (phase ≡ Transmission export)
 
 -- each exchange was there, or stands after those and has no reply
 abbrev pub AddsUnanswered : List Exchange → List Exchange → Type 0
-AddsUnanswered old new = (place : ℕ) (x : Exchange) → slice_get new place ≡ Some x → (slice_get old place ≡ Some x) ⊎ (length old ≤ place) × (x.asked.known_at ≡ None)
+AddsUnanswered old new = (place : ℕ) (x : Exchange) → slice_get new place ≡ Some x
+    → (slice_get old place ≡ Some x) ⊎ (length old ≤ place) × (x.asked.known_at ≡ None)
 
 -- what is known once a reply message told so many
 abbrev pub known_first : Option ℕ → ℕ → Option ℕ
@@ -20,4 +21,6 @@ known_first known_at n = if is_some known_at then known_at else Some n
 -- the exchanges know what they knew, but the one at this place, if any, that a reply message told so many
 abbrev pub TellsOne : Option ℕ → ℕ → List Exchange → List Exchange → Type 0
 TellsOne told n old new = (place : ℕ) (x : Exchange) → slice_get new place ≡ Some x →
-    (y : Exchange) × (slice_get old place ≡ Some y) × (told ≡ Some place → x.asked.known_at ≡ known_first y.asked.known_at n) × ((told ≡ Some place → ⊥) → x.asked.known_at ≡ y.asked.known_at)
+    (y : Exchange) × (slice_get old place ≡ Some y)
+    × (told ≡ Some place → x.asked.known_at ≡ known_first y.asked.known_at n)
+    × ((told ≡ Some place → ⊥) → x.asked.known_at ≡ y.asked.known_at)

@@ -90,7 +90,7 @@ fn a_writer_that_fails(rt: HostRuntime) {
             };
             let found = run_check(alloc, &b""[..], &b""[..], ZEROES, &mut out);
             assert!(rt; matches!(&found, Err(RunFault::Write)));
-            assert_eq!(rt; out.taken.as_slice(), &line[..most]);
+            assert!(rt; out.taken.as_slice() == &line[..most]);
         }
         let mut out = Short {
             taken: Vec::new(alloc),
@@ -99,6 +99,6 @@ fn a_writer_that_fails(rt: HostRuntime) {
         };
         let found = run_check(alloc, &b""[..], &b""[..], ZEROES, &mut out);
         assert!(rt; matches!(&found, Ok(true)));
-        assert_eq!(rt; out.taken.as_slice(), line.as_slice());
+        assert!(rt; out.taken.as_slice() == line.as_slice());
     }
 }

@@ -1,8 +1,7 @@
 //! Writers and readers that fail `show` and `make`.
 
-use super::cases::text;
 use super::faults::{Failing, Short};
-use super::messages::{BEGUN, READ_1};
+use super::{BEGUN, READ_1, text};
 use crate::fault::RunFault;
 use crate::make::run_make;
 use crate::show::run_show;
@@ -29,7 +28,7 @@ fn shows_fronts<R: Abort + AllocGlobal>(rt: &R, capture: &[u8]) -> Result<(), Fa
         let mut out = short_writer(alloc, room);
         let answer = run_show(alloc, capture, &mut out);
         assert!(rt; matches!(answer, Err(RunFault::Write)), "room for {room}");
-        assert_eq!(rt; out.taken.len(), room);
+        assert!(rt; out.taken.len() == room);
         assert!(rt;
             whole.as_slice().starts_with(out.taken.as_slice()),
             "room for {room}"
@@ -56,7 +55,7 @@ fn makes_a_front_for_a_writer_that_fails(rt: HostRuntime) -> Result<(), Fail> {
         let mut out = short_writer(alloc, room);
         let answer = run_make(alloc, script, &mut out);
         assert!(rt; matches!(answer, Err(RunFault::Write)), "room for {room}");
-        assert_eq!(rt; out.taken.len(), room);
+        assert!(rt; out.taken.len() == room);
         assert!(rt;
             whole.as_slice().starts_with(out.taken.as_slice()),
             "room for {room}"

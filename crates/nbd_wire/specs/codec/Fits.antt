@@ -9,7 +9,8 @@ use Rattle.nbd_wire.specs.declared.message.Message.TheVariants.{Choice, Answer, 
 unfoldable pub FitsItsHead : Message → Type 0
 FitsItsHead (Choice _ payload) = length payload < 2 ^ 32
 FitsItsHead (Answer _ _ payload) = length payload < 2 ^ 32
-FitsItsHead (Request _ command _ _ len payload) = (length payload < 2 ^ 32) × (length payload ≡ (if command == WRITE then len else 0))
+FitsItsHead (Request _ command _ _ len payload) =
+    (length payload < 2 ^ 32) × (length payload ≡ (if command == WRITE then len else 0))
 FitsItsHead (Simple _ _ payload) = length payload < 2 ^ 32
 FitsItsHead (Chunk _ _ _ payload) = length payload < 2 ^ 32
 FitsItsHead _ = Unit {0}

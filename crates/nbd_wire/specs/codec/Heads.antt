@@ -21,7 +21,8 @@ IsChoiceHead h bytes = (h.id < 2 ^ 32) × (h.length < 2 ^ 32) × (bytes ≡ choi
 
 -- an answer's head (proto.md, "Fixed newstyle negotiation")
 unfoldable pub IsAnswerHead : AnswerHead → List ℕ → Type 0
-IsAnswerHead h bytes = (h.option < 2 ^ 32) × (h.kind < 2 ^ 32) × (h.length < 2 ^ 32) × (bytes ≡ answer_bytes h.option h.kind h.length)
+IsAnswerHead h bytes = (h.option < 2 ^ 32) × (h.kind < 2 ^ 32) × (h.length < 2 ^ 32)
+    × (bytes ≡ answer_bytes h.option h.kind h.length)
 
 -- the answer to EXPORT_NAME, but for the zeroes after it (proto.md, "Newstyle negotiation")
 unfoldable pub IsExportHead : ℕ → ℕ → List ℕ → Type 0

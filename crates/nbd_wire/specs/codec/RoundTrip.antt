@@ -21,7 +21,8 @@ unfoldable pub IsHeadOf : Message → List ℕ → Type 0
 IsHeadOf (Greeting flags) bytes = IsGreetingHead flags bytes
 IsHeadOf (ClientFlags flags) bytes = IsClientFlagsHead flags bytes
 IsHeadOf (Choice id payload) bytes = IsChoiceHead (record { id = id; length = length payload }) bytes
-IsHeadOf (Answer option kind payload) bytes = IsAnswerHead (record { option = option; kind = kind; length = length payload }) bytes
+IsHeadOf (Answer option kind payload) bytes =
+    IsAnswerHead (record { option = option; kind = kind; length = length payload }) bytes
 IsHeadOf (Exported size flags _) bytes = IsExportHead size flags bytes
 IsHeadOf (Request flags command cookie offset len _) bytes =
     IsRequestHead (record { flags = flags; command = command; cookie = cookie; offset = offset; length = len }) bytes

@@ -37,8 +37,8 @@ abbrev pub is_served : List Entry → ℕ → ℕ → Bool
 is_served [] k x = false
 is_served (e ∷ entries) k x = ((e.request == k) && in_part e.part x) || is_served entries k x
 
--- x lies inside a request of this type, offset and length: in its range, and below the export's size; nothing does where the
--- type has no range
+-- x lies inside a request of this type, offset and length: in its range, and below the export's size; nothing does
+-- where the type has no range
 abbrev pub inside : Option Exporting → (command offset length : ℕ) → ℕ → Bool
 inside (Some export) command offset len x = has_range command && (is_in offset len x && nat_lt x export.size)
 inside None command offset len x = false
@@ -48,12 +48,14 @@ pub record IsWhollyServed (within : ℕ → Bool) (entries : List Entry) (k : �
   pub named : Names entries k
   pub covered : (x : ℕ) → IsTrue (within x) → IsTrue (is_served entries k x)
 
--- after these entries request k is served again: at once though an entry names it, or in part though one serves it at once
+-- after these entries request k is served again: at once though an entry names it, or in part though one serves it at
+-- once
 abbrev pub IsAgain : List Entry → ℕ → Option Part → Type 0
 IsAgain before k None = Names before k
 IsAgain before k (Some p) = NamesWhole before k
 
--- the part of request k is empty, leaves the inside of the request, or has an offset that one of the entries before serves
+-- the part of request k is empty, leaves the inside of the request, or has an offset that one of the entries before
+-- serves
 abbrev pub IsMisplaced : (within : ℕ → Bool) → List Entry → ℕ → Option Part → Type 0
 IsMisplaced within before k None = ⊥
 IsMisplaced within before k (Some p) =

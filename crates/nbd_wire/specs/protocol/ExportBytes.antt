@@ -54,7 +54,8 @@ touches p e x = is_change e.command && serves p e x
 -- a successful WRITE leaves its byte, a successful WRITE_ZEROES a zero, and all else an unknown one
 abbrev pub new_byte : (succeeded : Bool) (command offset : ℕ) (payload : List ℕ) → ℕ → Option ℕ
 new_byte true command offset payload x =
-    if command == commands.WRITE then slice_get payload (x - offset) else if command == commands.WRITE_ZEROES then Some 0 else None
+    if command == commands.WRITE then slice_get payload
+    (x - offset) else if command == commands.WRITE_ZEROES then Some 0 else None
 new_byte false command offset payload x = None
 
 -- the byte that a change leaves at an offset that it touches
@@ -74,15 +75,16 @@ later None earlier = earlier
 -- the request of the last of these entries that touches x
 abbrev pub last_touch : (ℕ → Option Effect) → ℕ → List Entry → Option Effect
 last_touch requests x [] = None
-last_touch requests x (entry ∷ order) = later (last_touch requests x order) (touch_of entry.part (requests entry.request) x)
+last_touch requests x (entry ∷ order) = later (last_touch requests x order)
+    (touch_of entry.part (requests entry.request) x)
 
 -- what a change left at x, or the byte at the start where none did
 abbrev pub byte_or_start : Option Effect → (ℕ → Option ℕ) → ℕ → Option ℕ
 byte_or_start (Some e) initial x = effect_byte e x
 byte_or_start None initial x = initial x
 
--- the export's byte at x at entry i of the order, counted from 0: what the last change before it left, or else the byte at the
--- start (this project's choice)
+-- the export's byte at x at entry i of the order, counted from 0: what the last change before it left, or else the byte
+-- at the start (this project's choice)
 abbrev pub byte_before : (ℕ → Option Effect) → List Entry → (ℕ → Option ℕ) → ℕ → ℕ → Option ℕ
 byte_before requests order initial i x = byte_or_start (last_touch requests x (take i order)) initial x
 
@@ -92,7 +94,8 @@ Differs byte read x = (b : ℕ) × (byte x ≡ Some b) × (read x ≡ Some b →
 
 -- x is served of a successful READ, which gives another byte there than the known one, or none
 abbrev pub IsWrongIn : Option Part → Effect → (ℕ → Option ℕ) → ℕ → Type 0
-IsWrongIn p e byte x = (e.command ≡ commands.READ) × (e.succeeded ≡ true) × IsTrue (serves p e x) × Differs byte e.read x
+IsWrongIn p e byte x = (e.command ≡ commands.READ) × (e.succeeded ≡ true) × IsTrue (serves p e x)
+    × Differs byte e.read x
 
 -- the request of this entry gives a wrong byte at x, which the entry serves, against these bytes of the export
 abbrev pub IsWrongOf : (ℕ → Option Effect) → Entry → (ℕ → Option ℕ) → ℕ → Type 0
@@ -101,4 +104,5 @@ IsWrongOf requests entry byte x = (e : Effect) × (requests entry.request ≡ So
 -- entry i of the order, counted from 0, serves a wrong byte at x, against the export as it is then
 abbrev pub IsWrong : (ℕ → Option Effect) → List Entry → (ℕ → Option ℕ) → ℕ → ℕ → Type 0
 IsWrong requests order initial i x =
-    (entry : Entry) × (slice_get order i ≡ Some entry) × IsWrongOf requests entry (byte_before requests order initial i) x
+    (entry : Entry) × (slice_get order i ≡ Some entry)
+    × IsWrongOf requests entry (byte_before requests order initial i) x

@@ -9,7 +9,8 @@ use Rattle.nbd_wire.specs.declared.payloads.Piece.{Piece}
 use Rattle.nbd_wire.specs.declared.payloads.Piece.TheVariants.{Bytes, Hole}
 use Rattle.nbd_wire.specs.declared.payloads.Failure.{Failure}
 
--- INFO: a type and what belongs to it; other types than EXPORT and BLOCK_SIZE may go on as they like (proto.md, "Option reply types")
+-- INFO: a type and what belongs to it; other types than EXPORT and BLOCK_SIZE may go on as they like (proto.md, "Option
+-- reply types")
 unfoldable pub HasInfoForm : Info → List ℕ → Type 0
 HasInfoForm (Export size flags) bytes =
     (size < 2 ^ 64) × (flags < 2 ^ 16) × (bytes ≡ big_bytes 2 EXPORT ++ big_bytes 8 size ++ big_bytes 2 flags)
@@ -23,23 +24,28 @@ HasInfoForm (Other kind) bytes =
 unfoldable pub HasListedForm : List ℕ → List ℕ → List ℕ → Type 0
 HasListedForm name text bytes = (length name < 2 ^ 32) × (bytes ≡ big_bytes 4 (length name) ++ name ++ text)
 
--- INFO and GO data: a name after its length, and the information asked for after its count, two bytes each (proto.md, "Option types")
+-- INFO and GO data: a name after its length, and the information asked for after its count, two bytes each (proto.md,
+-- "Option types")
 unfoldable pub HasGoForm : List ℕ → ℕ → List ℕ → Type 0
 HasGoForm name count bytes =
     (length name < 2 ^ 32) × (count < 2 ^ 16)
-    × ((asked : List ℕ) × (length asked ≡ 2 * count) × (bytes ≡ big_bytes 4 (length name) ++ name ++ big_bytes 2 count ++ asked))
+    × ((asked : List ℕ) × (length asked ≡ 2 * count)
+    × (bytes ≡ big_bytes 4 (length name) ++ name ++ big_bytes 2 count ++ asked))
 
 -- OFFSET_DATA and OFFSET_HOLE: an offset, and at least one byte of data or of hole (proto.md, "Structured reply types")
 unfoldable pub HasContentForm : ℕ → Piece → List ℕ → Type 0
 HasContentForm kind (Bytes offset bytes) payload =
     (kind ≡ OFFSET_DATA) × (offset < 2 ^ 64) × (0 < length bytes) × (payload ≡ big_bytes 8 offset ++ bytes)
 HasContentForm kind (Hole offset size) payload =
-    (kind ≡ OFFSET_HOLE) × (offset < 2 ^ 64) × (0 < size) × (size < 2 ^ 32) × (payload ≡ big_bytes 8 offset ++ big_bytes 4 size)
+    (kind ≡ OFFSET_HOLE) × (offset < 2 ^ 64) × (0 < size) × (size < 2 ^ 32)
+    × (payload ≡ big_bytes 8 offset ++ big_bytes 4 size)
 
--- what goes on after an error chunk's message: an offset where the type has one, and then any bytes (proto.md, "Structured reply types")
+-- what goes on after an error chunk's message: an offset where the type has one, and then any bytes (proto.md,
+-- "Structured reply types")
 abbrev pub GoesOn : ℕ → Option ℕ → List ℕ → Type 0
 GoesOn kind None rest = kind ≡ ERROR
-GoesOn kind (Some offset) rest = (kind ≡ ERROR_OFFSET) × (offset < 2 ^ 64) × ((more : List ℕ) × (rest ≡ big_bytes 8 offset ++ more))
+GoesOn kind (Some offset) rest = (kind ≡ ERROR_OFFSET) × (offset < 2 ^ 64)
+    × ((more : List ℕ) × (rest ≡ big_bytes 8 offset ++ more))
 
 -- ERROR and ERROR_OFFSET: an error, and a message after its length (proto.md, "Structured reply types")
 unfoldable pub HasFailureForm : ℕ → Failure → List ℕ → Type 0

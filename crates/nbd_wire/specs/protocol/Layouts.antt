@@ -25,7 +25,9 @@ export_bytes size flags = big_bytes 8 size ++ big_bytes 2 flags
 
 -- a request (proto.md, "Request message")
 abbrev pub request_bytes : ℕ → ℕ → ℕ → ℕ → ℕ → List ℕ
-request_bytes flags command cookie offset len = big_bytes 4 REQUEST_MAGIC ++ big_bytes 2 flags ++ big_bytes 2 command ++ big_bytes 8 cookie ++ big_bytes 8 offset ++ big_bytes 4 len
+request_bytes flags command cookie offset len =
+    big_bytes 4 REQUEST_MAGIC ++ big_bytes 2 flags ++ big_bytes 2 command ++ big_bytes 8 cookie ++ big_bytes 8 offset
+    ++ big_bytes 4 len
 
 -- a simple reply (proto.md, "Simple reply message")
 abbrev pub simple_bytes : ℕ → ℕ → List ℕ
@@ -33,4 +35,5 @@ simple_bytes error cookie = big_bytes 4 SIMPLE_MAGIC ++ big_bytes 4 error ++ big
 
 -- a chunk with a payload of this length (proto.md, "Structured reply chunk message")
 abbrev pub chunk_bytes : ℕ → ℕ → ℕ → ℕ → List ℕ
-chunk_bytes flags kind cookie len = big_bytes 4 CHUNK_MAGIC ++ big_bytes 2 flags ++ big_bytes 2 kind ++ big_bytes 8 cookie ++ big_bytes 4 len
+chunk_bytes flags kind cookie len = big_bytes 4 CHUNK_MAGIC ++ big_bytes 2 flags ++ big_bytes 2 kind
+    ++ big_bytes 8 cookie ++ big_bytes 4 len

@@ -1,4 +1,5 @@
--- A capture with the marks of its messages: where each starts and completes, and where requests or parts of them are served.
+-- A capture with the marks of its messages: where each starts and completes, and where requests or parts of them are
+-- served.
 use Rattle.std.specs.Prelude.{ℕ, List, [], ◌∷◌, ◌++◌, map, flat_map, ◌≡◌, if◌then◌else◌}
 use Rattle.nbd_wire.specs.declared.message.Side.{Side}
 use Rattle.nbd_wire.specs.declared.message.Side.TheVariants.{Client, Server}

@@ -91,8 +91,8 @@ has_range command =
 abbrev pub is_change : ℕ → Bool
 is_change command = (command == commands.WRITE) || (command == commands.TRIM) || (command == commands.WRITE_ZEROES)
 
--- the export offers the type: FLUSH, TRIM and WRITE_ZEROES by their flags, every other always (proto.md, "Transmission flags"; that
--- CACHE needs no SEND_CACHE is this project's choice)
+-- the export offers the type: FLUSH, TRIM and WRITE_ZEROES by their flags, every other always (proto.md, "Transmission
+-- flags"; that CACHE needs no SEND_CACHE is this project's choice)
 abbrev pub is_offered : ℕ → ℕ → Bool
 is_offered export command =
     (not (command == commands.FLUSH) || has export transmission.SEND_FLUSH)

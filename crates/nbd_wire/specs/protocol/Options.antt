@@ -19,8 +19,8 @@ use Rattle.nbd_wire.specs.protocol.States.{Phase, Greet, Flags, Choosing, Naming
 abbrev pub is_error : ℕ → Bool
 is_error kind = has kind answers.ERROR
 
--- the data of an option has its form; EXPORT_NAME and ABORT take any data; an option that is not listed here is not followed and
--- counts as malformed (proto.md, "Option types"; not following it is this project's choice)
+-- the data of an option has its form; EXPORT_NAME and ABORT take any data; an option that is not listed here is not
+-- followed and counts as malformed (proto.md, "Option types"; not following it is this project's choice)
 unfoldable pub is_proper_option : ℕ → List ℕ → Bool
 is_proper_option option payload =
     if (option == options.EXPORT_NAME) || (option == options.ABORT) then true
@@ -43,8 +43,8 @@ turn (Transmission _) = None
 abbrev pub FitsLimit : Exporting → Type 0
 FitsLimit export = export.size ≤ EXPORT_SIZE
 
--- an empty ACK ends the answer to an option; to INFO and GO it comes after an EXPORT info, and a GO that it answers names an export
--- within the limit (proto.md, "Option types")
+-- an empty ACK ends the answer to an option; to INFO and GO it comes after an EXPORT info, and a GO that it answers
+-- names an export within the limit (proto.md, "Option types")
 abbrev pub MayAcknowledge : ℕ → Option Exporting → Type 0
 MayAcknowledge option info =
     (option ≡ options.LIST)
@@ -54,16 +54,20 @@ MayAcknowledge option info =
 
 -- an info has its form, and one on the export has HAS_FLAGS (proto.md, "Option reply types", "Transmission flags")
 abbrev pub IsInfo : List ℕ → Type 0
-IsInfo payload = (info : Info) × (info_of payload ≡ Some info) × ((size flags : ℕ) → info ≡ Export size flags → IsTrue (has flags transmission.HAS_FLAGS))
+IsInfo payload = (info : Info) × (info_of payload ≡ Some info)
+    × ((size flags : ℕ) → info ≡ Export size flags → IsTrue (has flags transmission.HAS_FLAGS))
 
--- an option reply to an option with this data, of which this info has come: an error, or where the option is proper one of a kind
--- that the option takes (proto.md, "Option types"; only errors where it is not proper is this project's choice)
+-- an option reply to an option with this data, of which this info has come: an error, or where the option is proper one
+-- of a kind that the option takes (proto.md, "Option types"; only errors where it is not proper is this project's
+-- choice)
 abbrev pub MayAnswer : (option : ℕ) (payload : List ℕ) (info : Option Exporting) (kind : ℕ) (answer : List ℕ) → Type 0
 MayAnswer option payload info kind answer =
     IsTrue (is_error kind)
     ⊎ IsTrue (is_proper_option option payload) × (kind ≡ answers.ACK) × (answer ≡ []) × MayAcknowledge option info
-    ⊎ IsTrue (is_proper_option option payload) × (kind ≡ answers.SERVER) × (option ≡ options.LIST) × IsTrue (is_listed answer)
-    ⊎ IsTrue (is_proper_option option payload) × (kind ≡ answers.INFO) × ((option ≡ options.INFO) ⊎ (option ≡ options.GO)) × IsInfo answer
+    ⊎ IsTrue (is_proper_option option payload) × (kind ≡ answers.SERVER) × (option ≡ options.LIST)
+    × IsTrue (is_listed answer)
+    ⊎ IsTrue (is_proper_option option payload) × (kind ≡ answers.INFO)
+    × ((option ≡ options.INFO) ⊎ (option ≡ options.GO)) × IsInfo answer
 
 -- the last EXPORT info counts (this project's choice)
 abbrev pub last_info : Option Info → Option Exporting → Option Exporting
@@ -72,7 +76,8 @@ last_info _ info = info
 
 -- after a chosen option
 abbrev pub choice_phase : ℕ → List ℕ → Phase
-choice_phase id payload = if id == options.EXPORT_NAME then Naming else if id == options.ABORT then Aborting else Answering id payload None
+choice_phase id payload = if id == options.EXPORT_NAME then Naming else if id == options.ABORT then Aborting else
+    Answering id payload None
 
 -- after an ACK
 abbrev pub ack_phase : ℕ → Option Exporting → Phase

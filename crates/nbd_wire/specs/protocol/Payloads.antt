@@ -19,8 +19,11 @@ unfoldable pub info_of : List ℕ → Option Info
 info_of bytes =
     let kind : ℕ = number_at 0 2 bytes in
     if not (nat_le 2 (length bytes)) then None
-    else if kind == infos.EXPORT then (if length bytes == 12 then Some (Export (number_at 2 8 bytes) (number_at 10 2 bytes)) else None)
-    else if kind == infos.BLOCK_SIZE then (if length bytes == 14 then Some (BlockSize (number_at 2 4 bytes) (number_at 6 4 bytes) (number_at 10 4 bytes)) else None)
+    else if kind == infos.EXPORT then
+    (if length bytes == 12 then Some (Export (number_at 2 8 bytes) (number_at 10 2 bytes)) else None)
+    else if kind == infos.BLOCK_SIZE then
+    (if length bytes == 14 then Some (BlockSize (number_at 2 4 bytes) (number_at 6 4 bytes) (number_at 10 4 bytes))
+    else None)
     else Some (Other kind)
 
 -- a SERVER payload: a name's length, the name, free text (proto.md, "Option reply types")
@@ -37,8 +40,10 @@ is_go bytes =
 -- and a size above 0 (proto.md, "Structured reply types")
 unfoldable pub content_of : ℕ → List ℕ → Option Piece
 content_of kind bytes =
-    if kind == chunks.OFFSET_DATA then (if nat_le 9 (length bytes) then Some (Bytes (number_at 0 8 bytes) (drop 8 bytes)) else None)
-    else if (kind == chunks.OFFSET_HOLE) && ((length bytes == 12) && not (number_at 8 4 bytes == 0)) then Some (Hole (number_at 0 8 bytes) (number_at 8 4 bytes))
+    if kind == chunks.OFFSET_DATA then
+    (if nat_le 9 (length bytes) then Some (Bytes (number_at 0 8 bytes) (drop 8 bytes)) else None)
+    else if (kind == chunks.OFFSET_HOLE) && ((length bytes == 12) && not (number_at 8 4 bytes == 0)) then Some
+    (Hole (number_at 0 8 bytes) (number_at 8 4 bytes))
     else None
 
 -- an error chunk: ERROR (0x8001), or ERROR_OFFSET (0x8002) with the offset after the text; an error above 0,
@@ -48,6 +53,8 @@ failure_of kind bytes =
     let error : ℕ = number_at 0 4 bytes in
     let text : ℕ = number_at 4 2 bytes in
     if error == 0 then None
-    else if (kind == chunks.ERROR) && nat_le (6 + text) (length bytes) then Some (record { error = error; offset = None })
-    else if (kind == chunks.ERROR_OFFSET) && nat_le (14 + text) (length bytes) then Some (record { error = error; offset = Some (number_at (6 + text) 8 bytes) })
+    else if (kind == chunks.ERROR) && nat_le (6 + text) (length bytes) then Some
+    (record { error = error; offset = None })
+    else if (kind == chunks.ERROR_OFFSET) && nat_le (14 + text) (length bytes) then Some
+    (record { error = error; offset = Some (number_at (6 + text) 8 bytes) })
     else None

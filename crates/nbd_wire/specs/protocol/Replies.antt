@@ -17,8 +17,8 @@ use Rattle.nbd_wire.specs.protocol.States.{with_reply}
 abbrev pub simple_length : Operation → ℕ → ℕ
 simple_length e error = if (e.command == commands.READ) && (error == 0) then e.length else 0
 
--- a simple reply, any number but 0 being an error: no chunk came before it, it answers no READ where structured replies are in force,
--- it carries the bytes of a successful READ, and success is that of a proper request
+-- a simple reply, any number but 0 being an error: no chunk came before it, it answers no READ where structured replies
+-- are in force, it carries the bytes of a successful READ, and success is that of a proper request
 abbrev pub IsSimpleReply : Bool → Exporting → Operation → (error : ℕ) (payload : List ℕ) → Type 0
 IsSimpleReply structured export e error payload =
     (e.replies ≡ [])
@@ -47,10 +47,11 @@ IsChunk export e flags kind payload =
     ⊎ ((piece : Piece) × (content_of kind payload ≡ Some piece) × IsContent export e piece)
     ⊎ ((failure : Failure) × (failure_of kind payload ≡ Some failure) × IsFailure e failure)
 
--- a finished structured reply states a failure, or the request is proper and a READ is covered (proto.md, "Structured reply types";
--- that an improper request has no success is this project's choice)
+-- a finished structured reply states a failure, or the request is proper and a READ is covered (proto.md, "Structured
+-- reply types"; that an improper request has no success is this project's choice)
 abbrev pub MayFinish : Exporting → Operation → Type 0
-MayFinish export e = IsTrue (has_failed e) ⊎ IsTrue (is_proper export e) × (e.command ≡ commands.READ → Covers e (pieces e))
+MayFinish export e = IsTrue (has_failed e) ⊎ IsTrue (is_proper export e)
+    × (e.command ≡ commands.READ → Covers e (pieces e))
 
 -- the message may complete in answer to the request; chunks need structured replies in force
 unfoldable pub MayReply : Bool → Exporting → Operation → Message → Type 0

@@ -81,11 +81,15 @@ asked_of export known_at e = record {
 -- the requests from number k + 1 on
 abbrev pub asked_list : ℕ → Option Exporting → (ℕ → Option ℕ) → List Operation → List Asked
 asked_list k export known_at [] = []
-asked_list k export known_at (e ∷ entries) = asked_of export (known_at (suc k)) e ∷ asked_list (suc k) export known_at entries
+asked_list k export known_at (e ∷ entries) = asked_of export (known_at (suc k)) e ∷ asked_list
+    (suc k) export known_at entries
 
 -- the export and the numbered requests that a run leads to
 unfoldable pub report : List Item → Report
-report items = record { export = export_of items; asked = asked_list 0 (export_of items) (known_count items) (operations_of items) }
+report items = record {
+  export = export_of items;
+  asked = asked_list 0 (export_of items) (known_count items) (operations_of items);
+}
 
 -- request k of these, counted from 1
 abbrev pub asked_at : ℕ → List Asked → Option Asked

@@ -1,7 +1,8 @@
--- What is wrong where a session is refused: the rows of the table of faults (docs/PROFILE.md, "Faults"), in its order. The open
--- bytes of a side are those after its last completed message (Splits.antt: `open_bytes`); below, `bytes` are those of one side,
--- `since` is what had completed before the first of them, and `now` what has completed when the last of them has come. A row says
--- how many open bytes there are where it is seen, and which rule they break. Names in quotes are sections of proto.md.
+-- What is wrong where a session is refused: the rows of the table of faults (docs/PROFILE.md, "Faults"), in its order.
+-- The open bytes of a side are those after its last completed message (Splits.antt: `open_bytes`); below, `bytes` are
+-- those of one side, `since` is what had completed before the first of them, and `now` what has completed when the last
+-- of them has come. A row says how many open bytes there are where it is seen, and which rule they break. Names in
+-- quotes are sections of proto.md.
 use Rattle.std.specs.Prelude.{ℕ, List, [], ◌≡◌, ◌≢◌, ◌+◌, ◌<◌, ◌⊎◌, ◌==◌, true, false, if◌then◌else◌, Option, Some, None, length, drop, replicate, IsTrue, is_some}
 use Rattle.nbd_wire.specs.declared.answers.TheConstants as answers
 use Rattle.nbd_wire.specs.declared.chunks.TheConstants as chunks
@@ -60,8 +61,8 @@ Lacks flags mask = IsTrue (has flags mask) → ⊥
 abbrev pub short_magic_length : ℕ
 short_magic_length = 4
 
--- the fields of a head, by the place of their first byte and their length (Layouts.antt has the heads whole): the magic number of
--- a message of the negotiation, and of one of transmission
+-- the fields of a head, by the place of their first byte and their length (Layouts.antt has the heads whole): the magic
+-- number of a message of the negotiation, and of one of transmission
 abbrev pub long_magic : List ℕ → ℕ
 long_magic bytes = number_at 0 8 bytes
 
@@ -166,26 +167,33 @@ pub record IsAnswered (since now : Core) (cookie : ℕ) (e : Operation) : Type 0
   pub outstanding : target cookie since.entries ≡ Some number
   pub is_entry : operation number now.entries ≡ Some e
 
--- the bytes are a whole message: its head and as many bytes after it as the head, or for a simple reply the request, says. One
--- constructor for each message
+-- the bytes are a whole message: its head and as many bytes after it as the head, or for a simple reply the request,
+-- says. One constructor for each message
 pub data IsWholeIn (since now : Core) (bytes : List ℕ) : Phase → Side → Type 0 where
   whole_greeting : length bytes ≡ head_lengths.GREETING → IsWholeIn since now bytes Greet Server
   whole_flags : length bytes ≡ head_lengths.CLIENT_FLAGS → IsWholeIn since now bytes Flags Client
   whole_choice : length bytes ≡ head_lengths.CHOICE + option_length bytes → IsWholeIn since now bytes Choosing Client
-  whole_export : length bytes ≡ head_lengths.EXPORT + (if has now.client_flags handshake.C_NO_ZEROES then 0 else head_lengths.PADDING)
+  whole_export : length bytes ≡ head_lengths.EXPORT +
+      (if has now.client_flags handshake.C_NO_ZEROES then 0 else head_lengths.PADDING)
       → IsWholeIn since now bytes Naming Server
-  whole_abort_answer : length bytes ≡ head_lengths.ANSWER + answer_length bytes → IsWholeIn since now bytes Aborting Server
-  whole_answer : {asked : ℕ} {payload : List ℕ} {info : Option Exporting} → length bytes ≡ head_lengths.ANSWER + answer_length bytes
+  whole_abort_answer : length bytes ≡ head_lengths.ANSWER + answer_length bytes
+      → IsWholeIn since now bytes Aborting Server
+  whole_answer : {asked : ℕ} {payload : List ℕ} {info : Option Exporting}
+      → length bytes ≡ head_lengths.ANSWER + answer_length bytes
       → IsWholeIn since now bytes (Answering asked payload info) Server
-  whole_request : {export : Exporting} → length bytes ≡ head_lengths.REQUEST + (if request_type bytes == commands.WRITE then request_length bytes else 0)
+  whole_request : {export : Exporting} → length bytes
+      ≡ head_lengths.REQUEST + (if request_type bytes == commands.WRITE then request_length bytes else 0)
       → IsWholeIn since now bytes (Transmission export) Client
   whole_simple : {export : Exporting} (e : Operation) → BeginsSimple bytes → IsAnswered since now (cookie_of bytes) e
-      → length bytes ≡ head_lengths.SIMPLE + simple_length e (simple_error bytes) → IsWholeIn since now bytes (Transmission export) Server
-  whole_chunk : {export : Exporting} → BeginsChunk bytes → length bytes ≡ head_lengths.CHUNK + chunk_length bytes → IsWholeIn since now bytes (Transmission export) Server
+      → length bytes ≡ head_lengths.SIMPLE + simple_length e (simple_error bytes)
+      → IsWholeIn since now bytes (Transmission export) Server
+  whole_chunk : {export : Exporting} → BeginsChunk bytes → length bytes ≡ head_lengths.CHUNK + chunk_length bytes
+      → IsWholeIn since now bytes (Transmission export) Server
 
 -- a greeting, option, answer or request begins with another number than its own
 abbrev pub HasWrongMagic : Phase → Side → List ℕ → Type 0
-HasWrongMagic Greet Server bytes = (long_magic bytes ≢ magics.GREETING_MAGIC) ⊎ (second_magic bytes ≢ magics.OPTION_MAGIC)
+HasWrongMagic Greet Server bytes = (long_magic bytes ≢ magics.GREETING_MAGIC)
+    ⊎ (second_magic bytes ≢ magics.OPTION_MAGIC)
 HasWrongMagic Choosing Client bytes = long_magic bytes ≢ magics.OPTION_MAGIC
 HasWrongMagic Aborting Server bytes = long_magic bytes ≢ magics.ANSWER_MAGIC
 HasWrongMagic (Answering option payload info) Server bytes = long_magic bytes ≢ magics.ANSWER_MAGIC
@@ -213,7 +221,8 @@ IsOutOfTurn phase now s = turn phase ≢ Some s
 -- the option of the phase is one that this project follows
 abbrev pub IsFollowed : Phase → Type 0
 IsFollowed Aborting = Unit {0}
-IsFollowed (Answering option payload info) = (option ≡ options.LIST) ⊎ (option ≡ options.INFO) ⊎ (option ≡ options.GO) ⊎ (option ≡ options.STRUCTURED_REPLY)
+IsFollowed (Answering option payload info) = (option ≡ options.LIST) ⊎ (option ≡ options.INFO) ⊎ (option ≡ options.GO)
+    ⊎ (option ≡ options.STRUCTURED_REPLY)
 IsFollowed phase = ⊥
 
 -- the kinds that the option of the phase takes, but for errors (proto.md, "Option types", "Option reply types")
@@ -231,12 +240,14 @@ IsNoError kind = IsTrue (is_error kind) → ⊥
 
 -- a SERVER or INFO payload that does not have its form, or an info on the export without HAS_FLAGS
 abbrev pub IsBadPayload : (kind : ℕ) → List ℕ → Type 0
-IsBadPayload kind payload = (kind ≡ answers.SERVER) × (IsTrue (is_listed payload) → ⊥) ⊎ (kind ≡ answers.INFO) × (IsInfo payload → ⊥)
+IsBadPayload kind payload = (kind ≡ answers.SERVER) × (IsTrue (is_listed payload) → ⊥)
+    ⊎ (kind ≡ answers.INFO) × (IsInfo payload → ⊥)
 
 -- the export that the answer to EXPORT_NAME names, or the ACK to GO, is larger than this project takes
 abbrev pub IsTooLarge : Phase → List ℕ → Type 0
 IsTooLarge Naming bytes = FitsLimit (record { size = export_size bytes; flags = export_flags bytes }) → ⊥
-IsTooLarge (Answering option payload (Some export)) bytes = (option ≡ options.GO) × (answer_kind bytes ≡ answers.ACK) × (FitsLimit export → ⊥)
+IsTooLarge (Answering option payload (Some export)) bytes =
+    (option ≡ options.GO) × (answer_kind bytes ≡ answers.ACK) × (FitsLimit export → ⊥)
 IsTooLarge phase bytes = ⊥
 
 -- the chunk that the bytes are, where they are a whole one
@@ -250,94 +261,135 @@ HasForm flags kind payload =
     ⊎ ((piece : Piece) × (content_of kind payload ≡ Some piece))
     ⊎ ((failure : Failure) × (failure_of kind payload ≡ Some failure))
 
--- a content chunk answers no READ, leaves its range, shares an offset with an earlier one, or is a second one to a proper READ with DF
+-- a content chunk answers no READ, leaves its range, shares an offset with an earlier one, or is a second one to a
+-- proper READ with DF
 pub data IsMisplaced (export : Exporting) (e : Operation) (piece : Piece) : Type 0 where
   to_no_read : e.command ≢ commands.READ → IsMisplaced export e piece
   before_range : piece_offset piece < e.offset → IsMisplaced export e piece
   after_range : e.offset + e.length < piece_offset piece + piece_size piece → IsMisplaced export e piece
   overlaps : (x : ℕ) → IsTrue (holds piece x) → IsTrue (is_some (byte_at (pieces e) x)) → IsMisplaced export e piece
-  second : IsTrue (is_proper export e) → IsTrue (has e.flags command_flags.DF) → pieces e ≢ [] → IsMisplaced export e piece
+  second : IsTrue (is_proper export e) → IsTrue (has e.flags command_flags.DF) → pieces e ≢ []
+      → IsMisplaced export e piece
 
 -- a content chunk that does not fit its request, or an error chunk whose offset lies outside its request's range
 abbrev pub IsBadContent : Exporting → Operation → (kind : ℕ) (payload : List ℕ) → Type 0
 IsBadContent export e kind payload =
     ((piece : Piece) × (content_of kind payload ≡ Some piece) × IsMisplaced export e piece)
-    ⊎ ((failure : Failure) × (x : ℕ) × (failure_of kind payload ≡ Some failure) × (failure.offset ≡ Some x) × (IsTrue (is_in e.offset e.length x) → ⊥))
+    ⊎ ((failure : Failure) × (x : ℕ) × (failure_of kind payload ≡ Some failure) × (failure.offset ≡ Some x)
+    × (IsTrue (is_in e.offset e.length x) → ⊥))
 
 -- the reply to a request is finished by a chunk with DONE and holds no error chunk
 abbrev pub FinishesWell : Operation → List ℕ → Type 0
-FinishesWell e bytes = IsTrue (has (chunk_flags bytes) chunks.DONE) × (IsTrue (has_failed (with_reply e (chunk_in bytes))) → ⊥)
+FinishesWell e bytes = IsTrue (has (chunk_flags bytes) chunks.DONE)
+    × (IsTrue (has_failed (with_reply e (chunk_in bytes))) → ⊥)
 
 -- an answer that is no error, to an improper option, or a reply of success, finished, to an improper request
 abbrev pub IsImproperSuccess : (since now : Core) → Phase → List ℕ → Type 0
-IsImproperSuccess since now (Answering option payload info) bytes = (IsTrue (is_proper_option option payload) → ⊥) × IsNoError (answer_kind bytes)
+IsImproperSuccess since now (Answering option payload info) bytes =
+    (IsTrue (is_proper_option option payload) → ⊥) × IsNoError (answer_kind bytes)
 IsImproperSuccess since now (Transmission export) bytes =
     (e : Operation) × IsAnswered since now (cookie_of bytes) e × (IsTrue (is_proper export e) → ⊥)
     × (BeginsSimple bytes × (simple_error bytes ≡ 0) ⊎ BeginsChunk bytes × FinishesWell e bytes)
 IsImproperSuccess since now phase bytes = ⊥
 
--- the rows of the table. "This project's choice" marks what proto.md leaves open, or only asks a side to do, and this project
--- refuses
+-- the rows of the table. "This project's choice" marks what proto.md leaves open, or only asks a side to do, and this
+-- project refuses
 pub data RowIn (since now : Core) (bytes : List ℕ) : WireFault → Phase → Side → Type 0 where
-  -- at the head of a greeting, option, answer or request: a wrong magic number (proto.md, "Newstyle negotiation", "Request message")
-  wrong_magic : {phase : Phase} {s : Side} → IsHead phase s bytes → HasWrongMagic phase s bytes → RowIn since now bytes BadMagic phase s
+  -- at the head of a greeting, option, answer or request: a wrong magic number (proto.md, "Newstyle negotiation",
+  -- "Request message")
+  wrong_magic : {phase : Phase} {s : Side} → IsHead phase s bytes → HasWrongMagic phase s bytes
+      → RowIn since now bytes BadMagic phase s
   -- at the fourth byte of a server's message in transmission: neither of its magic numbers (proto.md, "Transmission")
-  neither_magic : {export : Exporting} → length bytes ≡ short_magic_length → (BeginsSimple bytes → ⊥) → (BeginsChunk bytes → ⊥) → RowIn since now bytes BadMagic (Transmission export) Server
-  -- at the head: no fixed newstyle (proto.md, "Handshake flags", "Client flags"; that others are refused is this project's choice)
-  not_fixed_newstyle : {phase : Phase} {s : Side} → IsHead phase s bytes → LacksNewstyle phase s bytes → RowIn since now bytes NotFixedNewstyle phase s
+  neither_magic : {export : Exporting} → length bytes ≡ short_magic_length → (BeginsSimple bytes → ⊥)
+      → (BeginsChunk bytes → ⊥) → RowIn since now bytes BadMagic (Transmission export) Server
+  -- at the head: no fixed newstyle (proto.md, "Handshake flags", "Client flags"; that others are refused is this
+  -- project's choice)
+  not_fixed_newstyle : {phase : Phase} {s : Side} → IsHead phase s bytes → LacksNewstyle phase s bytes
+      → RowIn since now bytes NotFixedNewstyle phase s
   -- at the client's flags: more than was offered (proto.md, "Client flags")
-  bad_client_flags : length bytes ≡ head_lengths.CLIENT_FLAGS → SetsMore now.offered (taken_flags bytes) → RowIn since now bytes BadClientFlags Flags Client
+  bad_client_flags : length bytes ≡ head_lengths.CLIENT_FLAGS → SetsMore now.offered (taken_flags bytes)
+      → RowIn since now bytes BadClientFlags Flags Client
   -- at the first byte (proto.md, "Fixed newstyle negotiation", "Terminating the transmission phase")
-  out_of_turn : {phase : Phase} {s : Side} → length bytes ≡ 1 → IsOutOfTurn phase now s → RowIn since now bytes OutOfTurn phase s
+  out_of_turn : {phase : Phase} {s : Side} → length bytes ≡ 1 → IsOutOfTurn phase now s
+      → RowIn since now bytes OutOfTurn phase s
   -- at the head of an answer: another option's number (proto.md, "Fixed newstyle negotiation")
-  wrong_option : {phase : Phase} (asked : ℕ) → IsAsked phase asked → length bytes ≡ head_lengths.ANSWER → answered_option bytes ≢ asked → RowIn since now bytes WrongOption phase Server
+  wrong_option : {phase : Phase} (asked : ℕ) → IsAsked phase asked → length bytes ≡ head_lengths.ANSWER
+      → answered_option bytes ≢ asked → RowIn since now bytes WrongOption phase Server
   -- at the head of an answer: a kind that the option does not take (proto.md, "Option types")
-  bad_reply_kind : {phase : Phase} → IsFollowed phase → length bytes ≡ head_lengths.ANSWER → IsNoError (answer_kind bytes) → (TakesKind phase (answer_kind bytes) → ⊥) → RowIn since now bytes BadReplyKind phase Server
+  bad_reply_kind : {phase : Phase} → IsFollowed phase → length bytes ≡ head_lengths.ANSWER
+      → IsNoError (answer_kind bytes) → (TakesKind phase (answer_kind bytes) → ⊥)
+      → RowIn since now bytes BadReplyKind phase Server
   -- at the head of an answer: no error, to an option that is not followed (this project's choice)
-  out_of_profile : {option : ℕ} {payload : List ℕ} {info : Option Exporting} → (IsFollowed (Answering option payload info) → ⊥) → length bytes ≡ head_lengths.ANSWER → IsNoError (answer_kind bytes)
+  out_of_profile : {option : ℕ} {payload : List ℕ} {info : Option Exporting}
+      → (IsFollowed (Answering option payload info) → ⊥) → length bytes ≡ head_lengths.ANSWER
+      → IsNoError (answer_kind bytes)
       → RowIn since now bytes OutOfProfile (Answering option payload info) Server
   -- at the head of an ACK: it has a payload (proto.md, "Option reply types")
-  ack_with_payload : {phase : Phase} (asked : ℕ) → IsAsked phase asked → length bytes ≡ head_lengths.ANSWER → answer_kind bytes ≡ answers.ACK → answer_length bytes ≢ 0 → RowIn since now bytes BadReplyPayload phase Server
+  ack_with_payload : {phase : Phase} (asked : ℕ) → IsAsked phase asked → length bytes ≡ head_lengths.ANSWER
+      → answer_kind bytes ≡ answers.ACK → answer_length bytes ≢ 0 → RowIn since now bytes BadReplyPayload phase Server
   -- at the last byte of an answer (proto.md, "Option reply types", "Transmission flags")
-  bad_reply_payload : {option : ℕ} {payload : List ℕ} {info : Option Exporting} → IsWholeIn since now bytes (Answering option payload info) Server → IsBadPayload (answer_kind bytes) (answer_payload bytes)
+  bad_reply_payload : {option : ℕ} {payload : List ℕ} {info : Option Exporting}
+      → IsWholeIn since now bytes (Answering option payload info) Server
+      → IsBadPayload (answer_kind bytes) (answer_payload bytes)
       → RowIn since now bytes BadReplyPayload (Answering option payload info) Server
   -- at the head of an ACK to a proper INFO or GO: no info on the export came before it (proto.md, "Option types")
-  missing_export_info : {option : ℕ} {payload : List ℕ} → ((option ≡ options.INFO) ⊎ (option ≡ options.GO)) → IsTrue (is_proper_option option payload) → length bytes ≡ head_lengths.ANSWER → answer_kind bytes ≡ answers.ACK
+  missing_export_info : {option : ℕ} {payload : List ℕ} → ((option ≡ options.INFO) ⊎ (option ≡ options.GO))
+      → IsTrue (is_proper_option option payload) → length bytes ≡ head_lengths.ANSWER → answer_kind bytes ≡ answers.ACK
       → RowIn since now bytes MissingExportInfo (Answering option payload None) Server
   -- at the head of the answer to EXPORT_NAME: no HAS_FLAGS (proto.md, "Transmission flags")
-  no_has_flags : length bytes ≡ head_lengths.EXPORT → Lacks (export_flags bytes) transmission.HAS_FLAGS → RowIn since now bytes BadExport Naming Server
+  no_has_flags : length bytes ≡ head_lengths.EXPORT → Lacks (export_flags bytes) transmission.HAS_FLAGS
+      → RowIn since now bytes BadExport Naming Server
   -- at its last byte: the padding is not 124 zeroes (proto.md, "Newstyle negotiation")
-  bad_padding : Lacks now.client_flags handshake.C_NO_ZEROES → IsWholeIn since now bytes Naming Server → drop head_lengths.EXPORT bytes ≢ replicate head_lengths.PADDING 0 → RowIn since now bytes BadExport Naming Server
+  bad_padding : Lacks now.client_flags handshake.C_NO_ZEROES → IsWholeIn since now bytes Naming Server
+      → drop head_lengths.EXPORT bytes ≢ replicate head_lengths.PADDING 0
+      → RowIn since now bytes BadExport Naming Server
   -- at the head of the answer to EXPORT_NAME, and of the ACK to GO: the export is too large (this project's choice)
-  export_too_large : {phase : Phase} → IsHead phase Server bytes → IsTooLarge phase bytes → RowIn since now bytes ExportTooLarge phase Server
-  -- at the last byte of a request: an outstanding one has its cookie (proto.md, "Request message"; that it is refused, and when it
-  -- is tried, is this project's choice)
-  cookie_in_use : {export : Exporting} (k : ℕ) → IsWholeIn since now bytes (Transmission export) Client → request_type bytes ≢ commands.DISC → target (cookie_of bytes) now.entries ≡ Some k
+  export_too_large : {phase : Phase} → IsHead phase Server bytes → IsTooLarge phase bytes
+      → RowIn since now bytes ExportTooLarge phase Server
+  -- at the last byte of a request: an outstanding one has its cookie (proto.md, "Request message"; that it is refused,
+  -- and when it is tried, is this project's choice)
+  cookie_in_use : {export : Exporting} (k : ℕ) → IsWholeIn since now bytes (Transmission export) Client
+      → request_type bytes ≢ commands.DISC → target (cookie_of bytes) now.entries ≡ Some k
       → RowIn since now bytes CookieInUse (Transmission export) Client
-  -- at the head of a reply: no request with its cookie was outstanding when it started (proto.md, "Transmission"; that the start of
-  -- the reply decides is this project's choice)
-  unknown_cookie : {export : Exporting} → IsHead (Transmission export) Server bytes → target (cookie_of bytes) since.entries ≡ None → RowIn since now bytes UnknownCookie (Transmission export) Server
-  -- at the head of a simple reply: to a READ under structured replies, or to a request that has received a chunk (proto.md, "Simple reply message")
-  simple_forbidden : {export : Exporting} (e : Operation) → BeginsSimple bytes → length bytes ≡ head_lengths.SIMPLE → IsAnswered since now (cookie_of bytes) e → (e.replies ≢ []) ⊎ (e.command ≡ commands.READ) × (now.structured ≡ true)
+  -- at the head of a reply: no request with its cookie was outstanding when it started (proto.md, "Transmission"; that
+  -- the start of the reply decides is this project's choice)
+  unknown_cookie : {export : Exporting} → IsHead (Transmission export) Server bytes
+      → target (cookie_of bytes) since.entries ≡ None → RowIn since now bytes UnknownCookie (Transmission export) Server
+  -- at the head of a simple reply: to a READ under structured replies, or to a request that has received a chunk
+  -- (proto.md, "Simple reply message")
+  simple_forbidden : {export : Exporting} (e : Operation) → BeginsSimple bytes → length bytes ≡ head_lengths.SIMPLE
+      → IsAnswered since now (cookie_of bytes) e
+      → (e.replies ≢ []) ⊎ (e.command ≡ commands.READ) × (now.structured ≡ true)
       → RowIn since now bytes SimpleForbidden (Transmission export) Server
   -- at the head of a chunk: structured replies are not in force (proto.md, "Structured reply chunk message")
-  chunk_forbidden : {export : Exporting} → BeginsChunk bytes → length bytes ≡ head_lengths.CHUNK → now.structured ≡ false → RowIn since now bytes ChunkForbidden (Transmission export) Server
-  -- at the last byte of a chunk: an unknown type, or a payload without its form (proto.md, "Structured reply types"; that every
-  -- unknown type and form is refused is this project's choice)
-  bad_chunk : {export : Exporting} → BeginsChunk bytes → IsWholeIn since now bytes (Transmission export) Server → (HasForm (chunk_flags bytes) (chunk_type bytes) (chunk_payload bytes) → ⊥)
+  chunk_forbidden : {export : Exporting} → BeginsChunk bytes → length bytes ≡ head_lengths.CHUNK
+      → now.structured ≡ false → RowIn since now bytes ChunkForbidden (Transmission export) Server
+  -- at the last byte of a chunk: an unknown type, or a payload without its form (proto.md, "Structured reply types";
+  -- that every unknown type and form is refused is this project's choice)
+  bad_chunk : {export : Exporting} → BeginsChunk bytes → IsWholeIn since now bytes (Transmission export) Server
+      → (HasForm (chunk_flags bytes) (chunk_type bytes) (chunk_payload bytes) → ⊥)
       → RowIn since now bytes BadChunk (Transmission export) Server
-  -- at the last byte of a chunk: it does not fit its request (proto.md, "Structured reply types", "Request types"; which chunks fit
-  -- an improper request, and when DF counts, is this project's choice)
-  bad_content : {export : Exporting} (e : Operation) → BeginsChunk bytes → IsWholeIn since now bytes (Transmission export) Server → IsAnswered since now (cookie_of bytes) e
-      → IsBadContent export e (chunk_type bytes) (chunk_payload bytes) → RowIn since now bytes BadContent (Transmission export) Server
-  -- at the last byte of a chunk with DONE to a READ without an error chunk: an offset x of its range lies in no piece (proto.md, "Request types")
-  incomplete_read : {export : Exporting} (e : Operation) (x : ℕ) → BeginsChunk bytes → IsWholeIn since now bytes (Transmission export) Server → IsAnswered since now (cookie_of bytes) e → FinishesWell e bytes
-      → e.command ≡ commands.READ → IsTrue (is_in e.offset e.length x) → byte_at (pieces (with_reply e (chunk_in bytes))) x ≡ None
+  -- at the last byte of a chunk: it does not fit its request (proto.md, "Structured reply types", "Request types";
+  -- which chunks fit an improper request, and when DF counts, is this project's choice)
+  bad_content : {export : Exporting} (e : Operation) → BeginsChunk bytes
+      → IsWholeIn since now bytes (Transmission export) Server → IsAnswered since now (cookie_of bytes) e
+      → IsBadContent export e (chunk_type bytes) (chunk_payload bytes)
+      → RowIn since now bytes BadContent (Transmission export) Server
+  -- at the last byte of a chunk with DONE to a READ without an error chunk: an offset x of its range lies in no piece
+  -- (proto.md, "Request types")
+  incomplete_read : {export : Exporting} (e : Operation) (x : ℕ) → BeginsChunk bytes
+      → IsWholeIn since now bytes (Transmission export) Server → IsAnswered since now (cookie_of bytes) e
+      → FinishesWell e bytes
+      → e.command ≡ commands.READ → IsTrue (is_in e.offset e.length x)
+      → byte_at (pieces (with_reply e (chunk_in bytes))) x ≡ None
       → RowIn since now bytes IncompleteRead (Transmission export) Server
   -- at the last byte: a success for what is improper (this project's choice)
-  success_of_improper : {phase : Phase} → IsWholeIn since now bytes phase Server → IsImproperSuccess since now phase bytes → RowIn since now bytes SuccessOfImproper phase Server
+  success_of_improper : {phase : Phase} → IsWholeIn since now bytes phase Server
+      → IsImproperSuccess since now phase bytes → RowIn since now bytes SuccessOfImproper phase Server
   -- at the head of a DISC: an offset or a length (proto.md, "Request types")
-  bad_disconnect : {export : Exporting} → length bytes ≡ head_lengths.REQUEST → request_type bytes ≡ commands.DISC → (request_offset bytes ≢ 0) ⊎ (request_length bytes ≢ 0) → RowIn since now bytes BadDisconnect (Transmission export) Client
+  bad_disconnect : {export : Exporting} → length bytes ≡ head_lengths.REQUEST → request_type bytes ≡ commands.DISC
+      → (request_offset bytes ≢ 0) ⊎ (request_length bytes ≢ 0)
+      → RowIn since now bytes BadDisconnect (Transmission export) Client
 
 -- the row of a fault holds of a side's open bytes
 abbrev pub Row : WireFault → (since now : Core) → Side → List ℕ → Type 0

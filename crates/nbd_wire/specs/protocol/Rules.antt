@@ -39,8 +39,9 @@ abbrev pub is_request : Message → Bool
 is_request (Request _ _ _ _ _ _) = true
 is_request _ = false
 
--- what a message's first byte needs: in negotiation the side's turn, in transmission of the client a request and no DISC before, of
--- the server an outstanding request that it answers (proto.md, "Fixed newstyle negotiation", "Transmission")
+-- what a message's first byte needs: in negotiation the side's turn, in transmission of the client a request and no
+-- DISC before, of the server an outstanding request that it answers (proto.md, "Fixed newstyle negotiation",
+-- "Transmission")
 unfoldable pub MayStartIn : Phase → Core → Side → Message → Type 0
 MayStartIn (Transmission export) core Client m = IsTrue (is_request m) × (core.disconnected ≡ false)
 MayStartIn (Transmission export) core Server m = IsTrue (is_some (request_of_reply core m))
@@ -50,25 +51,28 @@ MayStartIn phase core s m = turn phase ≡ Some s
 abbrev pub MayStart : Core → Side → Message → Type 0
 MayStart core s m = MayStartIn core.phase core s m
 
--- the client speaks fixed newstyle, sets no unknown flag and takes only what was offered (proto.md, "Handshake flags", "Client flags")
+-- the client speaks fixed newstyle, sets no unknown flag and takes only what was offered (proto.md, "Handshake flags",
+-- "Client flags")
 abbrev pub AreClientFlags : ℕ → ℕ → Type 0
 AreClientFlags offered flags =
     IsTrue (has flags handshake.C_FIXED_NEWSTYLE)
     × IsTrue (has_only flags (handshake.C_FIXED_NEWSTYLE + handshake.C_NO_ZEROES))
     × (IsTrue (has flags handshake.C_NO_ZEROES) → IsTrue (has offered handshake.NO_ZEROES))
 
--- the answer to EXPORT_NAME has HAS_FLAGS and a size within the limit, and is padded exactly where the client did not take NO_ZEROES
--- (proto.md, "Newstyle negotiation", "Option types")
+-- the answer to EXPORT_NAME has HAS_FLAGS and a size within the limit, and is padded exactly where the client did not
+-- take NO_ZEROES (proto.md, "Newstyle negotiation", "Option types")
 abbrev pub MayExport : Core → Exporting → Bool → Type 0
 MayExport core export padded =
-    IsTrue (has export.flags transmission.HAS_FLAGS) × (padded ≡ not (has core.client_flags handshake.C_NO_ZEROES)) × FitsLimit export
+    IsTrue (has export.flags transmission.HAS_FLAGS) × (padded ≡ not (has core.client_flags handshake.C_NO_ZEROES))
+    × FitsLimit export
 
--- ABORT is answered by an empty ACK or an error, with its own number (proto.md, "Option types"; the error is this project's choice)
+-- ABORT is answered by an empty ACK or an error, with its own number (proto.md, "Option types"; the error is this
+-- project's choice)
 abbrev pub MayEnd : (option kind : ℕ) (payload : List ℕ) → Type 0
 MayEnd option kind payload = (option ≡ options.ABORT) × (IsTrue (is_error kind) ⊎ (kind ≡ answers.ACK) × (payload ≡ []))
 
--- a DISC has offset and length 0, and any other request has a cookie that no outstanding one has (proto.md, "Request types",
--- "Transmission"; that cookies must differ is this project's choice where proto.md says SHOULD)
+-- a DISC has offset and length 0, and any other request has a cookie that no outstanding one has (proto.md, "Request
+-- types", "Transmission"; that cookies must differ is this project's choice where proto.md says SHOULD)
 abbrev pub MayAsk : (is_disc : Bool) → Core → (cookie offset len : ℕ) → Type 0
 MayAsk true core cookie offset len = (offset ≡ 0) × (len ≡ 0)
 MayAsk false core cookie offset len = target cookie core.entries ≡ None
@@ -76,7 +80,8 @@ MayAsk false core cookie offset len = target cookie core.entries ≡ None
 -- a reply answers the outstanding request with its cookie, and may stand in that request's reply
 abbrev pub AnswersOne : Core → Exporting → (cookie : ℕ) → Message → Type 0
 AnswersOne core export cookie m =
-    (k : ℕ) × (e : Operation) × (target cookie core.entries ≡ Some k) × (operation k core.entries ≡ Some e) × MayReply core.structured export e m
+    (k : ℕ) × (e : Operation) × (target cookie core.entries ≡ Some k) × (operation k core.entries ≡ Some e)
+    × MayReply core.structured export e m
 
 -- what a message's completion needs, by the phase
 unfoldable pub MayComplete : Core → Phase → Message → Type 0
@@ -85,10 +90,14 @@ MayComplete core Flags (ClientFlags flags) = AreClientFlags core.offered flags
 MayComplete core Choosing (Choice id payload) = Unit {0}
 MayComplete core Naming (Exported size flags padded) = MayExport core (record { size = size; flags = flags }) padded
 MayComplete core Aborting (Answer option kind payload) = MayEnd option kind payload
-MayComplete core (Answering asked asked_with info) (Answer option kind payload) = (option ≡ asked) × MayAnswer asked asked_with info kind payload
-MayComplete core (Transmission export) (Request flags command cookie offset len payload) = MayAsk (command == commands.DISC) core cookie offset len
-MayComplete core (Transmission export) (Simple error cookie payload) = AnswersOne core export cookie (Simple error cookie payload)
-MayComplete core (Transmission export) (Chunk flags kind cookie payload) = AnswersOne core export cookie (Chunk flags kind cookie payload)
+MayComplete core (Answering asked asked_with info) (Answer option kind payload) =
+    (option ≡ asked) × MayAnswer asked asked_with info kind payload
+MayComplete core (Transmission export) (Request flags command cookie offset len payload) =
+    MayAsk (command == commands.DISC) core cookie offset len
+MayComplete core (Transmission export) (Simple error cookie payload) =
+    AnswersOne core export cookie (Simple error cookie payload)
+MayComplete core (Transmission export) (Chunk flags kind cookie payload) =
+    AnswersOne core export cookie (Chunk flags kind cookie payload)
 MayComplete _ _ _ = ⊥
 
 -- the request that a reply answers has one more reply
@@ -112,14 +121,29 @@ grants_structured option kind = (option == options.STRUCTURED_REPLY) && (kind ==
 -- what a completed message leads to
 unfoldable pub complete : Core → Message → Core
 complete core (Greeting flags) = record core { phase = next_phase core.phase (Greeting flags); offered = flags }
-complete core (ClientFlags flags) = record core { phase = next_phase core.phase (ClientFlags flags); client_flags = flags }
+complete core (ClientFlags flags) = record core {
+  phase = next_phase core.phase (ClientFlags flags);
+  client_flags = flags;
+}
 complete core (Choice id payload) = record core { phase = next_phase core.phase (Choice id payload) }
 complete core (Answer option kind payload) =
-    record core { phase = next_phase core.phase (Answer option kind payload); structured = core.structured || grants_structured option kind }
+    record core {
+      phase = next_phase core.phase (Answer option kind payload);
+      structured = core.structured
+          || grants_structured option kind;
+    }
 complete core (Exported size flags padded) = record core { phase = next_phase core.phase (Exported size flags padded) }
 complete core (Request flags command cookie offset len payload) =
     core_with_request (command == commands.DISC) core
-    (record { flags = flags; command = command; cookie = cookie; offset = offset; length = len; payload = payload; replies = [] })
+    (record {
+      flags = flags;
+      command = command;
+      cookie = cookie;
+      offset = offset;
+      length = len;
+      payload = payload;
+      replies = [];
+    })
 complete core (Simple error cookie payload) = core_with_reply core (Simple error cookie payload)
 complete core (Chunk flags kind cookie payload) = core_with_reply core (Chunk flags kind cookie payload)
 
@@ -135,10 +159,11 @@ inside_at core k = inside_operation (export_in core.phase) (operation k core.ent
 -- a reply starts only when the request that it answers was wholly served (this project's choice)
 abbrev pub IsServedFor : State → Side → Message → Type 0
 IsServedFor state Client m = Unit {0}
-IsServedFor state Server m = (k : ℕ) → request_of_reply state.core m ≡ Some k → IsWhollyServed (inside_at state.core k) state.served k
+IsServedFor state Server m = (k : ℕ) → request_of_reply state.core m ≡ Some k
+    → IsWhollyServed (inside_at state.core k) state.served k
 
--- what an item needs: a start its message's fields and turn, and of a reply that its request was served; a completion what
--- `MayComplete` says; a service a completed request that may be served so; a byte nothing
+-- what an item needs: a start its message's fields and turn, and of a reply that its request was served; a completion
+-- what `MayComplete` says; a service a completed request that may be served so; a byte nothing
 abbrev pub Allows : State → Item → Type 0
 Allows state (Byte s b) = Unit {0}
 Allows state (Starts s m) = (side m ≡ s) × IsSendable m × MayStart state.core s m × IsServedFor state s m

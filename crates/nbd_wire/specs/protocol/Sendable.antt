@@ -21,4 +21,5 @@ IsSendable (Request flags command cookie offset len payload) =
     (flags < 2 ^ 16) × (command < 2 ^ 16) × (cookie < 2 ^ 64) × (offset < 2 ^ 64) × (len < 2 ^ 32)
     × (length payload ≡ (if command == commands.WRITE then len else 0)) × AreBytes payload
 IsSendable (Simple error cookie payload) = (error < 2 ^ 32) × (cookie < 2 ^ 64) × IsPayload payload
-IsSendable (Chunk flags kind cookie payload) = (flags < 2 ^ 16) × (kind < 2 ^ 16) × (cookie < 2 ^ 64) × IsPayload payload
+IsSendable (Chunk flags kind cookie payload) =
+    (flags < 2 ^ 16) × (kind < 2 ^ 16) × (cookie < 2 ^ 64) × IsPayload payload

@@ -1,5 +1,5 @@
--- The place of a refusal: a run but for open bytes, at which a row of the table of faults holds, and no row at any byte before. And
--- a session under way: one at which none holds.
+-- The place of a refusal: a run but for open bytes, at which a row of the table of faults holds, and no row at any byte
+-- before. And a session under way: one at which none holds.
 use Rattle.std.specs.Prelude.{List, [], ◌∷◌, ◌++◌, ◌≡◌, ◌<◌, ◌&&◌, ◌||◌, not, Bool, false, if◌then◌else◌, Option, Some, None, ℕ}
 use Rattle.nbd_wire.specs.declared.fault.WireFault.{WireFault}
 use Rattle.nbd_wire.specs.declared.message.Message.{Message}
@@ -23,7 +23,8 @@ completes_in s (Serves e ∷ items) = completes_in s items
 -- the open bytes of a side: those after its last completed message; they begin its next one, or belong to none
 abbrev pub open_bytes : Side → List Item → List ℕ
 open_bytes s [] = []
-open_bytes s (Byte t b ∷ items) = if same_side s t && not (completes_in s items) then b ∷ open_bytes s items else open_bytes s items
+open_bytes s (Byte t b ∷ items) = if same_side s t
+    && not (completes_in s items) then b ∷ open_bytes s items else open_bytes s items
 open_bytes s (Starts t m ∷ items) = open_bytes s items
 open_bytes s (Completes t m ∷ items) = open_bytes s items
 open_bytes s (Serves e ∷ items) = open_bytes s items
@@ -31,7 +32,8 @@ open_bytes s (Serves e ∷ items) = open_bytes s items
 -- what had completed, from this core on, before the first open byte of a side; where there is none, before the end
 abbrev pub since_from : Side → Core → List Item → Core
 since_from s core [] = core
-since_from s core (Byte t b ∷ items) = if same_side s t && not (completes_in s items) then core else since_from s core items
+since_from s core (Byte t b ∷ items) = if same_side s t
+    && not (completes_in s items) then core else since_from s core items
 since_from s core (Starts t m ∷ items) = since_from s core items
 since_from s core (Completes t m ∷ items) = since_from s (complete core m) items
 since_from s core (Serves e ∷ items) = since_from s core items
@@ -50,8 +52,8 @@ pub record HoldsAt (fault : WireFault) (items : List Item) : Type 0 where
   pub is_last : last_or None items ≡ Some s
   pub row : Row fault (since_from s start.core items) (ends_at start items).core s (open_bytes s items)
 
--- the open bytes of the side whose byte is the last are a whole message. Of the other side nothing is said: its open bytes were
--- looked at when its own last byte came
+-- the open bytes of the side whose byte is the last are a whole message. Of the other side nothing is said: its open
+-- bytes were looked at when its own last byte came
 pub record IsWholeAt (items : List Item) : Type 0 where
   pub s : Side
   pub is_last : last_or None items ≡ Some s
@@ -72,16 +74,17 @@ HasNoneAt items = ((fault : WireFault) → HoldsAt fault items → ⊥) × (IsWh
 abbrev pub IsClear : List Item → Type 0
 IsClear items = (before more : List Item) (s : Side) (b : ℕ) → items ≡ before ++ Byte s b ∷ more → HasNoneAt before
 
--- a session under way: a split of these bytes with these messages at which no row holds and no message is whole that has not
--- completed, nor before any byte
+-- a session under way: a split of these bytes with these messages at which no row holds and no message is whole that
+-- has not completed, nor before any byte
 pub record IsUnderWay (ps : List Pair) (messages : List Message) : Type 0 where
   pub items : List Item
   pub split : IsSplit items ps messages
   pub clear : IsClear items
   pub none_at : HasNoneAt items
 
--- the place of these bytes is the last of them, with this fault: of a split of them with these messages the fault's row holds at the
--- last byte, no earlier row of the table holds there (`lowest`, of this one split), and at no byte before any row holds
+-- the place of these bytes is the last of them, with this fault: of a split of them with these messages the fault's row
+-- holds at the last byte, no earlier row of the table holds there (`lowest`, of this one split), and at no byte before
+-- any row holds
 pub record IsPlace (ps : List Pair) (messages : List Message) (fault : WireFault) : Type 0 where
   pub items : List Item
   pub split : IsSplit items ps messages

@@ -23,8 +23,8 @@ pub data Phase : Type 0 where
   -- requests and replies
   Transmission : (export : Exporting) → Phase
 
--- the phase, the server's handshake flags, the client's flags, whether structured replies are in force, whether a DISC has completed,
--- and the numbered requests
+-- the phase, the server's handshake flags, the client's flags, whether structured replies are in force, whether a DISC
+-- has completed, and the numbered requests
 pub record Core : Type 0 where
   pub phase : Phase
   pub offered : ℕ
@@ -41,7 +41,14 @@ pub record State : Type 0 where
 -- before the first byte
 abbrev pub start : State
 start = record {
-  core = record { phase = Greet; offered = 0; client_flags = 0; structured = false; disconnected = false; entries = [] };
+  core = record {
+    phase = Greet;
+    offered = 0;
+    client_flags = 0;
+    structured = false;
+    disconnected = false;
+    entries = [];
+  };
   served = [];
 }
 

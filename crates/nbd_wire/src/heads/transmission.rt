@@ -8,7 +8,7 @@ use crate::magics::{CHUNK_MAGIC, REQUEST_MAGIC, SIMPLE_MAGIC};
 use crate::numbers::{u16_at, u32_at, u64_at};
 
 /// The head of a request (proto.md, "Request message").
-#[derive(Clone, Copy, Debug, PartialEq, Eq, Drop)]
+#[derive(Clone, Copy, PartialEq, Eq, Drop)]
 pub struct RequestHead {
     /// Masks of the module `command_flags`.
     pub flags: u16,
@@ -23,7 +23,7 @@ pub struct RequestHead {
 }
 
 /// The head of a simple reply (proto.md, "Simple reply message").
-#[derive(Clone, Copy, Debug, PartialEq, Eq, Drop)]
+#[derive(Clone, Copy, PartialEq, Eq, Drop)]
 pub struct SimpleHead {
     /// 0 for success, any other number for a failure.
     pub error: u32,
@@ -32,7 +32,7 @@ pub struct SimpleHead {
 }
 
 /// The head of a chunk of a structured reply (proto.md, "Structured reply chunk message").
-#[derive(Clone, Copy, Debug, PartialEq, Eq, Drop)]
+#[derive(Clone, Copy, PartialEq, Eq, Drop)]
 pub struct ChunkHead {
     /// Masks of the module `chunks`.
     pub flags: u16,

@@ -9,20 +9,16 @@ fn contents(rt: HostRuntime) {
         offset: 4,
         bytes: b"\x0a\x0b".as_slice(),
     };
-    assert_eq!(rt; content_of(1, at_four), Some(bytes));
-    assert_eq!(rt;
-        content_of(1, b"\x00\x00\x00\x00\x00\x00\x00\x04"),
-        None,
-        "no bytes"
-    );
+    assert!(rt; content_of(1, at_four) == Some(bytes));
+    // No bytes.
+    assert!(rt; content_of(1, b"\x00\x00\x00\x00\x00\x00\x00\x04") == None);
     let hole = b"\x00\x00\x00\x00\x00\x00\x00\x00\x00\x00\x00\x04";
-    assert_eq!(rt;
-        content_of(2, hole),
-        Some(Content::Hole { offset: 0, size: 4 })
-    );
+    assert!(rt; content_of(2, hole) == Some(Content::Hole { offset: 0, size: 4 }));
     let empty = b"\x00\x00\x00\x00\x00\x00\x00\x00\x00\x00\x00\x00";
-    assert_eq!(rt; content_of(2, empty), None, "a hole of no bytes");
-    assert_eq!(rt; content_of(0, hole), None, "another type");
+    // A hole of no bytes.
+    assert!(rt; content_of(2, empty) == None);
+    // Another type.
+    assert!(rt; content_of(0, hole) == None);
 }
 
 #[test]
@@ -31,26 +27,18 @@ fn failures(rt: HostRuntime) {
         error: 5,
         offset: None,
     };
-    assert_eq!(rt;
-        failure_of(0x8001, b"\x00\x00\x00\x05\x00\x02ab"),
-        Some(plain)
-    );
-    assert_eq!(rt;
-        failure_of(0x8001, b"\x00\x00\x00\x05\x00\x03ab"),
-        None,
-        "a message cut off"
-    );
+    assert!(rt; failure_of(0x8001, b"\x00\x00\x00\x05\x00\x02ab") == Some(plain));
+    // A message cut off.
+    assert!(rt; failure_of(0x8001, b"\x00\x00\x00\x05\x00\x03ab") == None);
     let placed = Failure {
         error: 5,
         offset: Some(1),
     };
     let bytes = b"\x00\x00\x00\x05\x00\x01a\x00\x00\x00\x00\x00\x00\x00\x01";
-    assert_eq!(rt; failure_of(0x8002, bytes), Some(placed));
+    assert!(rt; failure_of(0x8002, bytes) == Some(placed));
     let cut_off = b"\x00\x00\x00\x05\x00\x01a\x00\x00\x00\x00\x00\x00";
-    assert_eq!(rt; failure_of(0x8002, cut_off), None, "an offset cut off");
-    assert_eq!(rt;
-        failure_of(0x8001, b"\x00\x00\x00\x00\x00\x00"),
-        None,
-        "error 0"
-    );
+    // An offset cut off.
+    assert!(rt; failure_of(0x8002, cut_off) == None);
+    // Error 0.
+    assert!(rt; failure_of(0x8001, b"\x00\x00\x00\x00\x00\x00") == None);
 }

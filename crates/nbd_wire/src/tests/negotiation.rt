@@ -1,57 +1,35 @@
 //! Messages of the negotiation.
 
-use super::{head_in, payload};
+use super::{encodes, front, payload};
 use crate::*;
+use std::alloc::{AllocError, Global};
 use std::test::Fail;
 
 #[test]
 fn greeting(rt: HostRuntime) -> Result<(), Fail> {
     let bytes = b"NBDMAGICIHAVEOPT\x00\x03";
     let message = Message::Greeting { flags: 3 };
-    let head = head_in(
-        &rt,
-        rt.alloc(),
-        &message,
-        Side::Server,
-        bytes,
-        head_lengths::GREETING,
-    )?;
-    assert_eq!(rt; greeting_head(head), Some(3));
-    assert_eq!(rt;
-        greeting_head(b"NBDMAGICIHAVEOPU\x00\x03"),
-        None,
-        "its second number"
-    );
-    assert_eq!(rt;
-        greeting_head(b"MBDMAGICIHAVEOPT\x00\x03"),
-        None,
-        "its first number"
-    );
-    assert_eq!(rt;
-        greeting_head(b"NBDMAGICIHAVEOPT\x00"),
-        None,
-        "a byte is missing"
-    );
+    assert!(rt; encodes(rt.alloc(), &message, Side::Server, bytes)?);
+    assert!(rt; greeting_head(bytes) == Some(3));
     Ok(())
 }
 
 #[test]
+fn greetings_that_are_none(rt: HostRuntime) {
+    // Its second number, its first one, a byte that is missing.
+    assert!(rt; greeting_head(b"NBDMAGICIHAVEOPU\x00\x03") == None);
+    assert!(rt; greeting_head(b"MBDMAGICIHAVEOPT\x00\x03") == None);
+    assert!(rt; greeting_head(b"NBDMAGICIHAVEOPT\x00") == None);
+}
+
+#[test]
 fn client_flags(rt: HostRuntime) -> Result<(), Fail> {
+    let bytes = b"\x00\x00\x00\x03";
     let message = Message::ClientFlags { flags: 3 };
-    let head = head_in(
-        &rt,
-        rt.alloc(),
-        &message,
-        Side::Client,
-        b"\x00\x00\x00\x03",
-        head_lengths::CLIENT_FLAGS,
-    )?;
-    assert_eq!(rt; client_flags_head(head), Some(3));
-    assert_eq!(rt;
-        client_flags_head(b"\x00\x00\x00\x03\x00"),
-        None,
-        "a byte too many"
-    );
+    assert!(rt; encodes(rt.alloc(), &message, Side::Client, bytes)?);
+    assert!(rt; client_flags_head(bytes) == Some(3));
+    // A byte too many.
+    assert!(rt; client_flags_head(b"\x00\x00\x00\x03\x00") == None);
     Ok(())
 }
 
@@ -83,29 +61,18 @@ fn choices(rt: HostRuntime) -> Result<(), Fail> {
         (tls.as_slice(), options::STARTTLS, b"".as_slice(), 0),
     ];
     for (bytes, id, data, length) in choices {
-        let message = Message::Choice {
-            id,
-            payload: payload(rt.alloc(), data)?,
-        };
-        let head = head_in(
-            &rt,
-            rt.alloc(),
-            &message,
-            Side::Client,
-            bytes,
-            head_lengths::CHOICE,
-        )?;
-        assert_eq!(rt;
-            choice_head(head),
-            Some(ChoiceHead { id, length }),
-            "{message:?}"
-        );
+        assert!(rt; is_choice(rt.alloc(), bytes, id, data)?);
+        let head = choice_head(front(bytes, head_lengths::CHOICE));
+        assert!(rt; head == Some(ChoiceHead { id, length }));
     }
-    assert_eq!(rt;
-        choice_head(b"IHAVEOPU\x00\x00\x00\x07\x00\x00\x00\x06"),
-        None
-    );
+    assert!(rt; choice_head(b"IHAVEOPU\x00\x00\x00\x07\x00\x00\x00\x06") == None);
     Ok(())
+}
+
+// Whether these bytes are an option with this number and data.
+fn is_choice(alloc: Global, bytes: &[u8], id: u32, data: &[u8]) -> Result<bool, AllocError> {
+    let payload = payload(alloc, data)?;
+    encodes(alloc, &Message::Choice { id, payload }, Side::Client, bytes)
 }
 
 #[test]
@@ -125,64 +92,50 @@ fn answers(rt: HostRuntime) -> Result<(), Fail> {
         (no_tls.as_slice(), 5, 0x8000_0001, b"".as_slice(), 0),
     ];
     for (bytes, option, kind, data, length) in answers {
-        let message = Message::Answer {
+        assert!(rt; is_answer(rt.alloc(), bytes, option, kind, data)?);
+        let wanted = AnswerHead {
             option,
             kind,
-            payload: payload(rt.alloc(), data)?,
+            length,
         };
-        let head = head_in(
-            &rt,
-            rt.alloc(),
-            &message,
-            Side::Server,
-            bytes,
-            head_lengths::ANSWER,
-        )?;
-        assert_eq!(rt;
-            answer_head(head),
-            Some(AnswerHead {
-                option,
-                kind,
-                length
-            }),
-            "{message:?}"
-        );
+        assert!(rt; answer_head(front(bytes, head_lengths::ANSWER)) == Some(wanted));
     }
     Ok(())
+}
+
+// Whether these bytes are an option reply of this kind.
+fn is_answer(
+    alloc: Global,
+    bytes: &[u8],
+    option: u32,
+    kind: u32,
+    data: &[u8],
+) -> Result<bool, AllocError> {
+    let message = Message::Answer {
+        option,
+        kind,
+        payload: payload(alloc, data)?,
+    };
+    encodes(alloc, &message, Side::Server, bytes)
+}
+
+// The answer to EXPORT_NAME of an export of 8 bytes, with its zeroes or without.
+fn exported(padded: bool) -> Message {
+    Message::Exported {
+        size: 8,
+        flags: 0x6d,
+        padded,
+    }
 }
 
 #[test]
 fn exports(rt: HostRuntime) -> Result<(), Fail> {
     let bare = b"\x00\x00\x00\x00\x00\x00\x00\x08\x00\x6d";
-    let message = Message::Exported {
-        size: 8,
-        flags: 0x6d,
-        padded: false,
-    };
-    let head = head_in(
-        &rt,
-        rt.alloc(),
-        &message,
-        Side::Server,
-        bare,
-        head_lengths::EXPORT,
-    )?;
-    assert_eq!(rt; export_head(head), Some((8, 0x6d)));
-    let mut bytes = bare.to_vec(rt.alloc())?;
-    bytes.resize(134, 0)?;
-    let padded = Message::Exported {
-        size: 8,
-        flags: 0x6d,
-        padded: true,
-    };
-    let head = head_in(
-        &rt,
-        rt.alloc(),
-        &padded,
-        Side::Server,
-        bytes.as_slice(),
-        head_lengths::EXPORT,
-    )?;
-    assert_eq!(rt; export_head(head), Some((8, 0x6d)));
+    assert!(rt; export_head(bare) == Some((8, 0x6d)));
+    assert!(rt; encodes(rt.alloc(), &exported(false), Side::Server, bare)?);
+    let mut padded = [0u8; 134];
+    padded[7] = 8;
+    padded[9] = 0x6d;
+    assert!(rt; encodes(rt.alloc(), &exported(true), Side::Server, &padded)?);
     Ok(())
 }

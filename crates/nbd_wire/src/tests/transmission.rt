@@ -1,7 +1,8 @@
 //! Messages of transmission.
 
-use super::{head_in, payload};
+use super::{encodes, front, payload};
 use crate::*;
+use std::alloc::{AllocError, Global};
 use std::test::Fail;
 
 #[test]
@@ -43,32 +44,36 @@ fn requests(rt: HostRuntime) -> Result<(), Fail> {
             offset: 0,
             length,
         };
-        let payload = payload(rt.alloc(), data)?;
-        let message = Message::Request {
-            flags: 0,
-            command,
-            cookie,
-            offset: 0,
-            length,
-            payload,
-        };
-        let head = head_in(
-            &rt,
-            rt.alloc(),
-            &message,
-            Side::Client,
-            bytes,
-            head_lengths::REQUEST,
-        )?;
-        assert_eq!(rt; request_head(head), Some(want), "{message:?}");
+        assert!(rt; request_head(front(bytes, head_lengths::REQUEST)) == Some(want));
+        let message = asked(rt.alloc(), want, data)?;
+        assert!(rt; encodes(rt.alloc(), &message, Side::Client, bytes)?);
     }
-    assert_eq!(rt;
+    assert!(rt;
         request_head(
             b"\x67\x44\x66\x98\x00\x00\x00\x01\x00\x00\x00\x00\x00\x00\x00\x01\x00\x00\x00\x00\x00\x00\x00\x00\x00\x00\x00\x02"
-        ),
-        None
+        ) == None
     );
     Ok(())
+}
+
+// The request with this head and these bytes.
+fn asked(alloc: Global, head: RequestHead, data: &[u8]) -> Result<Message, AllocError> {
+    let RequestHead {
+        flags,
+        command,
+        cookie,
+        offset,
+        length,
+    } = head;
+    let payload = payload(alloc, data)?;
+    Ok(Message::Request {
+        flags,
+        command,
+        cookie,
+        offset,
+        length,
+        payload,
+    })
 }
 
 #[test]
@@ -79,16 +84,14 @@ fn requests_that_do_not_fit(rt: HostRuntime) -> Result<(), Fail> {
         (commands::WRITE, 0, b"\xab".as_slice()),
     ];
     for (command, length, data) in cases {
-        let payload = payload(rt.alloc(), data)?;
-        let message = Message::Request {
+        let head = RequestHead {
             flags: 0,
             command,
             cookie: 2,
             offset: 0,
             length,
-            payload,
         };
-        assert!(rt; !fits(&message), "{message:?}");
+        assert!(rt; !fits(&asked(rt.alloc(), head, data)?));
     }
     Ok(())
 }
@@ -104,26 +107,27 @@ fn simple_replies(rt: HostRuntime) -> Result<(), Fail> {
         (failed.as_slice(), 22, 1, b"".as_slice()),
     ];
     for (bytes, error, cookie, data) in replies {
-        let message = Message::Simple {
-            error,
-            cookie,
-            payload: payload(rt.alloc(), data)?,
-        };
-        let head = head_in(
-            &rt,
-            rt.alloc(),
-            &message,
-            Side::Server,
-            bytes,
-            head_lengths::SIMPLE,
-        )?;
-        assert_eq!(rt;
-            simple_head(head),
-            Some(SimpleHead { error, cookie }),
-            "{message:?}"
-        );
+        assert!(rt; is_simple(rt.alloc(), bytes, error, cookie, data)?);
+        let head = simple_head(front(bytes, head_lengths::SIMPLE));
+        assert!(rt; head == Some(SimpleHead { error, cookie }));
     }
     Ok(())
+}
+
+// Whether these bytes are a simple reply.
+fn is_simple(
+    alloc: Global,
+    bytes: &[u8],
+    error: u32,
+    cookie: u64,
+    data: &[u8],
+) -> Result<bool, AllocError> {
+    let message = Message::Simple {
+        error,
+        cookie,
+        payload: payload(alloc, data)?,
+    };
+    encodes(alloc, &message, Side::Server, bytes)
 }
 
 #[test]
@@ -173,27 +177,25 @@ fn chunks(rt: HostRuntime) -> Result<(), Fail> {
         ),
     ];
     for (bytes, flags, kind, cookie, data, length) in chunks {
-        let message = Message::Chunk {
-            flags,
-            kind,
-            cookie,
-            payload: payload(rt.alloc(), data)?,
-        };
-        let head = head_in(
-            &rt,
-            rt.alloc(),
-            &message,
-            Side::Server,
-            bytes,
-            head_lengths::CHUNK,
-        )?;
         let want = ChunkHead {
             flags,
             kind,
             cookie,
             length,
         };
-        assert_eq!(rt; chunk_head(head), Some(want), "{message:?}");
+        assert!(rt; chunk_head(front(bytes, head_lengths::CHUNK)) == Some(want));
+        assert!(rt; is_chunk(rt.alloc(), bytes, want, data)?);
     }
     Ok(())
+}
+
+// Whether these bytes are a chunk with this head.
+fn is_chunk(alloc: Global, bytes: &[u8], head: ChunkHead, data: &[u8]) -> Result<bool, AllocError> {
+    let message = Message::Chunk {
+        flags: head.flags,
+        kind: head.kind,
+        cookie: head.cookie,
+        payload: payload(alloc, data)?,
+    };
+    encodes(alloc, &message, Side::Server, bytes)
 }

@@ -9,10 +9,10 @@ pub least_difference-requires : goal.least_difference-requires
 least_difference-requires g c =
     rw c.deref.ensures.value (inside_those _ (g.C.Contents.size c.args.contents.now) c.args.pieces.now (map (λ p. p.now) c.in_ok-sorted.sorted.items) c.in_ok-sorted.ensures.those c.requires.inside)
 
-pub returns : goal.returns
-returns g c =
+pub returns-clause-least : goal.returns-clause-least
+returns-clause-least g c =
     let byte = g.C.Contents.byte c.args.contents.now in
     let sorted = map (λ p. p.now) c.in_ok-sorted.sorted.items in
-    let least = rw c.deref.ensures.value at c.least_difference.ensures in
+    let least = rw c.deref.ensures.value at c.least_difference.ensures.least in
     least_sorted byte c.args.pieces.now sorted c.least_difference.result c.in_ok-sorted.ensures
     (subst (λ n. IsLeast (DiffersInOneOf byte sorted n) c.least_difference.result) (sym (length-map c.in_ok-sorted.sorted.items (λ p. p.now))) least)

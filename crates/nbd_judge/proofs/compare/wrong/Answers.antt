@@ -23,7 +23,7 @@ returns-in-None-clause-least g c =
     rw c.in-None.is (IfOk-weaker c.first_difference.result _ _ (λ found least.
     wrong_read (g.C.Contents.size c.args.contents.now) (report_of_request c.args.one.now) byte c.if-one-eq-READ.true well c.requires.servable found
     (subst (λ (ps : List Piece). IsLeast (DiffersInOneOf byte ps (length ps)) found) c.deref-in-None.ensures.value least))
-    c.first_difference.ensures)
+    c.first_difference.ensures.least)
 
 pub returns-in-Some-clause-sorted : goal.returns-in-Some-clause-sorted
 returns-in-Some-clause-sorted g c =

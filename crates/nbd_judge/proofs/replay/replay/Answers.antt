@@ -28,7 +28,7 @@ wrong-requires-clause-servable g c =
 pub change-requires-clause-servable : goal.change-requires-clause-servable
 change-requires-clause-servable g c =
     let e : Entry = slice_index_or c.args.order.now c.loop-i.i (record { request = 0; part = None }) in
-    subst (λ (n : ℕ). IsServable n (report_of_request c.in-Some.one.now)) (sym (c.loop-i.invariant.size ∙ c.requires.sized))
+    subst (λ (n : ℕ). IsServable n (report_of_request c.in-Some.one.now)) (sym (c.wrong.ensures.size ∙ c.loop-i.invariant.size ∙ c.requires.sized))
     (servable c.args.transcript.now c.requires.sound e.request (report_of_request c.in-Some.one.now) (sym c.in-Some.ensures))
 
 pub change-requires-clause-inside : goal.change-requires-clause-inside
@@ -66,11 +66,12 @@ loop-i-preserved g c =
           let at : requests e.request ≡ Some (effect told) = ap effect_if (sym w.in-Some.ensures) in
           let after : ℕ → Option ℕ = g.C.Contents.byte w.change.new.contents in
           let done : AreSameBelow size after (contents_with_effect e.part (Some (effect told)) now) =
-          subst (λ (n : ℕ). AreSameBelow n after (contents_with_effect e.part (Some (effect told)) now)) c.loop-i.invariant.size w.in_ok-change.ensures.done in
+          subst (λ (n : ℕ). AreSameBelow n after (contents_with_effect e.part (Some (effect told)) now)) (w.wrong.ensures.size ∙ c.loop-i.invariant.size)
+          (subst (λ (f : ℕ → Option ℕ). AreSameBelow (g.C.Contents.size w.wrong.new.contents) after (contents_with_effect e.part (Some (effect told)) f)) w.wrong.ensures.bytes w.in_ok-change.ensures.done) in
           let none : (x : ℕ) → IsWrong requests c.args.order.now initial c.loop-i.i x → ⊥ =
           served size requests c.args.order.now initial now c.loop-i.i e here c.loop-i.invariant.bytes told at sound None (rw w.in_default-found.is at w.in_ok-found.ensures.least) in
           record {
-            size = ap g.C.Contents.size w.contents-is ∙ w.change.ensures.size ∙ c.loop-i.invariant.size;
+            size = ap g.C.Contents.size w.contents-is ∙ w.change.ensures.size ∙ w.wrong.ensures.size ∙ c.loop-i.invariant.size;
             bytes = λ x l. ap (λ s. g.C.Contents.byte s x) w.contents-is
                 ∙ next size requests c.args.order.now initial now c.loop-i.i e here c.loop-i.invariant.bytes after
                 (subst (λ (o : Option Effect). AreSameBelow size after (contents_with_effect e.part o now)) (sym at) done) x l;

@@ -1,17 +1,37 @@
-use Rattle.std.proofs.Common.{rules, subst, sym}
+use Rattle.std.proofs.Common.{subst, sym, ◌∙◌, ap}
 use Rattle.nbd_judge.specs.Beginnings.{initial_of}
-use Rattle.nbd_order.specs.Finding.{AreWhole}
+use Rattle.nbd_judge.proofs.verdicts.SingleLemmas.{one_verdict}
+use Rattle.nbd_wire.specs.protocol.Verdicts.{Passes}
+use Rattle.nbd_order.specs.Finding.{AreWhole, arrival}
 use Rattle.nbd_order.specs.declared.finding.Found.TheVariants.{Image, Order}
-use Rattle.nbd_order.proofs.FoundLemmas.{arrival_whole, says_of, whole_wanted}
+use Rattle.nbd_order.proofs.FoundLemmas.{arrival_whole, does_not_pass, passes, says_of, whole_wanted}
 use Rattle.nbd_order.proofs.finding.find.Goals as goal
 
-pub returns-in-Some-clause-says : goal.returns-in-Some-clause-says
-returns-in-Some-clause-says g c = says_of c.found_is_so.ensures c.args.transcript.now (initial_of c.args.start.now) (Image c.in-Some.image c.in-Some.size) c.in-Some.ensures
+pub searched-requires : goal.searched-requires
+searched-requires c =
+    let r = c.args.transcript.now in
+    let s = initial_of c.args.start.now in
+    subst (λ os. Passes r os s → ⊥) (c.deref.ensures.value ∙ c.in_ok-arrival.ensures ∙ ap arrival c.count.ensures.count)
+    (does_not_pass one_verdict r c.deref.result.now s c.in_ok-verdict.verdict c.in_ok-verdict.ensures c.in_default.not-Yes)
 
-pub returns-in-None-clause-wanted : goal.returns-in-None-clause-wanted
-returns-in-None-clause-wanted g c =
+pub returns-in-Yes-clause-found : goal.returns-in-Yes-clause-found
+returns-in-Yes-clause-found c =
+    let r = c.args.transcript.now in
+    let s = initial_of c.args.start.now in
+    subst (λ os. Passes r os s) c.deref.ensures.value
+    (passes r c.deref.result.now s c.in-Yes.requests c.in-Yes.answered c.in-Yes.improper (rw c.in-Yes.is at c.in_ok-verdict.ensures))
+
+pub returns-in-Yes-clause-wanted : goal.returns-in-Yes-clause-wanted
+returns-in-Yes-clause-wanted c =
     whole_wanted c.args.scope.wanted c.in_ok-arrival.arrival.items (subst AreWhole (sym c.in_ok-arrival.ensures) (arrival_whole c.count.result))
 
-pub returns-in-None-clause-says : goal.returns-in-None-clause-says
-returns-in-None-clause-says g c =
-    says_of c.found_is_so.ensures c.args.transcript.now (initial_of c.args.start.now) (Order c.in_ok-arrival.arrival) (search rules)
+pub returns-in-Yes-clause-says : goal.returns-in-Yes-clause-says
+returns-in-Yes-clause-says c =
+    let r = c.args.transcript.now in
+    let s = initial_of c.args.start.now in
+    says_of c.found_is_so.ensures r s (Order c.in_ok-arrival.arrival) (subst (λ os. Passes r os s) c.deref.ensures.value
+    (passes r c.deref.result.now s c.in-Yes.requests c.in-Yes.answered c.in-Yes.improper (rw c.in-Yes.is at c.in_ok-verdict.ensures)))
+
+pub returns-in-Image-clause-says : goal.returns-in-Image-clause-says
+returns-in-Image-clause-says c = says_of c.found_is_so.ensures c.args.transcript.now (initial_of c.args.start.now) (Image c.in-Image.image c.in-Image.size)
+    (rw c.in-Image.is at c.in_ok-verdict.ensures)

@@ -1,66 +1,14 @@
-use Rattle.std.proofs.Common.{◌≡◌, [], Ok, Err, append-nil, ap, refl, sym, ◌∙◌, arith, length}
-use Rattle.std.proofs.lemmas.Result.{err_from_is_err_and}
-use Rattle.std.proofs.lemmas.Option.{IfSome_then}
-use Rattle.nbd_session.specs.Sessions.{pairs_of}
-use Rattle.nbd_session.specs.declared.fault.SessionFault.TheVariants.{Memory, Wire}
-use Rattle.nbd_capture.proofs.ReadToEndLemmas.{names_first_bad, reads_to_end, whole_text}
-use Rattle.nbd_capture.proofs.ReadingStepLemmas.{reads_same}
-use Rattle.nbd_tool.specs.Runs.{flat_of}
-use Rattle.nbd_tool.proofs.OverLemmas.{cause_of, next_pushed, over_open, over_pushed, taken_within}
-use Rattle.nbd_tool.proofs.SizeLemmas.{flat-le}
+use Rattle.nbd_tool.specs.Ends.{IsOverText}
+use Rattle.nbd_tool.specs.Runs.{IsCaptureCause}
+use Rattle.nbd_tool.specs.Starts.{IsWithinLimit}
+use Rattle.nbd_tool.proofs.OverLemmas.{joined, joined_err, joined_on}
 use Rattle.nbd_tool.proofs.capture.session_over.Goals as goal
 
-pub loop-bytes-init : goal.loop-bytes-init
-loop-bytes-init g c = (
-  [],
-  reads_same _ _ c.new-reader.ensures,
-  ap (λ r. r.state) c.new-reader.ensures,
-  over_open [] c.new-session.result (ap (λ r. pairs_of r) c.new-session.ensures) (ap (λ r. r.closed) c.new-session.ensures),
-)
-
-pub push-requires : goal.push-requires
-push-requires g c =
-    let s = c.loop-bytes.invariant in
-    let taken = taken_within (flat_of s.0) c.loop-bytes.session s.3 in
-    let text = flat-le s.1.bytes s.0 s.1.is_text in
-    let room = s.1.takes.fits in
-    let next = rw c.in-Some.is at c.in_ok-side.ensures.shrinks in
-    let piece = ap length c.as_slice.ensures.value in
-    omega (arith, taken, text, room, next, piece)
-
-pub loop-bytes-preserved-in-Ok : goal.loop-bytes-preserved-in-Ok
-loop-bytes-preserved-in-Ok g c =
-    let s = c.loop-bytes.invariant in
-    next_pushed _ c.loop-bytes.reader c.next_into.new.self c.push.new.self s.0 c.in-Some.side c.next_into.new.bytes.items c.as_slice.result.now s.1
-    (rw c.in-Some.is at c.in_ok-side.ensures.chunk) (rw c.in-Some.is at c.in_ok-side.ensures.state) c.as_slice.ensures.value
-    (over_pushed (flat_of s.0) c.loop-bytes.session c.push.new.self c.in-Some.side c.as_slice.result.now c.push.result s.3
-    c.push.ensures.added c.push.ensures.open c.push.ensures.prefix c.push.ensures.refused c.push.ensures.at c.push.ensures.closed c.push.ensures.wire
-    (λ e. (let q : Ok c.in-Ok.field-0 ≡ Err Memory = sym c.in-Ok.is ∙ e in cc)))
-
-pub loop-bytes-preserved : goal.loop-bytes-preserved
-loop-bytes-preserved g c =
-    let s = c.loop-bytes.invariant in
-    next_pushed _ c.loop-bytes.reader c.next_into.new.self c.push.new.self s.0 c.in-Some.side c.next_into.new.bytes.items c.as_slice.result.now s.1
-    (rw c.in-Some.is at c.in_ok-side.ensures.chunk) (rw c.in-Some.is at c.in_ok-side.ensures.state) c.as_slice.ensures.value
-    (over_pushed (flat_of s.0) c.loop-bytes.session c.push.new.self c.in-Some.side c.as_slice.result.now c.push.result s.3
-    c.push.ensures.added c.push.ensures.open c.push.ensures.prefix c.push.ensures.refused c.push.ensures.at c.push.ensures.closed c.push.ensures.wire
-    (λ e. (let q : Err (Wire c.in-Err-Wire.field-0-0 c.in-Err-Wire.field-0-1) ≡ Err Memory = ap Err (sym c.in-Err-Wire.field-0-is) ∙ sym c.in-Err-Wire.is ∙ e in cc)))
-
-pub returns-in_err-side-clause-cause : goal.returns-in_err-side-clause-cause
-returns-in_err-side-clause-cause g c =
-    let s = c.loop-bytes.invariant in
-    let p = err_from_is_err_and c.from_residual.result c.from_residual.ensures.1 in
-    rw (p.1, p.2) (cause_of _ _ (names_first_bad _ _ _ _ c.in_err-side.field-0.0 refl s.1 (c.in_err-side.ensures.fault s.2)))
-
 pub returns-clause-over : goal.returns-clause-over
-returns-clause-over g c =
-    let s = c.loop-bytes.invariant in
-    let last = c.in_ok-side.ensures.end s.2 (ap Ok c.in_default.is) in
-    let all = whole_text _ _ _ (reads_to_end _ _ _ _ [] s.1 last) in
-    record { chunks = s.0; is_text = IfSome_then (g.C.Read.remaining c.args.capture) all (λ text h. rw (sym (append-nil s.0)) h.0); over = s.3 }
+returns-clause-over g c = joined (IsOverText (g.C.Read.remaining c.args.capture)) c.push_all.result c.push_all.new.session c.and.result c.and.ensures c.push_all.ensures.over
 
 pub returns-clause-limited : goal.returns-clause-limited
-returns-clause-limited g c =
-    let s = c.loop-bytes.invariant in
-    let last = c.in_ok-side.ensures.end s.2 (ap Ok c.in_default.is) in
-    IfSome_then (g.C.Read.remaining c.args.capture) (whole_text _ _ _ (reads_to_end _ _ _ _ [] s.1 last)) (λ text h. h.1)
+returns-clause-limited g c = joined_on (IsWithinLimit (g.C.Read.remaining c.args.capture)) c.push_all.result c.push_all.new.session c.and.result c.and.ensures c.push_all.ensures.limited
+
+pub returns-clause-cause : goal.returns-clause-cause
+returns-clause-cause g c = joined_err (IsCaptureCause (g.C.Read.remaining c.args.capture)) c.push_all.result c.push_all.new.session c.and.result c.and.ensures c.push_all.ensures.cause

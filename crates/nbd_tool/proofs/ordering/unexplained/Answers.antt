@@ -1,6 +1,7 @@
-use Rattle.std.proofs.Common.{◌∙◌}
+use Rattle.std.proofs.Common.{IfOk, subst, ◌≡◌}
 use Rattle.nbd_tool.proofs.OrderingLemmas.{several_line}
 use Rattle.nbd_tool.proofs.ordering.unexplained.Goals as goal
 
 pub returns-then-reads-ne1 : goal.returns-then-reads-ne1
-returns-then-reads-ne1 c = (rw c.in_ok-reads.ensures at c.in_ok-format.ensures.ok) ∙ several_line c.args.reads.now c.args.offset c.if-reads-ne1.true
+returns-then-reads-ne1 c =
+    subst (λ line. IfOk c.format.result (λ text. text.bytes.items ≡ line)) (several_line c.args.reads.now c.args.offset c.if-reads-ne1.true) (rw c.in_ok-reads.ensures at c.format.ensures.ok)

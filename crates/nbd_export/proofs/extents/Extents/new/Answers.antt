@@ -1,7 +1,6 @@
 use Rattle.std.proofs.Common.{◌<◌, Some, length, slice_index, sym, ◌∙◌, ap, subst, arith}
 use Rattle.std.proofs.lemmas.Option.{slice_get-get_or}
-use Rattle.nbd_export.specs.declared.extents.Extents.{Extents}
-use Rattle.nbd_export.specs.Extents.{byte_by_kind}
+use Rattle.nbd_export.specs.RangeKinds.{byte_by_kind}
 use Rattle.nbd_export.specs.Pages.{stored_byte}
 use Rattle.nbd_export.specs.Starts.{FitsSize, start_byte}
 use Rattle.nbd_export.proofs.ExtentLemmas.{byte_of-kind}
@@ -10,16 +9,15 @@ use Rattle.nbd_export.proofs.extents.Extents.new.Goals.{in-Unknown, in-Zeroes, i
 
 pub returns-clause-bytes : goal.returns-clause-bytes
 returns-clause-bytes c = λ x l.
-    let e : Extents = record { kinds = c.in_ok-kinds.kinds; pages = c.new-pages.result } in
     let stored = stored_byte c.new-pages.result x in
-    let known = byte_of-kind e x c.match-start.kind.0 (c.in_ok-kinds.ensures.kinds x l) in
+    let kind = c.in_ok-kinds.ensures.kinds x l in
     elim c.match-start.branch [
-      | in-Unknown w ↦ known ∙ ap (λ t. byte_by_kind (Some t.0) stored) w.kind-is ∙ sym (ap (λ s. start_byte s x) w.in-Unknown.is)
-      | in-Zeroes w ↦ known ∙ ap (λ t. byte_by_kind (Some t.0) stored) w.kind-is ∙ sym (ap (λ s. start_byte s x) w.in-Zeroes.is)
+      | in-Unknown w ↦ byte_of-kind _ x c.match-start.kind.0 kind ∙ ap (λ t. byte_by_kind (Some t.0) stored) w.kind-is ∙ sym (ap (λ s. start_byte s x) w.in-Unknown.is)
+      | in-Zeroes w ↦ byte_of-kind _ x c.match-start.kind.0 kind ∙ ap (λ t. byte_by_kind (Some t.0) stored) w.kind-is ∙ sym (ap (λ s. start_byte s x) w.in-Zeroes.is)
       | in-Image w ↦
           (let fits = subst (FitsSize c.args.size) w.in-Image.is c.requires in
           let within : x < length w.in-Image.image.items = omega (arith, fits) in
-          known ∙ ap (λ t. byte_by_kind (Some t.0) stored) w.kind-is
+          byte_of-kind _ x c.match-start.kind.0 kind ∙ ap (λ t. byte_by_kind (Some t.0) stored) w.kind-is
           ∙ ap Some (c.new-pages.ensures x ∙ ap (λ t. slice_index t.1.items x) w.kind-is)
           ∙ sym (slice_get-get_or w.in-Image.image.items x 0 within) ∙ sym (ap (λ s. start_byte s x) w.in-Image.is))
     ]

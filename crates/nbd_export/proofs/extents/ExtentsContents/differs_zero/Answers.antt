@@ -1,20 +1,13 @@
-use Rattle.std.proofs.Common.{◌+◌, refl, arith}
-use Rattle.nbd_export.specs.Extents.{byte_of}
-use Rattle.nbd_export.specs.Ranges.{zeroes}
-use Rattle.nbd_export.proofs.LeastLemmas.{least_in_part, none_in_part}
+use Rattle.std.proofs.Common.{refl, ◌∙◌}
+use Rattle.nbd_export.proofs.ExtentLemmas.{byte_of-noted, zeroes_noted}
 use Rattle.nbd_export.proofs.extents.ExtentsContents.differs_zero.Goals as goal
 
-pub returns-in-Some : goal.returns-in-Some
-returns-in-Some c =
-    least_in_part (byte_of c.args.self.now) zeroes zeroes c.args.offset c.args.len (c.args.offset + c.loop-done.done) c.min-part.result
-    (omega arith) (omega arith) (λ x lo hi. refl) c.loop-done.invariant.none c.in-Some.found c.in-Some.ensures
+pub invariant_of-self-clause-sizes : goal.invariant_of-self-clause-sizes
+invariant_of-self-clause-sizes c = c.set.ensures.size ∙ c.args.self.now.sizes
 
-pub loop-done-preserved : goal.loop-done-preserved
-loop-done-preserved c = record {
-  fits = omega arith;
-  none = λ x l. none_in_part (byte_of c.args.self.now) zeroes zeroes c.args.offset c.args.len (c.args.offset + c.loop-done.done) c.min-part.result
-      (omega arith) (omega arith) (λ x lo hi. refl) c.loop-done.invariant.none (λ y d. c.in_default.ensures y d) x (omega arith);
-}
+pub invariant_of-self-clause-zeroes : goal.invariant_of-self-clause-zeroes
+invariant_of-self-clause-zeroes c =
+    zeroes_noted c.set.result c.args.self.now c.set.new.self c.args.offset c.args.len c.set.ensures.before c.set.ensures.behind c.set.ensures.refused c.in_default.ensures
 
-pub returns : goal.returns
-returns c = λ n d. c.loop-done.invariant.none n (omega arith) d
+pub returns-then-len-gt0-clause-bytes : goal.returns-then-len-gt0-clause-bytes
+returns-then-len-gt0-clause-bytes c = byte_of-noted c.args.self.now _ refl refl

@@ -1,6 +1,5 @@
 use Rattle.std.proofs.Common.{length, refl, ◌∙◌}
 use Rattle.std.proofs.lemmas.Result.{err_from_is_err_and}
-use Rattle.nbd_export.specs.declared.extents.Extents.{Extents}
 use Rattle.nbd_export.specs.declared.kind.Kind.TheVariants.{Bytes}
 use Rattle.nbd_export.specs.Pages.{stored_byte}
 use Rattle.nbd_export.specs.Ranges.{bytes_from}
@@ -11,24 +10,27 @@ pub returns-in_err-make_room-clause-refused : goal.returns-in_err-make_room-clau
 returns-in_err-make_room-clause-refused c =
     let e = err_from_is_err_and c.from_residual.result c.from_residual.ensures.1 in
     let p = c.args.self.now in
-    let q : Extents = record { kinds = p.kinds; pages = c.make_room.new.self } in
-    rw e.1 (λ x l. byte_of-same p q x refl (c.in_err-make_room.ensures.bytes x))
+    rw e.1 (λ x l. byte_of-same p _ x refl (c.in_err-make_room.ensures.bytes x))
 
 pub returns-in_err-set-clause-refused : goal.returns-in_err-set-clause-refused
 returns-in_err-set-clause-refused c =
     let e = err_from_is_err_and c.from_residual-in_err-set.result c.from_residual-in_err-set.ensures.1 in
     let p = c.args.self.now in
-    let q : Extents = record { kinds = c.set.new.self; pages = c.make_room.new.self } in
-    rw e.1 (λ x l. byte_of-same p q x (c.in_err-set.ensures.refused x) (c.make_room.ensures.bytes x))
+    rw e.1 (λ x l. byte_of-same p _ x refl (c.make_room.ensures.bytes x))
+
+pub returns-in_err-set-2-clause-refused : goal.returns-in_err-set-2-clause-refused
+returns-in_err-set-2-clause-refused c =
+    let e = err_from_is_err_and c.from_residual-in_err-set-2.result c.from_residual-in_err-set-2.ensures.1 in
+    let p = c.args.self.now in
+    rw e.1 (λ x l. byte_of-same p _ x (c.in_err-set-2.ensures.refused x) (c.make_room.ensures.bytes x))
 
 pub returns-clause-done : goal.returns-clause-done
 returns-clause-done c =
     let p = c.args.self.now in
-    let q : Extents = record { kinds = c.set.new.self; pages = c.write.new.self } in
     let offset = c.args.offset in
     let bytes = c.args.bytes.now in
-    range_made p q offset (length bytes) p.kinds.size Bytes (bytes_from offset bytes)
-    c.in_ok-set.ensures.inside c.in_ok-set.ensures.before c.in_ok-set.ensures.behind
+    range_made p _ offset (length bytes) p.kinds.size Bytes (bytes_from offset bytes)
+    c.in_ok-set-2.ensures.inside c.in_ok-set-2.ensures.before c.in_ok-set-2.ensures.behind
     (λ x l. c.write.ensures.before x l ∙ c.make_room.ensures.bytes x)
     (λ x l. c.write.ensures.behind x l ∙ c.make_room.ensures.bytes x)
     (λ x lo hi. written_byte offset x bytes (stored_byte c.write.new.self) c.write.ensures.inside lo hi)

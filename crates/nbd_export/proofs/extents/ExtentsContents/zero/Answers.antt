@@ -1,6 +1,5 @@
 use Rattle.std.proofs.Common.{refl}
 use Rattle.std.proofs.lemmas.Result.{err_from_is_err_and}
-use Rattle.nbd_export.specs.declared.extents.Extents.{Extents}
 use Rattle.nbd_export.specs.declared.kind.Kind.TheVariants.{Zeroes}
 use Rattle.nbd_export.specs.Ranges.{zeroes}
 use Rattle.nbd_export.proofs.ExtentLemmas.{byte_of-same, range_made}
@@ -9,13 +8,11 @@ use Rattle.nbd_export.proofs.extents.ExtentsContents.zero.Goals as goal
 pub returns-in_err-set-clause-refused : goal.returns-in_err-set-clause-refused
 returns-in_err-set-clause-refused c =
     let e = err_from_is_err_and c.from_residual.result c.from_residual.ensures.1 in
-    let q : Extents = record { kinds = c.set.new.self; pages = c.args.self.now.pages } in
-    rw e.1 (λ x l. byte_of-same c.args.self.now q x (c.in_err-set.ensures.refused x) refl)
+    rw e.1 (λ x l. byte_of-same c.args.self.now _ x (c.in_err-set.ensures.refused x) refl)
 
 pub returns-in_ok-set-clause-done : goal.returns-in_ok-set-clause-done
 returns-in_ok-set-clause-done c =
     let p = c.args.self.now in
-    let q : Extents = record { kinds = c.set.new.self; pages = p.pages } in
-    range_made p q c.args.offset c.args.len p.kinds.size Zeroes zeroes
+    range_made p _ c.args.offset c.args.len p.kinds.size Zeroes zeroes
     c.in_ok-set.ensures.inside c.in_ok-set.ensures.before c.in_ok-set.ensures.behind
     (λ x l. refl) (λ x l. refl) (λ x lo hi. refl)

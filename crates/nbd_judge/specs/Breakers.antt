@@ -1,0 +1,19 @@
+-- Who broke the rule that a wire fault names.
+use Rattle.nbd_wire.specs.declared.fault.WireFault.{WireFault}
+use Rattle.nbd_wire.specs.declared.fault.WireFault.TheVariants.{BadMagic, NotFixedNewstyle, OutOfTurn, BadClientFlags, CookieInUse, BadDisconnect, OutOfProfile, ExportTooLarge, Unfinished}
+use Rattle.nbd_judge.specs.declared.rules.Breaker.{Breaker}
+use Rattle.nbd_judge.specs.declared.rules.Breaker.TheVariants.{Client, Server, Sender, Nobody}
+
+-- the sender of the byte, where each side can break the rule; the client by its flags and requests; nobody, where the
+-- session is not judged or its recording ended; else the server
+abbrev pub breaker_of : WireFault → Breaker
+breaker_of BadMagic = Sender
+breaker_of NotFixedNewstyle = Sender
+breaker_of OutOfTurn = Sender
+breaker_of BadClientFlags = Client
+breaker_of CookieInUse = Client
+breaker_of BadDisconnect = Client
+breaker_of OutOfProfile = Nobody
+breaker_of ExportTooLarge = Nobody
+breaker_of Unfinished = Nobody
+breaker_of _ = Server

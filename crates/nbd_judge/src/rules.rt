@@ -1,0 +1,168 @@
+//! The rules that a session or an order can break, each in a sentence.
+
+ghost use Rattle.std.specs.Prelude.{◌≡◌};
+ghost use Rattle.nbd_judge.specs.Breakers.{breaker_of};
+ghost use Rattle.nbd_judge.specs.declared.rules.Breaker.TheVariants.{Order};
+
+use crate::verdict::OrderFault;
+use nbd_wire::WireFault;
+
+/// Who broke a rule.
+#[derive(Clone, Copy, PartialEq, Eq, Drop)]
+pub enum Breaker {
+    Client,
+    Server,
+    /// The side that sent the byte.
+    Sender,
+    /// Nobody: the session is not judged, or its recording ended.
+    Nobody,
+    /// The order that was given.
+    Order,
+    /// The image that was given.
+    Image,
+}
+
+/// A rule, as it should be kept.
+#[derive(Clone, Copy)]
+pub struct Rule {
+    pub breaker: Breaker,
+    pub sentence: &'static str,
+    /// The section of proto.md that has it; this project's choices are in docs/PROFILE.md.
+    pub section: &'static str,
+}
+
+/// The section of a rule that proto.md leaves open.
+const CHOICE: &str = "this project's choice, docs/PROFILE.md";
+
+/// The rule that a wire fault broke.
+pub fn wire_rule(fault: WireFault) -> Rule
+    ensures { result.breaker ≡ breaker_of fault }
+{
+    Rule {
+        breaker: breaker_of(fault),
+        sentence: sentence_of(fault),
+        section: section_of(fault),
+    }
+}
+
+// The rule of a wire fault in a sentence.
+fn sentence_of(fault: WireFault) -> &'static str {
+    match fault {
+        WireFault::BadMagic => "A message begins with the magic number of its kind.",
+        WireFault::NotFixedNewstyle =>
+            "The greeting and the client's flags say that their senders speak fixed newstyle.",
+        WireFault::BadClientFlags =>
+            "The client sets only flags that are known and that the server offered.",
+        WireFault::OutOfTurn =>
+            "In the negotiation each side waits for its turn; after an answered ABORT nobody sends, and after DISC the client does not.",
+        WireFault::WrongOption =>
+            "An option reply repeats the number of the option that the client chose.",
+        WireFault::BadReplyKind =>
+            "An option is answered only by the kinds of reply that it takes.",
+        WireFault::OutOfProfile => "The server granted an option that nbdcheck does not follow.",
+        WireFault::BadReplyPayload =>
+            "The data of an option reply has the form of its kind, and an info on the export has HAS_FLAGS.",
+        WireFault::MissingExportInfo =>
+            "INFO and GO are acknowledged only after an info on the export.",
+        WireFault::BadExport =>
+            "The answer to EXPORT_NAME has HAS_FLAGS, and its padding is 124 zeroes.",
+        WireFault::ExportTooLarge =>
+            "The export has more than 9223372036854775807 bytes (2^63 - 1), the most that nbdcheck follows.",
+        WireFault::CookieInUse => "A request has the cookie of no request that is outstanding.",
+        WireFault::UnknownCookie =>
+            "A reply has the cookie of an outstanding request, all of whose bytes had come before the reply began.",
+        WireFault::SimpleForbidden =>
+            "With structured replies a READ is answered by chunks; so is a request that has received one.",
+        WireFault::ChunkForbidden =>
+            "A chunk is sent only where structured replies were negotiated.",
+        WireFault::BadChunk =>
+            "A chunk is of a known type, and its payload has the form of this type; one of type NONE has DONE.",
+        WireFault::BadContent =>
+            "Content answers a READ, lies in its range and shares no byte with content before it, and a READ with DF gets one piece; an error's offset lies in the range.",
+        WireFault::IncompleteRead =>
+            "The reply to a READ that succeeds has every byte of its range.",
+        WireFault::SuccessOfImproper =>
+            "An option or a request that the client should not have sent is answered by an error.",
+        WireFault::BadDisconnect => "DISC has neither an offset nor a length.",
+        WireFault::Unfinished => "The capture has each message that began to its last byte.",
+    }
+}
+
+// Where the rule of a wire fault stands.
+fn section_of(fault: WireFault) -> &'static str {
+    match fault {
+        WireFault::BadMagic => "proto.md, \"Newstyle negotiation\", \"Transmission\"",
+        WireFault::NotFixedNewstyle => "proto.md, \"Handshake flags\", \"Client flags\"",
+        WireFault::BadClientFlags => "proto.md, \"Client flags\"",
+        WireFault::OutOfTurn =>
+            "proto.md, \"Fixed newstyle negotiation\", \"Terminating the transmission phase\"",
+        WireFault::WrongOption => "proto.md, \"Fixed newstyle negotiation\"",
+        WireFault::BadReplyKind | WireFault::MissingExportInfo => "proto.md, \"Option types\"",
+        WireFault::OutOfProfile
+        | WireFault::ExportTooLarge
+        | WireFault::SuccessOfImproper
+        | WireFault::Unfinished => CHOICE,
+        WireFault::BadReplyPayload => "proto.md, \"Option reply types\", \"Transmission flags\"",
+        WireFault::BadExport => "proto.md, \"Transmission flags\", \"Newstyle negotiation\"",
+        WireFault::CookieInUse => "proto.md, \"Request message\"",
+        WireFault::UnknownCookie => "proto.md, \"Transmission\"",
+        WireFault::SimpleForbidden => "proto.md, \"Simple reply message\"",
+        WireFault::ChunkForbidden => "proto.md, \"Structured reply chunk message\"",
+        WireFault::BadChunk => "proto.md, \"Structured reply types\"",
+        WireFault::BadContent => "proto.md, \"Structured reply types\", \"Request types\"",
+        WireFault::IncompleteRead | WireFault::BadDisconnect => "proto.md, \"Request types\"",
+    }
+}
+
+// Who broke the rule of a wire fault.
+fn breaker_of(fault: WireFault) -> Breaker
+    ensures { result ≡ breaker_of fault }
+{
+    match fault {
+        WireFault::BadMagic | WireFault::NotFixedNewstyle | WireFault::OutOfTurn => Breaker::Sender,
+        WireFault::BadClientFlags | WireFault::CookieInUse | WireFault::BadDisconnect =>
+            Breaker::Client,
+        WireFault::OutOfProfile | WireFault::ExportTooLarge | WireFault::Unfinished =>
+            Breaker::Nobody,
+        _ => Breaker::Server,
+    }
+}
+
+/// The rule that an order with this fault does not keep.
+pub fn order_rule(fault: OrderFault) -> Rule
+    ensures { result.breaker ≡ Order }
+{
+    let breaker = Breaker::Order;
+    let sentence = match fault {
+        OrderFault::NoSuchRequest =>
+            "Each entry of an order names a request by its number, counted from 1.",
+        OrderFault::Twice =>
+            "A request is served either at once, by one entry, or in parts, each by an entry of its own.",
+        OrderFault::Late =>
+            "A request that had not come whole when the reply to another one began was served after that one.",
+        OrderFault::Missing => "A request to which a reply began was served.",
+        OrderFault::BadPart =>
+            "A part has a byte or more, lies in the request's range and in the export, and shares no offset with an earlier part of the request.",
+        OrderFault::NotCovered =>
+            "The parts of a request to which a reply began cover all of its range that lies in the export.",
+    };
+    Rule {
+        breaker,
+        sentence,
+        section: CHOICE,
+    }
+}
+
+/// An image that is no start of the export.
+pub const IMAGE_RULE: Rule = Rule {
+    breaker: Breaker::Image,
+    sentence: "An image has as many bytes as the export.",
+    section: CHOICE,
+};
+
+/// A READ with a wrong byte.
+pub const CONTENT_RULE: Rule = Rule {
+    breaker: Breaker::Server,
+    sentence: "Each byte of a READ that succeeded is the byte that the export held when the READ was served.",
+    section: "proto.md, \"Request types\"",
+};

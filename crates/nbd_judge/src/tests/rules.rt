@@ -1,0 +1,16 @@
+//! Rules in words, and who broke them.
+
+use crate::{Breaker, CONTENT_RULE, IMAGE_RULE, OrderFault, order_rule, wire_rule};
+use nbd_wire::WireFault;
+
+#[test]
+fn rules_with_who_broke_them(rt: HostRuntime) {
+    assert!(rt; wire_rule(WireFault::CookieInUse).section == "proto.md, \"Request message\"");
+    assert!(rt; wire_rule(WireFault::OutOfProfile).breaker == Breaker::Nobody);
+    assert!(rt;
+        order_rule(OrderFault::Twice).sentence
+            == "A request is served either at once, by one entry, or in parts, each by an entry of its own."
+    );
+    assert!(rt; CONTENT_RULE.breaker == Breaker::Server);
+    assert!(rt; IMAGE_RULE.breaker == Breaker::Image);
+}

@@ -1,0 +1,17 @@
+use Rattle.std.proofs.Common.{subst, sym}
+use Rattle.nbd_judge.specs.Beginnings.{initial_of}
+use Rattle.nbd_wire.specs.protocol.Verdicts.{Passes}
+use Rattle.nbd_order.specs.Finding.{IsFound}
+use Rattle.nbd_order.proofs.FoundLemmas.{passes}
+use Rattle.nbd_order.proofs.finding.judged.Goals as goal
+use Rattle.nbd_order.proofs.finding.judged.Goals.{then-eq+then-not-are_whole, else-eq}
+
+pub returns-after-eq-clause-found : goal.returns-after-eq-clause-found
+returns-after-eq-clause-found c =
+    let r = c.args.transcript.now in
+    let s = initial_of c.args.start.now in
+    elim c.if-eq.branch [
+      | then-eq+then-not-are_whole w ↦ subst (λ f. IsFound r s f) (sym w.result-is) c.requires
+      | else-eq w ↦ subst (λ f. IsFound r s f) (sym w.result-is) (subst (λ os. Passes r os s) c.deref.ensures.value
+          (passes r c.deref.result.now s c.in-Yes.requests c.in-Yes.answered c.in-Yes.improper (rw c.in-Yes.is at c.in_ok-verdict_of.ensures)))
+    ]

@@ -1,0 +1,6 @@
+use Rattle.nbd_order.specs.internal.Refutations.{IsNoHelp}
+use Rattle.nbd_order.proofs.NumberLemmas.{EachOf}
+use Rattle.nbd_order.proofs.refutation.Refutation.are_not_helped.Given as goal
+
+abbrev pub invariant-loop-k : goal.invariant-loop-k
+invariant-loop-k l = EachOf (λ k. IsNoHelp l.transcript l.self.offset l.self.changes.items l.w l.byte k) l.self.reads.items l.k-index

@@ -1,0 +1,9 @@
+use Rattle.std.proofs.Common.{ℕ, ◌≤◌, length}
+use Rattle.nbd_order.specs.internal.Refutations.{HelpsNone}
+use Rattle.nbd_order.proofs.refutation.Refutation.covered.Given as goal
+
+abbrev pub invariant-loop-i : goal.invariant-loop-i
+invariant-loop-i l = record {
+  within : l.i ≤ length l.transcript.asked;
+  none : (w : ℕ) → w ≤ l.i → HelpsNone l.transcript l.self.offset l.self.reads.items l.self.changes.items w;
+}

@@ -1,0 +1,72 @@
+//! The explanation of a verdict.
+
+use crate::story::Story;
+use crate::text::Text;
+use nbd_export::Start;
+use nbd_judge::{IMAGE_RULE, Rule, Verdict};
+use nbd_wire::Entry;
+use std::alloc::{AllocError, Global};
+
+/// What an explanation looks at.
+#[derive(Clone, Copy)]
+pub struct Sources<'a> {
+    pub story: &'a Story,
+    pub order: &'a [Entry],
+    /// What the export held at first, where it was kept.
+    pub start: Option<&'a Start>,
+}
+
+impl Story {
+    /// That with an order and a start.
+    pub fn with<'a>(&'a self, order: &'a [Entry], start: Option<&'a Start>) -> Sources<'a> {
+        Sources {
+            story: self,
+            order,
+            start,
+        }
+    }
+}
+
+/// What stands behind the verdict's line: nothing behind a yes.
+pub fn explanation_of(
+    alloc: Global,
+    verdict: &Verdict,
+    sources: Sources<'_>,
+) -> Result<String, AllocError> {
+    Text::new(alloc).verdict(alloc, verdict, sources).finish()
+}
+
+impl Text {
+    fn verdict(self, alloc: Global, verdict: &Verdict, sources: Sources<'_>) -> Text {
+        match verdict {
+            Verdict::Yes { .. } => self,
+            Verdict::Wire { at, fault } => self.wire_fault(alloc, *at, *fault, sources.story),
+            Verdict::Image { image, size } => self.image(*image, *size),
+            Verdict::Order { entry, fault } => self.order_fault(alloc, *entry, *fault, sources),
+            Verdict::Content { request, offset } => self.wrong_byte(
+                alloc, *request, *offset, sources,
+            ),
+        }
+    }
+
+    /// Adds why an image of so many bytes does not fit an export of this size.
+    pub fn image(self, image: u64, size: u64) -> Text {
+        self.rule(&IMAGE_RULE, "the image that was given")
+            .say("sizes: the image has ")
+            .count(image, "byte")
+            .say(", the export ")
+            .count(size, "byte")
+            .say("\n")
+    }
+
+    /// Adds a rule, who broke it, and where it stands.
+    pub fn rule(self, rule: &Rule, breaker: &str) -> Text {
+        self.say("rule: ")
+            .say(rule.sentence)
+            .say("\nbroken by: ")
+            .say(breaker)
+            .say("\nsection: ")
+            .say(rule.section)
+            .say("\n")
+    }
+}

@@ -1,0 +1,144 @@
+//! Which part of its form the data of an option lacks, or that of its reply.
+
+use crate::brief::Brief;
+use crate::story::{Story, Told};
+use crate::text::Text;
+use nbd_wire::{Side, WireFault, answers, head_lengths, infos, options};
+
+/// Data of an option or of its reply, and the place of its first byte.
+#[derive(Clone, Copy)]
+struct Data<'a> {
+    bytes: &'a [u8],
+    first: u64,
+}
+
+impl Story {
+    // What a message of the negotiation has behind a head of this length. No byte of the other side comes between.
+    fn data_of(&self, told: &Told, head: usize) -> Data<'_> {
+        let head = head as u64;
+        let length = told.length.saturating_sub(head);
+        let bytes = self
+            .recording
+            .bytes_from(told.side, told.before.saturating_add(head));
+        Data {
+            bytes: bytes.get(..length as usize).unwrap_or(bytes),
+            first: told.first.saturating_add(head),
+        }
+    }
+}
+
+impl Text {
+    /// Adds which part of its form an option lacks that was granted, or a refused reply to an option.
+    pub fn negotiation_reason(self, fault: WireFault, told: &Told, story: &Story) -> Text {
+        match (fault, &told.brief) {
+            (WireFault::SuccessOfImproper, Brief::Answer(..)) => self.improper_option(
+                story.last_told(Side::Client, None),
+                story,
+            ),
+            (WireFault::BadReplyPayload, Brief::Answer(head, _)) => self.bad_reply(
+                head.kind,
+                story.data_of(told, head_lengths::ANSWER),
+            ),
+            _ => self,
+        }
+    }
+
+    // An option whose data has not its form, and what it lacks.
+    fn improper_option(self, option: Option<&Told>, story: &Story) -> Text {
+        match option {
+            Some(told) => self
+                .told("option: ", told, story)
+                .say("\n")
+                .bad_option(story.option, story.data_of(told, head_lengths::CHOICE)),
+            None => self,
+        }
+    }
+
+    fn bad_option(self, option: u32, data: Data<'_>) -> Text {
+        match option {
+            options::INFO | options::GO => self.bad_name(data).bad_infos(data),
+            _ => self
+                .number(
+                    "wrong: the option has no data, and there is some from byte ",
+                    data.first,
+                )
+                .say(" on\n"),
+        }
+    }
+
+    // A name whose length is not there whole, or passes the end of the data.
+    fn bad_name(self, data: Data<'_>) -> Text {
+        let length = number_in(data.bytes, 0, 4);
+        let behind = (data.bytes.len() as u64).saturating_sub(4);
+        if data.bytes.len() < 4 {
+            self.number(
+                "wrong: the data ends within the length of the name, 4 bytes from byte ",
+                data.first,
+            )
+            .say(" on\n")
+        } else if length > behind {
+            self.number("wrong: at byte ", data.first)
+                .number(" the name has the length ", length)
+                .number(", and the bytes behind that are ", behind)
+                .say("\n")
+        } else {
+            self
+        }
+    }
+
+    // A count of infos that is not there whole, or does not fit the bytes behind it.
+    fn bad_infos(self, data: Data<'_>) -> Text {
+        let name = number_in(data.bytes, 0, 4);
+        let at = name.saturating_add(4);
+        let there = (data.bytes.len() as u64).saturating_sub(at);
+        let count = number_in(data.bytes, at as usize, 2);
+        let place = data.first.saturating_add(at);
+        if (data.bytes.len() as u64) < at {
+            // The name is told as wrong.
+            self
+        } else if there < 2 {
+            self.number(
+                "wrong: the data ends within the count of infos, 2 bytes from byte ",
+                place,
+            )
+            .say(" on\n")
+        } else {
+            self.number("wrong: at byte ", place)
+                .number(" the count of infos is ", count)
+                .say(", of 2 bytes each")
+                .number(", and the bytes behind that are ", there - 2)
+                .say("\n")
+        }
+    }
+
+    fn bad_reply(self, kind: u32, data: Data<'_>) -> Text {
+        match kind {
+            answers::SERVER => self.bad_name(data),
+            answers::INFO => self.wrong(info_reason(data.bytes)),
+            _ => self.wrong(Some("an ACK has no data")),
+        }
+    }
+}
+
+// Why an INFO has not its form.
+fn info_reason(data: &[u8]) -> Option<&'static str> {
+    if data.len() < 2 {
+        return Some("its data is shorter than the kind of an info, which has 2 bytes");
+    }
+    if number_in(data, 0, 2) == u64::from(infos::BLOCK_SIZE) {
+        Some("the data of an info on block sizes has 14 bytes")
+    } else if data.len() != 12 {
+        Some("the data of an info on the export has 12 bytes")
+    } else {
+        Some("the info on the export lacks HAS_FLAGS (0x1)")
+    }
+}
+
+// The number that so many bytes from an index on are; of bytes that are not there all, 0.
+fn number_in(bytes: &[u8], from: usize, length: usize) -> u64 {
+    let mut number = 0u64;
+    for byte in bytes.get(from..from.saturating_add(length)).unwrap_or(&[]) {
+        number = number.wrapping_mul(256).wrapping_add(u64::from(*byte));
+    }
+    number
+}

@@ -1,0 +1,68 @@
+//! The text that is being written.
+
+use std::alloc::{AllocError, Global};
+use std::fmt::Write;
+
+/// A text that grows by what is said. Once memory was refused it stays as it is, and is not handed out.
+#[derive(Drop)]
+pub struct Text {
+    written: String,
+    is_refused: bool,
+}
+
+impl Text {
+    /// One without a word; takes no memory.
+    pub fn new(alloc: Global) -> Text {
+        Text {
+            written: String::new(alloc),
+            is_refused: false,
+        }
+    }
+
+    /// What was said, where there was memory for all of it.
+    pub fn finish(self) -> Result<String, AllocError> {
+        if self.is_refused {
+            Err(AllocError)
+        } else {
+            Ok(self.written)
+        }
+    }
+
+    /// Memory was refused for what it would say next.
+    pub fn refused(mut self) -> Text {
+        self.is_refused = true;
+        self
+    }
+
+    /// Adds words.
+    pub fn say(mut self, words: &str) -> Text {
+        if !self.is_refused {
+            self.is_refused = self.written.push_str(words).is_err();
+        }
+        self
+    }
+
+    /// Adds words and a number.
+    pub fn number(mut self, words: &str, number: u64) -> Text {
+        if !self.is_refused {
+            self.is_refused = write!(self.written, "{words}{number}").is_err();
+        }
+        self
+    }
+
+    /// Adds words and a number in hexadecimal: `0x2a`.
+    pub fn hex(mut self, words: &str, number: u64) -> Text {
+        if !self.is_refused {
+            self.is_refused = write!(self.written, "{words}{number:#x}").is_err();
+        }
+        self
+    }
+
+    /// Adds words and a byte in two hexadecimal digits: `0a`.
+    pub fn byte(mut self, words: &str, byte: u8) -> Text {
+        if !self.is_refused {
+            self.is_refused = write!(self.written, "{words}{byte:02x}").is_err();
+        }
+        self
+    }
+}

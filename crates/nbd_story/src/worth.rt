@@ -1,0 +1,57 @@
+//! What the answer of a search is worth.
+
+use crate::text::Text;
+use nbd_wire::Entry;
+
+impl Text {
+    /// Adds what an order is worth that was found.
+    pub fn found(self, order: &[Entry]) -> Text {
+        self.number("entries: ", order.len() as u64)
+            .number(", of which ", count_of_parts(order))
+            .say(
+                " are parts\n\
+                shows: some order explains the session, not that the server kept it\n\
+                misses: of generated sessions in which one READ returned a stale value another order explained 3, 13 and 33 % \
+                at 4, 16 and 64 requests outstanding, on an export of 1 KiB\n\
+                stronger: an order that the server logged\n",
+            )
+            .assumed()
+    }
+
+    /// Adds on what an answer without an order rests.
+    pub fn assumed(self) -> Text {
+        self.say(
+            "assumes: the start is right, this is the only connection, a request takes effect before its first reply\n",
+        )
+    }
+
+    /// Adds on what an answer about an order that was given rests.
+    pub fn assumed_of_order(self) -> Text {
+        self.say("assumes: the start is right, this is the only connection\n")
+    }
+
+    /// Adds what a search is worth that was broken off.
+    pub fn open(self) -> Text {
+        self.say(
+            "open: this was searched and not proved, so it is neither a yes nor a no\n\
+            stronger: an order that the server logged\n",
+        )
+    }
+
+    /// Adds how the search goes further: this option gives it more.
+    pub fn further(self, option: &str) -> Text {
+        self.say("further: 'nbdcheck order' with the same words and more ")
+            .say(option)
+            .say("\n")
+    }
+}
+
+fn count_of_parts(order: &[Entry]) -> u64 {
+    let mut count = 0u64;
+    for entry in order {
+        if entry.part.is_some() {
+            count = count.saturating_add(1);
+        }
+    }
+    count
+}

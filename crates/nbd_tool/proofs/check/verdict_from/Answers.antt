@@ -1,0 +1,14 @@
+use Rattle.std.proofs.Common.{subst}
+use Rattle.nbd_tool.specs.Beginnings.{IsReadAs, room_in}
+use Rattle.nbd_tool.proofs.check.verdict_from.Goals as goal
+
+pub returns-clause-verdict : goal.returns-clause-verdict
+returns-clause-verdict g c =
+    let begun = c.in_ok-start.ensures.read in
+    let is_read : IsReadAs (room_in c.args.finished) begun.initial c.in_ok-start.start = subst (λ n. IsReadAs n begun.initial c.in_ok-start.start) c.room_of.ensures begun.is_read in
+    record {
+      initial = begun.initial;
+      is_known = begun.is_known;
+      is_conclusion = c.in_ok-conclude_from.ensures.verdict begun.initial is_read;
+      answers = λ items is_run reported. c.in_ok-conclude_from.ensures.answers begun.initial items is_read is_run reported;
+    }

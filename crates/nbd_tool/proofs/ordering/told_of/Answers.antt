@@ -1,0 +1,7 @@
+use Rattle.std.proofs.Common.{IfOk, subst, sym}
+use Rattle.nbd_tool.specs.internal.Outcomes.{IsToldOf}
+use Rattle.nbd_tool.proofs.ordering.told_of.Goals as goal
+
+pub returns-in-Ok : goal.returns-in-Ok
+returns-in-Ok c =
+    subst (λ finished. IfOk c.told_of_report.result (λ told. IsToldOf c.args.start c.args.scope.wanted finished told.1 told.0.bytes.items)) (sym c.in-Ok.is) c.told_of_report.ensures

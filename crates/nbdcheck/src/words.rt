@@ -1,0 +1,288 @@
+//! The words of the command line: which there are, what help says of them, and how clap gets them.
+
+use clap::{Arg, ArgAction, Command};
+use std::alloc::{AllocError, Global};
+
+// A command.
+#[derive(Clone, Copy)]
+struct Told {
+    name: &'static str,
+    about: &'static str,
+    help: &'static str,
+    words: &'static [Word],
+}
+
+// A word behind a command.
+#[derive(Clone, Copy)]
+struct Word {
+    name: &'static str,
+    form: Form,
+    help: &'static str,
+    // The words beside which it has no meaning.
+    excludes: &'static [&'static str],
+}
+
+// What stands for a word.
+#[derive(Clone, Copy)]
+enum Form {
+    // The name of a file, which may be left out or not.
+    File { is_required: bool },
+    // An option alone.
+    Flag,
+    // An option and a number.
+    Number,
+    // The option that names the start.
+    Start,
+}
+
+const CAPTURE: Word = Word {
+    name: "CAPTURE",
+    form: Form::File { is_required: true },
+    help: "The file of the capture text",
+    excludes: &[],
+};
+
+const ORDER: Word = Word {
+    name: "ORDER",
+    form: Form::File { is_required: true },
+    help: "The file of the order text",
+    excludes: &[],
+};
+
+const ORDER_IF_ANY: Word = Word {
+    name: "ORDER",
+    form: Form::File { is_required: false },
+    help: "The file of the order text",
+    excludes: &[],
+};
+
+const START: Word = Word {
+    name: "start",
+    form: Form::Start,
+    help: "What the export held at first: unknown, zero or image:PATH",
+    excludes: &[],
+};
+
+const WHOLE: Word = Word {
+    name: "whole",
+    form: Form::Flag,
+    help: "Only an order that serves each request at once",
+    excludes: &[],
+};
+
+const ARRIVAL: Word = Word {
+    name: "arrival",
+    form: Form::Flag,
+    help: "The order in which the requests came",
+    excludes: &["start", "whole", "states", "steps"],
+};
+
+const STATES: Word = Word {
+    name: "states",
+    form: Form::Number,
+    help: "How many states the search may hold for one range, 5000 where not said",
+    excludes: &[],
+};
+
+const STEPS: Word = Word {
+    name: "steps",
+    form: Form::Number,
+    help: "How many steps the search may take, 10^9 where not said",
+    excludes: &[],
+};
+
+const NAMES: Word = Word {
+    name: "names",
+    form: Form::Flag,
+    help: "Tells the messages in words",
+    excludes: &[],
+};
+
+const SCRIPT: Word = Word {
+    name: "SCRIPT",
+    form: Form::File { is_required: true },
+    help: "The file of the script",
+    excludes: &[],
+};
+
+const COMMANDS: &[Told] = &[
+    Told {
+        name: "check",
+        about: "Did both ends keep the protocol, and did every read return the right bytes?",
+        help: CHECK_HELP,
+        words: &[CAPTURE, ORDER, START],
+    },
+    Told {
+        name: "explain",
+        about: "Why is the answer no?",
+        help: EXPLAIN_HELP,
+        words: &[CAPTURE, ORDER_IF_ANY, START],
+    },
+    Told {
+        name: "order",
+        about: "Finds an order of service that explains a capture",
+        help: ORDER_HELP,
+        words: &[CAPTURE, START, WHOLE, ARRIVAL, STATES, STEPS],
+    },
+    Told {
+        name: "show",
+        about: "Which messages does a capture hold?",
+        help: SHOW_HELP,
+        words: &[CAPTURE, NAMES],
+    },
+    Told {
+        name: "make",
+        about: "Makes a capture of the messages of a script",
+        help: MAKE_HELP,
+        words: &[SCRIPT],
+    },
+];
+
+const CHECK_HELP: &str = "\
+Example:
+  nbdcheck check session.cap session.ord --start zero
+
+CAPTURE has a line for each recorded piece, 'C' or 'S' for its sender, a space and hexadecimal
+digits. ORDER has a line for each service, in their order: 'k' where request k was served at once,
+'k offset length' where a part of it was, which has so many bytes from this offset of the export on.
+START is what the export held at first: unknown bytes, zeroes, or the bytes of a file.
+
+Exit status:
+  0  yes
+  1  no: the line says where and why
+  2  the command line has no form
+  3  an input could not be read or is not well formed, or the output could not be written
+  4  out of memory";
+
+const EXPLAIN_HELP: &str = "\
+Example:
+  nbdcheck explain session.cap session.ord --start zero
+
+Prints the line of 'nbdcheck check', and after a no what an author needs to mend the program: the rule,
+who broke it and where it stands; the message with its first and last byte, counted from 1 over both
+sides; of a wrong byte which one was expected, and which entry of ORDER wrote it; of an order its
+entries, and what is wrong with a part; and the bytes round the place, which stands in brackets.
+Without ORDER it looks for one, as 'nbdcheck order' does:
+  nbdcheck explain session.cap --start zero
+Of an order that it finds it prints the line of 'nbdcheck check', and what such a yes is worth; where no
+order explains the session, which reads show it at which offset, and what they could have read there.
+
+Exit status:
+  0  yes
+  1  no: the lines say where and why
+  2  the command line has no form
+  3  an input could not be read or is not well formed, or the output could not be written
+  4  out of memory
+  5  without ORDER: the search gave up, and nothing is proved";
+
+const ORDER_HELP: &str = "\
+Example:
+  nbdcheck order session.cap --start zero > session.ord
+
+Looks for an order in which the server can have carried out the requests so that each read was right,
+and prints it: a line 'k' for request k, or 'k offset length' for a part of it. It is judged as
+'nbdcheck check' judges it before it is printed. It may not be the order that the server took: a wrong
+byte that is an older one may be right in another order. So where the server can log its order, check
+that one.
+It serves requests in parts only where its way of searching found no other; with --whole no such order
+is printed. That no order explains the session is proved, and told by reads of which each order has one
+wrong at an offset. With --arrival the numbers of the requests in the order in which they came are
+printed, unjudged: the order of a server that takes one request after the other.
+
+Exit status:
+  0  an order was printed
+  1  no order explains the session: the line says why
+  2  the command line has no form
+  3  an input could not be read or is not well formed, or the output could not be written
+  4  out of memory
+  5  the search gave up: the line says where; or none was found of whole requests. Nothing is proved";
+
+const SHOW_HELP: &str = "\
+Example:
+  nbdcheck show session.cap
+
+Prints a line for each message, in the order in which they were complete:
+  C request flags=0 command=0 cookie=1 offset=0 length=4 payload=
+Then comes 'ok', or 'no at byte' with the place and the name of the rule that was broken there.
+The message lines are a script for 'nbdcheck make', with or without the 'ok'.
+With --names each message is told in words, and each request with what became of it:
+  C READ #1, cookie 0x1, 4 bytes at 0: success
+
+Exit status:
+  0  ok
+  1  no: the last line says where and why
+  2  the command line has no form
+  3  the capture could not be read or is not well formed, or the output could not be written
+  4  out of memory";
+
+const MAKE_HELP: &str = "\
+Example:
+  nbdcheck make session.script > session.cap
+
+SCRIPT has a line for each message, as 'nbdcheck show' prints it:
+  C request flags=0 command=0 cookie=1 offset=0 length=4 payload=
+Empty lines, lines that begin with '#' and lines that are exactly 'ok' are skipped.
+The capture has one line for each message.
+
+Exit status:
+  0  the whole capture was written
+  2  the command line has no form
+  3  the script could not be read or is not well formed, or the output could not be written
+  4  out of memory";
+
+/// The command line: the program's commands with their words.
+pub fn command<'a>(alloc: Global) -> Result<Command<'a>, AllocError> {
+    let mut command = Command::new(alloc, "nbdcheck")
+        .about("Checks recorded sessions between an NBD client and an NBD server")
+        .version("0.1.0")
+        .subcommand_required(true);
+    for told in COMMANDS {
+        command = with_command(command, with_words(alloc, *told))?;
+    }
+    Ok(command)
+}
+
+// The command with one of its own.
+fn with_command<'a>(
+    command: Command<'a>,
+    other: Result<Command<'a>, AllocError>,
+) -> Result<Command<'a>, AllocError> {
+    command.subcommand(other?)
+}
+
+// A command with its words.
+fn with_words<'a>(alloc: Global, told: Told) -> Result<Command<'a>, AllocError> {
+    let mut command = Command::new(alloc, told.name)
+        .about(told.about)
+        .after_help(told.help);
+    for word in told.words {
+        command = with_word(command, argument(alloc, *word))?;
+    }
+    Ok(command)
+}
+
+// The command with one more word.
+fn with_word<'a>(
+    command: Command<'a>,
+    argument: Result<Arg<'a>, AllocError>,
+) -> Result<Command<'a>, AllocError> {
+    command.arg(argument?)
+}
+
+// A word as clap takes it.
+fn argument<'a>(alloc: Global, word: Word) -> Result<Arg<'a>, AllocError> {
+    formed(Arg::new(alloc, word.name).help(word.help), word).conflicts_with_all(word.excludes)
+}
+
+// The argument in the form of its word.
+fn formed<'a>(argument: Arg<'a>, word: Word) -> Arg<'a> {
+    match word.form {
+        Form::File { is_required } => argument.required(is_required),
+        Form::Flag => argument.long(word.name).action(ArgAction::SetTrue),
+        Form::Number => argument.long(word.name).value_name("NUMBER"),
+        Form::Start => argument
+            .long(word.name)
+            .value_name("START")
+            .default_value("unknown"),
+    }
+}

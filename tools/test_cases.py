@@ -1,0 +1,138 @@
+"""Sessions as data, in cases/, with the answer that the protocol's rules want. Of `check`: a capture, an order, a start, and
+the line. Of `show` and `make`: a capture or a script, and the lines or the fault.
+
+Each capture is run as it stands, as records of one byte, as the longest records of one side, and with empty records; the
+answers are the same.
+"""
+
+from built import Ended, Room, Tally
+from cases import (
+    bad_lines, chunks, contents, damaged, infos, large_exports, large_numbers, makes, negotiation, offers, orders, parts,
+    pieces, refused_negotiation, shows, transmission, verdicts,
+)
+from cases.messages import BEGUN, READ_1
+from messages import damaged as inverted
+from messages import front, longest_runs, one_by_one, records_of, text
+
+TABLES = (
+    chunks, contents, infos, large_exports, large_numbers, negotiation, orders, parts, pieces, refused_negotiation,
+    transmission, verdicts,
+)
+# A READ of one byte with the cookie 9, and its reply.
+ONE_MORE_READ = "C 25609513000000000000000000000009000000000000000000000001\nS 6744669800000000000000000000000900\n"
+
+
+def joined(parts):
+    return "".join(parts).encode()
+
+
+def with_empty_records(records):
+    """The same with a record without bytes of each side before each record, and after all."""
+    between = [("C", b""), ("S", b"")]
+    return [it for record in records for it in (*between, record)] + [("S", b"")]
+
+
+def forms(capture):
+    """The same bytes in other records, by the name of the form."""
+    records = records_of(capture)
+    return {
+        "": capture,
+        ", byte by byte": text(one_by_one(records)),
+        ", as longest runs": text(longest_runs(records)),
+        ", with empty records": text(with_empty_records(records)),
+    }
+
+
+def ended(line):
+    """A run that answers this line, or has this fault."""
+    if line.startswith("fault"):
+        return Ended(3, b"", line.encode())
+    return Ended(0 if line.startswith("yes") else 1, line.encode(), b"")
+
+
+def try_case(tally, room, case, capture):
+    start = case.start if isinstance(case.start, str) else f"image:{room.put('image', case.start)}"
+    for form, data in forms(capture).items():
+        tally.want(f"{case.name}{form}", room.check(data, case.order.encode(), start), ended(case.want))
+
+
+def checks(tally, room):
+    """Each case of a refused session is also tried with a READ and its reply behind what refused it."""
+    for table in TABLES:
+        for case in table.CASES + table.REFUSED:
+            try_case(tally, room, case, joined(case.capture))
+        for case in table.REFUSED:
+            longer = case._replace(name=f"{case.name}, and one more READ")
+            try_case(tally, room, longer, joined([*case.capture, ONE_MORE_READ]))
+
+
+def malformed(tally, room):
+    for capture, order, fault in bad_lines.BAD_LINES:
+        tally.want(f"{capture!r} {order!r}", room.check(capture.encode(), order.encode()), ended(fault))
+
+
+def proper_requests(tally, room):
+    for name, capture, is_proper in offers.offers():
+        line = f"yes requests 1 answered 1 improper {0 if is_proper else 1}\n"
+        tally.want(name, room.check(joined(capture), b"1\n"), ended(line))
+
+
+def cut_sessions(tally, room):
+    records = records_of(joined(damaged.SESSION))
+    for count in range(191):
+        is_open = damaged.ORDER, f"no at byte {count}: Unfinished\n"
+        order, line, whole = damaged.ENDS.get(count, (*is_open, is_open[1]))
+        for form, data in forms(text(front(records, count))).items():
+            for entries, wanted in ((order, line), (damaged.ORDER, whole)):
+                tally.want(f"{count} bytes{form}", room.check(data, entries.encode()), ended(wanted))
+
+
+def damaged_sessions(tally, room):
+    records = records_of(joined(damaged.SESSION))
+    for place, line in damaged.DAMAGED.items():
+        for form, data in forms(text(inverted(records, place - 1))).items():
+            tally.want(f"byte {place} damaged{form}", room.check(data, damaged.ORDER.encode()), ended(line))
+
+
+def shown_lines(tally, room):
+    for status, cases in ((0, shows.ACCEPTED), (1, shows.REFUSED)):
+        for case in cases:
+            for form, data in forms(joined(case.capture)).items():
+                tally.want(f"{case.name}{form}", room.show(data), Ended(status, joined(case.want), b""))
+    for behind, fault in shows.BAD_TEXTS:
+        tally.want(f"show of {behind!r}", room.show(joined([BEGUN, behind])), Ended(3, b"", fault.encode()))
+
+
+def made_captures(tally, room):
+    for script, capture in makes.MADE:
+        tally.want(f"make of {script!r}", room.make(script.encode()), Ended(0, capture.encode(), b""))
+    for script, fault in makes.BAD_SCRIPTS:
+        tally.want(f"make of {script!r}", room.make(script.encode()), Ended(3, b"", fault.encode()))
+    tally.want("make of one record a message", room.make(room.show(BEGUN.encode()).out), Ended(0, BEGUN.encode(), b""))
+    refused = room.show(joined([BEGUN, READ_1, READ_1])).out
+    tally.want("make of a refusal", room.make(refused), Ended(3, b"", b"fault script line 7\n"))
+
+
+def made_again(tally, room):
+    """What is made of the lines of a session is the session."""
+    for session in makes.SESSIONS:
+        capture = joined(session)
+        shown = room.show(capture)
+        tally.want(f"show of {session}", (shown.status, shown.out[-3:], shown.err), (0, b"ok\n", b""))
+        made = room.make(shown.out)
+        bytes_of = [one_by_one(records_of(it)) for it in (made.out, capture)]
+        tally.want(f"make of what was shown of {session}", (made.status, made.err, bytes_of[0]), (0, b"", bytes_of[1]))
+
+
+def run(tally):
+    with Room() as room:
+        for part in (checks, malformed, proper_requests, cut_sessions, damaged_sessions):
+            part(tally, room)
+        for part in (shown_lines, made_captures, made_again):
+            part(tally, room)
+
+
+if __name__ == "__main__":
+    told = Tally()
+    run(told)
+    print(f"{told.passed} passed, {told.failed} failed")
