@@ -229,7 +229,7 @@ GRANTED = {
 NAMED = [
     *begun(structured=True)[:-3], option(99), answer(99, 0x80000001, b"what?"), *begun(structured=True)[-3:], write(1, 0, b"\xab\xcd"),
     simple(1), request(FLUSH, 2, 0, 0), simple(2), read(3, 0, 4), content(3, 0, b"\xab\xcd"), hole(3, 2, 2), done(3), read(4, 8, 1),
-    chunk(4, 0x8001, b"\0\0\0\x16\0\0", flags=1), request(9, 5, 0, 0, flags=1), simple(5, error=75), read(0x2A, 4, 4),
+    chunk(4, 0x8001, b"\0\0\0\x16\0\0", flags=1), request(9, 5, 0, 0, flags=0x8001), simple(5, error=75), read(0x2A, 4, 4),
     request(DISC, 0, 0, 0),
 ]
 NAMES = """\
@@ -253,7 +253,7 @@ S chunk to READ #3, cookie 0x3: NBD_REPLY_TYPE_OFFSET_HOLE (2), 12 bytes of payl
 S chunk to READ #3, cookie 0x3: NBD_REPLY_TYPE_NONE (0), 0 bytes of payload, DONE (0x1)
 C READ #4, cookie 0x4, 1 byte at 8: failure, EINVAL (22)
 S chunk to READ #4, cookie 0x4: NBD_REPLY_TYPE_ERROR (32769), 6 bytes of payload, EINVAL (22), DONE (0x1)
-C command 9 #5, cookie 0x5, FUA (0x1): failure, EOVERFLOW (75)
+C command 9 #5, cookie 0x5, FUA (0x8001): failure, EOVERFLOW (75)
 S simple reply to command 9 #5, cookie 0x5: EOVERFLOW (75)
 C READ #6, cookie 0x2a, 4 bytes at 4: pending
 C DISC
