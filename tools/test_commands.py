@@ -3,6 +3,7 @@
 import os
 import pty
 import subprocess
+import time
 
 from built import PROGRAM, TOP, Ended, Room, Tally
 from messages import begun, read, records_of, simple, text, write
@@ -277,9 +278,37 @@ def memory(tally, room):
     tally.want("an image of 256 MiB in 24 MiB", found, Ended(1, f"no image {size} size 8\n".encode(), b""))
 
 
+def images(tally, room):
+    """Images of other sizes than the export's: a regular file's size is asked for, a pipe is read; none has more than 2^40 bytes."""
+    capture, order, image = room.put("capture", CAPTURE), room.put("order", b"1\n"), room.path("image")
+    refused = room.put("refused", b"S 00\n")
+    for size in (7, 9, 20 << 30, 1 << 40, (1 << 40) + 1):
+        # What may have so large a file depends on the folder's file system.
+        try:
+            with open(image, "wb") as file:
+                file.truncate(size)
+        except OSError:
+            continue
+        answer, start = Ended(1, f"no image {size} size 8\n".encode(), b""), ("--start", f"image:{image}")
+        unfinished = Ended(1, b"no at byte 1: Unfinished\n", b"")
+        if size > 1 << 40:
+            answer = unfinished = fault("image read")
+        began = time.monotonic()
+        tally.want(f"check, an image of {size} bytes", room.run("check", capture, order, *start), answer)
+        tally.want(f"order, an image of {size} bytes", room.run("order", capture, *start), answer)
+        explained = room.run("explain", capture, order, *start)
+        tally.want(f"explain, an image of {size} bytes", (explained.status, explained.out[: len(answer.out)], explained.err), answer)
+        tally.want(f"refused, an image of {size} bytes", room.run("check", refused, order, *start), unfinished)
+        tally.holds(f"an image of {size} bytes is not read", time.monotonic() - began < 5)
+    os.mkfifo(room.path("fifo"))
+    with subprocess.Popen(["/bin/sh", "-c", 'head -c 100000 /dev/zero > "$1"', "sh", room.path("fifo")]):
+        found = room.run("check", capture, order, "--start", f"image:{room.path('fifo')}")
+        tally.want("an image from a pipe", found, Ended(1, b"no image 100000 size 8\n", b""))
+
+
 def run(tally):
     with Room() as room:
-        for part in (examples, words, starts, lines, files, outputs, terminals, hints, memory):
+        for part in (examples, words, starts, lines, files, outputs, terminals, hints, memory, images):
             part(tally, room)
 
 

@@ -18,7 +18,8 @@ use nbd_search::{Limits, Progress};
 use nbd_session::{Session, SessionFault, Transcript};
 use nbd_story::Story;
 use nbd_tool::{
-    Beginning, RunFault, StartFrom, conclude_from, read_order, read_start, room_of, session_over,
+    Beginning, Measured, RunFault, StartFrom, conclude_from, read_order, read_start, room_of,
+    session_over,
 };
 use nbd_wire::Entry;
 use std::alloc::Global;
@@ -31,7 +32,7 @@ use std::io::{BufRead, Read, Write};
 ///
 /// Nothing is written unless all were read whole and are well formed. After `Write` some of it may stand written. A
 /// long search says on `progress` how far it is.
-pub fn run_explain<C: BufRead + Drop, O: Read + Drop, I: Read + Drop, W: Write>(
+pub fn run_explain<C: BufRead + Drop, O: Read + Drop, I: Measured + Drop, W: Write>(
     alloc: Global,
     capture: C,
     order: Option<O>,
@@ -58,7 +59,7 @@ pub fn run_explain<C: BufRead + Drop, O: Read + Drop, I: Read + Drop, W: Write>(
 }
 
 // With an order: the verdict.
-fn explain_verdict<O: Read + Drop, I: Read + Drop, W: Write>(
+fn explain_verdict<O: Read + Drop, I: Measured + Drop, W: Write>(
     alloc: Global,
     session: Session,
     story: &mut Story,
@@ -79,7 +80,7 @@ fn explain_verdict<O: Read + Drop, I: Read + Drop, W: Write>(
 }
 
 // The verdict on the entries of an order.
-fn explain_entries<I: Read + Drop, W: Write>(
+fn explain_entries<I: Measured + Drop, W: Write>(
     alloc: Global,
     session: Session,
     story: &mut Story,

@@ -21,15 +21,15 @@ use nbd_search::{Limits, Progress};
 use nbd_session::{Session, SessionFault, Transcript};
 use nbd_story::Story;
 use nbd_tool::{
-    Beginning, Line, RunFault, StartFrom, conclude_from, find_order, found_text_of, read_start,
-    room_of,
+    Beginning, Line, Measured, RunFault, StartFrom, conclude_from, find_order, found_text_of,
+    read_start, room_of,
 };
 use std::alloc::{AllocError, Global};
-use std::io::{Read, Write};
+use std::io::Write;
 
 /// Looks for an order that explains a session from this start, and writes the line of what it came to and what that
 /// says; of a session that was refused the verdict's line and why.
-pub fn explain_by_search<I: Read + Drop, W: Write>(
+pub fn explain_by_search<I: Measured + Drop, W: Write>(
     alloc: Global,
     session: Session,
     story: &mut Story,

@@ -11,7 +11,7 @@ use crate::capture::{Unseen, session_over};
 use crate::concluding::conclude_from;
 use crate::fault::RunFault;
 use crate::input::{ReadFault, read_whole};
-use crate::start::{StartFrom, read_start, room_of};
+use crate::start::{Measured, StartFrom, read_start, room_of};
 use crate::verdict::write_verdict;
 use nbd_capture::parse_order;
 use nbd_judge::Verdict;
@@ -26,7 +26,7 @@ use std::io::{BufRead, Read, Write};
 /// The capture is read first, to its end, then the order, then the image; a fault of a text or of its
 /// reader is answered before any verdict, out of memory at once. Nothing is written unless all were read whole and are well formed. After
 /// `Write` a prefix of the line stands written.
-pub fn run_check<C: BufRead + Drop, O: Read + Drop, I: Read + Drop, W: Write>(
+pub fn run_check<C: BufRead + Drop, O: Read + Drop, I: Measured + Drop, W: Write>(
     alloc: Global,
     capture: C,
     mut order: O,
@@ -51,7 +51,7 @@ pub fn run_check<C: BufRead + Drop, O: Read + Drop, I: Read + Drop, W: Write>(
 }
 
 // The verdict on a finished session, from the order and the image that are read.
-fn verdict_over<O: Read, I: Read + Drop>(
+fn verdict_over<O: Read, I: Measured + Drop>(
     alloc: Global,
     finished: Result<Transcript, SessionFault>,
     order: &mut O,
@@ -70,7 +70,7 @@ fn verdict_over<O: Read, I: Read + Drop>(
 }
 
 // The verdict on a finished session and an order, from the image that is read.
-fn verdict_from<I: Read + Drop>(
+fn verdict_from<I: Measured + Drop>(
     alloc: Global,
     finished: Result<Transcript, SessionFault>,
     order: &[Entry],

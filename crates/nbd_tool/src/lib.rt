@@ -29,5 +29,5 @@ pub use make::run_make;
 pub use opening::{Inputs, Opener, open_inputs, open_start};
 pub use ordering::{Ordered, find_order, found_text_of, order_status, run_order};
 pub use show::{run_show, write_end};
-pub use start::{Beginning, StartFrom, read_start, room_of};
+pub use start::{Beginning, Measured, StartFrom, read_start, room_of};
 pub use verdict::{Line, is_yes};

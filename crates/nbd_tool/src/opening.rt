@@ -5,14 +5,13 @@ ghost use Rattle.nbd_tool.specs.Opening.{AsksFor, HasPath, IsAt, IsOpeningCause,
 
 use crate::command_line::StartWord;
 use crate::fault::RunFault;
-use crate::start::StartFrom;
+use crate::start::{Measured, StartFrom};
 use std::io;
-use std::io::Read;
 
 /// What opens files by their paths.
 pub trait Opener {
     /// An opened file.
-    type Input: Read + Drop;
+    type Input: Measured + Drop;
 
     /// The paths that it was asked for, in their order, where it tells them.
     ghost asked: { Self → Option (List (List ℕ)) } = { λ _. None };

@@ -21,7 +21,7 @@ ghost use Rattle.nbd_tool.specs.internal.Outcomes.{IsToldFrom, IsToldOf};
 
 use crate::capture::{Unseen, session_over};
 use crate::fault::RunFault;
-use crate::start::{Beginning, StartFrom, read_start, room_of};
+use crate::start::{Beginning, Measured, StartFrom, read_start, room_of};
 use crate::verdict::{Line, line_of};
 use nbd_capture::write_whole;
 use nbd_judge::Verdict;
@@ -30,7 +30,7 @@ use nbd_search::{Progress, Reason};
 use nbd_session::{SessionFault, Transcript};
 use nbd_wire::Entry;
 use std::alloc::{AllocError, Global};
-use std::io::{BufRead, Read, Write};
+use std::io::{BufRead, Write};
 
 /// What a run of `order` came to.
 #[derive(Clone, Copy, PartialEq, Eq, Drop)]
@@ -60,7 +60,7 @@ pub fn order_status(answer: &Result<Ordered, RunFault>) -> u8
 ///
 /// Nothing is written unless all were read whole and are well formed. After `Write` some of it may stand written. A long search
 /// says on `progress` how far it is.
-pub fn run_order<C: BufRead + Drop, I: Read + Drop, W: Write>(
+pub fn run_order<C: BufRead + Drop, I: Measured + Drop, W: Write>(
     alloc: Global,
     capture: C,
     start: StartFrom<I>,
@@ -92,7 +92,7 @@ fn write_told<W: Write>(told: (String, Ordered), out: &mut W) -> Result<Ordered,
 }
 
 // What is written of a finished session from the start that is read, and the answer.
-fn told_over<I: Read + Drop>(
+fn told_over<I: Measured + Drop>(
     alloc: Global,
     finished: Result<Transcript, SessionFault>,
     start: StartFrom<I>,

@@ -1,6 +1,6 @@
 //! What the export held when the session began.
 
-ghost use Rattle.std.specs.Prelude.{◌≡◌, ◌⊎◌, ◌<◌, ℕ, IfErr, IfOk, IfSome, Ok, OnOk};
+ghost use Rattle.std.specs.Prelude.{◌≡◌, ◌⊎◌, ◌<◌, ℕ, IfErr, IfOk, IfSome, Ok, OnOk, length};
 ghost use Rattle.nbd_tool.specs.declared.fault.RunFault.TheVariants.{ImageRead, Memory};
 ghost use Rattle.nbd_tool.specs.declared.input.Text.TheVariants.{Longer};
 ghost use Rattle.nbd_tool.specs.Beginnings.{IsBeginningOf, room_in};
@@ -8,11 +8,36 @@ ghost use Rattle.nbd_tool.specs.Starts.{HasImage, IsStartWithinLimit, IsWithinLi
 ghost use Rattle.nbd_tool.specs.internal.Texts.{IsText};
 
 use crate::fault::RunFault;
-use crate::input::{ReadFault, Text, read_within};
+use crate::input::{READ_LIMIT, ReadFault, Text, read_within};
 use nbd_export::Start;
 use nbd_session::{SessionFault, Transcript};
 use std::alloc::Global;
-use std::io::Read;
+use std::fs::File;
+use std::io::{Read, Seek};
+
+/// A reader of an image, which may know how many bytes it has.
+pub trait Measured: Read {
+    /// How many bytes are left to read, where that is known before they are read.
+    fn bytes_left(&self) -> Option<u64>
+        ensures { IfSome result (λ n. IfSome (Self.remaining self.now) (λ bytes. n ≡ length bytes)) };
+}
+
+/// What the file system tells: of a regular file its size, less what was read of it, and of another nothing.
+impl Measured for File {
+    fn bytes_left(&self) -> Option<u64> {
+        let (metadata, mut file) = (self.metadata().ok()?, self);
+        let behind = file.stream_position().ok()?;
+        metadata
+            .is_file()
+            .then_some(metadata.len().saturating_sub(behind))
+    }
+}
+
+impl Measured for &[u8] {
+    fn bytes_left(&self) -> Option<u64> {
+        Some(self.len() as u64)
+    }
+}
 
 /// What the export held when the session began, an image as the reader of its bytes.
 #[derive(Drop)]
@@ -48,8 +73,9 @@ pub fn room_of(finished: &Result<Transcript, SessionFault>) -> u64
     }
 }
 
-/// Reads an image to its end, if there is one, and keeps it where it has no more than `room` bytes.
-pub fn read_start<I: Read + Drop>(
+/// Reads an image to its end, if there is one, and keeps it where it has no more than `room` bytes. One that is known to have more
+/// is not read.
+pub fn read_start<I: Measured + Drop>(
     alloc: Global,
     start: StartFrom<I>,
     room: u64,
@@ -69,15 +95,19 @@ pub fn read_start<I: Read + Drop>(
 }
 
 // The bytes of an image, or how many they are.
-fn read_image<I: Read>(alloc: Global, image: &mut I, room: u64) -> Result<Text, RunFault>
+fn read_image<I: Measured>(alloc: Global, image: &mut I, room: u64) -> Result<Text, RunFault>
     ensures read { IfOk result (λ text. IfSome (I.remaining image.old) (IsText room text)) }
     ensures longer { (n : ℕ) → result ≡ Ok (Longer n) → room < n }
     ensures limited { OnOk result (IsWithinLimit (I.remaining image.old)) }
     ensures cause { IfErr result (λ fault. (fault ≡ ImageRead) ⊎ (fault ≡ Memory)) }
 {
-    match read_within(alloc, image, room) {
-        Ok(text) => Ok(text),
-        Err(ReadFault::Read) => Err(RunFault::ImageRead),
-        Err(ReadFault::Memory) => Err(RunFault::Memory),
+    match image.bytes_left() {
+        Some(count) if count > READ_LIMIT as u64 => Err(RunFault::ImageRead),
+        Some(count) if count > room => Ok(Text::Longer(count)),
+        _ => match read_within(alloc, image, room) {
+            Ok(text) => Ok(text),
+            Err(ReadFault::Read) => Err(RunFault::ImageRead),
+            Err(ReadFault::Memory) => Err(RunFault::Memory),
+        },
     }
 }

@@ -2,7 +2,7 @@
 
 use crate::check::run_check;
 use crate::fault::RunFault;
-use crate::start::StartFrom;
+use crate::start::{Measured, StartFrom};
 use std::io::{BufReader, Error, ErrorKind, Read, Result, Write};
 use std::test::Fail;
 
@@ -22,6 +22,12 @@ impl Read for Failing<'_> {
             return Err(Error::from(self.kind));
         }
         self.bytes.read(buf)
+    }
+}
+
+impl Measured for Failing<'_> {
+    fn bytes_left(&self) -> Option<u64> {
+        None
     }
 }
 
