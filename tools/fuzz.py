@@ -1,78 +1,110 @@
 #!/usr/bin/env python3
-"""Runs the built program on sessions with random mistakes, for so many seconds.
+"""Runs each command of the built program in turn on sessions with random mistakes, so many of them.
 
-The sessions are those of examples/ and of the tests. Mistakes are made in the text (digits, sides, line ends, cuts) and in
-the messages, by way of `show` and `make` (messages dropped, doubled, swapped, fields changed). Of every run is asked: an
-exit status that the command has, and output of its form; the same answer as it stands, as records of one byte and as longest
-runs; that what `show` accepts is, made and shown again, the same; an end within ten seconds; and no more memory than 16 MiB
-and ten times the input. An input that breaks one of these is kept in the folder of failures.
+The sessions are the good ones of examples/, of cases/ and of the tests. Mistakes are made in the bytes, lines and words of
+the text (digits, sides, line ends, cuts), in the messages, by way of `show` and `make` (messages dropped, doubled, swapped,
+fields changed), and in the order. Of every run is asked: an exit status that the command has, with an output and a standard
+error of its form; an end within ten seconds; and no more memory than 16 MiB and ten times the input (`explain` and `order`:
+64 MiB and forty times). And of
 
-fuzz.py [--seconds N] [--seed N] [--failures FOLDER]
+  check    the same answer as it stands, as records of one byte and as longest runs; where it is yes, a yes of `explain`, and no
+           proof that no order explains the session
+  show     the same lines in these forms; what it accepts is, made and shown again, the same; `--names` has as many lines
+  explain  the status and the line of `check`; without an order, those of `order`; the same words in other records
+  order    what it finds is accepted by `check`; `--arrival` has the number of each request, or says that the session was refused
+
+An input that breaks one of these is kept in the folder of failures.
+
+fuzz.py [COUNT] [--seed N] [--command NAME] [--failures FOLDER]
 """
 
 import argparse
 import random
 import re
-import time
+from collections import Counter
 from pathlib import Path
 
-from built import PROGRAM, TOP, Room, build
+from built import PROGRAM, Room, build
+from cases import makes, shows
 from messages import longest_runs, one_by_one, records_of, text
+from test_cases import TABLES, joined
 from test_cuts import SESSIONS, examples
+from test_explain import ORDERLESS
 
-TESTS = TOP / "crates/nbd_tool/src/tests"
 NUMBERS = [0, 1, 2, 3, 4, 5, 6, 7, 8, 9, 11, 12, 16, 255, 256, 65535, 2**31, 2**32 - 1, 2**63 - 1, 2**63, 2**64 - 1]
 WIDTHS = {"flags": 16, "command": 16, "kind": 16, "id": 32, "option": 32, "error": 32, "length": 32}
+WORDS = [b"0", b"1", b"2", b"01", b"-1", b"18446744073709551616", b"C", b"S", b"ok", b"no", b"gave", b"up", b"padded=1", b"x" * 300]
 
 FAULTS = ("BadMagic|NotFixedNewstyle|BadClientFlags|OutOfTurn|WrongOption|BadReplyKind|OutOfProfile|BadReplyPayload|"
           "MissingExportInfo|BadExport|ExportTooLarge|CookieInUse|UnknownCookie|SimpleForbidden|ChunkForbidden|BadChunk|"
           "BadContent|IncompleteRead|SuccessOfImproper|BadDisconnect|Unfinished")
-WIRE = rf"no at byte \d+: ({FAULTS})"
-NO = rf"({WIRE}|no image \d+ size \d+|no order entry \d+: (NoSuchRequest|Twice|Late|Missing|BadPart|NotCovered)|no content request \d+ offset \d+)"
+YES = r"yes requests \d+ answered \d+ improper \d+\n"
+WIRE = rf"no at byte \d+: ({FAULTS})\n"
+IMAGE = r"no image \d+ size \d+\n"
+NO = (rf"({WIRE}|{IMAGE}|no order entry \d+: (NoSuchRequest|Twice|Late|Missing|BadPart|NotCovered)\n|"
+      r"no content request \d+ offset \d+\n)")
+NONE = (rf"({WIRE}|{IMAGE}|no content request \d+ offset \d+ in any order\n|"
+        r"no order explains requests \d+( \d+)+ at offset \d+\n)")
+GAVE_UP = r"gave up: too many (steps|states) at request \d+ offset \d+\n"
 MESSAGE = (r"([CS] (greeting|client-flags|option|answer|export|request|simple|chunk)"
            r"( (flags|id|payload|option|kind|size|padded|command|cookie|offset|length|error)=[0-9a-f]*)+\n)")
+# What stands behind the first line: words and numbers, and bytes as digits.
+TOLD = r"([ -~]+\n)*"
+# The output of each command with each exit status that is an answer.
 FORMS = {
-    ("check", 0): rb"yes requests \d+ answered \d+ improper \d+\n",
-    ("check", 1): f"{NO}\n".encode(),
-    ("show", 0): f"{MESSAGE}*ok\n".encode(),
-    ("show", 1): f"{MESSAGE}*{WIRE}\n".encode(),
-    ("make", 0): rb"([CS] ([0-9a-f]{2})+\n)*",
+    "check": {0: YES, 1: NO},
+    "show": {0: f"{MESSAGE}*ok\n", 1: f"{MESSAGE}*{WIRE}"},
+    "names": {0: rf"([CS] [ -~]+\n)*ok\n", 1: rf"([CS] [ -~]+\n)*{WIRE}"},
+    "explain": {0: YES, 1: f"{NO}{TOLD}"},
+    "alone": {0: f"{YES}{TOLD}", 1: f"{NONE}{TOLD}", 5: f"{GAVE_UP}{TOLD}"},
+    "order": {0: r"(\d+( \d+ \d+)?\n)*", 1: NONE, 5: GAVE_UP},
+    "arrival": {0: r"(\d+\n)*", 1: ""},
+    "make": {0: r"([CS] ([0-9a-f]{2})+\n)*"},
 }
-COMPLAINTS = {
-    "check": rb"fault (capture|order) line \d+\n",
-    "show": rb"fault capture line \d+\n",
-    "make": rb"fault script line \d+\n",
+# The standard error of a text that is malformed.
+BAD_TEXTS = {
+    "check": r"fault (capture|order) line \d+\n",
+    "explain": r"fault (capture|order) line \d+\n",
+    "make": r"fault script line \d+\n",
 }
+BAD_CAPTURE = r"fault capture line \d+\n"
+EXCHANGED = b"the first bytes of C are a server's (NBDMAGIC): C and S are exchanged in this capture\n"
+SEARCHED = b"this order is what a search wrote that found none: 'no' or 'gave up', and no entries\n"
+REFUSED = b"no order: the session was refused\n"
 
 
 class Wrong(Exception):
     """A run broke what is asked of it."""
 
 
-def sessions_of_tests():
-    """The captures in the tables of the tests, with their orders."""
-    constant = re.compile(r'const (\w+): &str = "((?:[^"\\]|\\.)*)"', re.S)
-    shared = dict(constant.findall((TESTS / "messages.rt").read_text()))
-    for path in sorted(TESTS.glob("*.rt")):
-        source = path.read_text()
-        known = {**shared, **dict(constant.findall(source))}
-        for case in re.finditer(r"capture: &\[(.*?)\],\s*(?:order: \"(.*?)\")?", source, re.S):
-            body = re.sub(r"//[^\n]*", "", case[1])
-            words = re.findall(r'"((?:[^"\\]|\\.)*)"|(\w+)', body)
-            parts = [known.get(name, "") if name else string for string, name in words]
-            capture = "".join(parts).replace("\\\n", "").replace("\\n", "\n")
-            yield capture.encode(), (case[2] or "").replace("\\n", "\n").encode()
-
-
 def seeds():
-    """Captures with their orders and starts."""
-    found = [(text(one.records), one.order, one.start) for one in (*SESSIONS, *examples())]
-    return found + [(capture, order, "zero") for capture, order in sessions_of_tests()]
+    """Captures with their orders and starts; a start of bytes is an image."""
+    for one in (*SESSIONS, *examples()):
+        yield text(one.records), one.order, one.start
+    for table in TABLES:
+        for case in table.CASES:
+            yield joined(case.capture), case.order.encode(), case.start
+    for capture in (*makes.SESSIONS, *(case.capture for case in shows.ACCEPTED)):
+        yield joined(capture), b"1\n", "zero"
+    for one in ORDERLESS.values():
+        kind, _, size = one.start.partition(":")
+        yield text(one.records), one.order.encode(), bytes(range(int(size))) if kind == "image" else one.start
 
 
 def message_lines(shown):
     """What `show` wrote without its last line."""
     return b"".join(line + b"\n" for line in shown.out.split(b"\n")[:-2])
+
+
+def first_line(found):
+    return found.out.split(b"\n")[0]
+
+
+def said(name, status, capture, order):
+    """What stands on standard error beside an answer, where this is no terminal."""
+    if name in ("check", "explain", "alone") and capture[:18].lower() == b"c 4e42444d41474943":
+        return EXCHANGED
+    return REFUSED if (name, status) == ("arrival", 1) else b""
 
 
 class Mutator:
@@ -89,7 +121,7 @@ class Mutator:
         """A text with one mistake."""
         chance, at = self.chance, self.chance.randrange(len(data) + 1)
         rest = data[at + 1 :]
-        match chance.randrange(8):
+        match chance.randrange(9):
             case 0:
                 return data[:at] + chance.choice(b"0123456789abcdefABCDEFg").to_bytes(1, "big") + rest
             case 1:
@@ -106,7 +138,27 @@ class Mutator:
                 return data[:last] + data[first:last][:4096] + data[last:]
             case 6:
                 return data[:at] + b"%016x" % self.number() + data[at + 16 :]
+            case 7:
+                return self.words(data)
         return self.lines(data)
+
+    def words(self, data):
+        """A text with a word dropped, doubled, exchanged or put in."""
+        lines, chance = data.split(b"\n"), self.chance
+        at = chance.randrange(len(lines))
+        words = lines[at].split(b" ")
+        which = chance.randrange(len(words))
+        match chance.randrange(4):
+            case 0:
+                del words[which]
+            case 1:
+                words.insert(which, words[which])
+            case 2:
+                words[which] = chance.choice(chance.choice(lines).split(b" "))
+            case 3:
+                words.insert(which, chance.choice(WORDS))
+        lines[at] = b" ".join(words)
+        return b"\n".join(lines)
 
     def lines(self, data):
         """A text with lines dropped, doubled, swapped, moved to the other side, or empty."""
@@ -149,11 +201,18 @@ class Mutator:
         return self.chance.choice([value[:at], value[:at] + byte + value[at:], value[:at] + byte + value[at + 2 :]])
 
     def order(self, order):
-        numbers, chance = order.split(), self.chance
+        """An order with one mistake: in its entries, in its text, or another text."""
+        numbers, chance = order.split(b"\n")[:-1], self.chance
         at = chance.randrange(len(numbers) + 1)
-        match chance.randrange(4):
+        match chance.randrange(7):
             case 0:
                 numbers.insert(at, b"%d" % self.number())
+            case 4:
+                numbers[at : at + 1] = [b"%d %d %d" % (self.number(3), self.number(4), self.number(4))]
+            case 5:
+                return self.words(order)
+            case 6:
+                return chance.choice([b"no", b"no content request 1 offset 0 in any order\n", b"gave up: ", b"", b"\n"]) + order
             case 1:
                 numbers = numbers[:at] + numbers[at + 1 :]
             case 2:
@@ -165,59 +224,116 @@ class Mutator:
 
 class Fuzz:
     def __init__(self, room, chance):
-        self.room, self.mutator, self.runs = room, Mutator(chance), 0
+        self.room, self.mutator, self.endings = room, Mutator(chance), Counter()
 
-    def run(self, command, *words, size):
-        """A run in little memory, whose answer has its command's form."""
-        self.runs += 1
-        limit = (16 * 2**20 + 10 * size) // 1024
+    def run(self, name, *words, capture=b"", order=b""):
+        """A run in little memory, whose ending is one that its command has."""
+        size, has_search = len(capture) + len(order), name in ("explain", "alone", "order")
+        limit = (64 * 2**20 + 40 * size if has_search else 16 * 2**20 + 10 * size) // 1024
         limited = ["-c", f'ulimit -d {limit}; exec "$@"', "sh", PROGRAM]
-        found = self.room.run(*limited, command, *words, program="/bin/sh")
-        if found.status in (0, 1):
-            form = FORMS.get((command, found.status), rb"(?!)")
-            is_told = re.fullmatch(form, found.out) and not found.err
+        found = self.room.run(*limited, *words, program="/bin/sh")
+        self.endings[name, found.status] += 1
+        form = FORMS[name].get(found.status)
+        if form is not None:
+            is_told = re.fullmatch(form.encode(), found.out) and found.err == said(name, found.status, capture, order)
         else:
-            is_told = found.status == 3 and not found.out and re.fullmatch(COMPLAINTS[command], found.err)
+            is_told = found.status == 3 and not found.out and self.is_bad_text(name, found.err, order)
         if not is_told:
-            raise Wrong(f"{command}: {found.status} {found.out[-200:]!r} {found.err[-200:]!r}")
+            raise Wrong(f"{name}: {found.status} {found.out[-200:]!r} {found.err[-200:]!r}")
         return found
 
-    def check(self, capture, order, start):
+    def is_bad_text(self, name, err, order):
+        bad = BAD_TEXTS.get(name, BAD_CAPTURE)
+        is_searched = err.startswith(b"fault order ") and (order[:3] == b"no " or order[:7] == b"gave up")
+        return re.fullmatch(bad.encode() + (re.escape(SEARCHED) if is_searched else b""), err)
+
+    def judged(self, command, capture, order, start):
+        """`check` or `explain` with an order."""
         words = [self.room.put("capture", capture), self.room.put("order", order), "--start", start]
-        return self.run("check", *words, size=len(capture) + len(order))
+        return self.run(command, command, *words, capture=capture, order=order)
+
+    def over(self, name, capture, *words):
+        """A command over a capture alone."""
+        return self.run(name, *words, self.room.put("capture", capture), capture=capture)
 
     def show(self, capture):
-        return self.run("show", self.room.put("capture", capture), size=len(capture))
+        return self.over("show", capture, "show")
+
+    def order(self, capture, start):
+        return self.over("order", capture, "order", "--start", start)
 
     def make(self, script):
-        return self.run("make", self.room.put("script", script), size=len(script))
+        return self.run("make", "make", self.room.put("script", script), capture=script)
 
-    def ask(self, capture, order, start):
-        """All that is asked of one session."""
-        found, shown = self.check(capture, order, start), self.show(capture)
-        if shown.status == 3:
-            if found.err != shown.err:
-                raise Wrong(f"check and show: {found.err!r} {shown.err!r}")
-            return
-        records = records_of(capture)
+    def want(self, what, found, wanted):
+        if found != wanted:
+            raise Wrong(f"{what}: {found!r} {wanted!r}")
+
+    def others(self, capture, ask, wanted):
+        """The same answer of the same bytes in other records."""
+        try:
+            records = records_of(capture)
+        except ValueError as error:
+            raise Wrong(f"an answer to a malformed capture: {wanted.out!r}") from error
         for way in (one_by_one, longest_runs):
-            other = text(way(records))
-            if self.check(other, order, start) != found or self.show(other) != shown:
-                raise Wrong(f"{way.__name__}: another answer")
-        self.ask_of_lines(shown)
+            found = ask(text(way(records)))
+            self.want(f"{way.__name__}, another answer", (found.status, found.out), (wanted.status, wanted.out))
 
-    def ask_of_lines(self, shown):
+    def ask_check(self, capture, order, start):
+        found = self.judged("check", capture, order, start)
+        if found.status != 3:
+            self.others(capture, lambda other: self.judged("check", other, order, start), found)
+        if found.status == 0:
+            searched = self.order(capture, start)
+            if searched.status == 1:
+                raise Wrong(f"check {found.out!r}, order {searched.out!r}")
+            self.want("explain of a yes", self.judged("explain", capture, order, start), found)
+
+    def ask_show(self, capture, _, __):
+        shown = self.show(capture)
+        if shown.status == 3:
+            return
+        self.others(capture, self.show, shown)
+        named = self.over("names", capture, "show", "--names")
+        self.want("lines of --names", (named.status, named.out.count(b"\n")), (shown.status, shown.out.count(b"\n")))
+        self.want("the last line of --names", named.out.split(b"\n")[-2], shown.out.split(b"\n")[-2])
         made = self.make(message_lines(shown))
-        if made.status != 0:
-            raise Wrong(f"make of show: {made.err!r}")
-        if shown.status == 0 and self.show(made.out) != shown:
-            raise Wrong("show of make of show: another answer")
+        self.want("make of show", made.status, 0)
+        if shown.status == 0:
+            self.want("show of make of show", self.show(made.out), shown)
+
+    def ask_explain(self, capture, order, start):
+        told, found = (self.judged(command, capture, order, start) for command in ("explain", "check"))
+        self.want("explain and check", (told.status, first_line(told), told.err), (found.status, first_line(found), found.err))
+        if told.status != 3:
+            self.others(capture, lambda other: self.judged("explain", other, order, start), told)
+        alone, searched = self.over("alone", capture, "explain", "--start", start), self.order(capture, start)
+        self.want("explain alone and order", alone.status, searched.status)
+        if alone.status in (1, 5):
+            self.want("explain alone and order", first_line(alone), first_line(searched))
+        if alone.status == 0:
+            judged = self.judged("check", capture, searched.out, start)
+            self.want("explain alone and check of order", first_line(alone), first_line(judged))
+
+    def ask_order(self, capture, _, start):
+        found, arrived = self.order(capture, start), self.over("arrival", capture, "order", "--arrival")
+        if found.status == 3:
+            self.want("order and order --arrival", arrived, found)
+            return
+        if found.status == 0:
+            judged = self.judged("check", capture, found.out, start)
+            self.want("check of order", judged.status, 0)
+            requests = int(judged.out.split()[2])
+            self.want("order --arrival", arrived.out, b"".join(b"%d\n" % number for number in range(1, requests + 1)))
+        is_wire = re.fullmatch(WIRE.encode(), found.out) is not None
+        self.want("order --arrival of a refused session", arrived.status == 1, is_wire)
+        self.others(capture, lambda other: self.order(other, start), found)
 
     def session(self, capture, order):
         """A session with one to four mistakes, in its text or in its messages."""
         mutator = self.mutator
         for _ in range(mutator.chance.choice([1, 1, 1, 2, 4])):
-            if mutator.chance.random() < 0.4:
+            if mutator.chance.random() < 0.6:
                 shown = self.show(capture)
                 if shown.status < 2:
                     made = self.make(mutator.script(message_lines(shown)))
@@ -228,34 +344,59 @@ class Fuzz:
             order = mutator.order(order)
         return capture, order
 
+    def start(self, start):
+        """A session's start, or another one."""
+        start = self.mutator.chance.choice([start, start, "zero", "unknown"])
+        return start if isinstance(start, str) else f"image:{self.room.put('image', start)}"
+
+    def one(self, command, capture, order, start):
+        """One session with mistakes, and what is asked of it."""
+        capture, order = self.session(capture, order)
+        getattr(self, f"ask_{command}")(capture, order, start)
+
+
+COMMANDS = ("check", "show", "explain", "order")
+
+
+def keep(failures, name, room):
+    """Copies the inputs of a run that broke what is asked."""
+    failures.mkdir(parents=True, exist_ok=True)
+    for file in ("capture", "order", "script", "image"):
+        path = Path(room.path(file))
+        if path.exists():
+            (failures / f"{name}.{file}").write_bytes(path.read_bytes())
+
 
 def main():
     words = argparse.ArgumentParser(description=__doc__, formatter_class=argparse.RawDescriptionHelpFormatter)
-    words.add_argument("--seconds", type=float, default=60)
+    words.add_argument("count", nargs="?", type=int, default=400)
     words.add_argument("--seed", type=int, default=1)
+    words.add_argument("--command", choices=COMMANDS)
     words.add_argument("--failures", type=Path, default=Path("fuzz-failures"))
     asked = words.parse_args()
     build()
-    chance, known = random.Random(asked.seed), seeds()
+    chance, known = random.Random(asked.seed), list(seeds())
     # Long sessions are taken more seldom.
     weights = [1 / (200 + len(capture)) for capture, _, _ in known]
-    end, sessions, failed = time.monotonic() + asked.seconds, 0, 0
+    commands = [asked.command] if asked.command else COMMANDS
+    failed = 0
     with Room(seconds=10) as room:
         fuzz = Fuzz(room, chance)
-        while time.monotonic() < end:
+        for number in range(asked.count):
+            command = commands[number % len(commands)]
             capture, order, start = chance.choices(known, weights)[0]
-            sessions += 1
+            start = fuzz.start(start)
             try:
-                capture, order = fuzz.session(capture, order)
-                fuzz.ask(capture, order, chance.choice([start, start, "zero", "unknown"]))
+                fuzz.one(command, capture, order, start)
             except Wrong as wrong:
                 failed += 1
-                asked.failures.mkdir(exist_ok=True)
-                name = asked.failures / f"{asked.seed}-{sessions}"
-                name.with_suffix(".cap").write_bytes(capture)
-                name.with_suffix(".ord").write_bytes(order)
-                print(f"{name}: {wrong}", flush=True)
-    print(f"seed {asked.seed}: {sessions} sessions, {fuzz.runs} runs, {failed} failed")
+                name = f"{asked.seed}-{number}-{command}"
+                keep(asked.failures, name, room)
+                print(f"{asked.failures / name}, --start {start}: {wrong}", flush=True)
+    for name in FORMS:
+        ended = sorted((status, count) for (other, status), count in fuzz.endings.items() if other == name)
+        print(f"{name}: " + ", ".join(f"{count} with {status}" for status, count in ended))
+    print(f"seed {asked.seed}: {asked.count} sessions, {fuzz.endings.total()} runs, {failed} failed")
     return failed != 0
 
 

@@ -2,6 +2,7 @@
 
 import os
 import pty
+import re
 import shutil
 import subprocess
 import tempfile
@@ -21,12 +22,15 @@ if [ -n "${SLOW:-}" ]; then
 fi
 if [ "$1" = run ]; then
     mkdir -p out
-    printf '#!/bin/sh\\necho "program $*"\\n' >out/nbdcheck
-    chmod +x out/nbdcheck
+    name=$(basename "$PWD")
+    printf '#!/bin/sh\\necho "%s $*"\\n' "$(case $name in nbdcheck) echo program ;; *) echo first ;; esac)" >"out/$name"
+    chmod +x "out/$name"
 fi
 """
 BUILDS = ["low lib", "nbdcheck run -- --version"]
-BEGINS = "nbdcheck: proving and building, which takes about 3 minutes the first time\n"
+FIRST_ENDS = "nbdcheck: built what check needs; the other commands are proved when they are first asked for\n"
+PLAIN = ["check", "a.cap", "a.ord", "--start", "zero"]
+PLAIN_BUILDS = ["low lib", "nbdcheck_first run -- check data/first.cap data/first.ord --start zero"]
 CRATES = "low: # 60\nnbdcheck: low # 120\n"
 
 
@@ -61,16 +65,34 @@ class Tree:
         os.utime(self.top / name, (changed, changed))
 
 
+def says(*crates, minutes=3, left=None, end=""):
+    """What stands on standard error of a build of these crates, in this order; `left` are the minutes that are left at each."""
+    lines = [f"nbdcheck: proving and building, which takes about {minutes} minutes the first time\n"]
+    for number, crate in enumerate(crates, 1):
+        minute = r"\d+" if left is None else left[number - 1]
+        lines.append(f"nbdcheck: proving {crate}, {number} of COUNT crates, 0 minutes gone, about {minute} left\n")
+    return "".join(lines), end
+
+
+def told(tally, name, err, wanted, count):
+    """Standard error has the lines of a build, and then its end."""
+    lines, end = wanted
+    tally.holds(f"{name}: says", re.fullmatch(lines.replace("COUNT", str(count)) + re.escape(end), err), err)
+
+
+def built_by(tree):
+    return f"nbdcheck: built {tree.top}/crates/nbdcheck/out/nbdcheck; tools/install PREFIX installs it\n"
+
+
+def whole(tree):
+    """What is said of a build of both crates."""
+    return says("low", "nbdcheck", left=(3, "[01]"), end=built_by(tree))
+
+
 def first_build(tally, tree):
     (status, out, err), built = tree.run("check", "a b")
-    program = tree.top / "crates/nbdcheck/out/nbdcheck"
-    says = (
-        BEGINS
-        + "nbdcheck: proving low, 1 of 2 crates, 0 minutes gone, about 3 left\n"
-        + "nbdcheck: proving nbdcheck, 2 of 2 crates, 0 minutes gone, about 1 left\n"
-        + f"nbdcheck: built {program}; tools/install PREFIX installs it\n"
-    )
-    tally.want("first build", (status, out, err), (0, "program check a b\n", says))
+    tally.want("first build", (status, out), (0, "program check a b\n"))
+    told(tally, "first build", err, whole(tree), 2)
     tally.want("first build: crates", built, BUILDS)
 
 
@@ -83,14 +105,42 @@ def later_runs(tally, tree):
         tree.touch(name, 1)
         (status, out, err), built = tree.run()
         tally.want(f"a newer {name}", (status, out, built), (0, "program \n", BUILDS))
+        told(tally, f"a newer {name}", err, whole(tree), 2)
         tree.touch(name, -60)
+
+
+def plain_check(tally, tree):
+    """`check` with an order and a start is answered by nbdcheck_first until the whole program is built, and by that then."""
+    program = tree.top / "crates/nbdcheck/out/nbdcheck"
+    write_crates(tree, {"low": ([], 60), "nbdcheck": (["low"], 120), "nbdcheck_first": (["low"], 60)})
+    tree.touch("crates.txt", -60)
+    program.unlink()
+    (status, out, err), built = tree.run(*PLAIN)
+    tally.want("a plain check", (status, out), (0, "first check a.cap a.ord --start zero\n"))
+    tally.want("a plain check: crates", built, PLAIN_BUILDS)
+    told(tally, "a plain check", err, says("low", "nbdcheck_first", minutes=2, left=(2, r"\d+"), end=FIRST_ENDS), 2)
+    tally.want("a plain check again", tree.run(*PLAIN), ((0, "first check a.cap a.ord --start zero\n", ""), []))
+    for words in (["check", "a.cap", "a.ord"], ["check", "a.cap", "--start", "zero", "a.ord"], ["show", "a.cap"], ["check", "--help"]):
+        program.unlink(missing_ok=True)
+        (status, out, err), built = tree.run(*words)
+        tally.want(f"{words}: the whole program", (status, out, built), (0, f"program {' '.join(words)}\n", BUILDS))
+        told(tally, f"{words}: the whole program", err, whole(tree), 2)
+    tally.want("a plain check of the whole program", tree.run(*PLAIN), ((0, f"program {' '.join(PLAIN)}\n", ""), []))
+    program.unlink()
+    (tree.top / "crates/nbdcheck_first/out/nbdcheck_first").unlink()
+    (status, out, err), built = tree.run(*PLAIN, FAILS="nbdcheck_first")
+    tally.want("a plain check that cannot be built", (status, out, built), (125, "", PLAIN_BUILDS))
+    failed = "what rt says\nnbdcheck: the build of nbdcheck_first failed\n"
+    told(tally, "a plain check that cannot be built", err, says("low", "nbdcheck_first", minutes=2, left=(2, r"\d+"), end=failed), 2)
+    (tree.top / "crates.txt").write_text(CRATES)
+    tree.run()
 
 
 def failed_build(tally, tree):
     tree.touch("crates.txt", 1)
     (status, out, err), built = tree.run("check", FAILS="low")
     tally.want("a failed build", (status, out, built), (125, "", BUILDS[:1]))
-    tally.holds("a failed build says why", err.endswith("what rt says\nnbdcheck: the build of low failed\n"), err)
+    told(tally, "a failed build", err, says("low", left=("[23]",), end="what rt says\nnbdcheck: the build of low failed\n"), 2)
     tally.want("no log left", list(tree.temporary.iterdir()), [])
 
 
@@ -109,6 +159,7 @@ def side_by_side(tally, tree):
     write_crates(tree, {name: (below, 1) for name, below in needs.items()})
     (status, out, err), built = tree.run(SLOW="yes")
     tally.want("four crates", (status, out), (0, "program \n"))
+    told(tally, "four crates", err, says("low", "left", "right", "nbdcheck", minutes=1, end=built_by(tree)), 4)
     tally.want("four crates: begun", sorted(built), sorted(
         [f"{name} {words}" for name in needs for words in ("run -- --version" if name == "nbdcheck" else "lib", "ends")]))
     for name, below in needs.items():
@@ -127,6 +178,7 @@ def longest_way_first(tally, tree):
     (status, out, err), built = tree.run()
     tree.command = []
     tally.want("one processor", (status, out), (0, "program \n"))
+    told(tally, "one processor", err, says("low", "high", "short", "nbdcheck", minutes=1, end=built_by(tree)), 4)
     tally.want("one processor: begun", built, ["low lib", "high lib", "short lib", "nbdcheck run -- --version"])
 
 
@@ -135,6 +187,9 @@ def longest_way_alone(tally, tree):
     write_crates(tree, {"short": ([], 8), "low": ([], 1), "high": (["low"], 9), "nbdcheck": (["high", "short"], 1)})
     (status, out, err), built = tree.run(SLOW="yes", NICE="yes")
     tally.want("priorities", (status, out), (0, "program \n"))
+    # Where there is memory for one build alone the short one comes later.
+    second, third = ("short", "high") if err.index("proving short,") < err.index("proving high,") else ("high", "short")
+    told(tally, "priorities", err, says("low", second, third, "nbdcheck", minutes=1, end=built_by(tree)), 4)
     mine = os.nice(0)
     wanted = {"short": min(mine + 10, 19), "low": mine, "high": mine, "nbdcheck": mine}
     tally.want("priorities of crates", dict(it.split() for it in built if it.split()[1].isdigit()),
@@ -161,7 +216,7 @@ def on_a_terminal(tally, tree):
 def run(tally):
     with tempfile.TemporaryDirectory(prefix="nbdcheck-") as folder:
         tree = Tree(folder)
-        for part in (first_build, later_runs, failed_build, on_a_terminal, side_by_side, longest_way_first, longest_way_alone):
+        for part in (first_build, later_runs, plain_check, failed_build, on_a_terminal, side_by_side, longest_way_first, longest_way_alone):
             part(tally, tree)
 
 

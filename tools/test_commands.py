@@ -73,15 +73,36 @@ def words(tally, room):
         found = room.run(*asked)
         tally.want(f"{asked}", (found.status, found.out), (2, b""))
         tally.holds(f"{asked} says why", found.err.startswith(b"error: ") and found.err.endswith(b"\n"), found.err)
-
-
-    # Paths are text.
-    tally.want("a word that is not UTF-8", room.run("show", "caf\udce9.cap"),
-               Ended(2, b"", b"error: a word of the command line is not UTF-8\n"))
     with open("/dev/full", "wb") as full:
         for asked, status in ((["check"], 2), (["show", room.path("none")], 3)):
-            tally.want(f"{asked} 2>/dev/full", subprocess.run([PROGRAM, *asked], stderr=full).returncode, status)
-        tally.want("--help >/dev/full", subprocess.run([PROGRAM, "--help"], stdout=full, stderr=subprocess.DEVNULL).returncode, 3)
+            done = subprocess.run([PROGRAM, *asked], stdout=subprocess.PIPE, stderr=full)
+            tally.want(f"{asked} 2>/dev/full", (done.returncode, done.stdout), (status, b""))
+        done = subprocess.run([PROGRAM, "--help"], stdout=full, stderr=subprocess.PIPE)
+        tally.want("--help >/dev/full", (done.returncode, done.stderr), (3, b"fault write\n"))
+
+
+def paths(tally, room):
+    """Paths are text: one that is not UTF-8 is refused wherever it stands, also where there is such a file."""
+    good, order, odd = room.put("good", CAPTURE), room.put("order", b"1\n"), room.path("caf\udce9")
+    with open(odd, "wb") as file:
+        file.write(CAPTURE)
+    for name, asked in (
+        ("check, the capture", ["check", odd, order]),
+        ("check, the order", ["check", good, odd]),
+        ("check, the image", ["check", good, order, "--start", f"image:{odd}"]),
+        ("explain, the capture", ["explain", odd]),
+        ("explain, the capture, with an order", ["explain", odd, order]),
+        ("explain, the order", ["explain", good, odd]),
+        ("explain, the image", ["explain", good, "--start", f"image:{odd}"]),
+        ("order", ["order", odd]),
+        ("order, the image", ["order", good, "--start", f"image:{odd}"]),
+        ("order --arrival", ["order", "--arrival", odd]),
+        ("show", ["show", odd]),
+        ("show --names", ["show", "--names", odd]),
+        ("make", ["make", odd]),
+    ):
+        wanted = Ended(2, b"", b"error: a word of the command line is not UTF-8\n")
+        tally.want(f"{name}: a path that is not UTF-8", room.run(*asked), wanted)
 
 
 def starts(tally, room):
@@ -250,7 +271,8 @@ def hints(tally, room):
     found = room.run("check", other, order)
     tally.want("exchanged sides", found, Ended(1, b"no at byte 1: OutOfTurn\n", exchanged))
     found = room.run("explain", other)
-    tally.holds("exchanged sides, explained", found.out.startswith(b"no at byte 1: OutOfTurn\n") and found.err == exchanged, found)
+    line = b"no at byte 1: OutOfTurn\n"
+    tally.want("exchanged sides, explained", found._replace(out=found.out[: len(line)]), Ended(1, line, exchanged))
     upper = room.put("other", CAPTURE.translate(bytes.maketrans(b"CSabcdef", b"SCABCDEF")))
     tally.want("exchanged sides, other digits", room.run("check", upper, order), Ended(1, b"no at byte 1: OutOfTurn\n", exchanged))
     yes = b"yes requests 0 answered 0 improper 0\n"
@@ -308,7 +330,7 @@ def images(tally, room):
 
 def run(tally):
     with Room() as room:
-        for part in (examples, words, starts, lines, files, outputs, terminals, hints, memory, images):
+        for part in (examples, words, paths, starts, lines, files, outputs, terminals, hints, memory, images):
             part(tally, room)
 
 

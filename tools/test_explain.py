@@ -344,17 +344,23 @@ def examples(tally, room):
         tally.holds(f"explain {capture.name} begins as check", why.startswith(line), why)
 
 
+def told_of(tally, name, found):
+    """What `explain` says, of which the status and standard error are as its first line wants it."""
+    tally.want(f"{name}, status", (found.status, found.err), (int(not found.out.startswith(b"yes ")), b""))
+    return found.out.decode()
+
+
 def reasons(tally, room):
     """Which part of its rule a message breaks: the one reason that there is."""
     for records, reason in REASONS:
-        told = room.run("explain", room.put("reason", text(records))).out.decode()
+        told = told_of(tally, reason, room.run("explain", room.put("reason", text(records))))
         tally.want(reason, [line for line in told.split("\n") if line.startswith("wrong: ")], [f"wrong: {reason}"])
     # Each reason of a request that has several.
     several = request(WRITE, 1, 7, 2, b"\1\2", flags=0x8017)
-    told = room.run("explain", room.put("reasons", text(improper(several, 0x83)))).out.decode()
+    told = told_of(tally, "several reasons", room.run("explain", room.put("reasons", text(improper(several, 0x83)))))
     tally.want("several reasons", told.count("\nwrong: "), 7)
     for number, extension in GRANTED.items():
-        told = room.run("explain", room.put("granted", text(opted(number, b"")))).out.decode()
+        told = told_of(tally, f"granted {number}", room.run("explain", room.put("granted", text(opted(number, b"")))))
         lines = told.split("\n")
         tally.holds(f"granted {number}", lines[3].startswith("granted: ") and lines[3].endswith(f", for {extension}"), told)
         tally.holds(f"instead of {number}", lines[4].startswith("instead: record with"), told)
@@ -365,7 +371,7 @@ def arriving(tally, room):
     whole = write(1, 0, b"\1\2\3")
     for count in range(len(whole[1])):
         records = [*begun(), cut(whole, count)[0], simple(1)]
-        told = room.run("explain", room.put("arriving", text(records))).out.decode()
+        told = told_of(tally, f"arriving, {count} bytes", room.run("explain", room.put("arriving", text(records))))
         if count == 0:
             wanted = []
         elif count < 28:
@@ -435,8 +441,9 @@ def differing(tally, room):
                 came[first:end] = bytes(end - first)
         records, number = session_of(changes, came, pieces, rng, size)
         order = "".join(f"{k}\n" for k in range(1, number + 1)).encode()
-        told = room.run("explain", room.put("drawn.cap", text(records)), room.put("drawn.ord", order), "--start",
-                        start_of(room, "drawn", start)).out.decode()
+        found = room.run("explain", room.put("drawn.cap", text(records)), room.put("drawn.ord", order), "--start",
+                         start_of(room, "drawn", start))
+        told = told_of(tally, f"differing {turn}", found)
         wrong = [offset for offset in range(size) if held[offset] not in (None, came[offset])]
         if not wrong:
             tally.holds(f"differing {turn}: yes", told.startswith("yes "), told)
@@ -459,8 +466,8 @@ def large(tally, room):
     records.append(read(number, 0, 2 * count))
     records += [content(number, 2 * k, b"\1\0" if k < count - 1 else b"\1\2") for k in range(count)]
     capture, order = room.put("large", text([*records, done(number)])), b"".join(b"%d\n" % k for k in range(1, number + 1))
-    told = room.run("explain", capture, room.put("large.ord", order), "--start", "zero").out
-    tally.holds("large", b"\ndiffer: 1 of 100000 bytes, at offset 99999\n" in told, told)
+    told = told_of(tally, "large", room.run("explain", capture, room.put("large.ord", order), "--start", "zero"))
+    tally.holds("large", "\ndiffer: 1 of 100000 bytes, at offset 99999\n" in told, told)
 
 
 PARTY = re.compile(r"(?m)^(change|read): \w+ #(\d+), .*; served after byte (\d+) (?:and before byte (\d+)|or never); "
@@ -540,7 +547,8 @@ def deduced(tally, room):
     """Of sessions at random that no order explains: each step follows from what stands above it, as a reader can see."""
     rng, ends = random.Random(21), [0, 0]
     for turn in range(300):
-        told = room.run("explain", room.put("race.cap", text(race(rng, rng.randint(3, 6)))), "--start", "zero").out.decode()
+        found = room.run("explain", room.put("race.cap", text(race(rng, rng.randint(3, 6)))), "--start", "zero")
+        told = told_of(tally, f"deduced {turn}", found)
         if told.startswith("no order explains"):
             ends[follow(tally, f"deduced {turn}", told)] += 1
     tally.holds("deduced: most of them end", ends[1] > 4 * ends[0], ends)

@@ -5,6 +5,7 @@
 
 import re
 import sys
+import textwrap
 
 from built import TOP, Tally
 
@@ -57,11 +58,11 @@ def manual():
     """The section of the manual page."""
     lines = [".SH FAULTS", "Each fault, who broke the rule, the rule, and where it stands."]
     for fault, breaker, sentence, section in rules():
-        lines += [".TP", f'.BR {fault} " (' + breaker + ')"', sentence, ".br", section]
+        lines += [".TP", f'.BR {fault} " (' + breaker + ')"', *textwrap.wrap(sentence, 120), ".br", section]
     lines.append(".PP")
     lines.append("Of an order:")
     for fault, sentence in order_rules():
-        lines += [".TP", f".B {fault}", sentence]
+        lines += [".TP", f".B {fault}", *textwrap.wrap(sentence, 120)]
     return "\n".join(lines) + "\n"
 
 

@@ -1,6 +1,9 @@
-"""The commands of README.md, run as they stand there; behind `$` with the output that stands there."""
+"""The commands of README.md, run as they stand there; behind `$` with the output that stands there. Each ends with the status that
+its answer has, and says nothing on standard error but what the wrapper says while it builds, or rt, that nothing was proved.
+"""
 
 import os
+import re
 import subprocess
 import tempfile
 from pathlib import Path
@@ -11,29 +14,43 @@ from test_install import INSTALLED
 YES = "yes requests 1 answered 1 improper 0\n"
 # What commands without an output of their own print.
 PRINTED = {
-    "(cd crates/nbdcheck && rt try -- check data/first.cap data/first.ord --start zero)": YES,
+    "(cd crates/nbdcheck_first && rt try -- check data/first.cap data/first.ord --start zero)": YES,
     "./nbdcheck check examples/first.cap examples/first.ord --start zero": YES,
     "tools/install ~/.local": "".join(f"{{home}}/.local/{name}\n" for name in INSTALLED),
     # The session of recorded/session.socat, in place of one over the network.
-    "tools/socat-to-capture s.txt > s.cap && nbdcheck order s.cap --arrival > s.ord && nbdcheck check s.cap s.ord --start zero":
-        "yes requests 2 answered 2 improper 0\n",
+    "tools/socat-to-capture s.txt > s.cap && nbdcheck order s.cap --arrival > s.ord": "",
+    "nbdcheck check s.cap s.ord --start zero": "yes requests 2 answered 2 improper 0\n",
 }
 # These need socat, nbdkit and nbdsh, which the gate has not.
 RECORDING = ("socat ", "nbdsh ", "nbdkit ", "tools/nbdcheck-record ")
 LONGEST = 150
+# These have the program built where it is not; what is said of that.
+WRAPPED = ("./nbdcheck ", "tools/install ")
+BUILDING = re.compile(r"(nbdcheck: (proving and building, which takes about \d+ minutes the first time|"
+                      r"proving \w+, \d+ of \d+ crates, \d+ minutes gone, about \d+ left|"
+                      r"built \S+/nbdcheck; tools/install PREFIX installs it|"
+                      r"built what check needs; the other commands are proved when they are first asked for)\n)*")
 
 
 def blocks(page):
-    """The lines of each block of commands."""
+    """The lines of each block of commands; one that ends with a backslash goes on in the next."""
     parts = page.read_text().split("```\n")
-    return [part.splitlines() for part in parts[1::2]]
+    return [part.replace("\\\n    ", "").splitlines() for part in parts[1::2]]
 
 
-def run_command(line, folder, home):
+def is_said(line, err):
+    """Whether a command may say this on standard error."""
+    if "rt try" in line:
+        return "proved=no" in err
+    return BUILDING.fullmatch(err) if line.startswith(WRAPPED) else err == ""
+
+
+def try_command(tally, line, folder, home, output):
     path = f"{Path(PROGRAM).parent}:{os.environ['PATH']}"
     done = subprocess.run(["bash", "-c", line], cwd=folder, env={**os.environ, "PATH": path, "HOME": home},
                           stdin=subprocess.DEVNULL, capture_output=True, text=True, timeout=900)
-    return done.stdout
+    tally.want(line, (done.returncode, done.stdout), (int(output.startswith("no ")), output))
+    tally.holds(f"{line}: standard error", is_said(line, done.stderr), done.stderr)
 
 
 def shown(tally, lines, home):
@@ -46,15 +63,15 @@ def shown(tally, lines, home):
         else:
             wanted[command] += line + "\n"
     for command, output in wanted.items():
-        tally.want(command, run_command(command, TOP, home), output)
+        try_command(tally, command, TOP, home, output)
 
 
 def alone(tally, lines, folder, home):
     for line in lines:
         if not line.startswith(RECORDING):
-            where = folder if "s.txt" in line else TOP
+            where = folder if "s.txt" in line or "s.cap" in line else TOP
             wanted = PRINTED.get(line, "is no command that this test knows").replace("{home}", home)
-            tally.want(line, run_command(line, where, home), wanted)
+            try_command(tally, line, where, home, wanted)
 
 
 def run(tally):

@@ -33,6 +33,11 @@ def said(tally, name, err, *parts):
     tally.holds(f"{name}: says why", own and all(any(part in line for line in lines) for part in parts), err)
 
 
+def listed(ends, requests, client, server):
+    """The line of a connection's capture: how many requests, and bytes of each side."""
+    return f"{ends.capture()}: requests {requests}, bytes {client} of the client, {server} of the server\n"
+
+
 def turns(tally, folder):
     """Each side sends when it has all of the other: what it has is written down by then."""
     with Ends(folder) as ends:
@@ -49,8 +54,7 @@ def turns(tally, folder):
                 tally.want(f"{count} bytes of {side} are written down first", runs_of(ends.capture()) == sent, True)
         client.close(), server.close()
         count = sum(len(data) for side, data in sent if side == CLIENT)
-        line = f"{ends.capture()}: requests unknown, bytes {count} of the client, {count} of the server\n"
-        tally.want("what was recorded", ends.interrupt(), (0, line, ""))
+        tally.want("what was recorded", ends.interrupt(), (0, listed(ends, "unknown", count, count), ""))
 
 
 def halves(tally, folder):
@@ -69,7 +73,7 @@ def halves(tally, folder):
             tally.want(f"the {name} ends: both have ended", first.recv(1), b"")
             first.close()
             tally.want(f"the {name} ends: captured", runs_of(ends.capture()), [(ours, b"last"), (other, b"more")])
-            tally.want(f"the {name} ends: status", ends.interrupt()[0::2], (0, ""))
+            tally.want(f"the {name} ends: status", ends.interrupt(), (0, listed(ends, 0, 4, 4), ""))
 
 
 def slow_reader(tally, folder):
@@ -90,7 +94,7 @@ def slow_reader(tally, folder):
         tally.want("a slow reader: captured", bytes_of(ends.capture(), SERVER) == many, True)
         tally.want("a slow reader: the other direction", bytes_of(ends.capture(), CLIENT) == few, True)
         client.close(), server.close()
-        tally.want("a slow reader: status", ends.interrupt()[0], 0)
+        tally.want("a slow reader: status", ends.interrupt(), (0, listed(ends, "unknown", MIB, 16 * MIB), ""))
 
 
 def leaving(tally, folder):
@@ -109,8 +113,9 @@ def leaving(tally, folder):
         server.close()
         tally.want("the client went: its bytes", bytes_of(ends.capture(), CLIENT), b"asks")
         tally.want("the client went: the server's", bytes_of(ends.capture(), SERVER)[:1000], bytes(1000))
-        status, _, err = ends.interrupt()
-        tally.want("the client went: status", (status, err), (0, "nbdcheck-record: connection 1: the client: Broken pipe\n"))
+        line = listed(ends, 0, 4, len(bytes_of(ends.capture(), SERVER)))
+        tally.want("the client went: status", ends.interrupt(),
+                   (0, line, "nbdcheck-record: connection 1: the client: Broken pipe\n"))
     with socket.create_server(("127.0.0.1", 0)) as listener:
         port, out = listener.getsockname()[1], f"{folder}/reset"
         client = player(folder, [(CLIENT, b"asks"), (SERVER, b"answer")])
@@ -119,8 +124,8 @@ def leaving(tally, folder):
             all_of(server, 4)
             server.setsockopt(socket.SOL_SOCKET, socket.SO_LINGER, struct.pack("ii", 1, 0))
             server.close()
-            status, _, err = tool.end()
-        tally.want("a reset: status", status, 1)
+            status, told, err = tool.end()
+        tally.want("a reset: status", (status, told.partition("\n")[0]), (1, "no at byte 1: OutOfTurn"))
         tally.holds("a reset: told", "connection 1: the server: Connection reset by peer" in err, err)
         tally.want("a reset: captured", runs_of(f"{out}/session.1.cap"), [(CLIENT, b"asks")])
 
@@ -132,7 +137,9 @@ def connections(tally, folder):
         for number, (client, server) in enumerate((second, first)):
             client.sendall(bytes([number]))
             tally.want("a connection of two", all_of(server, 1), bytes([number]))
-        ends.interrupt()
+        lines = "".join(f"{ends.capture(number)}: requests 0, bytes 1 of the client, 0 of the server\n" for number in (1, 2))
+        status, out, err = ends.interrupt()
+        tally.want("two connections", (status, out, err), (0, lines, ""))
         tally.want("each has its capture", [runs_of(ends.capture(number)) for number in (1, 2)],
                    [[(CLIENT, b"\1")], [(CLIENT, b"\0")]])
         tally.want("the socket is removed", os.path.exists(ends.here), False)
@@ -150,8 +157,9 @@ def connections(tally, folder):
         tally.want("few descriptors: the first goes on", all_of(server, 5), b"still")
         client.close(), server.close()
         [other.close() for other in others]
-        status, _, err = ends.interrupt()
-        tally.want("few descriptors: status", status, 3)
+        status, out, err = ends.interrupt()
+        # How many of the others have a capture hangs on the descriptors that python itself has.
+        tally.want("few descriptors: status", (status, out.splitlines(True)[:1]), (3, [listed(ends, 0, 5, 0)]))
         tally.holds("few descriptors: told", "Too many open files" in err and "Traceback" not in err, err)
 
 
@@ -172,7 +180,7 @@ def full_queue(tally, folder):
         tally.want("a full queue", all_of(server, 5), b"waits")
         client.close(), server.close()
         [end.close() for end in before]
-        tally.want("a full queue: status", ends.interrupt()[::2], (0, ""))
+        tally.want("a full queue: status", ends.interrupt(), (0, listed(ends, 0, 5, 0), ""))
 
 
 def full(tally, folder):
@@ -192,8 +200,8 @@ def full(tally, folder):
             except OSError:
                 pass
             tally.holds(f"{name}: the connection ends", len(passed) < len(data), len(passed))
-            status, _, err = ends.interrupt()
-            tally.want(f"{name}: status", status, 3)
+            status, out, err = ends.interrupt()
+            tally.want(f"{name}: status", (status, out), (3, listed(ends, 0, 0, len(passed))))
             said(tally, name, err, f"connection 1: cannot write {ends.capture()}: {reason}")
             written = b"" if name == "full" else bytes_of(ends.capture(), SERVER)
             tally.want(f"{name}: whole lines", written, data[: len(written)])
@@ -227,7 +235,9 @@ def interrupts(tally, folder):
         except BlockingIOError:
             pass
         client.recv(1)
-        tally.want("an interrupt while bytes pass", ends.interrupt()[0], 0)
+        status, out, err = ends.interrupt()
+        line = listed(ends, 0, 0, len(bytes_of(ends.capture(), SERVER)))
+        tally.want("an interrupt while bytes pass", (status, out, err), (0, line, ""))
         tally.holds("an interrupt while bytes pass: whole lines", len(runs_of(ends.capture())) == 1)
 
 
@@ -260,7 +270,8 @@ def on_a_terminal(tally, folder):
         while b"2 requests, C " not in shown:
             shown += os.read(terminal, 4096)
         tally.holds("on a terminal", b"\r\x1b[Knbdcheck-record: 1 connections, " in shown, shown)
-        ends.interrupt()
+        sizes = [sum(len(data) for sender, data in GOOD if sender == side) for side in (CLIENT, SERVER)]
+        tally.want("on a terminal, status", ends.interrupt()[:2], (0, listed(ends, 2, *sizes)))
         shown += os.read(terminal, 4096)
         tally.holds("on a terminal, at the end", shown.endswith(b"\r\x1b[K"), shown[-200:])
     os.close(terminal)

@@ -28,6 +28,7 @@ NO = "no content request 2 offset 2"
 STALE_LINE = "no content request 1 offset 1 in any order"
 ONE = "yes requests 1 answered 1 improper 0"
 NONE = "yes requests 0 answered 0 improper 0"
+NEVER = "nbdcheck-record: no connection came: nothing was recorded\n"
 APART = "contents not compared: another connection may change the export"
 
 MALFORMED = {
@@ -74,6 +75,17 @@ def client_of(folder, records, *asked, path=None, where="{port}", status=0, coun
         return ended("--to", server.address, *asked, "--", *player(folder, records, where, status), **how)
 
 
+def told_of(found):
+    """A status, the first line of standard output, and standard error."""
+    status, out, err = found
+    return status, out.partition("\n")[0], err
+
+
+def kept_lines(*captures):
+    """What is told of captures that are kept."""
+    return "".join(f"nbdcheck-record: kept {path}\n" for path in captures)
+
+
 def kept(folder):
     """The captures that are left."""
     return sorted(str(path) for path in Path(folder).rglob("*.cap"))
@@ -93,16 +105,18 @@ def answers(tally, folder):
         Path(folder, "order").write_text("1\n2\n")
         found = client_of(folder, GOOD, "--start", "zero", *asked)
         tally.want(name, found, (0, f"{YES}\n", ""))
-        status, out, _ = client_of(folder, LATER, "--start", "zero", *asked, "--keep", f"{folder}/later")
-        tally.want(f"{name}, another order", (status, out.splitlines()[0]), (1, "no content request 1 offset 1"))
-    tally.want("some order", client_of(folder, LATER, "--start", "zero")[:2][0], 0)
+        found = client_of(folder, LATER, "--start", "zero", *asked, "--keep", f"{folder}/later")
+        tally.want(f"{name}, another order", told_of(found),
+                   (1, "no content request 1 offset 1", kept_lines(f"{folder}/later/session.1.cap")))
+    tally.want("some order", told_of(client_of(folder, LATER, "--start", "zero")), (0, YES, ""))
     Path(folder, "image").write_bytes(bytes(8))
-    tally.want("an image", client_of(folder, GOOD, "--start", f"image:{folder}/image")[0], 0)
-    tally.want("an unknown start", client_of(folder, GOOD)[0], 0)
-    tally.want("a refused session, --arrival", client_of(folder, CUT, "--arrival", "--keep", f"{folder}/cut")[0:1], (1,))
+    tally.want("an image", told_of(client_of(folder, GOOD, "--start", f"image:{folder}/image")), (0, YES, ""))
+    tally.want("an unknown start", told_of(client_of(folder, GOOD)), (0, YES, ""))
+    tally.want("a refused session, --arrival", told_of(client_of(folder, CUT, "--arrival", "--keep", f"{folder}/cut")),
+               (1, UNFINISHED, kept_lines(f"{folder}/cut/session.1.cap")))
     capture = f"{folder}/keep/session.1.cap"
-    status, _, err = client_of(folder, GOOD, "--keep", f"{folder}/keep")
-    tally.want("--keep", (status, err, runs_of(capture)), (0, f"nbdcheck-record: kept {capture}\n", longest_runs(GOOD)))
+    found = client_of(folder, GOOD, "--keep", f"{folder}/keep")
+    tally.want("--keep", (told_of(found), runs_of(capture)), ((0, YES, kept_lines(capture)), longest_runs(GOOD)))
     tally.want("no folder is left", left(folder), [])
     status, out, err = client_of(folder, WRONG, "--start", "zero")
     tally.want("no", (status, out.splitlines()[0]), (1, f"{NO} in any order"))
@@ -116,15 +130,15 @@ def places(tally, folder):
     path = f"{folder}/server"
     for name, at, where in (("a port for a port", None, "{port}"), ("a socket for a port", None, "{socket}"),
                             ("a port for a socket", path + "1", "{port}"), ("a socket for a socket", path + "2", "{socket}")):
-        tally.want(name, client_of(folder, GOOD, path=at, where=where)[0], 0)
+        tally.want(name, told_of(client_of(folder, GOOD, path=at, where=where)), (0, YES, ""))
     show = [sys.executable, "-IS", "-c", "import sys; print(sys.argv[1:])"]
     for asked, to, begins in ((["{uri}"], "1", "['nbd://127.0.0.1:"), (["{uri}"], "./s", "['nbd+unix:///?socket=/"),
                               (["{uri}/x", "{socket}"], "1", "['nbd+unix:///?socket=/"), (["a={port}"], "./s", "['a=")):
-        out = ended("--to", to, "--", *show, *asked)[1]
-        tally.holds(f"{asked} and --to {to}", out.startswith(begins), out)
+        status, out, err = ended("--to", to, "--", *show, *asked)
+        tally.want(f"{asked} and --to {to}", (status, out[: len(begins)], err), (3, begins, NEVER))
     odd = f"{folder}/a b%"
-    out = ended("--to", "1", "--listen", odd, "--", *show, "{uri}")[1]
-    tally.want("a URI of an odd path", out, f"['nbd+unix:///?socket={folder}/a%20b%25']\n")
+    tally.want("a URI of an odd path", ended("--to", "1", "--listen", odd, "--", *show, "{uri}"),
+               (3, f"['nbd+unix:///?socket={folder}/a%20b%25']\n", NEVER))
 
 
 def failures(tally, folder):
@@ -132,12 +146,14 @@ def failures(tally, folder):
     status, out, err = client_of(folder, GOOD, "--start", "zero", status=7)
     tally.want("a client that fails", (status, out.splitlines()[0], err),
                (10, YES, "nbdcheck-record: the client ended with status 7\n"))
-    tally.want("a client that fails, and a no", client_of(folder, WRONG, "--start", "zero", status=7)[0], 1)
+    found = client_of(folder, WRONG, "--start", "zero", "--keep", f"{folder}/wrong", status=7)
+    ended_so = "nbdcheck-record: the client ended with status 7\n"
+    tally.want("a client that fails, and a no", told_of(found),
+               (1, f"{NO} in any order", kept_lines(f"{folder}/wrong/session.1.cap") + ended_so))
     killed = ["sh", "-c", "kill -9 $$ {port}"]
-    none = "nbdcheck-record: no connection came: nothing was recorded\n"
-    wanted = (10, f"{none}nbdcheck-record: the client was ended by signal 9\n")
-    tally.want("a client that is killed", ended("--to", "1", "--", *killed)[::2], wanted)
-    tally.want("a client that never comes", ended("--to", "1", "--", "true", "{uri}"), (3, "", none))
+    wanted = (10, "", f"{NEVER}nbdcheck-record: the client was ended by signal 9\n")
+    tally.want("a client that is killed", ended("--to", "1", "--", *killed), wanted)
+    tally.want("a client that never comes", ended("--to", "1", "--", "true", "{uri}"), (3, "", NEVER))
     for name, reason in ((f"{folder}/none", "No such file or directory"), (folder, "Permission denied")):
         tally.want(f"a client {reason}", ended("--to", "1", "--", name, "{uri}"),
                    (10, "", f"nbdcheck-record: cannot run the client {name}: {reason}\n"))
@@ -151,11 +167,11 @@ def failures(tally, folder):
     status, out, err = ended("--to", "a..b:1", "--", "true", "{uri}")
     tally.want("a server without a name", (status, out, err.startswith("nbdcheck-record: cannot find a..b:1: ")), (3, "", True))
     status, out, err = ended("--to", "./" + "x" * 200, "--", *player(folder, GOOD, "{socket}"))
-    tally.holds("a path that is too long", status == 3 and "AF_UNIX path too long" in err, err)
+    tally.want("a path that is too long", (status, out, "AF_UNIX path too long" in err), (3, "", True))
     wanted = f"nbdcheck-record: cannot write {folder}/no/s.1.cap: No such file or directory\n"
     tally.want("no folder", ended("--to", "1", "--listen", f"{folder}/l", "--out", f"{folder}/no/s"), (3, "", wanted))
     wanted = f"nbdcheck-record: cannot write {folder}/file/session.1.cap: File exists\n"
-    tally.want("a file in place of a folder", ended("--to", "1", "--keep", f"{folder}/file", "--", "{uri}")[::2], (3, wanted))
+    tally.want("a file in place of a folder", ended("--to", "1", "--keep", f"{folder}/file", "--", "{uri}"), (3, "", wanted))
     with Ends(folder, "stdout", stdout=os.open("/dev/full", os.O_WRONLY)) as ends:
         [end.close() for end in ends.both()]
         status, _, err = ends.interrupt()
@@ -187,9 +203,10 @@ def several(tally, folder):
         ("wrong READs", STALE, f"connection 1\n{STALE_LINE}", f"connection 2\n{STALE_LINE}", 1),
     ):
         with Server(records, count=2) as server:
-            status, out, _ = ended("--to", server.address, "--start", "zero", "--keep", f"{folder}/two", "--", *both,
-                                   *player(folder, records))
+            status, out, err = ended("--to", server.address, "--start", "zero", "--keep", f"{folder}/two", "--", *both,
+                                     *player(folder, records))
         tally.want(f"two connections, {name}", (status, out.startswith(first), second in out), (wanted, True, True))
+        tally.want(f"two connections, {name}: told", err, kept_lines(*(f"{folder}/two/session.{n}.cap" for n in (1, 2))))
         tally.want(f"two connections, {name}: captures", [runs_of(f"{folder}/two/session.{n}.cap") for n in (1, 2)],
                    [longest_runs(records)] * 2)
 
@@ -211,9 +228,9 @@ def beside_others(tally, folder):
                     (server if side == SERVER else client).sendall(data)
                     (client if side == SERVER else server).recv(len(data), socket.MSG_WAITALL)
                 client.close(), server.close()
-            status, out, _ = ends.interrupt()
+            status, out, err = ends.interrupt()
         found = [line for line in out.splitlines() if line.startswith(("connection", "yes", "no"))]
-        tally.want(f"a WRITE beside {name}", (status, found), (0, wanted))
+        tally.want(f"a WRITE beside {name}", (status, found, err), (0, wanted, ""))
 
 
 # A stand-in for nbdcheck: for a capture it ends with the status that stands for its number, and notes its words.
@@ -242,11 +259,14 @@ def statuses(tally, folder):
             client = both if count == 2 else player(folder, GOOD)
             return ended("--to", server.address, *asked, "--keep", f"{folder}/k", "--", *client, nbdcheck=program, env_more=env)
 
+    capture, other = (f"{folder}/k/session.{number}.cap" for number in (1, 2))
     for status, wanted in ((1, 1), (2, 2), (3, 3), (4, 4), (5, 5), (77, 3)):
-        tally.want(f"status {status}", ask(1, status)[:2], (wanted, f"line {status}\n"))
+        # A status that is none of nbdcheck's is told.
+        strange = f"nbdcheck-record: {program} ended with status {status}\n" if status == 77 else ""
+        tally.want(f"status {status}", ask(1, status), (wanted, f"line {status}\n", strange + kept_lines(capture)))
     for first, second, wanted in ((4, 1, 1), (4, 3, 4), (3, 5, 3), (0, 5, 5)):
-        tally.want(f"statuses {first} and {second}", ask(2, first, second)[0], wanted)
-    capture = f"{folder}/k/session.1.cap"
+        lines = "".join(f"connection {number}: line {status}, {APART}\n" for number, status in ((1, first), (2, second)))
+        tally.want(f"statuses {first} and {second}", ask(2, first, second), (wanted, lines, kept_lines(capture, other)))
     for asked, wanted in (
         (["--start", "zero"], [f"explain {capture} --start zero"]),
         ([], [f"explain {capture} --start unknown"]),
@@ -258,7 +278,8 @@ def statuses(tally, folder):
     found = notes.read_text().splitlines()
     tally.want("its words, --arrival", (found[1], found[2].startswith(f"explain {capture} /")),
                (f"order {capture} --arrival --profile p", True))
-    tally.want("nbdcheck fails at once", ask(1, 0, version="3")[:2], (3, ""))
+    tally.want("nbdcheck fails at once", ask(1, 0, version="3"),
+               (3, "", f"nbdcheck-record: cannot run {program}: it ended with status 3\n"))
     client = ["touch", f"{folder}/came", "{uri}"]
     found = ended("--to", "1", "--", *client, nbdcheck=f"{folder}/none")
     wanted = f"nbdcheck-record: cannot run {folder}/none: No such file or directory\n"

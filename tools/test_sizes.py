@@ -1,13 +1,20 @@
-"""Long messages and lines, many records and chunks, and exports of no byte and of as many as there may be."""
+"""Long messages and lines, many records and chunks, many READs as holes over many changes, and exports of no byte and of as many as
+there may be.
+"""
+
+import resource
 
 from built import Ended, Room, Tally
 from messages import (
-    WRITE, answer, begun, client_flags, content, done, greeting, one_by_one, option, read, request, simple, text, write,
+    DONE, OFFSET_HOLE, WRITE, WRITE_ZEROES, answer, begun, chunk, client_flags, content, done, greeting, one_by_one, option,
+    read, request, simple, text, write,
 )
 
 # The largest export (docs/PROFILE.md).
 LIMIT = 2**63 - 1
 MIB = 2**20
+# The changes and the READs of the smallest session of holes, and what a run may take beside what grows, in seconds.
+HOLES, APART = 20_000, 0.5
 
 
 def yes(requests, answered, improper):
@@ -66,6 +73,45 @@ def many_chunks(tally, room):
     tally.want("70,000 records without bytes", room.check(text(records), b"1\n"), yes(1, 1, 0))
 
 
+def holes(count):
+    """WRITE_ZEROES of each second byte, so many, and then as many READs of all of these bytes, each answered by one hole."""
+    records = begun(structured=True, size=4 * count)
+    for cookie in range(1, count + 1):
+        records += [request(WRITE_ZEROES, cookie, 2 * cookie - 2, 1), done(cookie)]
+    whole = bytes(8) + (2 * count).to_bytes(4, "big")
+    for cookie in range(count + 1, 2 * count + 1):
+        records += [read(cookie, 0, 2 * count), chunk(cookie, OFFSET_HOLE, whole, DONE)]
+    return text(records)
+
+
+def costs(tally, room, name, wanted, *words):
+    """The processor time of a run, the less of two."""
+    seconds = []
+    for _ in range(2):
+        before = resource.getrusage(resource.RUSAGE_CHILDREN)
+        tally.want(name, room.run(*words), wanted)
+        after = resource.getrusage(resource.RUSAGE_CHILDREN)
+        seconds.append(after.ru_utime + after.ru_stime - before.ru_utime - before.ru_stime)
+    return min(seconds)
+
+
+def costs_of_holes(tally, room):
+    """READs as holes over many changes cost no more than eight times as much where there are four times as many of both."""
+    measured = {}
+    for times in (1, 2, 4):
+        count = 2 * times * HOLES
+        numbers = b"".join(b"%d\n" % number for number in range(1, count + 1))
+        capture, order = room.put("holes.cap", holes(times * HOLES)), room.put("holes.ord", numbers)
+        for command, words, wanted in (("check", [capture, order], yes(count, count, 0)),
+                                       ("explain", [capture, order], yes(count, count, 0)),
+                                       ("order", [capture], Ended(0, numbers, b""))):
+            cost = costs(tally, room, f"{command}, {count} requests on holes", wanted, command, *words, "--start", "unknown")
+            measured.setdefault(command, []).append(cost)
+    for command, (one, two, four) in measured.items():
+        tally.holds(f"{command} of holes, twice as many", two <= 4 * one + APART, (one, two, four))
+        tally.holds(f"{command} of holes, four times as many", four <= 8 * one + APART, (one, two, four))
+
+
 def exports(tally, room):
     """Exports of no byte, of one MiB, and of as many bytes as there may be."""
     empty = begun(size=0)
@@ -112,7 +158,7 @@ def long_lines(tally, room):
 
 def run(tally):
     with Room() as room:
-        for part in (long_messages, many_chunks, exports, long_lines):
+        for part in (long_messages, many_chunks, costs_of_holes, exports, long_lines):
             part(tally, room)
 
 

@@ -1,13 +1,52 @@
-"""What no program runs: the definitions hold meaning alone and fit their lines, and docs/CONTRACTS.md is that of the sources."""
+"""What no program runs: the definitions hold meaning alone and fit their lines, docs/CONTRACTS.md is that of the sources, and
+docs/THEOREMS.md names clauses that there are, on one page, with the counts of files that docs/CONTRACTS.md has."""
+
+import re
 
 import contracts
 import specs
-from built import Tally
+from built import TOP, Tally
+
+LONGEST = 60
+# A function with its clauses, as docs/THEOREMS.md and docs/CONTRACTS.md name them.
+CITED = re.compile(r"`([\w:]+)`((?:,? \*\w+\*)+)")
+COUNTED = re.compile(r"- \*\*`(\w+)` \*(\w+)\*\*\*: (\d+) files")
+
+
+def clauses_of(page):
+    """The clauses of each public function."""
+    found, function = {}, ""
+    for line in page.split("\n"):
+        if named := re.match(r"- \*\*`([\w:]+)`\*\*", line):
+            function = named[1]
+            found.setdefault(function, set())
+        elif clause := re.match(r"  - \w+ \*(\w+)\*", line):
+            found[function].add(clause[1])
+    return found
+
+
+def theorems(tally, made):
+    page = (TOP / "docs/THEOREMS.md").read_text()
+    there = clauses_of(made)
+    tally.holds("docs/THEOREMS.md: its length", len(page.splitlines()) <= LONGEST)
+    rows = [line.split(" | ")[-1] for line in page.split("\n") if line.startswith("| ") and "`" in line]
+    for row in rows:
+        for function, cited in CITED.findall(row):
+            for clause in re.findall(r"\w+", cited):
+                tally.holds(f"docs/THEOREMS.md: `{function}` *{clause}*", clause in there.get(function, ()))
+        for function in re.findall(r"`([\w:]+)`", row):
+            tally.holds(f"docs/THEOREMS.md: `{function}`", function in there)
+    counts = {(function, clause): count for function, clause, count in COUNTED.findall(made)}
+    for function, clause in (("check", "exactly"), ("run_check", "yes"), ("run_check", "written")):
+        tally.holds(f"docs/THEOREMS.md: the files of `{function}` *{clause}*",
+                    re.search(rf"\b{counts[function, clause]}\b", page.split("**What must be believed**")[1]))
 
 
 def run(tally):
+    made = contracts.page()
     tally.want("definitions", specs.check(), 0)
-    tally.want("docs/CONTRACTS.md", contracts.PAGE.read_text().split("\n"), contracts.page().split("\n"))
+    tally.want("docs/CONTRACTS.md", contracts.PAGE.read_text().split("\n"), made.split("\n"))
+    theorems(tally, made)
 
 
 if __name__ == "__main__":

@@ -157,7 +157,9 @@ def lines(tally, room):
         found = run_script(room.put("capture", capture))
         tally.want(name, found, wanted)
         tally.want(f"{name}: status", (found.status, found.err), (0, b""))
-        tally.want(f"{name}: nbdcheck", room.show(capture).err, b"")
+        judged = room.show(capture)
+        tally.want(f"{name}: nbdcheck", judged, room.show(plain))
+        tally.want(f"{name}: nbdcheck takes it", (judged.status in (0, 1), judged.err), (True, b""))
     for name, (capture, number) in REFUSED.items():
         found = run_script(room.put("capture", capture))
         tally.want(name, (found.status, found.out), (1, b""))

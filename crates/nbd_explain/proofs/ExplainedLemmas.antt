@@ -24,7 +24,7 @@ use Rattle.nbd_tool.specs.declared.start.StartFrom.{StartFrom}
 use Rattle.nbd_tool.specs.declared.start.Beginning.{Beginning}
 use Rattle.nbd_tool.specs.Beginnings.{IsReadAs, room_in}
 use Rattle.nbd_tool.specs.Runs.{IsCapture, IsCause, IsOrder, flat_of}
-use Rattle.nbd_tool.specs.Ordering.{IsOrderingCause}
+use Rattle.nbd_explain.specs.Ordering.{IsOrderingCause}
 use Rattle.nbd_tool.proofs.JudgedLemmas.{verdict_on}
 use Rattle.nbd_tool.proofs.OverLemmas.{checked_over, fault_over, report_over}
 use Rattle.nbd_explain.specs.Arrival.{Arrives, number_lines}

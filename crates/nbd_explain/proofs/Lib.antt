@@ -1,3 +1,4 @@
 pub mod ExplainedLemmas
+pub mod OrderingLemmas
 pub mod OrderlessLemmas
 pub mod SettledLemmas

@@ -5,9 +5,7 @@ use Rattle.nbd_wire.specs.declared.entry.Entry.{Entry}
 use Rattle.nbd_wire.specs.declared.fault.WireFault.{WireFault}
 use Rattle.nbd_wire.specs.protocol.Captures.{Pair}
 use Rattle.nbd_wire.specs.protocol.Explains.{IsExplained, Start, start_byte}
-use Rattle.nbd_wire.specs.protocol.Marks.{Item, pairs}
 use Rattle.nbd_wire.specs.protocol.Reports.{Report, report}
-use Rattle.nbd_wire.specs.protocol.Rules.{IsRun}
 use Rattle.nbd_wire.specs.protocol.Verdicts.{request_count}
 use Rattle.nbd_session.specs.declared.fault.SessionFault.{SessionFault}
 use Rattle.nbd_session.specs.declared.fault.SessionFault.TheVariants.{Wire}
@@ -25,10 +23,10 @@ use Rattle.nbd_order.specs.Finding.{IsFound, IsWanted, Says, arrival}
 use Rattle.nbd_order.specs.Unexplained.{IsRefutedBy, IsUnexplained}
 use Rattle.nbd_order.specs.declared.finding.Found.{Found}
 use Rattle.nbd_order.specs.declared.finding.Found.TheVariants.{GaveUp, Image, NoneWhole, Order, Unexplained}
-use Rattle.nbd_order.specs.declared.finding.Wanted.TheVariants.{Any, Whole}
+use Rattle.nbd_order.specs.declared.finding.Wanted.TheVariants.{Any}
 use Rattle.nbd_tool.specs.Beginnings.{IsBeginningOf, IsReadAs}
 use Rattle.nbd_tool.specs.Ends.{IsOverText}
-use Rattle.nbd_tool.specs.Ordering.{IsUnexplainedBy}
+use Rattle.nbd_explain.specs.Ordering.{IsUnexplainedBy}
 use Rattle.nbd_tool.specs.Runs.{flat_of}
 use Rattle.nbd_tool.specs.Verdicts.{IsYes}
 use Rattle.nbd_tool.specs.declared.fault.RunFault.{RunFault}

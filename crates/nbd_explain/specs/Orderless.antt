@@ -20,7 +20,7 @@ use Rattle.nbd_judge.specs.declared.verdict.Verdict.TheVariants.{Image, Wire}
 use Rattle.nbd_search.specs.declared.proposal.Reason.{Reason}
 use Rattle.nbd_order.specs.Finding.{arrival}
 use Rattle.nbd_order.specs.Unexplained.{IsRefutedBy, IsUnexplained}
-use Rattle.nbd_tool.specs.Ordering.{IsUnexplainedBy, gave_up_line, unexplained_line}
+use Rattle.nbd_explain.specs.Ordering.{IsUnexplainedBy, gave_up_line, unexplained_line}
 use Rattle.nbd_tool.specs.Runs.{flat_of}
 use Rattle.nbd_tool.specs.Verdicts.{IsYes, line, words}
 use Rattle.nbd_explain.specs.declared.answer.Answer.{Answer}

@@ -3,20 +3,20 @@
 ghost use Rattle.std.specs.Prelude.{◌≡◌, ◌⊎◌, IfErr, IfOk, OnOk};
 ghost use Rattle.std.specs.Io.KnownBytes.{Appends};
 ghost use Rattle.nbd_tool.specs.declared.fault.RunFault.TheVariants.{Memory, Write};
+ghost use Rattle.nbd_explain.specs.Ordering.{LeavesOrdered};
 ghost use Rattle.nbd_tool.specs.Shown.{IsShowCause};
 ghost use Rattle.nbd_tool.specs.Starts.{IsWithinLimit};
 ghost use Rattle.nbd_explain.specs.Arrival.{Arrives, number_lines};
-ghost use Rattle.nbd_explain.specs.Settled.{KeepsUnread};
 
 use nbd_capture::write_whole;
 use nbd_session::SessionFault;
 use nbd_tool::{RunFault, Unseen, session_over};
-use std::alloc::Global;
+use std::alloc::{AllocError, Global};
 use std::io::{BufRead, Write};
 
 /// Reads a capture text to its end, and writes the numbers of its requests, a line each, in the order in which they came:
 /// the order of service of a server that takes one after the other. Answers false, and writes nothing, where the session
-/// was refused.
+/// was refused. Nothing is written before all numbers are there; after `Write` some of them may stand written.
 pub fn run_arrival<C: BufRead + Drop, W: Write>(
     alloc: Global,
     capture: C,
@@ -26,7 +26,7 @@ pub fn run_arrival<C: BufRead + Drop, W: Write>(
         (λ yes. Arrives (C.remaining capture) yes (W.contents out.old) (W.contents out.new)) }
     ensures limited { OnOk result (IsWithinLimit (C.remaining capture)) }
     ensures cause { IfErr result (IsShowCause (C.remaining capture)) }
-    ensures left { IfErr result (KeepsUnread (W.contents out.old) (W.contents out.new)) }
+    ensures left { IfErr result (LeavesOrdered (W.contents out.old) (W.contents out.new)) }
 {
     let session = session_over(alloc, capture, &mut Unseen)?;
     match session.finish() {
@@ -43,10 +43,19 @@ pub fn run_arrival<C: BufRead + Drop, W: Write>(
 fn write_numbers<W: Write>(alloc: Global, count: u64, out: &mut W) -> Result<(), RunFault>
     ensures written { OnOk result (Appends (W.contents out.old) (W.contents out.new) (number_lines count)) }
     ensures fault { IfErr result (λ fault. (fault ≡ Write) ⊎ (fault ≡ Memory)) }
+    ensures left { IfErr result (LeavesOrdered (W.contents out.old) (W.contents out.new)) }
 {
+    let text = numbers_to(alloc, count)?;
+    Ok(write_whole(out, text.as_bytes())?)
+}
+
+// The lines of the numbers from 1 up to this one.
+fn numbers_to(alloc: Global, count: u64) -> Result<String, AllocError>
+    ensures { IfOk result (λ text. text.bytes.items ≡ number_lines count) }
+{
+    let mut text = String::new(alloc);
     for number in 0..count {
-        let line = format!(in alloc; "{}\n", number + 1)?;
-        write_whole(out, line.as_bytes())?;
+        writeln!(&mut text, "{}", number + 1)?;
     }
-    Ok(())
+    Ok(text)
 }

@@ -4,7 +4,7 @@ ghost use Rattle.std.specs.Prelude.{◌≡◌, ◌⊎◌, ℕ, List, Option, IfE
 ghost use Rattle.nbd_capture.specs.Order.{IsOrderText};
 ghost use Rattle.nbd_tool.specs.declared.fault.RunFault.TheVariants.{Memory, Write};
 ghost use Rattle.nbd_tool.specs.Ends.{IsOverText};
-ghost use Rattle.nbd_tool.specs.Ordering.{LeavesOrdered};
+ghost use Rattle.nbd_explain.specs.Ordering.{LeavesOrdered};
 ghost use Rattle.nbd_tool.specs.Runs.{IsCapture, IsCause, IsOrder};
 ghost use Rattle.nbd_tool.specs.Starts.{IsStartWithinLimit, IsWithinLimit, initial_from};
 ghost use Rattle.nbd_explain.specs.Explained.{Explains, IsExplainCause, IsExplained};

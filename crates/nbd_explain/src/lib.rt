@@ -1,4 +1,4 @@
-//! What is said of a session for people: why it was refused, its messages in words, and its order of arrival.
+//! What is said of a session for people: why it was refused, its messages in words, an order that explains it, and that of arrival.
 #![tactic(auto)]
 
 pub mod answer;
@@ -6,6 +6,7 @@ mod arrival;
 mod explain;
 mod found;
 mod listing;
+pub mod ordering;
 mod reading;
 mod searching;
 #[cfg(test)]
@@ -16,3 +17,4 @@ pub use answer::{Answer, explain_status};
 pub use arrival::run_arrival;
 pub use explain::run_explain;
 pub use listing::run_names;
+pub use ordering::{Ordered, order_status, run_order};

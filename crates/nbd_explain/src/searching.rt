@@ -5,7 +5,7 @@ ghost use Rattle.nbd_wire.specs.protocol.Explains as definitions;
 ghost use Rattle.nbd_tool.specs.declared.fault.RunFault.TheVariants.{Memory, Write};
 ghost use Rattle.nbd_tool.specs.Beginnings.{IsReadAs};
 ghost use Rattle.nbd_tool.specs.Ends.{IsOverText};
-ghost use Rattle.nbd_tool.specs.Ordering.{IsOrderingCause, LeavesOrdered};
+ghost use Rattle.nbd_explain.specs.Ordering.{IsOrderingCause, LeavesOrdered};
 ghost use Rattle.nbd_tool.specs.Runs.{IsCapture};
 ghost use Rattle.nbd_tool.specs.Starts.{IsStartWithinLimit, initial_from};
 ghost use Rattle.nbd_explain.specs.Orderless.{Tells};
@@ -13,6 +13,7 @@ ghost use Rattle.nbd_explain.specs.internal.Lines.{BeginsWithLineOf, IsLineOf, I
 
 use crate::answer::{Answer, found_answer};
 use crate::found::found_explanation;
+use crate::ordering::{find_order, found_text_of};
 use crate::writing::{copy_of, kept_of, write_explained};
 use nbd_capture::write_whole;
 use nbd_judge::Verdict;
@@ -21,8 +22,7 @@ use nbd_search::{Limits, Progress};
 use nbd_session::{Session, SessionFault, Transcript};
 use nbd_story::Story;
 use nbd_tool::{
-    Beginning, Line, Measured, RunFault, StartFrom, conclude_from, find_order, found_text_of,
-    read_start, room_of,
+    Beginning, Line, Measured, RunFault, StartFrom, conclude_from, read_start, room_of,
 };
 use std::alloc::{AllocError, Global};
 use std::io::Write;

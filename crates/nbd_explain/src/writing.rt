@@ -4,7 +4,7 @@ ghost use Rattle.std.specs.Prelude.{◌≡◌, ◌⊎◌, ℕ, IfErr, IfOk, OnOk
 ghost use Rattle.nbd_wire.specs.protocol.Explains as definitions;
 ghost use Rattle.nbd_tool.specs.Beginnings.{IsReadAs};
 ghost use Rattle.nbd_tool.specs.declared.fault.RunFault.TheVariants.{Memory, Write};
-ghost use Rattle.nbd_tool.specs.Ordering.{LeavesOrdered};
+ghost use Rattle.nbd_explain.specs.Ordering.{LeavesOrdered};
 ghost use Rattle.nbd_explain.specs.Answering.{IsAnswerTo};
 ghost use Rattle.nbd_explain.specs.Explained.{BeginsWithLine};
 

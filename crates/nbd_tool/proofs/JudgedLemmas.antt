@@ -1,5 +1,5 @@
 -- The verdict on the texts and the start that were read.
-use Rattle.std.proofs.Common.{◌≡◌, ℕ, List, ◌≢◌, ◌↔◌, ◌⊎◌, inl, inr, Bool, refl, sym, subst, Option, Some, None, Result, Ok, Err, IfErr, IfOk, IfSome, IsTrue, OnOk}
+use Rattle.std.proofs.Common.{◌≡◌, ℕ, List, ◌↔◌, ◌⊎◌, inl, inr, Bool, sym, subst, Option, Some, None, Result, Ok, Err, IfErr, IfOk, IfSome, IsTrue, OnOk}
 use Rattle.std.specs.Io.KnownBytes.{Appends, Keeps}
 use Rattle.nbd_wire.specs.declared.entry.Entry.{Entry}
 use Rattle.nbd_wire.specs.protocol.Explains.{Start}
@@ -16,7 +16,7 @@ use Rattle.nbd_tool.specs.Ends.{IsOverText}
 use Rattle.nbd_tool.specs.internal.Outcomes.{IsConcluded}
 use Rattle.nbd_tool.proofs.OverLemmas.{checked_over}
 use Rattle.nbd_tool.specs.declared.fault.RunFault.{RunFault}
-use Rattle.nbd_tool.specs.declared.fault.RunFault.TheVariants.{CaptureLine, CaptureRead, OrderLine, OrderRead, ImageRead, ScriptLine, ScriptRead, Write, Memory}
+use Rattle.nbd_tool.specs.declared.fault.RunFault.TheVariants.{Write, Memory}
 use Rattle.nbd_tool.specs.Runs.{IsVerdictOn, LeavesWritten, Tells, flat_of}
 use Rattle.nbd_tool.specs.Verdicts.{IsYes, line}
 

@@ -2,7 +2,6 @@ pub mod EndLemmas
 pub mod FaultLemmas
 pub mod JudgedLemmas
 pub mod LastLineLemmas
-pub mod OrderingLemmas
 pub mod OverLemmas
 pub mod SayLemmas
 pub mod SizeLemmas

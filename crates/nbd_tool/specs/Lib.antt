@@ -3,7 +3,6 @@ pub mod CommandLine
 pub mod Ends
 pub mod Faults
 pub mod Opening
-pub mod Ordering
 pub mod Runs
 pub mod Scripts
 pub mod Shown

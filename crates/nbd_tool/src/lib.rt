@@ -1,4 +1,4 @@
-//! What the commands `check`, `order`, `show` and `make` do, over any readers and writer.
+//! What the commands `check`, `show` and `make` do, over any readers and writer.
 #![tactic(auto)]
 
 pub mod capture;
@@ -6,12 +6,13 @@ pub mod check;
 pub mod command_line;
 pub mod concluding;
 pub mod fault;
+pub mod files;
 mod final_writer;
 mod input;
 pub mod laws;
 mod make;
 pub mod opening;
-pub mod ordering;
+pub mod saying;
 pub mod show;
 pub mod start;
 #[cfg(test)]
@@ -23,11 +24,12 @@ pub use check::{read_order, run_check};
 pub use command_line::{StartWord, exit_status, start_of};
 pub use concluding::conclude_from;
 pub use fault::RunFault;
+pub use files::{Files, check_files};
 pub use final_writer::FinalWriter;
 pub use input::READ_LIMIT;
 pub use make::run_make;
 pub use opening::{Inputs, Opener, open_inputs, open_start};
-pub use ordering::{Ordered, find_order, found_text_of, order_status, run_order};
+pub use saying::{complain, hint, tell, terminal};
 pub use show::{run_show, write_end};
 pub use start::{Beginning, Measured, StartFrom, read_start, room_of};
-pub use verdict::{Line, is_yes};
+pub use verdict::{Line, is_yes, line_of};

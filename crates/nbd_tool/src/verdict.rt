@@ -38,7 +38,7 @@ pub(crate) fn write_verdict<W: Write>(
 }
 
 /// A verdict's line. An `Err` says that memory ran out.
-pub(crate) fn line_of(alloc: Global, verdict: Verdict) -> Result<String, AllocError>
+pub fn line_of(alloc: Global, verdict: Verdict) -> Result<String, AllocError>
     ensures { IfOk result (λ text. text.bytes.items ≡ line verdict) }
 {
     format!(in alloc; "{}\n", Line { verdict })

@@ -1,17 +1,14 @@
 //! The commands.
 
-use crate::files::{
-    Files, Output, check_files, explain_file, explain_files, order_files, write_of,
-};
+use crate::files::{Output, explain_file, explain_files, order_files, write_of};
 use crate::hints::tell_of_inputs;
-use crate::saying::{complain, hint};
 use crate::words::command;
 use clap::error::ErrorKind;
 use clap::{ArgMatches, Error};
-use nbd_explain::explain_status;
+use nbd_explain::{explain_status, order_status};
 use nbd_order::{Scope, Wanted};
 use nbd_search::Limits;
-use nbd_tool::{RunFault, StartWord, exit_status, order_status, start_of};
+use nbd_tool::{Files, RunFault, StartWord, check_files, complain, exit_status, hint, start_of};
 use std::{env, io};
 
 /// The exit status of help and of the version.

@@ -1,94 +1,15 @@
-//! The files of a run: how they are opened, and what is written of them.
+//! What is written of the files of a run.
 
-ghost use Rattle.std.specs.Prelude.{◌≡◌};
-ghost use Rattle.nbd_tool.specs.CommandLine.{exit_status};
-
-use crate::saying::{hint, tell, terminal};
-use nbd_explain::{Answer, run_arrival, run_explain, run_names};
+use nbd_explain::{Answer, Ordered, run_arrival, run_explain, run_names, run_order};
 use nbd_order::Scope;
 use nbd_search::{Limits, Progress};
 use nbd_tool::{
-    FinalWriter, Opener, Ordered, RunFault, StartWord, exit_status, open_inputs, open_start,
-    run_check, run_make, run_order, run_show,
+    Files, FinalWriter, RunFault, StartWord, open_inputs, open_start, run_make, run_show, terminal,
 };
 use std::alloc::Global;
 use std::fs::File;
 use std::io;
 use std::io::{BufReader, BufWriter, Write};
-
-/// The files of the system.
-#[derive(Drop)]
-pub struct Files<'a> {
-    rt: &'a HostRuntime,
-    /// Which file could not be opened, and why.
-    refused: Option<String>,
-}
-
-impl<'a> Files<'a> {
-    /// No file was opened.
-    pub fn new(rt: &'a HostRuntime) -> Files<'a> {
-        Files { rt, refused: None }
-    }
-
-    /// Opens a file for a buffered reader.
-    fn open_buffered(&mut self, path: &str, fault: RunFault) -> Result<BufReader<File>, RunFault> {
-        let Ok(file) = self.open(path) else {
-            return Err(fault);
-        };
-        BufReader::new(self.rt.alloc(), file).map_err(|_| RunFault::Memory)
-    }
-
-    /// The exit status of an answer. A fault is printed.
-    pub fn report(&self, answer: &Result<bool, RunFault>) -> u8
-        ensures { result ≡ exit_status answer.now }
-    {
-        if let Err(fault) = answer {
-            self.say(fault);
-        }
-        exit_status(answer)
-    }
-
-    /// Prints a fault, and on a terminal which file could not be opened, and why.
-    pub fn say(&self, fault: &RunFault) {
-        tell(self.rt, fault);
-        if let Some(refused) = &self.refused {
-            hint(self.rt, refused);
-        }
-    }
-}
-
-impl Opener for Files<'_> {
-    type Input = File;
-
-    fn open(&mut self, path: &str) -> io::Result<File> {
-        match File::open(self.rt, path) {
-            Ok(file) => Ok(file),
-            Err(error) => {
-                self.refused = format!(in self.rt.alloc(); "{path}: {error}").ok();
-                Err(error)
-            }
-        }
-    }
-}
-
-/// Opens the files in the order capture, order, image, and then checks.
-pub fn check_files(
-    files: &mut Files<'_>,
-    capture: &str,
-    order: &str,
-    start: StartWord<'_>,
-) -> Result<bool, RunFault> {
-    let (rt, alloc) = (files.rt, files.rt.alloc());
-    let inputs = open_inputs(files, capture, order, start)?;
-    let capture = BufReader::new(alloc, inputs.capture).map_err(|_| RunFault::Memory)?;
-    run_check(
-        alloc,
-        capture,
-        inputs.order,
-        inputs.start,
-        &mut io::writer(rt),
-    )
-}
 
 /// Opens the files as `check` does, and then explains.
 pub fn explain_files(

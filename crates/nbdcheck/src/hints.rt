@@ -1,7 +1,6 @@
 //! What a person is told of an input beside the answer, on standard error: what the capture looks like, and what is wrong with a line.
 
-use crate::saying::{hint, tell, terminal};
-use nbd_tool::RunFault;
+use nbd_tool::{RunFault, hint, tell, terminal};
 use std::fs;
 use std::fs::File;
 use std::io::{BufRead, BufReader, Read};

@@ -4,7 +4,6 @@
 mod command;
 mod files;
 mod hints;
-mod saying;
 mod words;
 
 use std::process::ExitCode;

@@ -14,7 +14,7 @@ use Rattle.nbd_order.specs.declared.finding.Found.{Found}
 use Rattle.nbd_order.specs.declared.finding.Found.TheVariants.{GaveUp, Image, NoneWhole, Order, Unexplained}
 use Rattle.nbd_order.specs.declared.finding.Wanted.TheVariants.{Any}
 use Rattle.nbd_tool.specs.Beginnings.{IsReadAs, room_in}
-use Rattle.nbd_tool.specs.Ordering.{found_text}
+use Rattle.nbd_explain.specs.Ordering.{found_text}
 use Rattle.nbd_explain.specs.declared.answer.Answer.{Answer}
 use Rattle.nbd_explain.specs.Answering.{IsAnswerTo, answer_to}
 use Rattle.nbd_explain.specs.Explained.{BeginsWithLine}

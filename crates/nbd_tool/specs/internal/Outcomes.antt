@@ -1,46 +1,13 @@
--- What `check` and `order` say of a session that has ended.
-use Rattle.std.specs.Prelude.{◌≡◌, ℕ, List, Option, IfSome, Result, Ok, Err}
+-- What `check` says of a session that has ended.
+use Rattle.std.specs.Prelude.{◌≡◌, List, Option, IfSome, Result}
 use Rattle.nbd_wire.specs.declared.entry.Entry.{Entry}
-use Rattle.nbd_wire.specs.declared.fault.WireFault.{WireFault}
 use Rattle.nbd_wire.specs.protocol.Explains.{Start}
 use Rattle.nbd_wire.specs.protocol.Marks.{Item, pairs}
-use Rattle.nbd_wire.specs.protocol.Reports.{Report, report}
+use Rattle.nbd_wire.specs.protocol.Reports.{Report}
 use Rattle.nbd_wire.specs.protocol.Rules.{IsRun}
 use Rattle.nbd_session.specs.declared.fault.SessionFault.{SessionFault}
-use Rattle.nbd_session.specs.declared.fault.SessionFault.TheVariants.{Wire}
 use Rattle.nbd_judge.specs.Conclusions.{Answers, IsConclusion, IsReportOf}
-use Rattle.nbd_judge.specs.Servable.{size_of}
 use Rattle.nbd_judge.specs.declared.verdict.Verdict.{Verdict}
-use Rattle.nbd_judge.specs.declared.verdict.Verdict.TheVariants as verdict
-use Rattle.nbd_order.specs.Finding.{IsFound, IsWanted, Says}
-use Rattle.nbd_order.specs.declared.finding.Found.{Found}
-use Rattle.nbd_order.specs.declared.finding.Wanted.{Wanted}
-use Rattle.nbd_tool.specs.Beginnings.{IsBeginningOf, IsReadAs, room_in}
-use Rattle.nbd_tool.specs.Ordering.{found_text, ordered_of}
-use Rattle.nbd_tool.specs.Verdicts.{line}
-use Rattle.nbd_tool.specs.declared.ordering.Ordered.{Ordered}
-use Rattle.nbd_tool.specs.declared.ordering.Ordered.TheVariants.{Refuted}
-use Rattle.nbd_tool.specs.declared.start.Beginning.{Beginning}
-
--- the answer and the text: of a report those of what is found of it from this beginning, of a refused session the
--- verdict's line
-pub data IsToldOf (beginning : Beginning) (wanted : Wanted) : Result Report SessionFault → Ordered → List ℕ
-    → Type 0 where
-  of_report : (told : Report) (f : Found) → ((initial : Start) → IsReadAs (size_of told.export) initial beginning
-      → IsFound told initial f)
-      → IsWanted wanted f
-      → ((initial : Start) (items : List Item) → IsReadAs (size_of told.export) initial beginning → IsRun items
-      → report items ≡ told
-      → Says items initial f)
-      → IsToldOf beginning wanted (Ok told) (ordered_of f) (found_text f)
-  of_refusal : (at : ℕ) (fault : WireFault) → IsToldOf beginning wanted (Err (Wire at fault)) Refuted
-      (line (verdict.Wire at fault))
-
--- the same from a beginning that was read of this start
-abbrev pub IsToldFrom : Option Start → Wanted → Result Report SessionFault → Ordered → List ℕ → Type 0
-IsToldFrom start wanted finished ordered text =
-    (beginning : Beginning) × IsBeginningOf start (room_in finished) beginning
-    × IsToldOf beginning wanted finished ordered text
 
 -- a verdict on an ended session and an order, from the start where it is known
 pub record IsConcluded (known : Option Start) (finished : Result Report SessionFault) (order : List Entry)

@@ -1,5 +1,5 @@
 use Rattle.std.proofs.Common.{subst, sym}
-use Rattle.nbd_explain.specs.internal.Lines.{BeginsWithLineOf, IsToldOfFound}
+use Rattle.nbd_explain.specs.internal.Lines.{BeginsWithLineOf}
 use Rattle.nbd_explain.proofs.searching.explain_found.Goals as goal
 
 pub returns-clause-told : goal.returns-clause-told

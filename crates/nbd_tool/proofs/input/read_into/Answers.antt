@@ -1,4 +1,4 @@
-use Rattle.std.proofs.Common.{◌<◌, ◌+◌, ◌≡◌, ◌∙◌, Ok, sym, rules, arith, take, length, ap}
+use Rattle.std.proofs.Common.{◌<◌, ◌+◌, ◌≡◌, sym, rules, arith, take, length, ap}
 use Rattle.std.specs.Io.KnownBytes.{Consumes}
 use Rattle.nbd_tool.proofs.EndLemmas.{all_into, counted_within, has_all, read_more, read_nothing, take_of_prefix}
 use Rattle.nbd_tool.proofs.input.read_into.Goals as goal

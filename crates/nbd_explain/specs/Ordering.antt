@@ -1,5 +1,5 @@
 -- What a run of `order` writes, where the reader and the writer state their bytes.
-use Rattle.std.specs.Prelude.{◌≡◌, ◌⊎◌, ℕ, List, [], ◌∷◌, ◌++◌, Option, Some, None, IfSome, Result, Ok, Err, codes, flat_map}
+use Rattle.std.specs.Prelude.{◌≡◌, ℕ, List, [], ◌∷◌, ◌++◌, Option, Some, None, IfSome, Result, Ok, Err, codes, flat_map}
 use Rattle.std.specs.Fmt.{decimal}
 use Rattle.std.specs.Io.KnownBytes.{Appends, Keeps}
 use Rattle.nbd_wire.specs.declared.entry.Entry.{Entry}
@@ -28,9 +28,9 @@ use Rattle.nbd_order.specs.declared.finding.Found.TheVariants as found
 use Rattle.nbd_order.specs.declared.finding.Wanted.{Wanted}
 use Rattle.nbd_order.specs.declared.finding.Wanted.TheVariants.{Whole}
 use Rattle.nbd_tool.specs.declared.fault.RunFault.{RunFault}
-use Rattle.nbd_tool.specs.declared.fault.RunFault.TheVariants.{ImageRead, Memory, Write}
-use Rattle.nbd_tool.specs.declared.ordering.Ordered.{Ordered}
-use Rattle.nbd_tool.specs.declared.ordering.Ordered.TheVariants.{Found as IsFound, Open, Refuted}
+use Rattle.nbd_tool.specs.declared.fault.RunFault.TheVariants.{ImageRead, Write}
+use Rattle.nbd_explain.specs.declared.ordering.Ordered.{Ordered}
+use Rattle.nbd_explain.specs.declared.ordering.Ordered.TheVariants.{Found as IsFound, Open, Refuted}
 use Rattle.nbd_tool.specs.declared.start.StartFrom.{StartFrom}
 use Rattle.nbd_tool.specs.Faults.{status}
 use Rattle.nbd_tool.specs.Runs.{IsCapture, IsCaptureCause, flat_of}

@@ -7,8 +7,8 @@ use Rattle.nbd_order.specs.Finding.{AreWhole}
 use Rattle.nbd_order.specs.declared.finding.Found.TheVariants.{Image, Order}
 use Rattle.nbd_order.proofs.FoundLemmas.{says_of, whole_wanted}
 use Rattle.nbd_tool.specs.Beginnings.{IsReadAs}
-use Rattle.nbd_tool.proofs.OrderingLemmas.{counted_other, nothing_passes}
-use Rattle.nbd_tool.proofs.ordering.find_order.Goals as goal
+use Rattle.nbd_explain.proofs.OrderingLemmas.{counted_other, nothing_passes}
+use Rattle.nbd_explain.proofs.ordering.find_order.Goals as goal
 
 pub returns-in-Some-clause-says : goal.returns-in-Some-clause-says
 returns-in-Some-clause-says c = λ initial items is_read is_run same.

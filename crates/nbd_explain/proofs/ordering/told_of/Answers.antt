@@ -1,6 +1,6 @@
 use Rattle.std.proofs.Common.{IfOk, subst, sym}
-use Rattle.nbd_tool.specs.internal.Outcomes.{IsToldOf}
-use Rattle.nbd_tool.proofs.ordering.told_of.Goals as goal
+use Rattle.nbd_explain.specs.internal.Outcomes.{IsToldOf}
+use Rattle.nbd_explain.proofs.ordering.told_of.Goals as goal
 
 pub returns-in-Ok : goal.returns-in-Ok
 returns-in-Ok c =

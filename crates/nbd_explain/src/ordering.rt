@@ -14,20 +14,20 @@ ghost use Rattle.nbd_order.specs.Finding.{IsFound, IsWanted, Says};
 ghost use Rattle.nbd_order.specs.declared.finding.Wanted.{Wanted};
 ghost use Rattle.nbd_tool.specs.Beginnings.{IsReadAs};
 ghost use Rattle.nbd_tool.specs.declared.start.Beginning.{Beginning};
-ghost use Rattle.nbd_tool.specs.Ordering.{IsOrderingCause, LeavesOrdered, Orders, entry_lines, found_text, gave_up_line, ordered_of, reason_words, spaced_numbers, status_of, unexplained_line};
+ghost use Rattle.nbd_explain.specs.Ordering.{IsOrderingCause, LeavesOrdered, Orders, entry_lines, found_text, gave_up_line, ordered_of, reason_words, spaced_numbers, status_of, unexplained_line};
 ghost use Rattle.nbd_tool.specs.Starts.{HasImage, IsStartWithinLimit, IsWithinLimit, initial_from};
 ghost use Rattle.nbd_tool.specs.declared.fault.RunFault.TheVariants as faults;
-ghost use Rattle.nbd_tool.specs.internal.Outcomes.{IsToldFrom, IsToldOf};
+ghost use Rattle.nbd_explain.specs.internal.Outcomes.{IsToldFrom, IsToldOf};
 
-use crate::capture::{Unseen, session_over};
-use crate::fault::RunFault;
-use crate::start::{Beginning, Measured, StartFrom, read_start, room_of};
-use crate::verdict::{Line, line_of};
 use nbd_capture::write_whole;
 use nbd_judge::Verdict;
 use nbd_order::{Found, Scope, find};
 use nbd_search::{Progress, Reason};
 use nbd_session::{SessionFault, Transcript};
+use nbd_tool::{
+    Beginning, Line, Measured, RunFault, StartFrom, Unseen, line_of, read_start, room_of,
+    session_over,
+};
 use nbd_wire::Entry;
 use std::alloc::{AllocError, Global};
 use std::io::{BufRead, Write};

@@ -1,6 +1,6 @@
 use Rattle.std.proofs.Common.{Err, ap}
-use Rattle.nbd_tool.proofs.OrderingLemmas.{told_refused}
-use Rattle.nbd_tool.proofs.ordering.told_of_fault.Goals as goal
+use Rattle.nbd_explain.proofs.OrderingLemmas.{told_refused}
+use Rattle.nbd_explain.proofs.ordering.told_of_fault.Goals as goal
 
 pub returns-in_ok-text-in-Wire : goal.returns-in_ok-text-in-Wire
 returns-in_ok-text-in-Wire c = λ beginning wanted.

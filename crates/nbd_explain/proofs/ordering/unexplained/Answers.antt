@@ -1,6 +1,6 @@
 use Rattle.std.proofs.Common.{IfOk, subst, ◌≡◌}
-use Rattle.nbd_tool.proofs.OrderingLemmas.{several_line}
-use Rattle.nbd_tool.proofs.ordering.unexplained.Goals as goal
+use Rattle.nbd_explain.proofs.OrderingLemmas.{several_line}
+use Rattle.nbd_explain.proofs.ordering.unexplained.Goals as goal
 
 pub returns-then-reads-ne1 : goal.returns-then-reads-ne1
 returns-then-reads-ne1 c =

@@ -1,6 +1,6 @@
 use Rattle.std.proofs.Common.{Ok, refl}
-use Rattle.nbd_tool.proofs.OrderingLemmas.{told_found}
-use Rattle.nbd_tool.proofs.ordering.told_of_report.Goals as goal
+use Rattle.nbd_explain.proofs.OrderingLemmas.{told_found}
+use Rattle.nbd_explain.proofs.ordering.told_of_report.Goals as goal
 
 pub returns : goal.returns
 returns c =

@@ -1,6 +1,6 @@
 use Rattle.std.proofs.Common.{◌≡◌, take}
-use Rattle.nbd_tool.specs.Ordering.{spaced_numbers}
-use Rattle.nbd_tool.proofs.ordering.numbers_of.Given as goal
+use Rattle.nbd_explain.specs.Ordering.{spaced_numbers}
+use Rattle.nbd_explain.proofs.ordering.numbers_of.Given as goal
 
 abbrev pub invariant-loop-number : goal.invariant-loop-number
 invariant-loop-number l = record { spaced : l.text.bytes.items ≡ spaced_numbers (take l.number-index l.numbers) }

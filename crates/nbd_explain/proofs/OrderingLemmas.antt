@@ -6,7 +6,7 @@ use Rattle.std.specs.Io.KnownBytes.{Appends}
 use Rattle.nbd_wire.specs.declared.entry.Entry.{Entry}
 use Rattle.nbd_wire.specs.declared.fault.WireFault.{WireFault}
 use Rattle.nbd_wire.specs.protocol.Captures.{Pair}
-use Rattle.nbd_wire.specs.protocol.Explains.{FitsImage, Image, IsExplained, Start, start_byte}
+use Rattle.nbd_wire.specs.protocol.Explains.{FitsImage, IsExplained, Start, start_byte}
 use Rattle.nbd_wire.specs.protocol.Marks.{Item, pairs}
 use Rattle.nbd_wire.specs.protocol.Reports.{Report, report}
 use Rattle.nbd_wire.specs.protocol.Rules.{IsRun}
@@ -27,15 +27,15 @@ use Rattle.nbd_order.specs.declared.finding.Found.{Found}
 use Rattle.nbd_order.specs.declared.finding.Found.TheVariants as found
 use Rattle.nbd_order.specs.declared.finding.Wanted.{Wanted}
 use Rattle.nbd_tool.specs.Ends.{IsOverText}
-use Rattle.nbd_tool.specs.Ordering.{IsOrdered, IsOrderedFrom, IsUnexplainedBy, Orders, entry_lines, found_text, ordered_of, spaced_numbers, unexplained_line}
-use Rattle.nbd_tool.specs.Ordering.IsOrdered.{gave_up, image, none_whole, order, unexplained, wire}
-use Rattle.nbd_tool.specs.declared.ordering.Ordered.TheVariants.{Refuted}
+use Rattle.nbd_explain.specs.Ordering.{IsOrdered, IsOrderedFrom, IsUnexplainedBy, Orders, found_text, ordered_of, spaced_numbers, unexplained_line}
+use Rattle.nbd_explain.specs.Ordering.IsOrdered.{gave_up, image, none_whole, order, unexplained, wire}
+use Rattle.nbd_explain.specs.declared.ordering.Ordered.TheVariants.{Refuted}
 use Rattle.nbd_tool.specs.declared.start.Beginning.{Beginning}
 use Rattle.nbd_tool.specs.Beginnings.{IsBeginningOf, room_in}
-use Rattle.nbd_tool.specs.internal.Outcomes.{IsToldFrom, IsToldOf}
-use Rattle.nbd_tool.specs.internal.Outcomes.IsToldOf.{of_refusal, of_report}
+use Rattle.nbd_explain.specs.internal.Outcomes.{IsToldFrom, IsToldOf}
+use Rattle.nbd_explain.specs.internal.Outcomes.IsToldOf.{of_refusal, of_report}
 use Rattle.nbd_tool.specs.declared.fault.RunFault.{RunFault}
-use Rattle.nbd_tool.specs.declared.ordering.Ordered.{Ordered}
+use Rattle.nbd_explain.specs.declared.ordering.Ordered.{Ordered}
 use Rattle.nbd_tool.specs.Runs.{flat_of}
 use Rattle.nbd_tool.specs.Verdicts.{line, words}
 use Rattle.nbd_tool.proofs.OverLemmas.{fault_over, report_over}

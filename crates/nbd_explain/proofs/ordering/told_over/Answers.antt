@@ -1,7 +1,7 @@
 use Rattle.std.proofs.Common.{subst}
 use Rattle.nbd_tool.specs.Beginnings.{IsBeginningOf}
 use Rattle.nbd_tool.specs.Starts.{initial_from}
-use Rattle.nbd_tool.proofs.ordering.told_over.Goals as goal
+use Rattle.nbd_explain.proofs.ordering.told_over.Goals as goal
 
 pub returns-clause-told : goal.returns-clause-told
 returns-clause-told g c = (

@@ -1,0 +1,40 @@
+-- What `order` says of a session that has ended.
+use Rattle.std.specs.Prelude.{◌≡◌, ℕ, List, Option, Result, Ok, Err}
+use Rattle.nbd_wire.specs.declared.fault.WireFault.{WireFault}
+use Rattle.nbd_wire.specs.protocol.Explains.{Start}
+use Rattle.nbd_wire.specs.protocol.Marks.{Item}
+use Rattle.nbd_wire.specs.protocol.Reports.{Report, report}
+use Rattle.nbd_wire.specs.protocol.Rules.{IsRun}
+use Rattle.nbd_session.specs.declared.fault.SessionFault.{SessionFault}
+use Rattle.nbd_session.specs.declared.fault.SessionFault.TheVariants.{Wire}
+use Rattle.nbd_judge.specs.Servable.{size_of}
+use Rattle.nbd_judge.specs.declared.verdict.Verdict.TheVariants as verdict
+use Rattle.nbd_order.specs.Finding.{IsFound, IsWanted, Says}
+use Rattle.nbd_order.specs.declared.finding.Found.{Found}
+use Rattle.nbd_order.specs.declared.finding.Wanted.{Wanted}
+use Rattle.nbd_tool.specs.Beginnings.{IsBeginningOf, IsReadAs, room_in}
+use Rattle.nbd_explain.specs.Ordering.{found_text, ordered_of}
+use Rattle.nbd_tool.specs.Verdicts.{line}
+use Rattle.nbd_explain.specs.declared.ordering.Ordered.{Ordered}
+use Rattle.nbd_explain.specs.declared.ordering.Ordered.TheVariants.{Refuted}
+use Rattle.nbd_tool.specs.declared.start.Beginning.{Beginning}
+
+-- the answer and the text: of a report those of what is found of it from this beginning, of a refused session the
+-- verdict's line
+pub data IsToldOf (beginning : Beginning) (wanted : Wanted) : Result Report SessionFault → Ordered → List ℕ
+    → Type 0 where
+  of_report : (told : Report) (f : Found) → ((initial : Start) → IsReadAs (size_of told.export) initial beginning
+      → IsFound told initial f)
+      → IsWanted wanted f
+      → ((initial : Start) (items : List Item) → IsReadAs (size_of told.export) initial beginning → IsRun items
+      → report items ≡ told
+      → Says items initial f)
+      → IsToldOf beginning wanted (Ok told) (ordered_of f) (found_text f)
+  of_refusal : (at : ℕ) (fault : WireFault) → IsToldOf beginning wanted (Err (Wire at fault)) Refuted
+      (line (verdict.Wire at fault))
+
+-- the same from a beginning that was read of this start
+abbrev pub IsToldFrom : Option Start → Wanted → Result Report SessionFault → Ordered → List ℕ → Type 0
+IsToldFrom start wanted finished ordered text =
+    (beginning : Beginning) × IsBeginningOf start (room_in finished) beginning
+    × IsToldOf beginning wanted finished ordered text

@@ -1,0 +1,51 @@
+//! The command `check CAPTURE ORDER --start START` alone: a first answer, while the rest of nbdcheck is not proved yet.
+#![tactic(auto)]
+
+use nbd_tool::{Files, StartWord, check_files, complain, hint, start_of};
+use std::process::ExitCode;
+use std::{env, io};
+
+/// The exit status of a command line that is malformed.
+const USAGE: u8 = 2;
+/// The exit status of out of memory.
+const MEMORY: u8 = 4;
+
+fn main(rt: HostRuntime) -> ExitCode {
+    ExitCode::from(run(&rt))
+}
+
+// Runs the program on the words that it was called with, and answers its exit status.
+fn run(rt: &HostRuntime) -> u8 {
+    match words(rt) {
+        Ok(words) => run_words(rt, words.as_slice()),
+        Err(_) => complain(rt, "fault memory", MEMORY),
+    }
+}
+
+fn words(rt: &HostRuntime) -> io::Result<Vec<String>> {
+    Ok(env::args(rt)?.collect(rt.alloc())?)
+}
+
+fn run_words(rt: &HostRuntime, words: &[String]) -> u8 {
+    if words.len() != 6 || words[1].as_str() != "check" || words[4].as_str() != "--start" {
+        return complain(
+            rt,
+            "error: the words are 'check CAPTURE ORDER --start START'",
+            USAGE,
+        );
+    }
+    match start_of(&words[5]) {
+        Some(start) => check(rt, &words[2], &words[3], start),
+        None => complain(rt, "fault start", USAGE),
+    }
+}
+
+fn check(rt: &HostRuntime, capture: &str, order: &str, start: StartWord<'_>) -> u8 {
+    let mut files = Files::new(rt);
+    let answer = check_files(&mut files, capture, order, start);
+    let status = files.report(&answer);
+    if matches!(answer, Ok(false)) {
+        hint(rt, "'nbdcheck explain' with the same words says why");
+    }
+    status
+}
