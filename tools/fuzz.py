@@ -69,7 +69,8 @@ BAD_TEXTS = {
 }
 BAD_CAPTURE = r"fault capture line \d+\n"
 EXCHANGED = b"the first bytes of C are a server's (NBDMAGIC): C and S are exchanged in this capture\n"
-SEARCHED = b"this order is what a search wrote that found none: 'no' or 'gave up', and no entries\n"
+SEARCHED = b"line 1 is no entry of an order but the answer of a search that found none: 'no' or 'gave up'\n"
+EMPTY = b"the capture is empty: nothing was recorded\n"
 REFUSED = b"no order: the session was refused\n"
 
 
@@ -100,11 +101,19 @@ def first_line(found):
     return found.out.split(b"\n")[0]
 
 
-def said(name, status, capture, order):
+def is_exchanged(capture):
+    """Whether the client's first bytes in a capture are a server's."""
+    return b"".join(data for side, data in records_of(capture) if side == "C").startswith(b"NBDMAGIC")
+
+
+def said(name, status, capture):
     """What stands on standard error beside an answer, where this is no terminal."""
-    if name in ("check", "explain", "alone") and capture[:18].lower() == b"c 4e42444d41474943":
-        return EXCHANGED
-    return REFUSED if (name, status) == ("arrival", 1) else b""
+    if name == "make":
+        return b""
+    refused = REFUSED if (name, status) == ("arrival", 1) else b""
+    if not capture:
+        return EMPTY
+    return refused + (EXCHANGED if status == 1 and is_exchanged(capture) else b"")
 
 
 class Mutator:
@@ -235,7 +244,7 @@ class Fuzz:
         self.endings[name, found.status] += 1
         form = FORMS[name].get(found.status)
         if form is not None:
-            is_told = re.fullmatch(form.encode(), found.out) and found.err == said(name, found.status, capture, order)
+            is_told = re.fullmatch(form.encode(), found.out) and found.err == said(name, found.status, capture)
         else:
             is_told = found.status == 3 and not found.out and self.is_bad_text(name, found.err, order)
         if not is_told:
@@ -244,7 +253,7 @@ class Fuzz:
 
     def is_bad_text(self, name, err, order):
         bad = BAD_TEXTS.get(name, BAD_CAPTURE)
-        is_searched = err.startswith(b"fault order ") and (order[:3] == b"no " or order[:7] == b"gave up")
+        is_searched = err.startswith(b"fault order line 1\n") and (order[:3] == b"no " or order[:7] == b"gave up")
         return re.fullmatch(bad.encode() + (re.escape(SEARCHED) if is_searched else b""), err)
 
     def judged(self, command, capture, order, start):

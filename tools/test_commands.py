@@ -8,6 +8,8 @@ import time
 from built import PROGRAM, TOP, Ended, Room, Tally
 from messages import begun, read, records_of, simple, text, write
 
+LF = b"\n"
+EMPTY = b"the capture is empty: nothing was recorded\n"
 CAPTURE = text(begun() + [read(1, 0, 4), simple(1, bytes(4))])
 YES = b"yes requests 1 answered 1 improper 0\n"
 # A READ of a byte that nobody wrote.
@@ -127,7 +129,7 @@ def lines(tally, room):
     late = text(begun() + [read(1, 0, 1), simple(1, b"\0"), read(2, 0, 1), simple(2, b"\0")])
     for name, capture, order, wanted in (
         ("yes", CAPTURE, b"1\n", Ended(0, YES, b"")),
-        ("nothing", b"", b"", Ended(0, b"yes requests 0 answered 0 improper 0\n", b"")),
+        ("nothing", b"", b"", Ended(0, b"yes requests 0 answered 0 improper 0\n", EMPTY)),
         ("wire", b"C 00\n", b"", Ended(1, b"no at byte 1: OutOfTurn\n", b"")),
         ("order", late, b"2\n1\n", Ended(1, b"no order entry 1: Late\n", b"")),
         ("content", FOUND, b"1\n", Ended(1, b"no content request 1 offset 0\n", b"")),
@@ -231,55 +233,100 @@ def terminals(tally, room):
     tally.want("a no on a terminal", found, Ended(1, b"no content request 1 offset 0\n", hint))
 
 
-def hints(tally, room):
-    """What is said of an input beside the answer: on a terminal what is wrong with a line, and that a capture is empty."""
-    good, order, none = room.put("good", CAPTURE), room.put("order", b"1\n"), room.put("none", b"")
+def bad_capture_lines(tally, room):
+    """On a terminal each command says what is wrong with the line of a capture that it names."""
+    order = room.put("order", b"1\n")
     for name, line, what in (
         ("half a byte", b"C 0\n", b"the number of hexadecimal digits is odd"),
         ("no digit", b"S 00x1\n", b"there is another character than a hexadecimal digit, at byte 5 of the line"),
         ("no digit at the end", b"S 001x\n", b"there is another character than a hexadecimal digit, at byte 6 of the line"),
-        ("no side", b"c 00\n", b"a line begins with C or S and one space"),
+        ("digits in groups", b"S 00 01\n", b"there is another character than a hexadecimal digit, at byte 5 of the line"),
+        ("a small side", b"c 00\n", b"the side is C or S, and no small letter"),
+        ("another side", b"X 00\n", b"a line begins with C or S and one space"),
+        ("a side alone", b"C\n", b"behind C or S stands one space"),
+        ("no space", b"C00\n", b"behind C or S stands one space"),
+        ("two spaces", b"C  00\n", b"behind C or S stands one space"),
+        ("a tab", b"S\t00\n", b"behind C or S stands one space"),
+        ("a space in front", b" S 00\n", b"the line begins with a space"),
+        ("a byte order mark", b"\xef\xbb\xbfC 00\n", b"a byte order mark begins the line"),
         ("a carriage return", b"C 00\r\n", b"a carriage return ends the line"),
         ("no line feed", b"C 00", b"no line feed ends the line"),
     ):
         bad = room.put("bad", CAPTURE + line)
-        number = CAPTURE.count(b"\n") + 1
-        wanted = Ended(3, b"", f"fault capture line {number}\n".encode() + what + b"\n")
-        for words in (["check", bad, order], ["explain", bad]):
-            tally.want(f"{name}: {words[0]} on a terminal", on_a_terminal(room, *words), wanted)
-        tally.want(name, room.run("check", bad, order), fault(f"capture line {number}"))
+        told = f"fault capture line {CAPTURE.count(LF) + 1}\n".encode()
+        for words in (["check", bad, order], ["explain", bad], ["order", bad], ["order", "--arrival", bad], ["show", bad],
+                      ["show", "--names", bad]):
+            name_of = f"{name}: {' '.join(words[:-1])}"
+            tally.want(f"{name_of}, on a terminal", on_a_terminal(room, *words), Ended(3, b"", told + what + LF))
+            tally.want(name_of, room.run(*words), Ended(3, b"", told))
+
+
+def bad_order_lines(tally, room):
+    """On a terminal `check` and `explain` say what is wrong with the line of an order; of a search's answer they always say so."""
+    good = room.put("good", CAPTURE)
+    count = b"an entry is one number, or three: a request, an offset and a length"
+    space = b"one space stands between two numbers, and no other"
     for name, line, what in (
         ("no digit", b"x\n", b"there is another character than a digit, at byte 1 of the line"),
+        ("a sign", b"1 -1 2\n", b"there is another character than a digit, at byte 3 of the line"),
         ("a carriage return", b"1\r\n", b"a carriage return ends the line"),
         ("no line feed", b"1", b"no line feed ends the line"),
-        ("a leading zero", b"01\n", b"an entry is a number, or three with one space between: below 2^64 and without leading zeroes"),
-        ("2^64", b"18446744073709551616\n",
-         b"an entry is a number, or three with one space between: below 2^64 and without leading zeroes"),
+        ("nothing", LF, b"the line is empty"),
+        ("a leading zero", b"1 00 1\n", b"a number begins with a zero"),
+        ("2^64", b"18446744073709551616\n", b"a number is too long: it is 2^64 or more"),
+        ("two numbers", b"1 2\n", count),
+        ("four numbers", b"1 0 2 3\n", count),
+        ("two spaces", b"1  2 3\n", space),
+        ("a space in front", b" 1\n", space),
+        ("a space behind", b"1 \n", space),
     ):
         bad = room.put("bad", b"1\n" + line)
-        wanted = Ended(3, b"", b"fault order line 2\n" + what + b"\n")
-        tally.want(f"{name} on a terminal", on_a_terminal(room, "check", good, bad), wanted)
-        tally.want(name, room.run("check", good, bad), fault("order line 2"))
-    searched = b"this order is what a search wrote that found none: 'no' or 'gave up', and no entries\n"
+        for command in ("check", "explain"):
+            wanted = Ended(3, b"", b"fault order line 2\n" + what + LF)
+            tally.want(f"{command}, {name}, on a terminal", on_a_terminal(room, command, good, bad), wanted)
+            tally.want(f"{command}, {name}", room.run(command, good, bad), fault("order line 2"))
+    searched = b"line 1 is no entry of an order but the answer of a search that found none: 'no' or 'gave up'\n"
     for line in (b"no content request 1 offset 0 in any order\n", b"gave up: too many steps at request 1 offset 0\n"):
         bad = room.put("bad", line)
         for command in ("check", "explain"):
             found = room.run(command, good, bad)
             tally.want(f"{command} of a search's answer", found, Ended(3, b"", b"fault order line 1\n" + searched))
+    bad = room.put("bad", b"1\nno order: the session was refused\n")
+    tally.want("an answer behind an entry", room.run("check", good, bad), fault("order line 2"))
+
+
+def looks_of_captures(tally, room):
+    """What is said of a capture beside the answer: that its sides are exchanged, or that nothing was recorded."""
+    order, none = room.put("order", b"1\n"), room.put("none", b"")
     exchanged = b"the first bytes of C are a server's (NBDMAGIC): C and S are exchanged in this capture\n"
-    other = room.put("other", CAPTURE.translate(bytes.maketrans(b"CS", b"SC")))
-    found = room.run("check", other, order)
-    tally.want("exchanged sides", found, Ended(1, b"no at byte 1: OutOfTurn\n", exchanged))
-    found = room.run("explain", other)
-    line = b"no at byte 1: OutOfTurn\n"
-    tally.want("exchanged sides, explained", found._replace(out=found.out[: len(line)]), Ended(1, line, exchanged))
-    upper = room.put("other", CAPTURE.translate(bytes.maketrans(b"CSabcdef", b"SCABCDEF")))
-    tally.want("exchanged sides, other digits", room.run("check", upper, order), Ended(1, b"no at byte 1: OutOfTurn\n", exchanged))
+    swapped = CAPTURE.translate(bytes.maketrans(b"CS", b"SC"))
+    client, server = sides(swapped)
+    pieces = b"".join(b"C %02x\n" % byte for byte in client)
+    for name, capture, line in (
+        ("one text", swapped, b"no at byte 1: OutOfTurn\n"),
+        ("other digits", CAPTURE.translate(bytes.maketrans(b"CSabcdef", b"SCABCDEF")), b"no at byte 1: OutOfTurn\n"),
+        ("pieces of a byte", pieces, b"no at byte 1: OutOfTurn\n"),
+        ("behind the other side", b"S %s\n" % server.hex().encode() + pieces, b"no at byte 18: BadMagic\n"),
+    ):
+        other = room.put("other", capture)
+        for words in (["check", other, order], ["order", other], ["explain", other], ["show", other]):
+            found = room.run(*words)
+            told = found._replace(out=found.out[: len(line)])
+            tally.want(f"exchanged sides, {name}: {words[0]}", told, Ended(1, line, exchanged))
+        found, wanted = room.run("order", "--arrival", other), b"no order: the session was refused\n" + exchanged
+        tally.want(f"exchanged sides, {name}: arrival", found, Ended(1, b"", wanted))
+    for name, capture in (("another magic", b"C 4e42444d41474944\n"), ("too short", b"C 4e42444d414749\n"), ("no client", b"S 00\n")):
+        found = room.run("check", room.put("other", capture), order)
+        tally.want(f"no exchanged sides, {name}", (found.status, found.err), (1, b""))
     yes = b"yes requests 0 answered 0 improper 0\n"
-    found = on_a_terminal(room, "check", none, none)
-    tally.want("nothing on a terminal", found, Ended(0, yes, b"the capture is empty: nothing was recorded\n"))
+    for words, out in ((["check", none, none], yes), (["explain", none], yes), (["order", none], b""), (["order", "--arrival", none], b""),
+                       (["show", none], b"ok\n")):
+        name = f"an empty capture: {' '.join(words[:-1])}"
+        found = room.run(*words)
+        tally.want(name, found._replace(out=found.out[: found.out.find(b"\n") + 1]), Ended(0, out, EMPTY))
     pipe = room.path("pipe")
     os.mkfifo(pipe)
+    other = room.put("other", swapped)
     with subprocess.Popen(["/bin/sh", "-c", 'cat "$1" > "$2"', "sh", other, pipe]):
         tally.want("exchanged sides through a pipe", room.run("check", pipe, order), Ended(1, b"no at byte 1: OutOfTurn\n", b""))
 
@@ -330,7 +377,8 @@ def images(tally, room):
 
 def run(tally):
     with Room() as room:
-        for part in (examples, words, paths, starts, lines, files, outputs, terminals, hints, memory, images):
+        for part in (examples, words, paths, starts, lines, files, outputs, terminals, bad_capture_lines, bad_order_lines,
+                     looks_of_captures, memory, images):
             part(tally, room)
 
 

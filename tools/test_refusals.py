@@ -126,6 +126,11 @@ def is_prefix(found, whole):
     return whole.startswith(found)
 
 
+def looks_again(whole):
+    """Whether a capture is looked at once more behind the answer, which is a no: its sides may be exchanged. That may fail."""
+    return whole.status == 1
+
+
 def growths(tally, room, name, words, whole, most):
     hinted = 0
     for number, found, is_refused in room.each(words, "alloc"):
@@ -139,8 +144,9 @@ def growths(tally, room, name, words, whole, most):
             tally.want(told, (found.status, found.err), (4, b"fault memory\n"))
             tally.holds(told, is_prefix(found.out, whole.out[:most]), found.out[-80:])
     # The standard library makes room for the words of the command line by a hint, and where that is refused without it; so does
-    # its sort, where a READ has several pieces. No other refusal is without a consequence.
-    tally.want(f"{name}, growths that are tried again", hinted, 2 if name in SORTED else 1)
+    # its sort, where a READ has several pieces. Behind a no the capture is looked at once more, with four growths. No other
+    # refusal is without a consequence.
+    tally.want(f"{name}, growths without a consequence", hinted, 1 + (name in SORTED) + 4 * looks_again(whole))
 
 
 def reads(tally, room, name, words, whole):
@@ -162,8 +168,7 @@ def reads(tally, room, name, words, whole):
                 tally.want(f"{name}, {what} {number}", found, whole)
         # The inputs are read one after the other.
         tally.want(f"{name}, {what}", [fault for fault, _ in itertools.groupby(told)], wanted)
-        # Behind the answer `check` and `explain` look once more at the capture's first bytes; that may fail.
-        tally.want(f"{name}, {what} behind the answer", behind, 1 if words[0] in ("check", "explain") else 0)
+        tally.want(f"{name}, {what} behind the answer", behind, 1 if looks_again(whole) else 0)
     found, _ = room.refused(words, "bytes 1")
     tally.want(f"{name}, a byte at a time", found, whole)
 

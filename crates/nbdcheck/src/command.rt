@@ -1,18 +1,20 @@
 //! The commands.
 
 use crate::files::{Output, explain_file, explain_files, order_files, write_of};
-use crate::hints::tell_of_inputs;
+use crate::hints::{tell_of_capture, tell_of_fault};
 use crate::words::command;
 use clap::error::ErrorKind;
 use clap::{ArgMatches, Error};
 use nbd_explain::{explain_status, order_status};
 use nbd_order::{Scope, Wanted};
 use nbd_search::Limits;
-use nbd_tool::{Files, RunFault, StartWord, check_files, complain, exit_status, hint, start_of};
+use nbd_tool::{Files, RunFault, StartWord, check_files, complain, hint, start_of, tell};
 use std::{env, io};
 
 /// The exit status of help and of the version.
 const TOLD: u8 = 0;
+/// The exit status of a no.
+const NO: u8 = 1;
 /// The exit status of a command line that is malformed.
 const USAGE: u8 = 2;
 /// The exit status of out of memory.
@@ -88,6 +90,26 @@ fn number_of(text: Option<&str>, usual: u64) -> Option<u64> {
     }
 }
 
+/// Says what there is to say of the inputs behind an answer, and answers its exit status.
+fn ended(rt: &HostRuntime, status: u8, fault: Option<&RunFault>, capture: &str, order: &str) -> u8 {
+    match fault {
+        None => tell_of_capture(rt, capture, status == NO),
+        Some(fault) => tell_of_fault(rt, fault, capture, order),
+    }
+    status
+}
+
+/// Prints a fault, says what there is to say of the inputs, and answers the exit status.
+fn reported(files: &Files<'_>, answer: &Result<bool, RunFault>, capture: &str, order: &str) -> u8 {
+    ended(
+        files.rt,
+        files.report(answer),
+        answer.as_ref().err(),
+        capture,
+        order,
+    )
+}
+
 /// `nbdcheck check CAPTURE ORDER --start START`.
 fn check(rt: &HostRuntime, words: &ArgMatches<'_>) -> u8 {
     let Some(start) = start_in(words) else {
@@ -97,8 +119,7 @@ fn check(rt: &HostRuntime, words: &ArgMatches<'_>) -> u8 {
     let order = words.get_str("ORDER").unwrap_or("");
     let mut files = Files::new(rt);
     let answer = check_files(&mut files, capture, order, start);
-    let status = files.report(&answer);
-    tell_of_inputs(rt, answer.as_ref().err(), capture, order);
+    let status = reported(&files, &answer, capture, order);
     if matches!(answer, Ok(false)) {
         hint(rt, "'nbdcheck explain' with the same words says why");
     }
@@ -120,8 +141,13 @@ fn explain(rt: &HostRuntime, words: &ArgMatches<'_>) -> u8 {
     if let Err(fault) = &answer {
         files.say(fault);
     }
-    tell_of_inputs(rt, answer.as_ref().err(), capture, order.unwrap_or(""));
-    explain_status(&answer)
+    ended(
+        rt,
+        explain_status(&answer),
+        answer.as_ref().err(),
+        capture,
+        order.unwrap_or(""),
+    )
 }
 
 /// `nbdcheck order CAPTURE --start START`, or `nbdcheck order CAPTURE --arrival`.
@@ -137,23 +163,26 @@ fn order(rt: &HostRuntime, words: &ArgMatches<'_>) -> u8 {
     if words.get_flag("arrival") {
         return number(rt, &mut files, capture);
     }
-    match order_files(&mut files, capture, start, scope) {
-        Ok(ordered) => order_status(&Ok(ordered)),
-        Err(fault) => files.report(&Err(fault)),
+    let answer = order_files(&mut files, capture, start, scope);
+    if let Err(fault) = &answer {
+        files.say(fault);
     }
+    ended(
+        rt,
+        order_status(&answer),
+        answer.as_ref().err(),
+        capture,
+        "",
+    )
 }
 
 /// The numbers of the requests in the order in which they came.
 fn number(rt: &HostRuntime, files: &mut Files<'_>, capture: &str) -> u8 {
     let answer = write_of(files, capture, Output::Numbers);
     if let Ok(false) = answer {
-        return complain(
-            rt,
-            "no order: the session was refused",
-            exit_status(&answer),
-        );
+        tell(rt, "no order: the session was refused");
     }
-    files.report(&answer)
+    reported(files, &answer, capture, "")
 }
 
 /// `nbdcheck show CAPTURE [--names]`.
@@ -166,7 +195,7 @@ fn show(rt: &HostRuntime, words: &ArgMatches<'_>) -> u8 {
         Output::Lines
     };
     let answer = write_of(&mut files, capture, output);
-    files.report(&answer)
+    reported(&files, &answer, capture, "")
 }
 
 /// `nbdcheck make SCRIPT`.

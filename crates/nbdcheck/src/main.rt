@@ -3,7 +3,9 @@
 
 mod command;
 mod files;
+mod glance;
 mod hints;
+mod mistakes;
 mod words;
 
 use std::process::ExitCode;

@@ -1,0 +1,86 @@
+//! A second look at the files of a run, behind the answer. What is no regular file can be read once alone, and is left alone.
+
+use nbd_capture::CaptureReader;
+use nbd_tool::READ_LIMIT;
+use nbd_wire::Side;
+use std::fs;
+use std::fs::File;
+use std::io::{BufRead, BufReader, Read};
+
+/// A server's first bytes.
+const MAGIC: &[u8] = b"NBDMAGIC";
+
+/// Whether a file is empty.
+pub fn is_empty(rt: &HostRuntime, path: &str) -> bool {
+    match fs::metadata(rt, path) {
+        Ok(found) => found.is_file() && found.len() == 0,
+        Err(_) => false,
+    }
+}
+
+/// Whether the client's first bytes in a capture are a server's.
+pub fn is_exchanged(rt: &HostRuntime, path: &str) -> bool {
+    match reopened(rt, path) {
+        Some(file) => begins_as_server(CaptureReader::new(rt.alloc(), file, READ_LIMIT as u64)),
+        None => false,
+    }
+}
+
+// Whether the first bytes of the client are a server's, in however many chunks they stand.
+fn begins_as_server(reader: CaptureReader<BufReader<File>>) -> bool {
+    let mut reader = reader;
+    let mut left = MAGIC;
+    while let Ok(Some((side, bytes))) = reader.next_chunk() {
+        if side == Side::Client {
+            match behind(left, &bytes) {
+                Some([]) => return true,
+                Some(rest) => left = rest,
+                None => return false,
+            }
+        }
+    }
+    false
+}
+
+// What is left of the wanted bytes behind those that came; None where others came.
+fn behind<'a>(wanted: &'a [u8], came: &[u8]) -> Option<&'a [u8]> {
+    let count = wanted.len().min(came.len());
+    if wanted[..count] == came[..count] {
+        Some(&wanted[count..])
+    } else {
+        None
+    }
+}
+
+/// Whether a file begins as what a search writes that found no order.
+pub fn is_answer(rt: &HostRuntime, path: &str) -> bool {
+    let mut first = [0u8; 7];
+    match read_first(rt, path, &mut first) {
+        Some(_) => first.starts_with(b"no ") || first == *b"gave up",
+        None => false,
+    }
+}
+
+// Reads the first bytes of a file, and answers how many that were.
+fn read_first(rt: &HostRuntime, path: &str, first: &mut [u8]) -> Option<usize> {
+    reopened(rt, path)?.read(first).ok()
+}
+
+/// The line of a file with this number, counted from 1, with the line feed that ends it; empty behind the end.
+pub fn line_of(rt: &HostRuntime, path: &str, number: u64) -> Option<Vec<u8>> {
+    let mut reader = reopened(rt, path)?;
+    for _ in 1..number {
+        reader.skip_until(b'\n').ok()?;
+    }
+    let mut line = Vec::new(rt.alloc());
+    reader.read_until(b'\n', &mut line).ok()?;
+    Some(line)
+}
+
+// Opens a regular file once more.
+fn reopened(rt: &HostRuntime, path: &str) -> Option<BufReader<File>> {
+    if !fs::metadata(rt, path).ok()?.is_file() {
+        return None;
+    }
+    BufReader::new(rt.alloc(), File::open(rt, path).ok()?).ok()
+}
