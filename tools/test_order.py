@@ -13,13 +13,13 @@ from test_commands import fault, on_a_terminal
 OTHERS = {
     "nbdkit-python-whole": b"yes requests 16 answered 16 improper 0\n",
     "nbdkit-split": b"no content request 3 offset 39000 in any order\n",
-    "write-at-once": b"yes requests 2 answered 2 improper 0\n",
+    "write-atomically": b"yes requests 2 answered 2 improper 0\n",
     "write-half-served": b"yes requests 2 answered 2 improper 0\n",
     "write-read-late-order": b"yes requests 2 answered 2 improper 0\n",
     "write-read-wrong-byte": b"no content request 2 offset 1 in any order\n",
 }
 # They have an order in parts, and none of whole requests.
-IN_PARTS = ("nbdkit-python-parts", "nbdkit-python-whole", "write-at-once", "write-half-served", "write-in-parts")
+IN_PARTS = ("nbdkit-python-parts", "nbdkit-python-whole", "write-atomically", "write-half-served", "write-in-parts")
 
 
 def got(cookie, offset, data):

@@ -17,7 +17,7 @@ A_WRITE_AND_A_READ = [
         want="yes requests 2 answered 2 improper 0\n",
     ),
     Case(
-        name="the WRITE at once",
+        name="the WRITE atomically",
         capture=[BEGUN, WRITE_ABCD, READ_2_OF_2, FOUND_2_AB00, DONE_1],
         order="1\n2\n",
         want="no content request 2 offset 1\n",
@@ -89,13 +89,13 @@ FAULTS = [
         want="no order entry 1: BadPart\n",
     ),
     Case(
-        name="at once after a part",
+        name="atomically after a part",
         capture=[BEGUN, WRITE_ABCD, READ_2_OF_2, FOUND_2_AB00, DONE_1],
         order="1 0 1\n1\n2\n",
         want="no order entry 2: Twice\n",
     ),
     Case(
-        name="a part after the request at once",
+        name="a part after the request atomically",
         capture=[BEGUN, WRITE_ABCD, READ_2_OF_2, FOUND_2_AB00, DONE_1],
         order="1\n1 0 1\n2\n",
         want="no order entry 2: Twice\n",
@@ -358,7 +358,7 @@ INSIDES = [
         want="no order entry 1: NotCovered\n",
     ),
     Case(
-        name="a request of no bytes is served at once",
+        name="a request of no bytes is served atomically",
         capture=[BEGUN, READ_OF_NONE, DONE_1],
         order="1\n",
         want="yes requests 1 answered 1 improper 0\n",

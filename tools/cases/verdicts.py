@@ -161,7 +161,7 @@ PARTS = [
         want="yes requests 2 answered 2 improper 0\n",
     ),
     Case(
-        name="the WRITE at once",
+        name="the WRITE atomically",
         capture=HALF_WRITTEN,
         order="1\n2\n",
         want="no content request 2 offset 1\n",

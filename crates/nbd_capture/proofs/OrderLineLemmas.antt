@@ -8,7 +8,7 @@ use Rattle.nbd_wire.specs.declared.entry.Part.{Part}
 use Rattle.nbd_wire.specs.protocol.Entries.{whole}
 use Rattle.nbd_capture.specs.Capture.{space}
 use Rattle.nbd_capture.specs.Order.{IsNumber, IsOrderLine, IsPart}
-use Rattle.nbd_capture.specs.Order.IsOrderLine.{at_once, of_part}
+use Rattle.nbd_capture.specs.Order.IsOrderLine.{atomically, of_part}
 use Rattle.nbd_capture.specs.internal.Words.{IsWord}
 
 -- digits have no space
@@ -62,7 +62,7 @@ pub record OfPart (line : List ℕ) (said : List Entry) : Type 0 where
   pub all : said ≡ record { request = k; part = Some p } ∷ []
 
 apart : (line : List ℕ) (said : List Entry) → IsOrderLine line said → AtOnce line said ⊎ OfPart line said
-apart line said (at_once digits k n) = inl (record { k = k; number = n; all = refl })
+apart line said (atomically digits k n) = inl (record { k = k; number = n; all = refl })
 apart line said (of_part digits text k p n h) = inr (record { digits = digits; text = text; k = k; p = p; parts = refl; number = n; is_part = h; all = refl })
 
 -- a line without a space is a number or none

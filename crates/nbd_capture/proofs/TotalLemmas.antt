@@ -12,7 +12,7 @@ use Rattle.nbd_capture.specs.Capture.IsCaptureLine.{chunk, blank, comment}
 use Rattle.nbd_wire.specs.declared.entry.Part.{Part}
 use Rattle.nbd_wire.specs.protocol.Entries.{whole}
 use Rattle.nbd_capture.specs.Order.{BeginsPlainly, IsNumber, IsOrderLine, IsPart}
-use Rattle.nbd_capture.specs.Order.IsOrderLine.{at_once, of_part}
+use Rattle.nbd_capture.specs.Order.IsOrderLine.{atomically, of_part}
 use Rattle.nbd_capture.proofs.DigitLemmas.{spelled}
 use Rattle.nbd_capture.proofs.FormLemmas.{forms, undecodable}
 use Rattle.nbd_capture.proofs.OrderLineLemmas.{no_number, no_numbers, no_part, no_parted, split}
@@ -141,7 +141,7 @@ decide_part text = elim (split text) [
 pub decide_order : (bytes : List ℕ) → Decided IsOrderLine bytes
 decide_order bytes = elim (split bytes) [
   | inl word ↦ elim (decide_number bytes) [
-    | inl n ↦ inl (whole n.0 ∷ [], at_once bytes n.0 n.1)
+    | inl n ↦ inl (whole n.0 ∷ [], atomically bytes n.0 n.1)
     | inr none ↦ inr (no_number bytes word none)
   ]
   | inr s ↦ elim (decide_number s.0) [

@@ -19,7 +19,7 @@ use Rattle.nbd_capture.specs.Capture.IsCaptureLine.{chunk}
 use Rattle.nbd_wire.specs.declared.entry.Entry.{Entry}
 use Rattle.nbd_wire.specs.declared.entry.Part.{Part}
 use Rattle.nbd_capture.specs.Order.{BeginsPlainly, EntryFits, IsNumber, IsOrderLine, IsOrderText, PartFits, entry_text, part_text}
-use Rattle.nbd_capture.specs.Order.IsOrderLine.{at_once, of_part}
+use Rattle.nbd_capture.specs.Order.IsOrderLine.{atomically, of_part}
 use Rattle.nbd_capture.proofs.DigitLemmas.{lower_below, spelled}
 
 -- no digit is a line feed
@@ -87,7 +87,7 @@ unbroken_part None fits = tt
 unbroken_part (Some p) fits = (omega arith, unbroken_append (decimal p.offset) (space ∷ decimal p.length) (unbroken_number p.offset fits.0) (omega arith, unbroken_number p.length fits.1))
 
 printed_line : (k : ℕ) (p : Option Part) → k < 2 ^ 64 → PartFits p → IsOrderLine (decimal k ++ part_text p) (record { request = k; part = p } ∷ [])
-printed_line k None l fits = subst (λ t. IsOrderLine t (record { request = k; part = None } ∷ [])) (sym (append-nil (decimal k))) (at_once (decimal k) k (printed_number k l))
+printed_line k None l fits = subst (λ t. IsOrderLine t (record { request = k; part = None } ∷ [])) (sym (append-nil (decimal k))) (atomically (decimal k) k (printed_number k l))
 printed_line k (Some p) l fits =
     of_part (decimal k) (decimal p.offset ++ space ∷ decimal p.length) k p (printed_number k l)
     (decimal p.offset, decimal p.length, refl, printed_number p.offset fits.0, printed_number p.length fits.1)

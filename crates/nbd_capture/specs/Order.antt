@@ -25,7 +25,7 @@ IsPart text p = (offset : List ℕ) × (len : List ℕ) × (text ≡ offset ++ s
 
 -- the forms of a line: a request's number; or the number, a space and a part
 pub data IsOrderLine : List ℕ → List Entry → Type 0 where
-  at_once : (digits : List ℕ) (k : ℕ) → IsNumber digits k → IsOrderLine digits (whole k ∷ [])
+  atomically : (digits : List ℕ) (k : ℕ) → IsNumber digits k → IsOrderLine digits (whole k ∷ [])
   of_part : (digits text : List ℕ) (k : ℕ) (p : Part)
       → IsNumber digits k → IsPart text p → IsOrderLine (digits ++ space ∷ text)
       (record { request = k; part = Some p } ∷ [])

@@ -45,8 +45,8 @@ fn names_the_first_bad_capture_line(rt: HostRuntime) {
     }
 }
 
-/// An entry that serves a request at once.
-const fn at_once(request: u64) -> Entry {
+/// An entry that serves a request atomically.
+const fn atomically(request: u64) -> Entry {
     Entry {
         request,
         part: None,
@@ -68,7 +68,7 @@ fn reads_order_lines(rt: HostRuntime) -> Result<(), Fail> {
         offset: 0,
         length: 8,
     };
-    assert!(rt; entries.as_slice() == [at_once(0), at_once(u64::MAX), in_part(2, part)].as_slice());
+    assert!(rt; entries.as_slice() == [atomically(0), atomically(u64::MAX), in_part(2, part)].as_slice());
     assert!(rt; parse_order(rt.alloc(), b"")?.is_empty());
     Ok(())
 }
@@ -105,7 +105,7 @@ fn answers_want_of_memory_as_such(rt: HostRuntime) {
         Err(fault) => assert!(rt; fault == CaptureFault::Memory),
     }
     match parse_order(rt.alloc(), b"1\n2\n") {
-        Ok(entries) => assert!(rt; entries.as_slice() == [at_once(1), at_once(2)].as_slice()),
+        Ok(entries) => assert!(rt; entries.as_slice() == [atomically(1), atomically(2)].as_slice()),
         Err(fault) => assert!(rt; fault == OrderTextFault::Memory),
     }
 }

@@ -137,7 +137,7 @@ pub fn order_rule(fault: OrderFault) -> Rule
         OrderFault::NoSuchRequest =>
             "Each entry of an order names a request by its number, counted from 1.",
         OrderFault::Twice =>
-            "A request is served either at once, by one entry, or in parts, each by an entry of its own.",
+            "A request is served either atomically, by one entry, or in parts, each by an entry of its own.",
         OrderFault::Late =>
             "A request that had not come whole when the reply to another one began was served after that one.",
         OrderFault::Missing => "A request to which a reply began was served.",

@@ -15,7 +15,7 @@ use std::alloc::{AllocError, Global};
 pub enum Service {
     /// No entry names it.
     Unnamed,
-    /// An entry serves it at once.
+    /// An entry serves it atomically.
     Whole,
     /// Entries serve parts of it: where they lie, and how many bytes inside the request they leave.
     InParts { spans: SpanIndex, left: u64 },
@@ -33,13 +33,13 @@ impl Service {
         ensures { IfOk result (IsServiceAfter self inside part) }
     {
         match part {
-            None => Ok(self.at_once()),
+            None => Ok(self.atomically()),
             Some(part) => self.with_part(alloc, part, inside),
         }
     }
 
-    // After an entry that serves the request at once.
-    fn at_once(self) -> Result<Service, OrderFault>
+    // After an entry that serves the request atomically.
+    fn atomically(self) -> Result<Service, OrderFault>
         ensures { (span : Span) → IsServiceAfter self span None result }
     {
         match self {

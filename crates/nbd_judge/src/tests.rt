@@ -32,7 +32,7 @@ const RECORDS: [(Side, &[u8]); 7] = [
     (Server, b"\x67\x44\x66\x98\0\0\0\0\0\0\0\0\0\0\0\x01\x05"),
 ];
 
-/// An entry that serves the first request at once.
+/// An entry that serves the first request atomically.
 const ONE: Entry = Entry {
     request: 1,
     part: None,

@@ -7,8 +7,8 @@ use nbd_session::WireFault;
 pub enum OrderFault {
     /// The entry is 0 or above the number of requests.
     NoSuchRequest,
-    /// The entry serves a request at once that an earlier one names, or in part one that an earlier entry serves
-    /// at once.
+    /// The entry serves a request atomically that an earlier one names, or in part one that an earlier entry serves
+    /// atomically.
     Twice,
     /// The entry or a later one names a request whose first reply message started before the request
     /// of this entry had completed.

@@ -1,6 +1,7 @@
 pub mod Bytes
-pub mod Explaining
 pub mod Cuts
+pub mod Explaining
+pub mod Marking
 pub mod Moments
 pub mod Negotiating
 pub mod Prefixes

@@ -1,1 +1,6 @@
+pub mod Concrete
+pub mod Decisions
+pub mod Judge
+pub mod JudgeNegotiation
+pub mod JudgeTransmission
 pub mod Machine

@@ -72,12 +72,12 @@ pub fn pending_write()
     ensures unserved { IsNo (flat reads.pending_write) (whole 2 ∷ []) Zeroes }
 {}
 
-/// A WRITE that is served in two parts with a READ between them: the READ shows one of its bytes. Served at once the
-/// WRITE does not explain it. The parts must cover the WRITE and share no offset, and no entry serves it at once after
+/// A WRITE that is served in two parts with a READ between them: the READ shows one of its bytes. Served atomically the
+/// WRITE does not explain it. The parts must cover the WRITE and share no offset, and no entry serves it atomically after
 /// a part.
 pub fn half_written()
     ensures yes { IsYes (flat reads.half_written) (part 1 0 1 ∷ whole 2 ∷ part 1 1 1 ∷ []) Zeroes 2 2 0 }
-    ensures at_once { IsNo (flat reads.half_written) (whole 1 ∷ whole 2 ∷ []) Zeroes }
+    ensures atomically { IsNo (flat reads.half_written) (whole 1 ∷ whole 2 ∷ []) Zeroes }
     ensures uncovered { IsNo (flat reads.half_written) (part 1 0 1 ∷ whole 2 ∷ []) Zeroes }
     ensures shared { IsNo (flat reads.half_written) (part 1 0 1 ∷ part 1 0 2 ∷ whole 2 ∷ []) Zeroes }
     ensures repeated { IsNo (flat reads.half_written) (part 1 0 1 ∷ whole 1 ∷ whole 2 ∷ []) Zeroes }
@@ -210,7 +210,7 @@ pub fn wrong_image()
     ensures { (bytes : List ℕ) → length bytes ≡ 9 → IsNo (flat captures.opening) [] (Image bytes) }
 {}
 
-/// An order that serves a request twice at once explains no capture.
+/// An order that serves a request twice atomically explains no capture.
 pub fn named_twice()
     ensures { (capture : List Pair) (initial : Start) → IsNo capture (whole 1 ∷ whole 1 ∷ []) initial }
 {}

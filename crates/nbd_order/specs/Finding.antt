@@ -14,12 +14,12 @@ use Rattle.nbd_order.specs.declared.finding.Wanted.{Wanted}
 use Rattle.nbd_order.specs.declared.finding.Wanted.TheVariants.{Any, Whole}
 use Rattle.nbd_order.specs.Unexplained.{IsRefutedBy, IsUnexplained}
 
--- the order of arrival: each of so many requests at once, by number
+-- the order of arrival: each of so many requests atomically, by number
 abbrev pub arrival : ℕ → List Entry
 arrival zero = []
 arrival (suc n) = arrival n ++ whole (suc n) ∷ []
 
--- each entry serves its request at once
+-- each entry serves its request atomically
 abbrev pub AreWhole : List Entry → Type 0
 AreWhole order = All (λ (e : Entry). e.part ≡ None) order
 

@@ -26,7 +26,7 @@ use std::alloc::{AllocError, Global};
 pub enum Wanted {
     /// Also those that serve requests in parts.
     Any,
-    /// Those that serve each request at once.
+    /// Those that serve each request atomically.
     Whole,
 }
 

@@ -12,7 +12,7 @@ use nbd_session::Transcript;
 use nbd_wire::Entry;
 use std::alloc::{AllocError, Global};
 
-/// The order of arrival, which most servers keep: the requests by their numbers, each at once.
+/// The order of arrival, which most servers keep: the requests by their numbers, each atomically.
 pub fn by_arrival(alloc: Global, count: u64) -> Result<Vec<Entry>, AllocError>
     ensures { IfOk result (λ order. order.items ≡ arrival count) }
 {
@@ -59,7 +59,7 @@ fn copy_of(alloc: Global, start: &Start) -> Result<Start, AllocError>
     }
 }
 
-/// Whether each entry serves its request at once.
+/// Whether each entry serves its request atomically.
 pub fn are_whole(order: &[Entry]) -> bool
     ensures { MatchBool result (AreWhole order.now) (AreWhole order.now → ⊥) }
 {

@@ -47,7 +47,7 @@ impl Scene {
     }
 }
 
-// What is served at once: its moment, the request, and the range from its first offset to the one behind it.
+// What is served atomically: its moment, the request, and the range from its first offset to the one behind it.
 type Piece = ((usize, usize), usize, u64, u64);
 
 /// An order of all requests: each as it was arranged, or, where whole requests have no order, each of the ranges in its own order and

@@ -1,5 +1,7 @@
 //! What a search may cost, and why it is over.
 
+ghost use Rattle.std.specs.Prelude.{◌≡◌};
+
 use crate::progress::Progress;
 use crate::proposal::{Place, Reason};
 
@@ -18,7 +20,10 @@ pub struct Limits {
 
 impl Limits {
     /// Limits that suffice for recorded sessions.
-    pub fn usual() -> Limits {
+    pub fn usual() -> Limits
+        ensures states { result.states ≡ 5000 }
+        ensures steps { result.steps ≡ 1000000000 }
+    {
         Limits {
             states: 5_000,
             steps: 1_000_000_000,

@@ -13,8 +13,8 @@ ghost use Rattle.nbd_wire.specs.declared.fault.WireFault.TheVariants.{BadChunk, 
 ghost use Rattle.nbd_session.specs.internal.Asking.{done_by, finish_by};
 ghost use Rattle.nbd_state.specs.Showing.{IsShown};
 ghost use Rattle.nbd_state.specs.Spans.{span_of};
-ghost use Rattle.nbd_places.specs.internal.Decisions.{fault_if};
-ghost use Rattle.nbd_places.specs.internal.JudgeTransmission.{chunk_fault, fits_read, fits_failure, total};
+ghost use Rattle.nbd_laws.specs.internal.Decisions.{fault_if};
+ghost use Rattle.nbd_laws.specs.internal.JudgeTransmission.{chunk_fault, fits_read, fits_failure, total};
 
 use crate::spans::{bytes_in, content_span, is_inside};
 use nbd_state::{Asked, Exchange, Span};

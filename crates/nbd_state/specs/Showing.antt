@@ -1,6 +1,6 @@
 -- How the program's values show what the definitions speak of.
 use Rattle.std.specs.Prelude.{◌≡◌, not, Option, Some, None, is_some}
-use Rattle.nbd_places.specs.internal.Decisions.{is_none_yet}
+use Rattle.nbd_laws.specs.internal.Decisions.{is_none_yet}
 use Rattle.nbd_wire.specs.protocol.Operations.{Operation, Exporting, is_proper, has_failed, outcome, pieces}
 use Rattle.nbd_wire.specs.protocol.Operations as definitions
 use Rattle.nbd_state.specs.declared.asked.Exchange.{Exchange}

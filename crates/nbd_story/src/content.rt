@@ -70,7 +70,7 @@ impl Text {
             .say("\n")
     }
 
-    /// The part that an entry serves, before words; nothing where it serves its request at once.
+    /// The part that an entry serves, before words; nothing where it serves its request atomically.
     pub fn part_served(self, entry: &Entry, words: &str) -> Text {
         match entry.part {
             Some(part) => self.part("", part).say(words),

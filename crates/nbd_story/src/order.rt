@@ -79,7 +79,7 @@ impl Text {
         }
     }
 
-    // The first entry that an entry repeats: one that serves the request at once, or any where the entry itself does.
+    // The first entry that an entry repeats: one that serves the request atomically, or any where the entry itself does.
     fn first_naming(self, place: usize, entry: &Entry, sources: Sources<'_>) -> Text {
         for (at, other) in sources.order.iter().enumerate() {
             let is_whole = other.part.is_none() || entry.part.is_none();
@@ -143,7 +143,7 @@ impl Text {
         } else {
             self.say("range: none, ")
                 .numbered(request)
-                .say(" can be served only at once\n")
+                .say(" can be served only atomically\n")
         }
     }
 

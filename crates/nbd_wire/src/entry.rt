@@ -9,11 +9,11 @@ pub struct Part {
     pub length: u64,
 }
 
-/// An entry of an order of service: the server carries out a request at once, or a part of it.
+/// An entry of an order of service: the server carries out a request atomically, or a part of it.
 #[derive(Clone, Copy, PartialEq, Eq, Drop)]
 pub struct Entry {
     /// The request's number, counted from 1.
     pub request: u64,
-    /// The part that is served here; None where the request is served at once.
+    /// The part that is served here; None where the request is served atomically.
     pub part: Option<Part>,
 }

@@ -1,6 +1,6 @@
 //! Laws of the specification: each is the contract of a function that does nothing.
 
-ghost use Rattle.std.specs.Prelude.{◌≡◌, ◌≤◌, ◌↔◌, ℕ, List, IsTrue, length, drop, take};
+ghost use Rattle.std.specs.Prelude.{◌≡◌, ◌≤◌, ◌↔◌, ℕ, List, IsTrue, length, drop, map, take};
 ghost use Rattle.byteorder.specs.Endian.{big_bytes, big_number};
 ghost use Rattle.nbd_wire.specs.protocol.Encoding.{AreBytes, enc, tail};
 ghost use Rattle.nbd_wire.specs.codec.Fits.{FitsItsHead};
@@ -10,6 +10,9 @@ ghost use Rattle.nbd_wire.specs.codec.Reads.{Reads};
 ghost use Rattle.nbd_wire.specs.codec.RoundTrip.{IsHeadOf, head_length};
 ghost use Rattle.nbd_wire.specs.protocol.Sendable.{IsSendable};
 ghost use Rattle.nbd_wire.specs.declared.message.Message.{Message};
+ghost use Rattle.nbd_wire.specs.declared.flag_names.TheConstants as flag_names;
+ghost use Rattle.nbd_wire.specs.declared.names.TheConstants as names;
+ghost use Rattle.nbd_wire.specs.Names.{chunk_flag_names, chunk_names, client_flag_names, command_flag_names, command_names, error_names, handshake_flag_names, info_names, option_names, reply_names, transmission_flag_names};
 ghost use Rattle.nbd_wire.specs.Numbers.{ChunksAreLiteral, CommandFlagsAreLiteral, CommandsAreLiteral, HandshakeFlagsAreLiteral, InfosAreLiteral, LengthsAreLiteral, LimitsAreLiteral, MagicsAreLiteral, OptionsAreLiteral, ReplyKindsAreLiteral, TransmissionFlagsAreLiteral};
 
 /// A number that was read and is written back gives the bytes that it was read from.
@@ -75,4 +78,19 @@ pub fn numbers_are_literal()
     ensures chunks { ChunksAreLiteral }
     ensures lengths { LengthsAreLiteral }
     ensures limits { LimitsAreLiteral }
+{}
+
+/// Each table of names has the numbers or masks and the names of proto.md, and no others.
+pub fn names_are_literal()
+    ensures commands { map (λ n. (n.0, n.1.now)) names.COMMANDS.now ≡ command_names }
+    ensures options { map (λ n. (n.0, n.1.now)) names.OPTIONS.now ≡ option_names }
+    ensures replies { map (λ n. (n.0, n.1.now)) names.REPLIES.now ≡ reply_names }
+    ensures infos { map (λ n. (n.0, n.1.now)) names.INFOS.now ≡ info_names }
+    ensures chunks { map (λ n. (n.0, n.1.now)) names.CHUNKS.now ≡ chunk_names }
+    ensures errors { map (λ n. (n.0, n.1.now)) names.ERRORS.now ≡ error_names }
+    ensures handshake { map (λ n. (n.0, n.1.now)) flag_names.HANDSHAKE.now ≡ handshake_flag_names }
+    ensures client { map (λ n. (n.0, n.1.now)) flag_names.CLIENT.now ≡ client_flag_names }
+    ensures transmission { map (λ n. (n.0, n.1.now)) flag_names.TRANSMISSION.now ≡ transmission_flag_names }
+    ensures command_flags { map (λ n. (n.0, n.1.now)) flag_names.COMMAND.now ≡ command_flag_names }
+    ensures chunk_flags { map (λ n. (n.0, n.1.now)) flag_names.CHUNK.now ≡ chunk_flag_names }
 {}

@@ -66,7 +66,7 @@ const START: Word = Word {
 const WHOLE: Word = Word {
     name: "whole",
     form: Form::Flag,
-    help: "Only an order that serves each request at once",
+    help: "Only an order that serves each request atomically",
     excludes: &[],
 };
 
@@ -143,7 +143,7 @@ Example:
   nbdcheck check session.cap session.ord --start zero
 
 CAPTURE has a line for each recorded piece, 'C' or 'S' for its sender, a space and hexadecimal
-digits. ORDER has a line for each service, in their order: 'k' where request k was served at once,
+digits. ORDER has a line for each service, in their order: 'k' where request k was served atomically,
 'k offset length' where a part of it was, which has so many bytes from this offset of the export on.
 START is what the export held at first: unknown bytes, zeroes, or the bytes of a file.
 

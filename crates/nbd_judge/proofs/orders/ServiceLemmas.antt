@@ -7,8 +7,8 @@ use Rattle.nbd_wire.specs.declared.payloads.Piece.{Piece}
 use Rattle.nbd_wire.specs.declared.payloads.Piece.TheVariants.{Hole}
 use Rattle.nbd_wire.specs.protocol.Entries.{HasBadPart, IsWhollyServed, MayServe, Names, NamesWhole, in_part, is_served}
 use Rattle.nbd_wire.specs.protocol.Pieces.{SharesNone, byte_at, holds, is_in, piece_byte, piece_offset, piece_size}
-use Rattle.nbd_places.specs.internal.JudgeTransmission.{is_apart, is_apart_from, total}
-use Rattle.nbd_places.proofs.judge.CoverLemmas.{apart_from-shares, covered_total, full_total_covers, no_overlap, total_within}
+use Rattle.nbd_laws.specs.internal.JudgeTransmission.{is_apart, is_apart_from, total}
+use Rattle.nbd_laws.proofs.judge.CoverLemmas.{apart_from-shares, covered_total, full_total_covers, no_overlap, total_within}
 use Rattle.nbd_laws.proofs.requests.LaidLemmas.{AreApart, AreInside}
 use Rattle.nbd_laws.proofs.service.EntryLemmas.{whole_names}
 use Rattle.nbd_state.specs.declared.span.Span.{Span}
@@ -36,7 +36,7 @@ outside offset len x none = go (is_in offset len x) refl
     go true e = (let i = from_in offset len x e in absurd (none i.0 i.1))
     go false e = refl
 
--- where no entry serves the request at once, its served offsets are those of its parts
+-- where no entry serves the request atomically, its served offsets are those of its parts
 has : List Piece → ℕ → Bool
 has ps x = is_some (byte_at ps x)
 
@@ -73,7 +73,7 @@ parts_unnamed (e ∷ es) k none = go (e.request == k) refl (parts_unnamed es k (
     go true q ih = absurd (none (inl (eqb-true e.request k q)))
     go false q ih = ih
 
--- an entry with a part does not serve the request at once
+-- an entry with a part does not serve the request atomically
 pub whole_push : (es : List Entry) (k : ℕ) (p : Part) → (NamesWhole es k → ⊥) → NamesWhole (es ++ record { request = k; part = Some p } ∷ []) k → ⊥
 whole_push [] k p none h = elim h [ inl q ↦ (let e : Some p ≡ None = q.1 in absurd (cc)) | inr n ↦ n ]
 whole_push (e ∷ es) k p none h = elim h [ inl q ↦ none (inl q) | inr n ↦ whole_push es k p (λ m. none (inr m)) n ]
@@ -135,7 +135,7 @@ module _ (span : Span) (within : ℕ → Bool) (is_span : IsSpanOf span within) 
   at_entry : Option Part → Entry
   at_entry p = record { request = k; part = p }
 
-  -- after an entry that serves the request at once
+  -- after an entry that serves the request atomically
   pub whole_named : NamesWhole (before ++ record { request = k; part = None } ∷ []) k
   whole_named = go before
     where

@@ -7,7 +7,7 @@ use Rattle.nbd_wire.specs.protocol.Captures.{Pair}
 use Rattle.nbd_wire.specs.protocol.Explains.{Start}
 use Rattle.nbd_wire.specs.protocol.Reports.{report}
 use Rattle.nbd_wire.specs.protocol.Splits.{IsPlace}
-use Rattle.nbd_places.proofs.rows.MarkLemmas.{one_place, prefixes_have_no_place, under_way_agree}
+use Rattle.nbd_laws.proofs.rows.MarkLemmas.{one_place, prefixes_have_no_place, under_way_agree}
 use Rattle.nbd_session.specs.declared.fault.SessionFault.TheVariants as session
 use Rattle.nbd_session.specs.Refusals.{IsOpenEnd, IsRefusedAt}
 use Rattle.nbd_session.proofs.judge.RefusalLemmas.{no_run_of}

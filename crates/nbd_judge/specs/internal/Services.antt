@@ -10,7 +10,7 @@ use Rattle.nbd_wire.specs.protocol.Operations.{Exporting, has_range}
 use Rattle.nbd_wire.specs.protocol.Orders.{IsBad, IsMissing, IsNotCovered, IsUnserved, HasReplyStarted, NamesNone, NamesAgain, IsBadPart}
 use Rattle.nbd_wire.specs.protocol.Pieces.{SharesNone, is_in, piece_offset, piece_size}
 use Rattle.nbd_wire.specs.protocol.Reports.{Asked, Report, inside_in, known_in}
-use Rattle.nbd_places.specs.internal.JudgeTransmission.{total}
+use Rattle.nbd_laws.specs.internal.JudgeTransmission.{total}
 use Rattle.nbd_state.specs.declared.span.Span.{Span}
 use Rattle.nbd_state.specs.Indexes.{IsIndex}
 use Rattle.nbd_state.specs.Sizes.{sizes_of}
@@ -38,7 +38,7 @@ LieApart span (p ∷ ps) =
     × LieApart span ps
 
 -- the parts of request k that the entries name, in an index, and how many bytes of the span they leave; no entry serves
--- the request at once
+-- the request atomically
 pub record AreParts (sizes : ℕ → Option ℕ) (left : ℕ) (span : Span) (entries : List Entry) (k : ℕ) : Type 0 where
   pub in_parts : NamesWhole entries k → ⊥
   pub index : IsIndex sizes (parts_of entries k)

@@ -9,7 +9,7 @@ fn rules_with_who_broke_them(rt: HostRuntime) {
     assert!(rt; wire_rule(WireFault::OutOfProfile).breaker == Breaker::Nobody);
     assert!(rt;
         order_rule(OrderFault::Twice).sentence
-            == "A request is served either at once, by one entry, or in parts, each by an entry of its own."
+            == "A request is served either atomically, by one entry, or in parts, each by an entry of its own."
     );
     assert!(rt; CONTENT_RULE.breaker == Breaker::Server);
     assert!(rt; IMAGE_RULE.breaker == Breaker::Image);

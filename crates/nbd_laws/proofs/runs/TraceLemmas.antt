@@ -14,11 +14,11 @@ use Rattle.nbd_wire.specs.protocol.Operations.{Operation, is_finished}
 use Rattle.nbd_wire.specs.protocol.States.{Core, State, target, target_from, with_reply_at}
 use Rattle.nbd_wire.specs.protocol.Sendable.{IsSendable}
 use Rattle.nbd_wire.specs.protocol.Rules.{MayStart, complete, reply_to, core_with_request, Obeys, request_of_reply, IsServedFor}
-use Rattle.nbd_laws.proofs.service.EntryLemmas.{Names-push_cases, NamesWhole-left, NamesWhole-push, served_at_once}
+use Rattle.nbd_laws.proofs.service.EntryLemmas.{Names-push_cases, NamesWhole-left, NamesWhole-push, served_atomically}
 use Rattle.nbd_laws.proofs.machine.MachineLemmas.{old-empty, old-filled, IsFilled-snoc, IsMoreAt, AreHeld, kept_next, held_more, held_whole, led, ended_by, with_byte, IsMore, Tracks, get-put_same, get-put_other, put-put, same_or_not, Open, Idle, Busy, Loose, IsNotBusy, Walk, ended, serving, opening, middle, final, loose, IsSoundAt, IsSound}
 use Rattle.nbd_laws.specs.internal.Machine.{Both, get, put, IsFilled, Rest, Machine, Reading, More, Whole, Bad, settle, Judge, rest_with, reads, on_ok}
 
--- each request that has completed was served at once, and no other
+-- each request that has completed was served atomically, and no other
 pub record IsCanonical (state : State) : Type 0 where
   pub all : (k : ℕ) → 0 < k → k ≤ length state.core.entries → NamesWhole state.served k
   pub only : (k : ℕ) → Names state.served k → k ≤ length state.core.entries
@@ -73,7 +73,7 @@ answered_by-within core (Request flags command cookie offset len payload) k e = 
 
 canonical_serves : (state : State) → IsCanonical state → (s : Side) (m : Message) → IsServedFor state s m
 canonical_serves state c Client m = tt
-canonical_serves state c Server m = λ k e. let w : (0 < k) × (k ≤ length state.core.entries) = answered_by-within state.core m k e in served_at_once _ state.served k (c.all k w.0 w.1)
+canonical_serves state c Server m = λ k e. let w : (0 < k) × (k ≤ length state.core.entries) = answered_by-within state.core m k e in served_atomically _ state.served k (c.all k w.0 w.1)
 
 -- the placing of a request's service: directly after its completion
 abbrev pub IsGrown : Core → Core → Type 0

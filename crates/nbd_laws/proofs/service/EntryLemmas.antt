@@ -44,9 +44,9 @@ or_right false h = h
 or_left : {b : Bool} (c : Bool) → IsTrue b → IsTrue (b || c)
 or_left {b} c h = ap (λ b. b || c) h
 
--- a request that is served at once is wholly served
-pub served_at_once : (within : ℕ → Bool) (es : List Entry) (k : ℕ) → NamesWhole es k → IsWhollyServed within es k
-served_at_once within es k h = record { named = whole_names es k h; covered = λ x i. go es h x }
+-- a request that is served atomically is wholly served
+pub served_atomically : (within : ℕ → Bool) (es : List Entry) (k : ℕ) → NamesWhole es k → IsWhollyServed within es k
+served_atomically within es k h = record { named = whole_names es k h; covered = λ x i. go es h x }
   where
     go : (es : List Entry) → NamesWhole es k → (x : ℕ) → IsTrue (is_served es k x)
     go [] h x = absurd h

@@ -42,9 +42,9 @@ half_written = record {
   counts = counts_of half_written_items (flat captures.half_written) 2 2 0 half_written_run refl refl refl refl;
 }
 
-pub half_written_at_once : IsNo (flat captures.half_written) (whole 1 ∷ whole 2 ∷ []) Zeroes
+pub half_written_atomically : IsNo (flat captures.half_written) (whole 1 ∷ whole 2 ∷ []) Zeroes
 unfolding half_written_items enc head tail complete next_phase target has has_only is_proper is_proper_option info_of is_listed is_go content_of failure_of ends_reply is_failing piece_of report
-half_written_at_once = failing_is_no half_written_items (flat captures.half_written) (whole 1 ∷ whole 2 ∷ []) Zeroes half_written_run refl (λ p. p.reads 1 1 (wrong (effects (report half_written_items)) (whole 1 ∷ whole 2 ∷ []) (start_byte Zeroes) 1 1 refl))
+half_written_atomically = failing_is_no half_written_items (flat captures.half_written) (whole 1 ∷ whole 2 ∷ []) Zeroes half_written_run refl (λ p. p.reads 1 1 (wrong (effects (report half_written_items)) (whole 1 ∷ whole 2 ∷ []) (start_byte Zeroes) 1 1 refl))
 
 pub half_written_uncovered : IsNo (flat captures.half_written) (part 1 0 1 ∷ whole 2 ∷ []) Zeroes
 unfolding half_written_items enc head tail complete next_phase target has has_only is_proper is_proper_option info_of is_listed is_go content_of failure_of ends_reply is_failing piece_of report

@@ -6,7 +6,7 @@ use Rattle.nbd_wire.specs.protocol.States.{start}
 use Rattle.nbd_state.specs.declared.asked.Exchange.{Exchange}
 use Rattle.nbd_session.specs.declared.fault.SessionFault.{SessionFault}
 use Rattle.nbd_session.specs.declared.held.Held.{Held}
-use Rattle.nbd_places.specs.internal.Concrete.{concrete}
+use Rattle.nbd_laws.specs.internal.Concrete.{concrete}
 use Rattle.nbd_session.specs.internal.Holdings.{holding_of, incoming_of}
 use Rattle.nbd_session.specs.Incoming.{bytes_come, nothing_come}
 use Rattle.nbd_session.specs.internal.Known.{IsKnown, decided}

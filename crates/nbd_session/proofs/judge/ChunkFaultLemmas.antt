@@ -13,12 +13,12 @@ use Rattle.nbd_wire.specs.protocol.States.{with_reply}
 use Rattle.nbd_wire.specs.declared.fault.WireFault.{WireFault}
 use Rattle.nbd_wire.specs.declared.fault.WireFault.TheVariants.{BadChunk, BadContent}
 use Rattle.nbd_session.specs.internal.Asking.{done_by, finish_by}
-use Rattle.nbd_places.specs.internal.Decisions.{fault_if}
-use Rattle.nbd_places.specs.internal.JudgeTransmission.{chunk_fault, content_fault, done_fault, finish_fault, fits_failure, fits_read, total}
+use Rattle.nbd_laws.specs.internal.Decisions.{fault_if}
+use Rattle.nbd_laws.specs.internal.JudgeTransmission.{chunk_fault, content_fault, done_fault, finish_fault, fits_failure, fits_read, total}
 use Rattle.nbd_state.proofs.ReplyLemmas.{any-snoc, or-false, proper-same}
-use Rattle.nbd_places.proofs.judge.BoolLemmas.{and_true}
+use Rattle.nbd_laws.proofs.judge.BoolLemmas.{and_true}
 use Rattle.nbd_laws.proofs.requests.LaidLemmas.{pieces-snoc}
-use Rattle.nbd_places.proofs.judge.TidyLemmas.{failure_kind, no_content, none_content}
+use Rattle.nbd_laws.proofs.judge.TidyLemmas.{failure_kind, no_content, none_content}
 
 -- a sum that stops at a limit
 pub fold-total : (limit n : ℕ) (ps : List Piece) → n ≤ limit → fold (λ sum p. min (sum + piece_size p) limit) n ps ≡ min (n + total ps) limit

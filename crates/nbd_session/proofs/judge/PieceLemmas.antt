@@ -19,12 +19,12 @@ use Rattle.nbd_session.proofs.steps.HoldingLemmas.{rest_is}
 use Rattle.nbd_session.specs.Views.{stretches_of}
 use Rattle.nbd_laws.specs.internal.Machine.{IsFilled, Machine, fresh, get}
 use Rattle.nbd_session.specs.Sessions.{Adds}
-use Rattle.nbd_places.specs.internal.Concrete.{concrete}
+use Rattle.nbd_laws.specs.internal.Concrete.{concrete}
 use Rattle.nbd_session.specs.internal.Logging.{log_of_pairs}
 use Rattle.nbd_state.specs.Shows.{AreKnown, Shows}
 use Rattle.nbd_session.specs.internal.Standing.{AreStretchesOf, Holding, IsReadTo, held_pairs, rest_of, stretch_total, with_bytes}
 use Rattle.nbd_session.specs.internal.Steps.{AddsHeld, HoldsRun, IsRefused, IsSame, IsShut, IsTaken, Stands}
-use Rattle.nbd_places.proofs.judge.AwaitedLemmas.{held_short}
+use Rattle.nbd_laws.proofs.judge.AwaitedLemmas.{held_short}
 use Rattle.nbd_state.proofs.PlacedLemmas.{shown_length}
 use Rattle.nbd_session.proofs.pushed.OpenByteLemmas.{read_is_run_but}
 use Rattle.nbd_session.proofs.pushed.PushLemmas.{first_fits, left_stretches, sent-append}

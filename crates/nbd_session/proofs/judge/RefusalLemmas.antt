@@ -17,14 +17,14 @@ use Rattle.nbd_laws.proofs.runs.RunLemmas.{marks_law}
 use Rattle.nbd_session.specs.declared.fault.SessionFault.{SessionFault}
 use Rattle.nbd_session.specs.declared.fault.SessionFault.TheVariants.{Memory, Wire}
 use Rattle.nbd_session.specs.declared.held.Held.{Held}
-use Rattle.nbd_places.specs.internal.Concrete.{concrete}
+use Rattle.nbd_laws.specs.internal.Concrete.{concrete}
 use Rattle.nbd_session.specs.internal.Holdings.{holding_of}
-use Rattle.nbd_places.specs.internal.Judge.{awaited_length}
+use Rattle.nbd_laws.specs.internal.Judge.{awaited_length}
 use Rattle.nbd_wire.specs.protocol.Splits.{IsPlace, IsUnderWay, open_bytes}
 use Rattle.nbd_laws.proofs.runs.ClearLemmas.{read_under_way}
 use Rattle.nbd_laws.proofs.runs.PlacingLemmas.{place_law}
 use Rattle.nbd_laws.proofs.runs.PlaceLemmas.{read_no_place}
-use Rattle.nbd_places.proofs.rows.RowJudgeLemmas.{telling}
+use Rattle.nbd_laws.proofs.rows.RowJudgeLemmas.{telling}
 use Rattle.nbd_session.specs.Refusals.{EndsIn, HasNoPlace, IsAccepted, IsComplete, IsOpenEnd, IsRefusal, IsWireFault, LeavesOpen, Refuses}
 use Rattle.nbd_session.specs.Sessions.{HasRun, SessionView, fault_at_end, fault_of, pairs_of, bytes_taken, open_end_fault}
 use Rattle.nbd_session.specs.internal.Standing.{Holding, IsReadTo, held_pairs, with_bytes}
@@ -32,14 +32,14 @@ use Rattle.nbd_session.specs.internal.Steps.{IsKept, IsShut, Stands}
 use Rattle.nbd_session.specs.Incoming.{bytes_come}
 use Rattle.nbd_session.specs.Views.{session_view}
 use Rattle.nbd_session.specs.internal.Stopped.{IsStopped}
-use Rattle.nbd_places.proofs.judge.AwaitedLemmas.{reads_below}
-use Rattle.nbd_places.proofs.judge.BlockLemmas.{extended, reads-append, with_rest}
-use Rattle.nbd_places.proofs.judge.ExactLemmas.{exact, none_refused}
+use Rattle.nbd_laws.proofs.judge.AwaitedLemmas.{reads_below}
+use Rattle.nbd_laws.proofs.judge.BlockLemmas.{extended, reads-append, with_rest}
+use Rattle.nbd_laws.proofs.judge.ExactLemmas.{exact, none_refused}
 use Rattle.nbd_laws.specs.Bytes.{bytes_from}
 use Rattle.nbd_laws.proofs.runs.RunByteLemmas.{AreBytesOf, run_bytes}
 use Rattle.nbd_session.proofs.pushed.OpenByteLemmas.{read_is_run_but}
 use Rattle.nbd_session.proofs.pushed.PushLemmas.{sent-append}
-use Rattle.nbd_places.proofs.judge.SoundLemmas.{sound}
+use Rattle.nbd_laws.proofs.judge.SoundLemmas.{sound}
 use Rattle.nbd_session.proofs.steps.StepLemmas.{held_of, pairs-taken}
 
 -- the last of some bytes, and those before it

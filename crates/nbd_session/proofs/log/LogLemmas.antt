@@ -54,7 +54,7 @@ counts_kept core rests s bytes f =
 count_is : (core : Core) (rests : Both Rest) (s : Side) → IsFilled (get rests s).bytes → get (counts_of rests) s ≡ length (old_of core (get rests s)).entries
 count_is core rests s f = counts_get rests s ∙ ap (λ (c : Core). length c.entries) (sym (old-filled core (get rests s) f))
 
--- the requests from 1 to n, each served at once
+-- the requests from 1 to n, each served atomically
 abbrev numbered : ℕ → List Entry
 numbered zero = []
 numbered (suc n) = numbered n ++ whole (suc n) ∷ []

@@ -7,20 +7,20 @@ use Rattle.nbd_wire.specs.protocol.Reports.{report}
 use Rattle.nbd_wire.specs.protocol.Rules.{IsRun, request_of_reply, complete}
 use Rattle.nbd_wire.specs.protocol.States.{Core, start}
 use Rattle.nbd_wire.specs.declared.fault.WireFault.{WireFault}
-use Rattle.nbd_places.specs.internal.Concrete.{concrete}
+use Rattle.nbd_laws.specs.internal.Concrete.{concrete}
 use Rattle.nbd_state.specs.Completions.{core_from}
-use Rattle.nbd_places.specs.internal.Judge.{awaited_length}
+use Rattle.nbd_laws.specs.internal.Judge.{awaited_length}
 use Rattle.nbd_state.specs.Logs.{LogEntry, known_by, known_here, messages_of}
 use Rattle.nbd_session.specs.internal.Logging.{log_with, log_of_pairs, log_of_rest}
 use Rattle.nbd_session.proofs.log.Logs.{report_by}
 use Rattle.nbd_state.proofs.KnownLemmas.{known_by-snoc, known_or}
 use Rattle.nbd_laws.proofs.machine.MachineLemmas.{AreHeld, IsFilled-snoc, get-put_same, old-filled, with_byte}
 use Rattle.nbd_laws.specs.internal.Machine.{Bad, IsFilled, Judge, Machine, More, Reading, Rest, Whole, fresh, get, rest_with, old_of, on_ok, put, reads, settle, step}
-use Rattle.nbd_places.proofs.judge.AwaitedLemmas.{held_short}
-use Rattle.nbd_places.proofs.judge.BlockLemmas.{GoesOn, extended}
+use Rattle.nbd_laws.proofs.judge.AwaitedLemmas.{held_short}
+use Rattle.nbd_laws.proofs.judge.BlockLemmas.{GoesOn, extended}
 use Rattle.nbd_session.proofs.log.FoldLemmas.{core_is}
 use Rattle.nbd_session.proofs.log.LogLemmas.{run_report}
-use Rattle.nbd_places.proofs.judge.SoundLemmas.{sound}
+use Rattle.nbd_laws.proofs.judge.SoundLemmas.{sound}
 
 -- more pairs after these
 pub logged-append : (judge : Judge) (ps qs : List Pair) (machine mid : Machine) → reads judge machine ps ≡ Ok mid → log_of_pairs judge machine (ps ++ qs) ≡ log_of_pairs judge machine ps ++ log_of_pairs judge mid qs

@@ -13,7 +13,7 @@ use Rattle.nbd_laws.specs.Bytes.{bytes_of}
 use Rattle.nbd_wire.specs.protocol.Rules.{IsRunBut, Obeys, after, complete}
 use Rattle.nbd_wire.specs.protocol.Sides.{side, same_side}
 use Rattle.nbd_wire.specs.protocol.States.{State, start}
-use Rattle.nbd_places.specs.internal.Concrete.{concrete}
+use Rattle.nbd_laws.specs.internal.Concrete.{concrete}
 use Rattle.nbd_laws.proofs.machine.MachineLemmas.{AreHeld, IsSound, IsSoundAt, Open, Walk, ended, final, held_more, held_whole, kept_next, loose, middle, opening, serving, with_byte}
 use Rattle.nbd_laws.specs.internal.Machine.{Bad, Both, Judge, Machine, More, Reading, Rest, Whole, fresh, get, rest_with, on_ok, put, reads, settle}
 use Rattle.nbd_laws.proofs.runs.BlockLemmas.{IsCalm, byte_other, byte_same, marked_is_walk}
@@ -21,7 +21,7 @@ use Rattle.nbd_session.specs.internal.Standing.{with_more}
 use Rattle.nbd_laws.specs.Bytes.{bytes_from}
 use Rattle.nbd_laws.proofs.runs.RunLemmas.{fresh_held, run_but_law}
 use Rattle.nbd_laws.proofs.runs.RunByteLemmas.{AreBytesOf, byte_from, bytes_from-cons, run_bytes}
-use Rattle.nbd_places.proofs.judge.SoundLemmas.{sound}
+use Rattle.nbd_laws.proofs.judge.SoundLemmas.{sound}
 
 -- what a machine holds of a side's bytes
 abbrev pub held_bytes : Side → Machine → List ℕ

@@ -11,8 +11,8 @@ use Rattle.nbd_wire.specs.protocol.States.{start}
 use Rattle.nbd_session.specs.declared.fault.SessionFault.TheVariants.{Memory}
 use Rattle.nbd_session.specs.declared.held.Held.{Held}
 use Rattle.nbd_state.specs.declared.asked.Exchange.{Exchange}
-use Rattle.nbd_places.specs.internal.Concrete.{concrete}
-use Rattle.nbd_places.specs.internal.Judge.{decision}
+use Rattle.nbd_laws.specs.internal.Concrete.{concrete}
+use Rattle.nbd_laws.specs.internal.Judge.{decision}
 use Rattle.nbd_state.specs.declared.state.State.{State}
 use Rattle.nbd_state.specs.Completions.{MayTake, core_from}
 use Rattle.nbd_session.specs.Incoming.{bytes_come, nothing_come}

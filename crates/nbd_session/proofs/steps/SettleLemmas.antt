@@ -8,10 +8,10 @@ use Rattle.nbd_session.specs.declared.fault.SessionFault.TheVariants.{Memory, Wi
 use Rattle.nbd_wire.specs.declared.fault.WireFault.{WireFault}
 use Rattle.nbd_session.specs.declared.held.Held.{Held}
 use Rattle.nbd_wire.specs.protocol.States.{Core}
-use Rattle.nbd_places.specs.internal.Concrete.{concrete, reading_by_decision}
+use Rattle.nbd_laws.specs.internal.Concrete.{concrete, reading_by_decision}
 use Rattle.nbd_session.specs.internal.Holdings.{holding_of, incoming_of}
-use Rattle.nbd_places.specs.internal.Decisions.{Decision}
-use Rattle.nbd_places.specs.internal.Judge.{decision}
+use Rattle.nbd_laws.specs.internal.Decisions.{Decision}
+use Rattle.nbd_laws.specs.internal.Judge.{decision}
 use Rattle.nbd_session.specs.declared.expected.Expected.{Expected}
 use Rattle.nbd_session.specs.Incoming.{bytes_come}
 use Rattle.nbd_session.specs.internal.Known.{IsKnown, decided, is_known_by}
@@ -22,7 +22,7 @@ use Rattle.nbd_state.specs.Shows.{AreKnown}
 use Rattle.nbd_session.specs.internal.Standing.{Holding, IsReadTo, held_pairs, rest_of, with_bytes}
 use Rattle.nbd_session.specs.internal.Steps.{HoldsRun, IsSame, IsShut, IsTaken, Stands, knows_by}
 use Rattle.nbd_session.specs.internal.Stopped.{IsStopped}
-use Rattle.nbd_places.proofs.judge.BlockLemmas.{extended}
+use Rattle.nbd_laws.proofs.judge.BlockLemmas.{extended}
 use Rattle.nbd_session.proofs.log.LogKnownLemmas.{logged-kept}
 use Rattle.nbd_session.proofs.pushed.OpenByteLemmas.{more_is_run_but}
 use Rattle.nbd_session.proofs.judge.RefusalLemmas.{stopped}

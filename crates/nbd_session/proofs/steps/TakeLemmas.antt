@@ -3,13 +3,13 @@ use Rattle.std.proofs.Common.{◌≡◌, ℕ, ◌<◌, ◌≤◌, List, [], ◌�
 use Rattle.nbd_wire.specs.declared.message.Side.{Side}
 use Rattle.nbd_wire.specs.protocol.Encoding.{AreBytes}
 use Rattle.nbd_wire.specs.protocol.States.{Core}
-use Rattle.nbd_places.specs.internal.Concrete.{concrete}
-use Rattle.nbd_places.specs.internal.Judge.{awaited_length}
+use Rattle.nbd_laws.specs.internal.Concrete.{concrete}
+use Rattle.nbd_laws.specs.internal.Judge.{awaited_length}
 use Rattle.nbd_laws.specs.internal.Machine.{Rest, More, old_of, IsFilled}
 use Rattle.nbd_laws.specs.Reached.{IsReached}
 use Rattle.nbd_laws.proofs.machine.MachineLemmas.{Kept, kept, Held, kept_next, reached_of, at_once, IsFilled-snoc}
-use Rattle.nbd_places.proofs.judge.AwaitedLemmas.{held_short}
-use Rattle.nbd_places.proofs.judge.BlockLemmas.{GoesOn}
+use Rattle.nbd_laws.proofs.judge.AwaitedLemmas.{held_short}
+use Rattle.nbd_laws.proofs.judge.BlockLemmas.{GoesOn}
 
 -- bytes up to the awaited length: each but the last was judged to go on
 kept_block : (s : Side) (old core : Core) (n : ℕ) (bytes : List ℕ) (b : ℕ) (more : List ℕ) → IsReached core → Kept concrete s old core (bytes ++ b ∷ []) → AreBytes more →

@@ -3,7 +3,7 @@ use Rattle.std.specs.Prelude.{ℕ, Bool, true, false, not, ◌&&◌, Option, Non
 use Rattle.nbd_wire.specs.declared.commands.TheConstants as commands
 use Rattle.nbd_wire.specs.declared.fault.WireFault.{WireFault}
 use Rattle.nbd_wire.specs.declared.fault.WireFault.TheVariants.{IncompleteRead, SuccessOfImproper}
-use Rattle.nbd_places.specs.internal.Decisions.{fault_if}
+use Rattle.nbd_laws.specs.internal.Decisions.{fault_if}
 
 -- at the end of a reply to a request of this command and length that gave so many bytes
 abbrev pub finish_by : (command len : ℕ) (proper failed : Bool) (given : ℕ) → Option WireFault

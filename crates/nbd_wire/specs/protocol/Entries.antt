@@ -5,7 +5,7 @@ use Rattle.nbd_wire.specs.declared.entry.Part.{Part}
 use Rattle.nbd_wire.specs.protocol.Operations.{Exporting, has_range}
 use Rattle.nbd_wire.specs.protocol.Pieces.{is_in}
 
--- the entry that serves request k at once
+-- the entry that serves request k atomically
 abbrev pub whole : ℕ → Entry
 whole k = record { request = k; part = None }
 
@@ -27,7 +27,7 @@ abbrev pub NamesWhole : List Entry → ℕ → Type 0
 NamesWhole [] k = ⊥
 NamesWhole (e ∷ entries) k = ((e.request ≡ k) × (e.part ≡ None)) ⊎ NamesWhole entries k
 
--- x lies in the part; where there is none, the request is served at once, and each offset counts
+-- x lies in the part; where there is none, the request is served atomically, and each offset counts
 abbrev pub in_part : Option Part → ℕ → Bool
 in_part None x = true
 in_part (Some p) x = is_in p.offset p.length x
@@ -48,8 +48,8 @@ pub record IsWhollyServed (within : ℕ → Bool) (entries : List Entry) (k : �
   pub named : Names entries k
   pub covered : (x : ℕ) → IsTrue (within x) → IsTrue (is_served entries k x)
 
--- after these entries request k is served again: at once though an entry names it, or in part though one serves it at
--- once
+-- after these entries request k is served again: atomically though an entry names it, or in part though one serves it
+-- atomically
 abbrev pub IsAgain : List Entry → ℕ → Option Part → Type 0
 IsAgain before k None = Names before k
 IsAgain before k (Some p) = NamesWhole before k

@@ -1,6 +1,6 @@
 use Rattle.std.proofs.Common.{subst, sym, ◌∷◌, [], Some}
 use Rattle.nbd_capture.specs.Order.{IsOrderLine}
-use Rattle.nbd_capture.specs.Order.IsOrderLine.{at_once, of_part}
+use Rattle.nbd_capture.specs.Order.IsOrderLine.{atomically, of_part}
 use Rattle.nbd_capture.proofs.OrderLineLemmas.{no_number, no_parted}
 use Rattle.nbd_capture.proofs.order.entry_on.Goals as goal
 
@@ -18,7 +18,7 @@ returns-in_err-part-in-Some c =
     (λ k p a b. c.in_err-part-in-Some.ensures p b))
 
 pub returns-in_ok-request-in-None : goal.returns-in_ok-request-in-None
-returns-in_ok-request-in-None c = at_once c.args.line.now c.in_ok-request-in-None.request c.in_ok-request-in-None.ensures
+returns-in_ok-request-in-None c = atomically c.args.line.now c.in_ok-request-in-None.request c.in_ok-request-in-None.ensures
 
 pub returns-in_ok-part-in-Some : goal.returns-in_ok-part-in-Some
 returns-in_ok-part-in-Some c =

@@ -4,8 +4,8 @@ use Rattle.nbd_laws.proofs.examples.half_written.Goals as goal
 pub returns-clause-yes : goal.returns-clause-yes
 returns-clause-yes c = worked.half_written
 
-pub returns-clause-at_once : goal.returns-clause-at_once
-returns-clause-at_once c = worked.half_written_at_once
+pub returns-clause-atomically : goal.returns-clause-atomically
+returns-clause-atomically c = worked.half_written_atomically
 
 pub returns-clause-uncovered : goal.returns-clause-uncovered
 returns-clause-uncovered c = worked.half_written_uncovered

@@ -6,8 +6,8 @@ use Rattle.nbd_wire.specs.protocol.Flags.{has}
 use Rattle.nbd_wire.specs.protocol.Operations.{has_failed, is_proper, pieces}
 use Rattle.nbd_wire.specs.declared.fault.WireFault.TheVariants.{BadChunk, BadContent}
 use Rattle.nbd_session.specs.internal.Asking.{done_by, finish_by}
-use Rattle.nbd_places.specs.internal.Decisions.{fault_if}
-use Rattle.nbd_places.specs.internal.JudgeTransmission.{fits_read, fits_failure, total}
+use Rattle.nbd_laws.specs.internal.Decisions.{fault_if}
+use Rattle.nbd_laws.specs.internal.JudgeTransmission.{fits_read, fits_failure, total}
 use Rattle.nbd_session.proofs.judge.ChunkFaultLemmas.{none-chunk, content-chunk, failure-chunk}
 use Rattle.nbd_session.proofs.chunks.chunk_fault.Goals as goal
 

@@ -1,10 +1,10 @@
-use Rattle.nbd_laws.proofs.service.EntryLemmas.{served_at_once}
+use Rattle.nbd_laws.proofs.service.EntryLemmas.{served_atomically}
 use Rattle.nbd_state.specs.Sizes.{sizes_of}
 use Rattle.nbd_judge.proofs.orders.ServiceLemmas.{full, not_full}
 use Rattle.nbd_judge.proofs.service.Service.fault.Goals as goal
 
 pub returns-in-Whole : goal.returns-in-Whole
-returns-in-Whole c = λ span within entries k is_span. rw c.in-Whole.is (λ h. served_at_once within entries k h)
+returns-in-Whole c = λ span within entries k is_span. rw c.in-Whole.is (λ h. served_atomically within entries k h)
 
 pub returns-then-left-eq0 : goal.returns-then-left-eq0
 returns-then-left-eq0 c = λ span within entries k is_span. rw c.in-InParts.is (λ h.

@@ -1,0 +1,213 @@
+-- The judge is exact: it takes each message that the rules allow, at its last byte and not before.
+use Rattle.std.proofs.Common.{◌≡◌, ℕ, ◌+◌, ◌<◌, ◌≤◌, ◌⊎◌, ◌==◌, ◌^◌, List, [], ◌∷◌, ◌++◌, length, refl, sym, ◌∙◌, ap, subst, inl, inr, Option, Some, None, Err, Bool, true, false, not, nat_lt, is_some, IsTrue, eq-eqb, arith, length-append}
+use Rattle.std.proofs.lemmas.Bool.{le-ltb, ltb-false, ltb-true}
+use Rattle.nbd_wire.specs.declared.handshake.TheConstants as handshake
+use Rattle.nbd_wire.specs.declared.message.Side.{Side}
+use Rattle.nbd_wire.specs.declared.message.Side.TheVariants.{Client, Server}
+use Rattle.nbd_wire.specs.declared.message.Message.{Message}
+use Rattle.nbd_wire.specs.declared.message.Message.TheVariants.{Greeting, ClientFlags, Choice, Answer, Exported, Request, Simple, Chunk}
+use Rattle.nbd_wire.specs.protocol.Encoding.{enc}
+use Rattle.nbd_wire.specs.protocol.Captures.{ArePairs, Pair}
+use Rattle.nbd_wire.specs.protocol.Marks.{Item, pairs}
+use Rattle.nbd_wire.specs.protocol.Options.{is_proper_option, turn}
+use Rattle.nbd_wire.specs.protocol.Payloads.{number_at}
+use Rattle.nbd_wire.specs.protocol.Operations.{Operation, Exporting}
+use Rattle.nbd_wire.specs.protocol.Flags.{has}
+use Rattle.nbd_wire.specs.protocol.Rules.{IsRun, MayComplete, MayStart, MayStartIn, request_of_reply}
+use Rattle.nbd_wire.specs.protocol.Sendable.{IsSendable}
+use Rattle.nbd_wire.specs.protocol.Sides.{side}
+use Rattle.nbd_wire.specs.protocol.States.{Core, Phase, Greet, Flags, Choosing, Naming, Aborting, Answering, Transmission, operation, target}
+use Rattle.nbd_wire.specs.declared.fault.WireFault.{WireFault}
+use Rattle.nbd_laws.specs.internal.Decisions.{Decision}
+use Rattle.nbd_laws.specs.internal.Judge.{decision, request_unless}
+use Rattle.nbd_laws.specs.internal.JudgeNegotiation.{abort_answer, answer, choice, client_flags, export_answer, greeting}
+use Rattle.nbd_laws.specs.internal.JudgeTransmission.{chunk_to, operation_if, operation_of, request, simple_to}
+use Rattle.nbd_laws.proofs.judge.AwaitedLemmas.{in_head, in_payload}
+use Rattle.nbd_laws.specs.internal.Concrete.{concrete, last_reading, reading_by_decision, read_by, staged_reading_by}
+use Rattle.nbd_laws.proofs.judge.ExactNegotiationLemmas.{Accepts, HasHead, HasLast, abort_accepts, answer_accepts, choice_accepts, exported_accepts, flags_accepts, greeting_accepts}
+use Rattle.nbd_laws.proofs.judge.ExactTransmissionLemmas.{AcceptsChunk, chunk_accepts, chunk_begins, cookie_of_chunk, cookie_of_simple, request_accepts, simple_accepts, simple_begins}
+use Rattle.nbd_laws.proofs.machine.MachineLemmas.{IsExact, Later, Later-trans}
+use Rattle.nbd_laws.specs.internal.Machine.{IsFilled, More, Whole, reads, fresh}
+use Rattle.nbd_laws.proofs.judge.PhaseLemmas.{IsAppended, Later-appended, Later-disconnected, Later-transmission, Later-turn, target-append}
+use Rattle.nbd_laws.proofs.runs.RunLemmas.{no_run}
+use Rattle.nbd_laws.proofs.judge.SoundLemmas.{kept_reached}
+use Rattle.nbd_laws.proofs.judge.SteadyLemmas.{IsDeciding, IsSameHead, IsSteady, deciding, is_chunk_reply, is_simple_reply, no_chunk}
+use Rattle.nbd_laws.proofs.judge.TidyLemmas.{AreTidy, tidy, tidy_entry}
+
+-- what is decided of an encoding takes the message
+record IsTaken (o : Option Decision) (core : Core) (m : Message) : Type 0 where
+  d : Decision
+  is : o ≡ Some d
+  at_head : HasHead d m
+  at_last : AreTidy core.entries → HasLast d m
+
+taken : (d : Decision) (core : Core) (m : Message) → Accepts d m → IsTaken (Some d) core m
+taken d core m a = record { d = d; is = refl; at_head = a.at_head; at_last = λ t. a.at_last }
+
+-- the request that a reply answers, of those that had completed when it started
+same_target : (old now : Core) (cookie k : ℕ) (e : Operation) → IsAppended old now → IsTrue (is_some (target cookie old.entries)) → target cookie now.entries ≡ Some k → operation k now.entries ≡ Some e → operation_of old now cookie ≡ Some e
+same_target old now cookie k e a began at is = go (target cookie old.entries) refl began
+  where
+    go : (o : Option ℕ) → target cookie old.entries ≡ o → IsTrue (is_some o) → operation_if o now.entries ≡ Some e
+    go (Some j) q s =
+        let r : Some j ≡ Some k = sym (ap (target cookie) a.entries_are ∙ target-append cookie old.entries a.more j q) ∙ at in
+        let same : j ≡ k = cc in
+        ap (λ x. operation x now.entries) same ∙ is
+    go None q s = absurd (let w : false ≡ true = s in (cc))
+
+-- what started before: a reply answers a request, a client had not disconnected
+abbrev Began : Phase → Core → Core → Message → Type 0
+Began (Transmission export) old now m = (side m ≡ Server → IsAppended old now × IsTrue (is_some (request_of_reply old m))) × (side m ≡ Client → now.disconnected ≡ false)
+Began phase old now m = Unit {0}
+
+request_taken : (core : Core) (b : Bool) (bytes : List ℕ) (m : Message) → b ≡ false → Accepts (request core bytes) m → IsTaken (request_unless b core bytes) core m
+request_taken core true bytes m e a = absurd (cc)
+request_taken core false bytes m e a = taken (request core bytes) core m a
+
+taken_in : (phase : Phase) (old now : Core) (m : Message) → IsSendable m → Began phase old now m → MayComplete now phase m → IsTaken (decision phase old now (side m) (enc m)) now m
+unfolding MayComplete IsSendable
+taken_in Greet old now (Greeting flags) sn b ok = taken (greeting (enc (Greeting flags))) now _ (greeting_accepts flags sn ok)
+taken_in Flags old now (ClientFlags flags) sn b ok = taken (client_flags now.offered (enc (ClientFlags flags))) now _ (flags_accepts now.offered flags sn ok)
+taken_in Choosing old now (Choice id payload) sn b ok = taken (choice (enc (Choice id payload))) now _ (choice_accepts id payload sn.0 sn.1.0)
+taken_in Naming old now (Exported size flags padded) sn b ok =
+    let no_zeroes : Bool = has now.client_flags handshake.C_NO_ZEROES in
+    subst (λ p. IsTaken (Some (export_answer no_zeroes (enc (Exported size flags p)))) now (Exported size flags p)) (sym ok.1)
+    (taken (export_answer no_zeroes (enc (Exported size flags (not no_zeroes)))) now _ (exported_accepts size flags no_zeroes sn.0 sn.1 ok.0 ok.2))
+taken_in Aborting old now (Answer option kind payload) sn b ok = taken (abort_answer (enc (Answer option kind payload))) now _ (abort_accepts option kind payload sn.0 sn.1 sn.2.0 ok)
+taken_in (Answering asked given info) old now (Answer option kind payload) sn b ok =
+    subst (λ o. IsTaken (Some (answer asked (is_proper_option asked given) info (enc (Answer o kind payload)))) now (Answer o kind payload)) (sym ok.0)
+    (taken (answer asked (is_proper_option asked given) info (enc (Answer asked kind payload))) now _
+    (answer_accepts asked given info kind payload (subst (λ o. o < 2 ^ 32) ok.0 sn.0) sn.1 sn.2.0 ok.1))
+taken_in (Transmission export) old now (Request flags command cookie offset len payload) sn b ok =
+    request_taken now now.disconnected (enc (Request flags command cookie offset len payload)) _ (b.1 refl) (request_accepts now flags command cookie offset len payload sn ok)
+taken_in (Transmission export) old now (Simple error cookie payload) sn b (k, e, at, is, may) =
+    let m : Message = Simple error cookie payload in
+    let s : _ ≡ true = simple_begins error cookie payload in
+    let to : operation_of old now (number_at 8 8 (enc m)) ≡ Some e = ap (operation_of old now) (cookie_of_simple error cookie payload sn) ∙ same_target old now cookie k e (b.0 refl).0 (b.0 refl).1 at is in
+    let a : Accepts (simple_to export now (Some e) (enc m)) m = simple_accepts now export e error cookie payload sn may in
+    record {
+      d = simple_to export now (Some e) (enc m);
+      is = ap Some (is_simple_reply export old now (enc m) (no_chunk (enc m) s) s ∙ ap (λ o. simple_to export now o (enc m)) to);
+      at_head = a.at_head;
+      at_last = λ t. a.at_last;
+    }
+taken_in (Transmission export) old now (Chunk flags kind cookie payload) sn b (k, e, at, is, may) =
+    let m : Message = Chunk flags kind cookie payload in
+    let to : operation_of old now (number_at 8 8 (enc m)) ≡ Some e = ap (operation_of old now) (cookie_of_chunk flags kind cookie payload sn) ∙ same_target old now cookie k e (b.0 refl).0 (b.0 refl).1 at is in
+    let a : AcceptsChunk (chunk_to export now (Some e) (enc m)) e m = chunk_accepts now export e flags kind cookie payload sn may in
+    record {
+      d = chunk_to export now (Some e) (enc m);
+      is = ap Some (is_chunk_reply export old now (enc m) (chunk_begins flags kind cookie payload) ∙ ap (λ o. chunk_to export now o (enc m)) to);
+      at_head = a.at_head;
+      at_last = λ t. a.at_last (tidy_entry k now.entries e t is);
+    }
+taken_in phase old now m sn b ok = absurd ok
+
+-- a message that may start is decided on from its first byte
+deciding_of : (phase : Phase) (s : Side) (old : Core) (m : Message) → old.phase ≡ phase → MayStartIn phase old s m → IsDeciding s old
+unfolding MayStartIn
+deciding_of Greet Server old m p st = deciding Greet Server old [] _ p refl
+deciding_of Flags Client old m p st = deciding Flags Client old [] _ p refl
+deciding_of Choosing Client old m p st = deciding Choosing Client old [] _ p refl
+deciding_of Naming Server old m p st = deciding Naming Server old [] _ p refl
+deciding_of Aborting Server old m p st = deciding Aborting Server old [] _ p refl
+deciding_of (Answering option given info) Server old m p st = deciding (Answering option given info) Server old [] _ p refl
+deciding_of (Transmission export) Client old m p st = deciding (Transmission export) Client old [] (request old []) p (ap (λ b. request_unless b old []) st.1)
+deciding_of (Transmission export) Server old m p st = deciding (Transmission export) Server old [] _ p refl
+deciding_of phase s old m p st = absurd (cc)
+
+module _ (old now : Core) (m : Message) where
+  server_part : (export : Exporting) → MayStartIn (Transmission export) old Server m → IsTrue (is_some (request_of_reply old m))
+  unfolding MayStartIn
+  server_part export st = st
+
+  client_part : (export : Exporting) → MayStartIn (Transmission export) old Client m → old.disconnected ≡ false
+  unfolding MayStartIn
+  client_part export st = st.1
+
+  no_turn : (s t : Side) → side m ≡ s → side m ≡ t → (s ≡ t → ⊥) → ⊥
+  no_turn s t e f ne = ne (sym e ∙ f)
+
+  began_in : (export : Exporting) (s : Side) → side m ≡ s → old.phase ≡ Transmission export → Later s old now → MayStartIn (Transmission export) old s m → Began (Transmission export) old now m
+  began_in export Server sd p l st = ((λ e. (Later-appended l export p, server_part export st)), λ e. absurd (no_turn Server Client sd e (λ q. (cc))))
+  began_in export Client sd p l st = ((λ e. absurd (no_turn Client Server sd e (λ q. (cc)))), λ e. Later-disconnected l ∙ client_part export st)
+
+  turn_of : (phase : Phase) (s : Side) → MayStartIn phase old s m → (turn phase ≡ Some s) ⊎ ((export : Exporting) × (phase ≡ Transmission export))
+  unfolding MayStartIn
+  turn_of (Transmission export) s st = inr (export, refl)
+  turn_of phase s st = inl st
+
+  quiet : (phase : Phase) (s : Side) → turn phase ≡ Some s → Began phase old now m
+  quiet (Transmission export) s t = absurd (cc)
+  quiet phase s t = tt
+
+  began_at : (s : Side) → side m ≡ s → Later s old now → MayStart old s m → Began now.phase old now m
+  began_at s sd l st = elim (turn_of old.phase s st) [
+    | inl t ↦ subst (λ p. Began p old now m) (ap (λ (c : Core). c.phase) (Later-turn l t)) (quiet old.phase s t)
+    | inr (export, p) ↦ subst (λ q. Began q old now m) (sym (Later-transmission l export p)) (began_in export s sd p l (subst (λ q. MayStartIn q old s m) p st))
+  ]
+
+-- a part of what is taken goes on
+part_goes_on : (s : Side) (now next : Core) (F : Core → List ℕ → Decision) → IsSteady s now F → Later s now next → (bytes left : List ℕ) → IsFilled left →
+    length (bytes ++ left) ≡ (F next (bytes ++ left)).head_length + (F next (bytes ++ left)).payload_length → (F next (bytes ++ left)).head_fault ≡ None → read_by (F now bytes) bytes ≡ More
+part_goes_on s now next F st l bytes left f long clean = go (nat_lt (length bytes) (F now bytes).head_length) refl
+  where
+    some : (xs : List ℕ) → IsFilled xs → 0 < length xs
+    some [] f = absurd f
+    some (x ∷ xs) f = omega arith
+
+    go : (b : Bool) → nat_lt (length bytes) (F now bytes).head_length ≡ b → read_by (F now bytes) bytes ≡ More
+    go true e = in_head (F now bytes) bytes (ltb-true (length bytes) (F now bytes).head_length e)
+    go false e =
+        let behind_head : (F now bytes).head_length ≤ length bytes = ltb-false (length bytes) (F now bytes).head_length e in
+        let clean_now : (F now bytes).head_fault ≡ None = st.back next l bytes left behind_head clean in
+        let same : IsSameHead (F now bytes) (F next (bytes ++ left)) = st.beyond next l bytes left behind_head clean_now in
+        let h : (F next (bytes ++ left)).head_length ≡ (F now bytes).head_length = same.head_length_is in
+        let p : (F next (bytes ++ left)).payload_length ≡ (F now bytes).payload_length = same.payload_length_is in
+        let more : 0 < length left = some left f in
+        in_payload (F now bytes) bytes behind_head clean_now (omega (arith, long, h, p, more, length-append bytes left))
+
+read_whole : (d : Decision) (m : Message) → HasHead d m → HasLast d m → read_by d (enc m) ≡ Whole m
+read_whole d m a b =
+    let long : length (enc m) ≡ d.head_length + d.payload_length = a.long in
+    let past : nat_lt (length (enc m)) d.head_length ≡ false = le-ltb (length (enc m)) d.head_length (omega (arith, long)) in
+    let there : (length (enc m) == d.head_length + d.payload_length) ≡ true = eq-eqb _ _ long in
+    λ i. staged_reading_by (past i) (a.clean i) (there i) (last_reading (b.clean i) (b.is i))
+
+-- what is decided of an encoding, by the side's decisions
+record IsTakenBy (F : Core → List ℕ → Decision) (now : Core) (m : Message) : Type 0 where
+  at_head : HasHead (F now (enc m)) m
+  at_last : AreTidy now.entries → HasLast (F now (enc m)) m
+
+taken_by : (old now : Core) (s : Side) (m : Message) (d : IsDeciding s old) → (l : Later s old now) → side m ≡ s → IsSendable m → MayStart old s m → MayComplete now now.phase m → IsTakenBy d.F now m
+taken_by old now s m d l sd sn st ok =
+    let t : IsTaken (decision now.phase old now (side m) (enc m)) now m = taken_in now.phase old now m sn (began_at old now m s sd l st) ok in
+    let q : Some t.d ≡ Some (d.F now (enc m)) = sym t.is ∙ ap (λ u. decision now.phase old now u (enc m)) sd ∙ d.decides now l (enc m) in
+    let same : t.d ≡ d.F now (enc m) = cc in
+    record { at_head = subst (λ x. HasHead x m) same t.at_head; at_last = λ tidied. subst (λ x. HasLast x m) same (t.at_last tidied) }
+
+exact_more : (old now later : Core) (s : Side) (m : Message) (bytes left : List ℕ) → Later s old now → Later s now later →
+    side m ≡ s → IsSendable m → MayStart old s m → MayComplete later later.phase m → enc m ≡ bytes ++ left → IsFilled left → concrete old now s bytes ≡ More
+exact_more old now later s m bytes left l l' sd sn st ok e f =
+    let d : IsDeciding s old = deciding_of old.phase s old m refl st in
+    let t : IsTakenBy d.F later m = taken_by old later s m d (Later-trans l l') sd sn st ok in
+    let long : length (bytes ++ left) ≡ (d.F later (bytes ++ left)).head_length + (d.F later (bytes ++ left)).payload_length =
+    subst (λ bs. length bs ≡ (d.F later bs).head_length + (d.F later bs).payload_length) e t.at_head.long in
+    let clean : (d.F later (bytes ++ left)).head_fault ≡ None = subst (λ bs. (d.F later bs).head_fault ≡ None) e t.at_head.clean in
+    ap (λ o. reading_by_decision o bytes) (d.decides now l bytes) ∙ part_goes_on s now later d.F (d.steady now l) l' bytes left f long clean
+
+exact_whole : (old now : Core) (s : Side) (m : Message) → Later s old now → side m ≡ s → IsSendable m → MayStart old s m → MayComplete now now.phase m → AreTidy now.entries → concrete old now s (enc m) ≡ Whole m
+exact_whole old now s m l sd sn st ok tidied =
+    let d : IsDeciding s old = deciding_of old.phase s old m refl st in
+    let t : IsTakenBy d.F now m = taken_by old now s m d l sd sn st ok in
+    ap (λ o. reading_by_decision o (enc m)) (d.decides now l (enc m)) ∙ read_whole (d.F now (enc m)) m t.at_head (t.at_last tidied)
+
+pub exact : IsExact concrete
+exact = record {
+  more = λ old now later s m bytes left l l' sd sn st ok e fb fl k. exact_more old now later s m bytes left l l' sd sn st ok e fl;
+  whole = λ old now s m l sd sn st ok k. exact_whole old now s m l sd sn st ok (tidy (kept_reached k));
+}
+
+-- no run's bytes begin with a list that the machine refuses
+pub none_refused : (items : List Item) → IsRun items → (ps more : List Pair) → ArePairs ps → pairs items ≡ ps ++ more → (fault : WireFault) → reads concrete fresh ps ≡ Err fault → ⊥
+none_refused items run ps more lt e fault refused = no_run concrete exact items run ps more lt e fault refused

@@ -1,0 +1,113 @@
+-- The judge is sound: a message that it calls whole is one that the rules allow.
+use Rattle.std.proofs.Common.{◌≡◌, ℕ, ◌⊎◌, List, [], ◌∷◌, refl, sym, ◌∙◌, ap, subst, inl, inr, Some, false, is_some, IsTrue}
+use Rattle.nbd_wire.specs.declared.message.Side.{Side}
+use Rattle.nbd_wire.specs.declared.message.Side.TheVariants.{Client, Server}
+use Rattle.nbd_wire.specs.declared.message.Message.{Message}
+use Rattle.nbd_wire.specs.protocol.Encoding.{AreBytes}
+use Rattle.nbd_wire.specs.protocol.Options.{turn}
+use Rattle.nbd_wire.proofs.NumberLemmas.{AreBytes-snoc}
+use Rattle.nbd_wire.specs.protocol.Operations.{Exporting}
+use Rattle.nbd_wire.specs.protocol.Rules.{MayStartIn, MayComplete, request_of_reply}
+use Rattle.nbd_wire.specs.protocol.States.{Phase, Greet, Flags, Choosing, Naming, Aborting, Answering, Transmission, Core}
+use Rattle.nbd_wire.specs.declared.fault.WireFault.TheVariants.{OutOfTurn}
+use Rattle.nbd_laws.specs.internal.JudgeTransmission.{request_of}
+use Rattle.nbd_laws.specs.internal.Concrete.{judge_in, concrete}
+use Rattle.nbd_laws.proofs.machine.MachineLemmas.{Kept, begun, kept, Later, at_once, Later-trans, IsSoundAt, IsSound}
+use Rattle.nbd_laws.specs.internal.Machine.{Reading, More, Whole, Bad, Judge}
+use Rattle.nbd_laws.specs.Reached.{IsReached}
+use Rattle.nbd_laws.proofs.judge.PhaseLemmas.{IsTransmitting, Later-disconnected, Later-transmission, Later-turn}
+use Rattle.nbd_laws.proofs.judge.SoundClientLemmas.{IsAsked, request_sound}
+use Rattle.nbd_laws.proofs.judge.SoundNegotiationLemmas.{IsFit, negotiation_sound}
+use Rattle.nbd_laws.proofs.judge.SoundServerLemmas.{IsReplying, reply_sound}
+use Rattle.nbd_laws.proofs.judge.TidyLemmas.{tidy}
+
+pub kept_bytes : {judge : Judge} {s : Side} {old now : Core} {bytes : List ℕ} → Kept judge s old now bytes → AreBytes bytes
+kept_bytes (begun b lt r) = (lt, tt)
+kept_bytes (kept {bytes = bytes} b lt k m l r) = AreBytes-snoc bytes b (kept_bytes k) lt
+
+pub kept_later : {judge : Judge} {s : Side} {old now : Core} {bytes : List ℕ} → Kept judge s old now bytes → Later s old now
+kept_later (begun b lt r) = at_once
+kept_later (kept b lt k m l r) = Later-trans (kept_later k) l
+
+pub kept_reached : {judge : Judge} {s : Side} {old now : Core} {bytes : List ℕ} → Kept judge s old now bytes → IsReached now
+kept_reached (begun b lt r) = r
+kept_reached (kept b lt k m l r) = r
+
+abbrev pub IsFirst : Judge → Side → Core → Core → List ℕ → Type 0
+IsFirst judge s old now bytes = ((old ≡ now) × ((b : ℕ) × (bytes ≡ b ∷ []))) ⊎ ((b : ℕ) × (judge old old s (b ∷ []) ≡ More))
+
+-- the first byte is this one, or it was judged to go on
+pub kept_first : {judge : Judge} {s : Side} {old now : Core} {bytes : List ℕ} → Kept judge s old now bytes → IsFirst judge s old now bytes
+kept_first (begun b lt r) = inl (refl, (b, refl))
+kept_first {judge} {s} {old} (kept {now = now} {bytes = bytes} b lt k m l r) = elim (kept_first k) [
+  | inl (same, (c, is)) ↦ inr (c, ap (λ l. judge old old s l) (sym is) ∙ ap (λ x. judge old x s bytes) same ∙ m)
+  | inr h ↦ inr h
+]
+
+-- in turn, or in transmission
+in_turn : (phase : Phase) (old now : Core) (s : Side) (bytes : List ℕ) → (judge_in phase old now s bytes ≡ Bad OutOfTurn) ⊎ (turn phase ≡ Some s) ⊎ IsTransmitting phase
+in_turn Greet old now Server bytes = inr (inl refl)
+in_turn Flags old now Client bytes = inr (inl refl)
+in_turn Choosing old now Client bytes = inr (inl refl)
+in_turn Naming old now Server bytes = inr (inl refl)
+in_turn Aborting old now Server bytes = inr (inl refl)
+in_turn (Answering option given info) old now Server bytes = inr (inl refl)
+in_turn (Transmission export) old now s bytes = inr (inr (export, refl))
+in_turn phase old now s bytes = inl refl
+
+pub opened_by : (old now : Core) (s : Side) (bytes : List ℕ) (r : Reading) → concrete old now s bytes ≡ r → (r ≡ Bad OutOfTurn → ⊥) → (turn now.phase ≡ Some s) ⊎ IsTransmitting now.phase
+opened_by old now s bytes r e n = elim (in_turn now.phase old now s bytes) [ inl q ↦ absurd (n (sym e ∙ q)) | inr o ↦ o ]
+
+-- a side's bytes that were not refused began in its turn, or in transmission
+pub turn_of_reading : {s : Side} {old now : Core} {bytes : List ℕ} (r : Reading) → Kept concrete s old now bytes → concrete old now s bytes ≡ r → (r ≡ Bad OutOfTurn → ⊥) → (turn old.phase ≡ Some s) ⊎ IsTransmitting old.phase
+turn_of_reading {s} {old} {now} {bytes} r k e n = elim (kept_first k) [
+  | inl (same, (c, is)) ↦ opened_by old old s bytes r (ap (λ x. concrete old x s bytes) same ∙ e) n
+  | inr (c, m) ↦ opened_by old old s (c ∷ []) More m (λ q. (cc))
+]
+
+starts_by_turn : (phase : Phase) (core : Core) (s : Side) (m : Message) → turn phase ≡ Some s → MayStartIn phase core s m
+unfolding MayStartIn
+starts_by_turn (Transmission export) core s m t = absurd (cc)
+starts_by_turn phase core s m t = t
+
+sound_in_turn : (now : Core) (s : Side) (bytes : List ℕ) (m : Message) → AreBytes bytes → turn now.phase ≡ Some s → concrete now now s bytes ≡ Whole m → IsSoundAt now now s bytes m
+sound_in_turn now s bytes m a t e =
+    let f : IsFit now now.phase s bytes m = negotiation_sound now.phase now s bytes m a t e in
+    record { encodes = f.encodes; sided = f.sided; sendable = f.sendable; starts = starts_by_turn now.phase now s m t; completes = f.completes }
+
+client_starts : (export : Exporting) (core : Core) (bytes : List ℕ) → core.disconnected ≡ false → MayStartIn (Transmission export) core Client (request_of bytes)
+unfolding MayStartIn
+client_starts export core bytes g = (refl, g)
+
+server_starts : (export : Exporting) (core : Core) (m : Message) → IsTrue (is_some (request_of_reply core m)) → MayStartIn (Transmission export) core Server m
+unfolding MayStartIn
+server_starts export core m h = h
+
+sound_in_transmission : (old now : Core) (s : Side) (bytes : List ℕ) (m : Message) (export : Exporting) → Later s old now → IsReached now → AreBytes bytes → old.phase ≡ Transmission export → now.phase ≡ Transmission export →
+    judge_in (Transmission export) old now s bytes ≡ Whole m → IsSoundAt old now s bytes m
+sound_in_transmission old now Client bytes m export l r a t0 t1 e =
+    let q : IsAsked now export bytes m = request_sound now export now.disconnected bytes m refl a e in
+    record {
+      encodes = q.fit.encodes;
+      sided = q.fit.sided;
+      sendable = q.fit.sendable;
+      starts = subst (λ p. MayStartIn p old Client m) (sym t0) (subst (MayStartIn (Transmission export) old Client) q.is (client_starts export old bytes (sym (Later-disconnected l) ∙ q.open_still)));
+      completes = subst (λ p. MayComplete now p m) (sym t1) q.fit.completes;
+    }
+sound_in_transmission old now Server bytes m export l r a t0 t1 e =
+    let q : IsReplying old now export bytes m = reply_sound old now export bytes m l t0 (tidy r) a e in
+    record {
+      encodes = q.fit.encodes;
+      sided = q.fit.sided;
+      sendable = q.fit.sendable;
+      starts = subst (λ p. MayStartIn p old Server m) (sym t0) (server_starts export old m q.starts);
+      completes = subst (λ p. MayComplete now p m) (sym t1) q.fit.completes;
+    }
+
+pub sound : IsSound concrete
+sound old now s bytes m k e = elim (turn_of_reading (Whole m) k e (λ q. (cc))) [
+  | inl t ↦ (let same : old ≡ now = Later-turn (kept_later k) t in
+      subst (λ c. IsSoundAt c now s bytes m) (sym same) (sound_in_turn now s bytes m (kept_bytes k) (subst (λ (c : Core). turn c.phase ≡ Some s) same t) (subst (λ c. concrete c now s bytes ≡ Whole m) same e)))
+  | inr (export, t0) ↦ (let t1 : now.phase ≡ Transmission export = Later-transmission (kept_later k) export t0 in
+      sound_in_transmission old now s bytes m export (kept_later k) (kept_reached k) (kept_bytes k) t0 t1 (subst (λ p. judge_in p old now s bytes ≡ Whole m) t1 e))
+]

@@ -1,0 +1,373 @@
+-- What is decided of a message does not change as its bytes come, nor where the other side's
+-- messages complete meanwhile.
+use Rattle.std.proofs.Common.{◌≡◌, ℕ, zero, suc, ◌+◌, ◌<◌, ◌≤◌, ◌==◌, List, [], ◌∷◌, ◌++◌, length, refl, sym, ◌∙◌, ap, subst, Option, Some, None, Bool, true, false, ◌&&◌, eq-eqb, nat_le, arith, length-append}
+use Rattle.std.proofs.lemmas.Bool.{le-leb, lt-leb}
+use Rattle.nbd_wire.specs.declared.handshake.TheConstants as handshake
+use Rattle.nbd_wire.specs.declared.magics.TheConstants.{SIMPLE_MAGIC, CHUNK_MAGIC}
+use Rattle.nbd_wire.specs.declared.message.Side.{Side}
+use Rattle.nbd_wire.specs.declared.message.Side.TheVariants.{Client, Server}
+use Rattle.nbd_wire.proofs.FieldLemmas.{number_at-append}
+use Rattle.nbd_wire.specs.protocol.Options.{is_error, is_proper_option, turn}
+use Rattle.nbd_wire.specs.protocol.Payloads.{number_at}
+use Rattle.nbd_wire.specs.protocol.Operations.{Operation, Exporting}
+use Rattle.nbd_wire.specs.protocol.Flags.{has}
+use Rattle.nbd_wire.specs.protocol.States.{Phase, Greet, Flags, Choosing, Naming, Aborting, Answering, Transmission, Core, operation, target}
+use Rattle.nbd_wire.specs.declared.fault.WireFault.TheVariants.{BadMagic, UnknownCookie}
+use Rattle.nbd_laws.specs.internal.Decisions.{Decision}
+use Rattle.nbd_laws.specs.internal.Judge.{decision, request_unless}
+use Rattle.nbd_laws.specs.internal.JudgeNegotiation.{abort_answer, abort_fault, answer, answer_fault, choice, choice_fault, client_flags, client_flags_fault, export_fault, export_answer, greeting, greeting_fault, success_fault, unless_error}
+use Rattle.nbd_laws.specs.internal.JudgeTransmission.{begins, chunk_to, operation_if, operation_of, no_reply, reply, reply_by, request, request_fault, request_payload_length, simple_payload_length, simple_to, simple_fault, chunk_head_fault}
+use Rattle.nbd_laws.proofs.machine.MachineLemmas.{Later}
+use Rattle.nbd_laws.proofs.judge.SoundServerLemmas.{magic_of}
+use Rattle.nbd_laws.proofs.judge.PhaseLemmas.{IsAppended, Later-appended, Later-disconnected, Later-transmission, Later-turn, target_entry}
+
+-- the same of a message's head and length
+pub record IsSameHead (c d : Decision) : Type 0 where
+  pub head_length_is : d.head_length ≡ c.head_length
+  pub head_fault_is : d.head_fault ≡ c.head_fault
+  pub payload_length_is : d.payload_length ≡ c.payload_length
+
+-- decisions that go on as they began: after `now` and these bytes
+pub record IsSteady (s : Side) (now : Core) (F : Core → List ℕ → Decision) : Type 0 where
+  pub two : (bytes : List ℕ) → 2 ≤ (F now bytes).head_length
+  pub below : (next : Core) → Later s now next → (bytes more : List ℕ) → length (bytes ++ more) < (F now bytes).head_length → (F next (bytes ++ more)).head_length ≡ (F now bytes).head_length
+  pub grows : (next : Core) → Later s now next → (bytes more : List ℕ) → (F now bytes).head_length ≤ (F next (bytes ++ more)).head_length
+  pub beyond : (next : Core) → Later s now next → (bytes more : List ℕ) → (F now bytes).head_length ≤ length bytes → (F now bytes).head_fault ≡ None → IsSameHead (F now bytes) (F next (bytes ++ more))
+  pub back : (next : Core) → Later s now next → (bytes more : List ℕ) → (F now bytes).head_length ≤ length bytes → (F next (bytes ++ more)).head_fault ≡ None → (F now bytes).head_fault ≡ None
+
+-- a side's decisions from its first byte on
+pub record IsDeciding (s : Side) (old : Core) : Type 0 where
+  pub F : Core → List ℕ → Decision
+  pub decides : (now : Core) → Later s old now → (bytes : List ℕ) → decision now.phase old now s bytes ≡ Some (F now bytes)
+  pub steady : (now : Core) → Later s old now → IsSteady s now F
+
+-- a head of one length
+pub record IsFixed (h : ℕ) (G : List ℕ → Decision) : Type 0 where
+  pub two : 2 ≤ h
+  pub is : (bytes : List ℕ) → (G bytes).head_length ≡ h
+  pub same : (bytes more : List ℕ) → h ≤ length bytes → IsSameHead (G bytes) (G (bytes ++ more))
+
+fixed_steady : (s : Side) (now : Core) (h : ℕ) (F : Core → List ℕ → Decision) (two : 2 ≤ h) → ((c : Core) (bytes : List ℕ) → (F c bytes).head_length ≡ h) →
+    ((c d : Core) (bytes more : List ℕ) → h ≤ length bytes → IsSameHead (F c bytes) (F d (bytes ++ more))) → IsSteady s now F
+fixed_steady s now h F two is same = record {
+  two = λ bytes. (let e : (F now bytes).head_length ≡ h = is now bytes in omega (arith, e, two));
+  below = λ next l bytes more low. is next (bytes ++ more) ∙ sym (is now bytes);
+  grows = λ next l bytes more. (let e : (F now bytes).head_length ≡ h = is now bytes in let f : (F next (bytes ++ more)).head_length ≡ h = is next (bytes ++ more) in omega (arith, e, f));
+  beyond = λ next l bytes more long clean. (let e : (F now bytes).head_length ≡ h = is now bytes in same now next bytes more (omega (arith, e, long)));
+  back = λ next l bytes more long clean. (let e : (F now bytes).head_length ≡ h = is now bytes in sym (same now next bytes more (omega (arith, e, long))).head_fault_is ∙ clean);
+}
+
+-- in negotiation nothing completes meanwhile
+in_negotiation : (s : Side) (old : Core) (h : ℕ) (G : List ℕ → Decision) → turn old.phase ≡ Some s → ((bytes : List ℕ) → decision old.phase old old s bytes ≡ Some (G bytes)) → IsFixed h G → IsDeciding s old
+in_negotiation s old h G t d f = record {
+  F = λ c. G;
+  decides = λ now l bytes. subst (λ (c : Core). decision c.phase old c s bytes ≡ Some (G bytes)) (Later-turn l t) (d bytes);
+  steady = λ now l. fixed_steady s now h (λ c. G) f.two (λ c. f.is) (λ c d. f.same);
+}
+
+at : (p n h : ℕ) (bytes more : List ℕ) → h ≤ length bytes → p + n ≤ h → number_at p n (bytes ++ more) ≡ number_at p n bytes
+at p n h bytes more long fits = number_at-append p n bytes more (omega (arith, long, fits))
+
+greeting_fixed : IsFixed 18 greeting
+greeting_fixed = record {
+  two = omega arith;
+  is = λ bytes. refl;
+  same = λ bytes more l. record {
+    head_length_is = refl;
+    head_fault_is = λ i. greeting_fault (at 0 8 18 bytes more l (omega arith) i) (at 8 8 18 bytes more l (omega arith) i) (at 16 2 18 bytes more l (omega arith) i);
+    payload_length_is = refl;
+  };
+}
+
+client_flags_fixed : (offered : ℕ) → IsFixed 4 (client_flags offered)
+client_flags_fixed offered = record {
+  two = omega arith;
+  is = λ bytes. refl;
+  same = λ bytes more l. record {
+    head_length_is = refl;
+    head_fault_is = λ i. client_flags_fault offered (at 0 4 4 bytes more l (omega arith) i);
+    payload_length_is = refl;
+  };
+}
+
+choice_fixed : IsFixed 16 choice
+choice_fixed = record {
+  two = omega arith;
+  is = λ bytes. refl;
+  same = λ bytes more l. record {
+    head_length_is = refl;
+    head_fault_is = λ i. choice_fault (at 0 8 16 bytes more l (omega arith) i);
+    payload_length_is = at 12 4 16 bytes more l (omega arith);
+  };
+}
+
+exported_fixed : (no_zeroes : Bool) → IsFixed 10 (export_answer no_zeroes)
+exported_fixed true = record {
+  two = omega arith;
+  is = λ bytes. refl;
+  same = λ bytes more l. record {
+    head_length_is = refl;
+    head_fault_is = λ i. export_fault (at 0 8 10 bytes more l (omega arith) i) (at 8 2 10 bytes more l (omega arith) i);
+    payload_length_is = refl;
+  };
+}
+exported_fixed false = record {
+  two = omega arith;
+  is = λ bytes. refl;
+  same = λ bytes more l. record {
+    head_length_is = refl;
+    head_fault_is = λ i. export_fault (at 0 8 10 bytes more l (omega arith) i) (at 8 2 10 bytes more l (omega arith) i);
+    payload_length_is = refl;
+  };
+}
+
+abort_fixed : IsFixed 20 abort_answer
+abort_fixed = record {
+  two = omega arith;
+  is = λ bytes. refl;
+  same = λ bytes more l. record {
+    head_length_is = refl;
+    head_fault_is = λ i. answer_fault 2 (at 0 8 20 bytes more l (omega arith) i) (at 8 4 20 bytes more l (omega arith) i) (abort_fault (at 12 4 20 bytes more l (omega arith) i) (at 16 4 20 bytes more l (omega arith) i));
+    payload_length_is = at 16 4 20 bytes more l (omega arith);
+  };
+}
+
+answer_fixed : (option : ℕ) (proper : Bool) (info : Option Exporting) → IsFixed 20 (answer option proper info)
+answer_fixed option proper info = record {
+  two = omega arith;
+  is = λ bytes. refl;
+  same = λ bytes more l. record {
+    head_length_is = refl;
+    head_fault_is = λ i. answer_fault option (at 0 8 20 bytes more l (omega arith) i) (at 8 4 20 bytes more l (omega arith) i)
+        (unless_error (is_error (at 12 4 20 bytes more l (omega arith) i)) (success_fault option proper info (at 12 4 20 bytes more l (omega arith) i) (at 16 4 20 bytes more l (omega arith) i)));
+    payload_length_is = at 16 4 20 bytes more l (omega arith);
+  };
+}
+
+request_same : (c d : Core) (bytes more : List ℕ) → 28 ≤ length bytes → IsSameHead (request c bytes) (request d (bytes ++ more))
+request_same c d bytes more l = record {
+  head_length_is = refl;
+  head_fault_is = λ i. request_fault (at 0 4 28 bytes more l (omega arith) i) (at 6 2 28 bytes more l (omega arith) i) (at 16 8 28 bytes more l (omega arith) i) (at 24 4 28 bytes more l (omega arith) i);
+  payload_length_is = λ i. request_payload_length (at 6 2 28 bytes more l (omega arith) i) (at 24 4 28 bytes more l (omega arith) i);
+}
+
+in_requests : (old : Core) (export : Exporting) → old.phase ≡ Transmission export → old.disconnected ≡ false → IsDeciding Client old
+in_requests old export t d = record {
+  F = request;
+  decides = λ now l bytes. (
+      ap (λ p. decision p old now Client bytes) (Later-transmission l export t)
+      ∙ ap (λ b. request_unless b now bytes) (Later-disconnected l ∙ d));
+  steady = λ now l. fixed_steady Client now 28 request (omega arith) (λ c bytes. refl) request_same;
+}
+
+pub entry-append : (k : ℕ) (es more : List Operation) (e : Operation) → operation k es ≡ Some e → operation k (es ++ more) ≡ Some e
+entry-append k [] more e h = absurd (cc)
+entry-append zero (x ∷ es) more e h = absurd (cc)
+entry-append (suc zero) (x ∷ es) more e h = h
+entry-append (suc (suc k)) (x ∷ es) more e h = entry-append (suc k) es more e h
+
+both : {a b : Bool} → a ≡ true → b ≡ true → (a && b) ≡ true
+both {a} {b} e f = ap (λ z. z && b) e ∙ f
+
+pub begun_true : (magic : ℕ) (bytes more : List ℕ) → begins magic bytes ≡ true → begins magic (bytes ++ more) ≡ true
+begun_true magic bytes more e =
+    let m : (4 ≤ length bytes) × (number_at 0 4 bytes ≡ magic) = magic_of magic bytes e in
+    let long : 4 ≤ length bytes = m.0 in
+    both (le-leb 4 (length (bytes ++ more)) (omega (arith, long, length-append bytes more))) (eq-eqb _ _ (at 0 4 4 bytes more long (omega arith) ∙ m.1))
+
+-- what begins as a simple reply does not begin as a chunk
+pub no_chunk : (bytes : List ℕ) → begins SIMPLE_MAGIC bytes ≡ true → begins CHUNK_MAGIC bytes ≡ false
+no_chunk bytes e =
+    let m : (4 ≤ length bytes) × (number_at 0 4 bytes ≡ SIMPLE_MAGIC) = magic_of SIMPLE_MAGIC bytes e in
+    ap (λ b. b && (number_at 0 4 bytes == CHUNK_MAGIC)) (le-leb 4 (length bytes) m.0) ∙ ap (λ n. n == CHUNK_MAGIC) m.1
+
+-- less than four bytes begin nothing
+too_short : (magic : ℕ) (bytes : List ℕ) → length bytes < 4 → begins magic bytes ≡ false
+too_short magic bytes l = ap (λ b. b && (number_at 0 4 bytes == magic)) (lt-leb 4 (length bytes) l)
+
+-- which of the three a reply's bytes are
+pub data IsBegun (bytes : List ℕ) : Type 0 where
+  as_chunk : begins CHUNK_MAGIC bytes ≡ true → IsBegun bytes
+  as_simple : begins CHUNK_MAGIC bytes ≡ false → begins SIMPLE_MAGIC bytes ≡ true → IsBegun bytes
+  as_neither : begins CHUNK_MAGIC bytes ≡ false → begins SIMPLE_MAGIC bytes ≡ false → IsBegun bytes
+
+pub bytes_are_begun : (bytes : List ℕ) → IsBegun bytes
+bytes_are_begun bytes = go (begins CHUNK_MAGIC bytes) (begins SIMPLE_MAGIC bytes) refl refl
+  where
+    go : (c s : Bool) → begins CHUNK_MAGIC bytes ≡ c → begins SIMPLE_MAGIC bytes ≡ s → IsBegun bytes
+    go true s c_is s_is = as_chunk c_is
+    go false true c_is s_is = as_simple c_is s_is
+    go false false c_is s_is = as_neither c_is s_is
+
+module _ (export : Exporting) (old now : Core) (bytes : List ℕ) where
+  pub is_chunk_reply : begins CHUNK_MAGIC bytes ≡ true → reply export old now bytes ≡ chunk_to export now (operation_of old now (number_at 8 8 bytes)) bytes
+  is_chunk_reply c = ap (λ b. reply_by b (begins SIMPLE_MAGIC bytes) export now (operation_of old now (number_at 8 8 bytes)) bytes) c
+
+  pub is_simple_reply : begins CHUNK_MAGIC bytes ≡ false → begins SIMPLE_MAGIC bytes ≡ true → reply export old now bytes ≡ simple_to export now (operation_of old now (number_at 8 8 bytes)) bytes
+  is_simple_reply c s = λ i. reply_by (c i) (s i) export now (operation_of old now (number_at 8 8 bytes)) bytes
+
+  pub is_no_reply : begins CHUNK_MAGIC bytes ≡ false → begins SIMPLE_MAGIC bytes ≡ false → reply export old now bytes ≡ no_reply bytes
+  is_no_reply c s = λ i. reply_by (c i) (s i) export now (operation_of old now (number_at 8 8 bytes)) bytes
+
+abbrev length_of : Decision → ℕ
+length_of d = d.head_length
+
+reply_two : (chunk simple : Bool) (export : Exporting) (now : Core) (o : Option Operation) (bytes : List ℕ) → 4 ≤ (reply_by chunk simple export now o bytes).head_length
+reply_two true simple export now o bytes = omega arith
+reply_two false true export now o bytes = omega arith
+reply_two false false export now o bytes = omega arith
+
+module _ (export : Exporting) (old now next : Core) (bytes more : List ℕ) where
+  reply_below : IsBegun bytes → length (bytes ++ more) < (reply export old now bytes).head_length → (reply export old next (bytes ++ more)).head_length ≡ (reply export old now bytes).head_length
+  reply_below (as_chunk c) l = ap length_of (is_chunk_reply export old next (bytes ++ more) (begun_true CHUNK_MAGIC bytes more c)) ∙ sym (ap length_of (is_chunk_reply export old now bytes c))
+  reply_below (as_simple c s) l =
+      let s' : begins SIMPLE_MAGIC (bytes ++ more) ≡ true = begun_true SIMPLE_MAGIC bytes more s in
+      ap length_of (is_simple_reply export old next (bytes ++ more) (no_chunk (bytes ++ more) s') s') ∙ sym (ap length_of (is_simple_reply export old now bytes c s))
+  reply_below (as_neither c s) l =
+      let e : (reply export old now bytes).head_length ≡ 4 = ap length_of (is_no_reply export old now bytes c s) in
+      let low : length (bytes ++ more) < 4 = omega (arith, l, e) in
+      ap length_of (is_no_reply export old next (bytes ++ more) (too_short CHUNK_MAGIC (bytes ++ more) low) (too_short SIMPLE_MAGIC (bytes ++ more) low)) ∙ sym e
+
+  reply_grows : IsBegun bytes → (reply export old now bytes).head_length ≤ (reply export old next (bytes ++ more)).head_length
+  reply_grows (as_chunk c) =
+      let a : (reply export old now bytes).head_length ≡ 20 = ap length_of (is_chunk_reply export old now bytes c) in
+      let b : (reply export old next (bytes ++ more)).head_length ≡ 20 = ap length_of (is_chunk_reply export old next (bytes ++ more) (begun_true CHUNK_MAGIC bytes more c)) in
+      omega (arith, a, b)
+  reply_grows (as_simple c s) =
+      let s' : begins SIMPLE_MAGIC (bytes ++ more) ≡ true = begun_true SIMPLE_MAGIC bytes more s in
+      let a : (reply export old now bytes).head_length ≡ 16 = ap length_of (is_simple_reply export old now bytes c s) in
+      let b : (reply export old next (bytes ++ more)).head_length ≡ 16 = ap length_of (is_simple_reply export old next (bytes ++ more) (no_chunk (bytes ++ more) s') s') in
+      omega (arith, a, b)
+  reply_grows (as_neither c s) =
+      let a : (reply export old now bytes).head_length ≡ 4 = ap length_of (is_no_reply export old now bytes c s) in
+      let b : 4 ≤ (reply export old next (bytes ++ more)).head_length = reply_two (begins CHUNK_MAGIC (bytes ++ more)) (begins SIMPLE_MAGIC (bytes ++ more)) export next (operation_of old next (number_at 8 8 (bytes ++ more))) (bytes ++ more) in
+      omega (arith, a, b)
+
+  -- the request that is answered stays as it is
+  same_entry : IsAppended now next → 16 ≤ length bytes → (e : Operation) → operation_of old now (number_at 8 8 bytes) ≡ Some e → operation_of old next (number_at 8 8 (bytes ++ more)) ≡ Some e
+  same_entry a l e h = ap (operation_of old next) (at 8 8 16 bytes more l (omega arith)) ∙ go (target (number_at 8 8 bytes) old.entries) h
+    where
+      go : (o : Option ℕ) → operation_if o now.entries ≡ Some e → operation_if o next.entries ≡ Some e
+      go (Some k) h = ap (operation k) a.entries_are ∙ entry-append k now.entries a.more e h
+      go None h = absurd (cc)
+
+  chunk_beyond : (o o' : Option Operation) → ((e : Operation) → o ≡ Some e → o' ≡ Some e) → next.structured ≡ now.structured → 20 ≤ length bytes → chunk_head_fault now.structured o ≡ None → IsSameHead (chunk_to export now o bytes) (chunk_to export next o' (bytes ++ more))
+  chunk_beyond None o' same st l clean = absurd (cc)
+  chunk_beyond (Some e) o' same st l clean = record {
+    head_length_is = refl;
+    head_fault_is = λ i. chunk_head_fault (st i) (same e refl i);
+    payload_length_is = at 16 4 20 bytes more l (omega arith);
+  }
+
+  simple_beyond : (o o' : Option Operation) → ((e : Operation) → o ≡ Some e → o' ≡ Some e) → next.structured ≡ now.structured → 16 ≤ length bytes → simple_fault now.structured o ≡ None → IsSameHead (simple_to export now o bytes) (simple_to export next o' (bytes ++ more))
+  simple_beyond None o' same st l clean = absurd (cc)
+  simple_beyond (Some e) o' same st l clean = record {
+    head_length_is = refl;
+    head_fault_is = λ i. simple_fault (st i) (same e refl i);
+    payload_length_is = λ i. simple_payload_length (same e refl i) (at 4 4 16 bytes more l (omega arith) i);
+  }
+
+  reply_beyond : IsAppended now next → IsBegun bytes → (reply export old now bytes).head_length ≤ length bytes → (reply export old now bytes).head_fault ≡ None → IsSameHead (reply export old now bytes) (reply export old next (bytes ++ more))
+  reply_beyond a (as_chunk c) l clean =
+      let now_is : reply export old now bytes ≡ chunk_to export now (operation_of old now (number_at 8 8 bytes)) bytes = is_chunk_reply export old now bytes c in
+      let long : 20 ≤ length bytes = subst (λ (d : Decision). d.head_length ≤ length bytes) now_is l in
+      subst (λ d. IsSameHead d (reply export old next (bytes ++ more))) (sym now_is)
+      (subst (IsSameHead (chunk_to export now (operation_of old now (number_at 8 8 bytes)) bytes)) (sym (is_chunk_reply export old next (bytes ++ more) (begun_true CHUNK_MAGIC bytes more c)))
+      (chunk_beyond (operation_of old now (number_at 8 8 bytes)) (operation_of old next (number_at 8 8 (bytes ++ more))) (same_entry a (omega (arith, long))) a.structured_is long (subst (λ (d : Decision). d.head_fault ≡ None) now_is clean)))
+  reply_beyond a (as_simple c s) l clean =
+      let s' : begins SIMPLE_MAGIC (bytes ++ more) ≡ true = begun_true SIMPLE_MAGIC bytes more s in
+      let now_is : reply export old now bytes ≡ simple_to export now (operation_of old now (number_at 8 8 bytes)) bytes = is_simple_reply export old now bytes c s in
+      let long : 16 ≤ length bytes = subst (λ (d : Decision). d.head_length ≤ length bytes) now_is l in
+      subst (λ d. IsSameHead d (reply export old next (bytes ++ more))) (sym now_is)
+      (subst (IsSameHead (simple_to export now (operation_of old now (number_at 8 8 bytes)) bytes)) (sym (is_simple_reply export old next (bytes ++ more) (no_chunk (bytes ++ more) s') s'))
+      (simple_beyond (operation_of old now (number_at 8 8 bytes)) (operation_of old next (number_at 8 8 (bytes ++ more))) (same_entry a long) a.structured_is long (subst (λ (d : Decision). d.head_fault ≡ None) now_is clean)))
+  reply_beyond a (as_neither c s) l clean =
+      absurd (let q : Some BadMagic ≡ None = subst (λ (d : Decision). d.head_fault ≡ None) (is_no_reply export old now bytes c s) clean in (cc))
+
+-- a request that was not found is found no later
+none_stays : (old now next : Core) (cookie : ℕ) → IsAppended old now → operation_of old now cookie ≡ None → operation_of old next cookie ≡ None
+none_stays old now next cookie a h = go (target cookie old.entries) refl h
+  where
+    go : (o : Option ℕ) → target cookie old.entries ≡ o → operation_if o now.entries ≡ None → operation_if o next.entries ≡ None
+    go None q h = refl
+    go (Some k) q h =
+        let f : (e : Operation) × (operation k old.entries ≡ Some e) = target_entry cookie old.entries k q in
+        let g : operation k now.entries ≡ Some f.0 = ap (operation k) a.entries_are ∙ entry-append k old.entries a.more f.0 f.1 in
+        absurd (let w : None ≡ Some f.0 = sym h ∙ g in (cc))
+
+-- begins neither as one nor as the other, and goes on so
+neither_stays : (magic : ℕ) (bytes more : List ℕ) → 4 ≤ length bytes → begins magic bytes ≡ false → begins magic (bytes ++ more) ≡ false
+neither_stays magic bytes more long e =
+    let a : nat_le 4 (length bytes) ≡ true = le-leb 4 (length bytes) long in
+    let b : nat_le 4 (length (bytes ++ more)) ≡ true = le-leb 4 (length (bytes ++ more)) (omega (arith, long, length-append bytes more)) in
+    (λ i. b i && (at 0 4 4 bytes more long (omega arith) i == magic)) ∙ ap (λ x. x && (number_at 0 4 bytes == magic)) (sym a) ∙ e
+
+module _ (export : Exporting) (old now next : Core) (bytes more : List ℕ) where
+  abbrev cookie_now : ℕ
+  cookie_now = number_at 8 8 bytes
+
+  abbrev cookie_next : ℕ
+  cookie_next = number_at 8 8 (bytes ++ more)
+
+  chunk_back : (o o' : Option Operation) → ((e : Operation) → o ≡ Some e → o' ≡ Some e) → (o ≡ None → o' ≡ None) → next.structured ≡ now.structured → chunk_head_fault next.structured o' ≡ None → chunk_head_fault now.structured o ≡ None
+  chunk_back None o' same none st clean = absurd (let q : Some UnknownCookie ≡ None = ap (chunk_head_fault next.structured) (sym (none refl)) ∙ clean in (cc))
+  chunk_back (Some e) o' same none st clean = (λ i. chunk_head_fault (sym st i) (sym (same e refl) i)) ∙ clean
+
+  simple_back : (o o' : Option Operation) → ((e : Operation) → o ≡ Some e → o' ≡ Some e) → (o ≡ None → o' ≡ None) → next.structured ≡ now.structured → simple_fault next.structured o' ≡ None → simple_fault now.structured o ≡ None
+  simple_back None o' same none st clean = absurd (let q : Some UnknownCookie ≡ None = ap (simple_fault next.structured) (sym (none refl)) ∙ clean in (cc))
+  simple_back (Some e) o' same none st clean = (λ i. simple_fault (sym st i) (sym (same e refl) i)) ∙ clean
+
+  still_none : IsAppended old now → 16 ≤ length bytes → operation_of old now cookie_now ≡ None → operation_of old next cookie_next ≡ None
+  still_none a long h = ap (operation_of old next) (at 8 8 16 bytes more long (omega arith)) ∙ none_stays old now next cookie_now a h
+
+  reply_back : IsAppended old now → IsAppended now next → IsBegun bytes → (reply export old now bytes).head_length ≤ length bytes → (reply export old next (bytes ++ more)).head_fault ≡ None → (reply export old now bytes).head_fault ≡ None
+  reply_back a b (as_chunk c) l clean =
+      let now_is : reply export old now bytes ≡ chunk_to export now (operation_of old now cookie_now) bytes = is_chunk_reply export old now bytes c in
+      let next_is : reply export old next (bytes ++ more) ≡ chunk_to export next (operation_of old next cookie_next) (bytes ++ more) = is_chunk_reply export old next (bytes ++ more) (begun_true CHUNK_MAGIC bytes more c) in
+      let long : 20 ≤ length bytes = subst (λ (d : Decision). d.head_length ≤ length bytes) now_is l in
+      let short : 16 ≤ length bytes = omega (arith, long) in
+      ap (λ (d : Decision). d.head_fault) now_is
+      ∙ chunk_back (operation_of old now cookie_now) (operation_of old next cookie_next) (same_entry export old now next bytes more b short) (still_none a short) b.structured_is (sym (ap (λ (d : Decision). d.head_fault) next_is) ∙ clean)
+  reply_back a b (as_simple c s) l clean =
+      let s' : begins SIMPLE_MAGIC (bytes ++ more) ≡ true = begun_true SIMPLE_MAGIC bytes more s in
+      let now_is : reply export old now bytes ≡ simple_to export now (operation_of old now cookie_now) bytes = is_simple_reply export old now bytes c s in
+      let next_is : reply export old next (bytes ++ more) ≡ simple_to export next (operation_of old next cookie_next) (bytes ++ more) = is_simple_reply export old next (bytes ++ more) (no_chunk (bytes ++ more) s') s' in
+      let long : 16 ≤ length bytes = subst (λ (d : Decision). d.head_length ≤ length bytes) now_is l in
+      ap (λ (d : Decision). d.head_fault) now_is
+      ∙ simple_back (operation_of old now cookie_now) (operation_of old next cookie_next) (same_entry export old now next bytes more b long) (still_none a long) b.structured_is (sym (ap (λ (d : Decision). d.head_fault) next_is) ∙ clean)
+  reply_back a b (as_neither c s) l clean =
+      let now_is : reply export old now bytes ≡ no_reply bytes = is_no_reply export old now bytes c s in
+      let long : 4 ≤ length bytes = subst (λ (d : Decision). d.head_length ≤ length bytes) now_is l in
+      let next_is : reply export old next (bytes ++ more) ≡ no_reply (bytes ++ more) = is_no_reply export old next (bytes ++ more) (neither_stays CHUNK_MAGIC bytes more long c) (neither_stays SIMPLE_MAGIC bytes more long s) in
+      absurd (let q : Some BadMagic ≡ None = sym (ap (λ (d : Decision). d.head_fault) next_is) ∙ clean in (cc))
+
+in_replies : (old : Core) (export : Exporting) → old.phase ≡ Transmission export → IsDeciding Server old
+in_replies old export t = record {
+  F = reply export old;
+  decides = λ now l bytes. ap (λ p. decision p old now Server bytes) (Later-transmission l export t);
+  steady = λ now l. record {
+    two = λ bytes. (let h : 4 ≤ (reply export old now bytes).head_length = reply_two (begins CHUNK_MAGIC bytes) (begins SIMPLE_MAGIC bytes) export now (operation_of old now (number_at 8 8 bytes)) bytes in omega (arith, h));
+    below = λ next k bytes more low. reply_below export old now next bytes more (bytes_are_begun bytes) low;
+    grows = λ next k bytes more. reply_grows export old now next bytes more (bytes_are_begun bytes);
+    beyond = λ next k bytes more long clean. reply_beyond export old now next bytes more (Later-appended k export (Later-transmission l export t)) (bytes_are_begun bytes) long clean;
+    back = λ next k bytes more long clean. reply_back export old now next bytes more (Later-appended l export t) (Later-appended k export (Later-transmission l export t)) (bytes_are_begun bytes) long clean;
+  };
+}
+
+by_disconnected : (old : Core) (export : Exporting) (b : Bool) (bytes : List ℕ) (d : Decision) → old.phase ≡ Transmission export → old.disconnected ≡ b → request_unless b old bytes ≡ Some d → IsDeciding Client old
+by_disconnected old export true bytes d t is h = absurd (cc)
+by_disconnected old export false bytes d t is h = in_requests old export t is
+
+-- where something is decided of a side's bytes, it goes on as it began
+pub deciding : (phase : Phase) (s : Side) (old : Core) (bytes : List ℕ) (d : Decision) → old.phase ≡ phase → decision phase old old s bytes ≡ Some d → IsDeciding s old
+deciding Greet Server old bytes d p h = in_negotiation Server old 18 greeting (ap turn p) (λ bytes. ap (λ p. decision p old old Server bytes) p) greeting_fixed
+deciding Flags Client old bytes d p h = in_negotiation Client old 4 (client_flags old.offered) (ap turn p) (λ bytes. ap (λ p. decision p old old Client bytes) p) (client_flags_fixed old.offered)
+deciding Choosing Client old bytes d p h = in_negotiation Client old 16 choice (ap turn p) (λ bytes. ap (λ p. decision p old old Client bytes) p) choice_fixed
+deciding Naming Server old bytes d p h =
+    in_negotiation Server old 10 (export_answer (has old.client_flags handshake.C_NO_ZEROES)) (ap turn p) (λ bytes. ap (λ p. decision p old old Server bytes) p) (exported_fixed (has old.client_flags handshake.C_NO_ZEROES))
+deciding Aborting Server old bytes d p h = in_negotiation Server old 20 abort_answer (ap turn p) (λ bytes. ap (λ p. decision p old old Server bytes) p) abort_fixed
+deciding (Answering option given info) Server old bytes d p h =
+    in_negotiation Server old 20 (answer option (is_proper_option option given) info) (ap turn p) (λ bytes. ap (λ p. decision p old old Server bytes) p) (answer_fixed option (is_proper_option option given) info)
+deciding (Transmission export) Client old bytes d p h = by_disconnected old export old.disconnected bytes d p refl h
+deciding (Transmission export) Server old bytes d p h = in_replies old export p
+deciding phase s old bytes d p h = absurd (cc)

@@ -1,0 +1,147 @@
+-- What holds of each request of a core that completed messages lead to.
+use Rattle.std.proofs.Common.{◌≡◌, ℕ, zero, suc, ◌<◌, ◌≤◌, ◌⊎◌, ◌+◌, ◌^◌, ◌==◌, List, [], ◌∷◌, ◌++◌, length, refl, sym, ◌∙◌, ap, subst, inl, inr, Option, Some, None, Bool, true, false, ◌&&◌, if◌then◌else◌, eqb-true, arith, append-nil, nat_le}
+use Rattle.nbd_wire.specs.declared.chunks.TheConstants as chunks
+use Rattle.nbd_wire.specs.declared.commands.TheConstants as commands
+use Rattle.nbd_wire.specs.declared.message.Message.{Message}
+use Rattle.nbd_wire.specs.declared.message.Message.TheVariants.{Greeting, ClientFlags, Choice, Answer, Exported, Request, Simple, Chunk}
+use Rattle.nbd_wire.specs.declared.payloads.Failure.{Failure}
+use Rattle.nbd_wire.specs.declared.payloads.Piece.{Piece}
+use Rattle.nbd_wire.specs.declared.payloads.Piece.TheVariants.{Bytes}
+use Rattle.nbd_wire.specs.protocol.Payloads.{number_at, content_of, failure_of}
+use Rattle.nbd_wire.specs.protocol.Replies.{IsChunk, MayReply}
+use Rattle.nbd_wire.specs.protocol.Operations.{Operation, Exporting, pieces, pieces_of}
+use Rattle.nbd_wire.specs.protocol.Pieces.{chunk_piece, piece_of}
+use Rattle.nbd_wire.specs.protocol.Rules.{MayComplete, complete, core_with_request, reply_to}
+use Rattle.nbd_wire.specs.protocol.Sendable.{IsSendable}
+use Rattle.nbd_wire.specs.protocol.States.{Phase, Transmission, Core, target, operation, with_reply_at, with_reply}
+use Rattle.nbd_laws.specs.Reached.{IsReached, at_start, after_message}
+use Rattle.nbd_laws.proofs.requests.LaidLemmas.{AreApart, AreInside, apart_snoc, inside_snoc, pieces-snoc}
+use Rattle.nbd_laws.proofs.judge.BoolLemmas.{and_true}
+
+pub record IsTidy (e : Operation) : Type 0 where
+  pub inside : AreInside e.offset e.length (pieces e)
+  pub apart : AreApart (pieces e)
+  pub short : e.length < 2 ^ 32
+  pub carries : length e.payload ≡ (if e.command == commands.WRITE then e.length else 0)
+
+abbrev pub AreTidy : List Operation → Type 0
+AreTidy [] = Unit {0}
+AreTidy (e ∷ es) = IsTidy e × AreTidy es
+
+pub tidy_entry : (k : ℕ) (es : List Operation) (e : Operation) → AreTidy es → operation k es ≡ Some e → IsTidy e
+tidy_entry k [] e t h = absurd (cc)
+tidy_entry zero (x ∷ es) e t h = absurd (cc)
+tidy_entry (suc zero) (x ∷ es) e t h = let q : x ≡ e = cc in subst IsTidy q t.0
+tidy_entry (suc (suc k)) (x ∷ es) e t h = tidy_entry (suc k) es e t.1 h
+
+tidy_snoc : (es : List Operation) (e : Operation) → AreTidy es → IsTidy e → AreTidy (es ++ e ∷ [])
+tidy_snoc [] e t h = (h, tt)
+tidy_snoc (x ∷ es) e t h = (t.0, tidy_snoc es e t.1 h)
+
+tidy_answered : (k : ℕ) (m : Message) (es : List Operation) (e : Operation) → AreTidy es → operation k es ≡ Some e → IsTidy (with_reply e m) → AreTidy (with_reply_at k m es)
+tidy_answered k m [] e t h r = tt
+tidy_answered zero m (x ∷ es) e t h r = t
+tidy_answered (suc zero) m (x ∷ es) e t h r = let q : e ≡ x = cc in (subst (λ y. IsTidy (with_reply y m)) q r, t.1)
+tidy_answered (suc (suc k)) m (x ∷ es) e t h r = (t.0, tidy_answered (suc k) m es e t.1 h r)
+
+pub failure_kind : (kind : ℕ) (bytes : List ℕ) (f : Failure) → failure_of kind bytes ≡ Some f → (kind ≡ chunks.ERROR) ⊎ (kind ≡ chunks.ERROR_OFFSET)
+unfolding failure_of
+failure_kind kind bytes f e = pick (number_at 0 4 bytes == 0) ((kind == chunks.ERROR) && nat_le (6 + number_at 4 2 bytes) (length bytes)) ((kind == chunks.ERROR_OFFSET) && nat_le (14 + number_at 4 2 bytes) (length bytes)) _ _
+    (λ h. eqb-true kind chunks.ERROR (and_true _ _ h).0) (λ h. eqb-true kind chunks.ERROR_OFFSET (and_true _ _ h).0) e
+  where
+    pick : (z a b : Bool) (x y : Failure) → (a ≡ true → kind ≡ chunks.ERROR) → (b ≡ true → kind ≡ chunks.ERROR_OFFSET) → (if z then None else if a then Some x else if b then Some y else None) ≡ Some f → (kind ≡ chunks.ERROR) ⊎ (kind ≡ chunks.ERROR_OFFSET)
+    pick true a b x y l r e = absurd (cc)
+    pick false true b x y l r e = inl (l refl)
+    pick false false true x y l r e = inr (r refl)
+    pick false false false x y l r e = absurd (cc)
+
+-- an error chunk has no content
+pub no_content : (kind : ℕ) (bytes : List ℕ) (f : Failure) → failure_of kind bytes ≡ Some f → content_of kind bytes ≡ None
+unfolding content_of
+no_content kind bytes f e = elim (failure_kind kind bytes f e) [
+  | inl q ↦ subst (λ k. content_of k bytes ≡ None) (sym q) refl
+  | inr q ↦ subst (λ k. content_of k bytes ≡ None) (sym q) refl
+]
+
+pub none_content : (bytes : List ℕ) → content_of chunks.NONE bytes ≡ None
+unfolding content_of
+none_content bytes = refl
+
+-- one more piece at most
+record IsOneMore (e : Operation) (more : List Piece) : Type 0 where
+  inside : AreInside e.offset e.length (pieces e ++ more)
+  apart : AreApart (pieces e ++ more)
+
+one_more : (e : Operation) (m : Message) → IsTidy e → IsOneMore e (piece_of e.offset m) → IsTidy (with_reply e m)
+one_more e m t h = record {
+  inside = subst (AreInside e.offset e.length) (sym (pieces-snoc e.offset e.replies m)) h.inside;
+  apart = subst AreApart (sym (pieces-snoc e.offset e.replies m)) h.apart;
+  short = t.short;
+  carries = t.carries;
+}
+
+nothing_more : (e : Operation) (more : List Piece) → IsTidy e → more ≡ [] → IsOneMore e more
+nothing_more e more t q = let r : pieces e ≡ pieces e ++ more = sym (append-nil (pieces e)) ∙ ap (λ l. pieces e ++ l) (sym q) in
+    record { inside = subst (AreInside e.offset e.length) r t.inside; apart = subst AreApart r t.apart }
+
+piece-none : (offset flags kind cookie : ℕ) (bytes : List ℕ) → content_of kind bytes ≡ None → piece_of offset (Chunk flags kind cookie bytes) ≡ []
+unfolding piece_of
+piece-none offset flags kind cookie bytes q = ap chunk_piece q
+
+piece-some : (offset flags kind cookie : ℕ) (bytes : List ℕ) (piece : Piece) → content_of kind bytes ≡ Some piece → piece_of offset (Chunk flags kind cookie bytes) ≡ piece ∷ []
+unfolding piece_of
+piece-some offset flags kind cookie bytes piece q = ap chunk_piece q
+
+simple_more : (e : Operation) (error cookie : ℕ) (bytes : List ℕ) → IsTidy e → e.replies ≡ [] → length bytes ≤ e.length → IsOneMore e (piece_of e.offset (Simple error cookie bytes))
+unfolding piece_of
+simple_more e error cookie [] t none l = nothing_more e [] t refl
+simple_more e error cookie (b ∷ bs) t none l =
+    let p : Piece = Bytes e.offset (b ∷ bs) in
+    let q : p ∷ [] ≡ pieces e ++ p ∷ [] = ap (λ ms. pieces_of e.offset ms ++ p ∷ []) (sym none) in
+    record { inside = subst (AreInside e.offset e.length) q ((omega arith, omega (arith, l)), tt); apart = subst AreApart q ((λ x h. refl), tt) }
+
+pub tidy_chunk : (export : Exporting) (e : Operation) (flags kind cookie : ℕ) (bytes : List ℕ) → IsTidy e → IsChunk export e flags kind bytes → IsTidy (with_reply e (Chunk flags kind cookie bytes))
+tidy_chunk export e flags kind cookie bytes t h = one_more e _ t (elim h [
+  | inl q ↦ nothing_more e _ t (piece-none e.offset flags kind cookie bytes (subst (λ k. content_of k bytes ≡ None) (sym q.0) (none_content bytes)))
+  | inr r ↦ elim r [
+    | inl (piece, is, fit) ↦ (let s : piece ∷ [] ≡ piece_of e.offset (Chunk flags kind cookie bytes) = sym (piece-some e.offset flags kind cookie bytes piece is) in
+        subst (IsOneMore e) s (record { inside = inside_snoc e.offset e.length (pieces e) piece t.inside fit.1 fit.2; apart = apart_snoc (pieces e) piece t.apart fit.3 }))
+    | inr (f, is, x) ↦ nothing_more e _ t (piece-none e.offset flags kind cookie bytes (no_content kind bytes f is))
+  ]
+])
+
+pub tidy_reply : (structured : Bool) (export : Exporting) (e : Operation) (m : Message) → IsTidy e → MayReply structured export e m → IsTidy (with_reply e m)
+unfolding MayReply
+tidy_reply structured export e (Simple error cookie bytes) t h = one_more e _ t (simple_more e error cookie bytes t h.0 (at_most ((e.command == commands.READ) && (error == 0)) h.2))
+  where
+    at_most : (b : Bool) → length bytes ≡ (if b then e.length else 0) → length bytes ≤ e.length
+    at_most true q = omega (arith, q)
+    at_most false q = omega (arith, q)
+tidy_reply structured export e (Chunk flags kind cookie bytes) t h = tidy_chunk export e flags kind cookie bytes t h.1
+tidy_reply structured export e m t h = absurd h
+
+tidy_replied : (core : Core) (m : Message) (k : ℕ) (e : Operation) (o : Option ℕ) → o ≡ Some k → AreTidy core.entries → operation k core.entries ≡ Some e → IsTidy (with_reply e m) → AreTidy (reply_to o core m).entries
+tidy_replied core m k e (Some j) q t is r = let same : k ≡ j = cc in subst (λ j. AreTidy (with_reply_at j m core.entries)) same (tidy_answered k m core.entries e t is r)
+tidy_replied core m k e None q t is r = absurd (cc)
+
+tidy_requested : (b : Bool) (core : Core) (e : Operation) → AreTidy core.entries → IsTidy e → AreTidy (core_with_request b core e).entries
+tidy_requested true core e t h = t
+tidy_requested false core e t h = tidy_snoc core.entries e t h
+
+tidy_complete : (core : Core) (phase : Phase) (m : Message) → AreTidy core.entries → IsSendable m → MayComplete core phase m → AreTidy (complete core m).entries
+unfolding MayComplete complete IsSendable
+tidy_complete core phase (Greeting flags) t sn ok = t
+tidy_complete core phase (ClientFlags flags) t sn ok = t
+tidy_complete core phase (Choice id bytes) t sn ok = t
+tidy_complete core phase (Answer option kind bytes) t sn ok = t
+tidy_complete core phase (Exported size flags padded) t sn ok = t
+tidy_complete core phase (Request flags command cookie offset len bytes) t sn ok = tidy_requested (command == commands.DISC) core _ t (record { inside = tt; apart = tt; short = sn.4; carries = sn.5 })
+tidy_complete core (Transmission export) (Simple error cookie bytes) t sn (k, e, at, is, h) =
+    tidy_replied core (Simple error cookie bytes) k e (target cookie core.entries) at t is (tidy_reply core.structured export e (Simple error cookie bytes) (tidy_entry k core.entries e t is) h)
+tidy_complete core (Transmission export) (Chunk flags kind cookie bytes) t sn (k, e, at, is, h) =
+    tidy_replied core (Chunk flags kind cookie bytes) k e (target cookie core.entries) at t is (tidy_reply core.structured export e (Chunk flags kind cookie bytes) (tidy_entry k core.entries e t is) h)
+tidy_complete core phase m t sn ok = absurd ok
+
+pub tidy : {core : Core} → IsReached core → AreTidy core.entries
+tidy at_start = tt
+tidy (after_message {c = c} m r sn ok) = tidy_complete c c.phase m (tidy r) sn ok

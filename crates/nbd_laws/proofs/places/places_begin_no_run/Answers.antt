@@ -1,0 +1,5 @@
+use Rattle.nbd_laws.proofs.rows.MarkLemmas.{places_begin_no_run}
+use Rattle.nbd_laws.proofs.places.places_begin_no_run.Goals as goal
+
+pub returns : goal.returns
+returns c = places_begin_no_run

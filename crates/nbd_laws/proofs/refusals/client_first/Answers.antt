@@ -1,0 +1,5 @@
+use Rattle.nbd_laws.proofs.rows.WorkedLemmas as worked
+use Rattle.nbd_laws.proofs.refusals.client_first.Goals as goal
+
+pub returns : goal.returns
+returns c = worked.client_first

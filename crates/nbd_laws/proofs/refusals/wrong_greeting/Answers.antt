@@ -1,0 +1,5 @@
+use Rattle.nbd_laws.proofs.rows.WorkedLemmas as worked
+use Rattle.nbd_laws.proofs.refusals.wrong_greeting.Goals as goal
+
+pub returns : goal.returns
+returns c = worked.wrong_greeting

@@ -1,0 +1,95 @@
+-- Captures whose bytes the machine reads up to the last one, which it refuses.
+use Rattle.std.proofs.Common.{◌≡◌, ℕ, List, [], ◌∷◌, ◌++◌, take, refl, sym, ◌∙◌, ap, subst, Option, Some, None, Result, Ok, Err, Bool, true, ◌&&◌, nat_lt}
+use Rattle.std.proofs.lemmas.Bool.{ltb-true}
+use Rattle.nbd_wire.specs.declared.fault.WireFault.{WireFault}
+use Rattle.nbd_wire.specs.declared.fault.WireFault.TheVariants.{BadMagic, NotFixedNewstyle, BadClientFlags, OutOfTurn, UnknownCookie, BadDisconnect}
+use Rattle.nbd_wire.specs.declared.message.Message.{Message}
+use Rattle.nbd_wire.specs.declared.message.Message.TheVariants.{Greeting}
+use Rattle.nbd_wire.specs.declared.message.Side.TheVariants.{Client, Server}
+use Rattle.nbd_wire.specs.protocol.Captures.{ArePairs, Pair, flat}
+use Rattle.nbd_wire.specs.protocol.Options.{is_proper_option, next_phase}
+use Rattle.nbd_wire.specs.protocol.Payloads.{content_of, failure_of, info_of, is_go, is_listed}
+use Rattle.nbd_wire.specs.protocol.Operations.{ends_reply, is_failing, is_proper}
+use Rattle.nbd_wire.specs.protocol.Flags.{has, has_only}
+use Rattle.nbd_wire.specs.protocol.Pieces.{piece_of}
+use Rattle.nbd_wire.specs.protocol.Rules.{complete}
+use Rattle.nbd_wire.specs.protocol.Splits.{IsPlace}
+use Rattle.nbd_wire.specs.protocol.States.{target}
+use Rattle.nbd_laws.specs.captures.Openings.{hasty_client}
+use Rattle.nbd_laws.specs.internal.Machine.{Bad, Machine, Reading, More, Whole, Rest, fresh, get, rest_with, on_ok, reads, settle}
+use Rattle.nbd_laws.proofs.runs.PlacingLemmas.{place_law}
+use Rattle.nbd_laws.proofs.runs.PlaceLemmas.{are_prefix, are_last}
+use Rattle.nbd_laws.specs.internal.Concrete.{concrete}
+use Rattle.nbd_laws.specs.captures.Refused as refused
+use Rattle.nbd_laws.specs.captures.Messages.{opening_messages}
+use Rattle.nbd_laws.proofs.judge.BlockLemmas.{reads-append}
+use Rattle.nbd_laws.proofs.judge.BoolLemmas.{and_true}
+use Rattle.nbd_laws.proofs.judge.SoundLemmas.{sound}
+use Rattle.nbd_laws.proofs.rows.RowJudgeLemmas.{telling}
+
+abbrev are_bytes : List Pair → Bool
+are_bytes [] = true
+are_bytes (p ∷ ps) = nat_lt p.byte 256 && are_bytes ps
+
+are_pairs : (ps : List Pair) → are_bytes ps ≡ true → ArePairs ps
+are_pairs [] e = tt
+are_pairs (p ∷ ps) e = let h = and_true (nat_lt p.byte 256) (are_bytes ps) e in (ltb-true p.byte 256 h.0, are_pairs ps h.1)
+
+-- the messages of what was read
+abbrev messages_in : Result Machine WireFault → Option (List Message)
+messages_in (Ok machine) = Some machine.messages
+messages_in (Err fault) = None
+
+bad_of : (machine : Machine) (p : Pair) (rest : Rest) (r : Reading) (fault : WireFault) → on_ok (settle machine p.from rest r) (λ next. Ok next) ≡ Err fault → r ≡ Bad fault
+bad_of machine p rest More fault e = absurd (cc)
+bad_of machine p rest (Whole m) fault e = absurd (cc)
+bad_of machine p rest (Bad f) fault e = let q : f ≡ fault = cc in ap Bad q
+
+worked : (prefix : List Pair) (p : Pair) (messages : List Message) (fault : WireFault) → are_bytes (prefix ++ p ∷ []) ≡ true → messages_in (reads concrete fresh prefix) ≡ Some messages →
+    reads concrete fresh (prefix ++ p ∷ []) ≡ Err fault → IsPlace (prefix ++ p ∷ []) messages fault
+worked prefix p messages fault bytes read refused = go (reads concrete fresh prefix) refl read (sym (reads-append concrete fresh prefix (p ∷ [])) ∙ refused)
+  where
+    go : (o : Result Machine WireFault) → reads concrete fresh prefix ≡ o → messages_in o ≡ Some messages → on_ok o (λ next. reads concrete next (p ∷ [])) ≡ Err fault → IsPlace (prefix ++ p ∷ []) messages fault
+    go (Err f) e m r = absurd (cc)
+    go (Ok mid) e m r =
+        let are : ArePairs (prefix ++ p ∷ []) = are_pairs (prefix ++ p ∷ []) bytes in
+        let same : mid.messages ≡ messages = cc in
+        subst (λ ms. IsPlace (prefix ++ p ∷ []) ms fault) same
+        (place_law concrete sound telling prefix mid p (are_prefix prefix (p ∷ []) are) (are_last prefix p are) e fault (bad_of mid p (rest_with mid.core (get mid.rests p.from) p.byte) _ fault r))
+
+at : (ps : List Pair) (n : ℕ) (p : Pair) (messages : List Message) (fault : WireFault) → take n ps ++ p ∷ [] ≡ ps → are_bytes ps ≡ true → messages_in (reads concrete fresh (take n ps)) ≡ Some messages → reads concrete fresh ps ≡ Err fault →
+    IsPlace ps messages fault
+at ps n p messages fault parts bytes read refused = subst (λ qs. IsPlace qs messages fault) parts
+    (worked (take n ps) p messages fault (ap are_bytes parts ∙ bytes) read (ap (reads concrete fresh) parts ∙ refused))
+
+pub client_first : IsPlace (flat hasty_client) [] OutOfTurn
+unfolding complete next_phase target has has_only is_proper is_proper_option info_of is_listed is_go content_of failure_of ends_reply is_failing piece_of
+client_first = at (flat hasty_client) 0 (record { from = Client; byte = 0 }) [] OutOfTurn refl refl refl refl
+
+pub wrong_greeting : IsPlace (flat refused.wrong_greeting) [] BadMagic
+unfolding complete next_phase target has has_only is_proper is_proper_option info_of is_listed is_go content_of failure_of ends_reply is_failing piece_of
+wrong_greeting = at (flat refused.wrong_greeting) 17 (record { from = Server; byte = 3 }) [] BadMagic refl refl refl refl
+
+pub old_greeting : IsPlace (flat refused.old_greeting) [] NotFixedNewstyle
+unfolding complete next_phase target has has_only is_proper is_proper_option info_of is_listed is_go content_of failure_of ends_reply is_failing piece_of
+old_greeting = at (flat refused.old_greeting) 17 (record { from = Server; byte = 2 }) [] NotFixedNewstyle refl refl refl refl
+
+pub wrong_old_greeting : IsPlace (flat refused.wrong_old_greeting) [] BadMagic
+unfolding complete next_phase target has has_only is_proper is_proper_option info_of is_listed is_go content_of failure_of ends_reply is_failing piece_of
+wrong_old_greeting = at (flat refused.wrong_old_greeting) 17 (record { from = Server; byte = 2 }) [] BadMagic refl refl refl refl
+
+pub greedy_client : IsPlace (flat refused.greedy_client) (Greeting 1 ∷ []) BadClientFlags
+unfolding complete next_phase target has has_only is_proper is_proper_option info_of is_listed is_go content_of failure_of ends_reply is_failing piece_of
+greedy_client = at (flat refused.greedy_client) 21 (record { from = Client; byte = 3 }) (Greeting 1 ∷ []) BadClientFlags refl refl refl refl
+
+pub strange_client : IsPlace (flat refused.strange_client) (Greeting 3 ∷ []) NotFixedNewstyle
+unfolding complete next_phase target has has_only is_proper is_proper_option info_of is_listed is_go content_of failure_of ends_reply is_failing piece_of
+strange_client = at (flat refused.strange_client) 21 (record { from = Client; byte = 4 }) (Greeting 3 ∷ []) NotFixedNewstyle refl refl refl refl
+
+pub unasked_reply : IsPlace (flat refused.unasked_reply) opening_messages UnknownCookie
+unfolding complete next_phase target has has_only is_proper is_proper_option info_of is_listed is_go content_of failure_of ends_reply is_failing piece_of
+unasked_reply = at (flat refused.unasked_reply) 111 (record { from = Server; byte = 1 }) opening_messages UnknownCookie refl refl refl refl
+
+pub long_disconnect : IsPlace (flat refused.long_disconnect) opening_messages BadDisconnect
+unfolding complete next_phase target has has_only is_proper is_proper_option info_of is_listed is_go content_of failure_of ends_reply is_failing piece_of
+long_disconnect = at (flat refused.long_disconnect) 123 (record { from = Client; byte = 1 }) opening_messages BadDisconnect refl refl refl refl

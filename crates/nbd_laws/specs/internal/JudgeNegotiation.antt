@@ -1,0 +1,194 @@
+-- What is decided of the bytes of a message of the negotiation (proto.md, "Newstyle negotiation",
+-- "Fixed newstyle negotiation"). Where two faults hold at one byte, the one named first counts.
+use Rattle.std.specs.Prelude.{ℕ, List, [], ◌∷◌, ◌+◌, Bool, true, false, not, ◌&&◌, ◌||◌, ◌==◌, nat_lt, Option, Some, None, drop}
+use Rattle.nbd_wire.specs.declared.answers.TheConstants as answers
+use Rattle.nbd_wire.specs.declared.handshake.TheConstants as handshake
+use Rattle.nbd_wire.specs.declared.limits.TheConstants.{EXPORT_SIZE}
+use Rattle.nbd_wire.specs.declared.magics.TheConstants.{GREETING_MAGIC, OPTION_MAGIC, ANSWER_MAGIC}
+use Rattle.nbd_wire.specs.declared.message.Message.{Message}
+use Rattle.nbd_wire.specs.declared.message.Message.TheVariants.{Greeting, ClientFlags, Choice, Answer, Exported}
+use Rattle.nbd_wire.specs.declared.options.TheConstants as options
+use Rattle.nbd_wire.specs.declared.payloads.Info.{Info}
+use Rattle.nbd_wire.specs.declared.payloads.Info.TheVariants.{Export, BlockSize, Other}
+use Rattle.nbd_wire.specs.declared.transmission.TheConstants as transmission
+use Rattle.nbd_wire.specs.protocol.Options.{is_error}
+use Rattle.nbd_wire.specs.protocol.Payloads.{number_at, info_of, is_listed}
+use Rattle.nbd_wire.specs.protocol.Operations.{Exporting}
+use Rattle.nbd_wire.specs.protocol.Flags.{has, has_only}
+use Rattle.nbd_wire.specs.declared.fault.WireFault.{WireFault}
+use Rattle.nbd_wire.specs.declared.fault.WireFault.TheVariants.{BadMagic, NotFixedNewstyle, BadClientFlags, WrongOption, BadReplyKind, OutOfProfile, BadReplyPayload, MissingExportInfo, BadExport, ExportTooLarge, SuccessOfImproper}
+use Rattle.nbd_laws.specs.internal.Decisions.{Decision, fault_if}
+
+-- at the head of a greeting with these numbers
+abbrev pub greeting_fault : (magic second flags : ℕ) → Option WireFault
+greeting_fault magic second flags =
+    fault_if (not ((magic == GREETING_MAGIC) && (second == OPTION_MAGIC))) BadMagic
+    (fault_if (not (has flags handshake.FIXED_NEWSTYLE)) NotFixedNewstyle None)
+
+abbrev pub greeting : List ℕ → Decision
+greeting bytes = record {
+  head_length = 18;
+  head_fault = greeting_fault (number_at 0 8 bytes) (number_at 8 8 bytes) (number_at 16 2 bytes);
+  payload_length = 0;
+  last_fault = None;
+  message = Greeting (number_at 16 2 bytes);
+}
+
+-- a flag that is unknown, or that the server did not offer
+abbrev pub sets_more : (offered flags : ℕ) → Bool
+sets_more offered flags =
+    not (has_only flags (handshake.C_FIXED_NEWSTYLE + handshake.C_NO_ZEROES))
+    || (has flags handshake.C_NO_ZEROES && not (has offered handshake.NO_ZEROES))
+
+-- at the client's flags
+abbrev pub client_flags_fault : (offered flags : ℕ) → Option WireFault
+client_flags_fault offered flags =
+    fault_if (not (has flags handshake.C_FIXED_NEWSTYLE)) NotFixedNewstyle
+    (fault_if (sets_more offered flags) BadClientFlags None)
+
+abbrev pub client_flags : (offered : ℕ) → List ℕ → Decision
+client_flags offered bytes = record {
+  head_length = 4;
+  head_fault = client_flags_fault offered (number_at 0 4 bytes);
+  payload_length = 0;
+  last_fault = None;
+  message = ClientFlags (number_at 0 4 bytes);
+}
+
+-- at the head of an option
+abbrev pub choice_fault : (magic : ℕ) → Option WireFault
+choice_fault magic = fault_if (not (magic == OPTION_MAGIC)) BadMagic None
+
+abbrev pub choice : List ℕ → Decision
+choice bytes = record {
+  head_length = 16;
+  head_fault = choice_fault (number_at 0 8 bytes);
+  payload_length = number_at 12 4 bytes;
+  last_fault = None;
+  message = Choice (number_at 8 4 bytes) (drop 16 bytes);
+}
+
+-- at an export's size and flags
+abbrev pub export_fault : (size flags : ℕ) → Option WireFault
+export_fault size flags =
+    fault_if (not (has flags transmission.HAS_FLAGS)) BadExport
+    (fault_if (nat_lt EXPORT_SIZE size) ExportTooLarge None)
+
+abbrev pub are_zeroes : List ℕ → Bool
+are_zeroes [] = true
+are_zeroes (b ∷ bytes) = (b == 0) && are_zeroes bytes
+
+-- at the last of the zeroes after an export's size and flags
+abbrev pub padding_fault : List ℕ → Option WireFault
+padding_fault padding = fault_if (not (are_zeroes padding)) BadExport None
+
+-- the answer to EXPORT_NAME, by whether the client took NO_ZEROES
+abbrev pub export_answer : (no_zeroes : Bool) → List ℕ → Decision
+export_answer true bytes = record {
+  head_length = 10;
+  head_fault = export_fault (number_at 0 8 bytes) (number_at 8 2 bytes);
+  payload_length = 0;
+  last_fault = None;
+  message = Exported (number_at 0 8 bytes) (number_at 8 2 bytes) false;
+}
+export_answer false bytes = record {
+  head_length = 10;
+  head_fault = export_fault (number_at 0 8 bytes) (number_at 8 2 bytes);
+  payload_length = 124;
+  last_fault = padding_fault (drop 10 bytes);
+  message = Exported (number_at 0 8 bytes) (number_at 8 2 bytes) true;
+}
+
+abbrev pub answer_of : List ℕ → Message
+answer_of bytes = Answer (number_at 8 4 bytes) (number_at 12 4 bytes) (drop 20 bytes)
+
+-- at the head of an answer; `by_kind` is the fault of its kind
+abbrev pub answer_fault : (asked magic option : ℕ) → (by_kind : Option WireFault) → Option WireFault
+answer_fault asked magic option by_kind =
+    fault_if (not (magic == ANSWER_MAGIC)) BadMagic
+    (fault_if (not (option == asked)) WrongOption by_kind)
+
+-- an ACK has no payload; `next` is the fault of one that has none
+abbrev pub ack_fault : (kind len : ℕ) → (next : Option WireFault) → Option WireFault
+ack_fault kind len next = fault_if ((kind == answers.ACK) && not (len == 0)) BadReplyPayload next
+
+-- at the head of the answer to ABORT, by its kind
+abbrev pub abort_fault : (kind len : ℕ) → Option WireFault
+abort_fault kind len = fault_if (not (is_error kind) && not (kind == answers.ACK)) BadReplyKind
+    (ack_fault kind len None)
+
+abbrev pub abort_answer : List ℕ → Decision
+abort_answer bytes = record {
+  head_length = 20;
+  head_fault = answer_fault options.ABORT (number_at 0 8 bytes) (number_at 8 4 bytes)
+      (abort_fault (number_at 12 4 bytes) (number_at 16 4 bytes));
+  payload_length = number_at 16 4 bytes;
+  last_fault = None;
+  message = answer_of bytes;
+}
+
+-- this project follows the option
+abbrev pub is_followed : ℕ → Bool
+is_followed option = (option == options.LIST)
+    || ((option == options.INFO) || ((option == options.GO) || (option == options.STRUCTURED_REPLY)))
+
+-- a kind of success that an option takes
+abbrev pub answers_option : (option kind : ℕ) → Bool
+answers_option option kind =
+    (kind == answers.ACK)
+    || (((option == options.LIST) && (kind == answers.SERVER))
+    || (((option == options.INFO) || (option == options.GO)) && (kind == answers.INFO)))
+
+-- at an ACK, by the last EXPORT info before it
+abbrev pub info_fault : (option : ℕ) (proper : Bool) → Option Exporting → Option WireFault
+info_fault option proper None = fault_if (((option == options.INFO) || (option == options.GO))
+    && proper) MissingExportInfo None
+info_fault option proper (Some export) = fault_if
+    ((option == options.GO) && nat_lt EXPORT_SIZE export.size) ExportTooLarge None
+
+abbrev pub at_ack : Bool → Option WireFault → Option WireFault
+at_ack true fault = fault
+at_ack false fault = None
+
+-- an error has no fault of its kind or payload
+abbrev pub unless_error : Bool → Option WireFault → Option WireFault
+unless_error true fault = None
+unless_error false fault = fault
+
+-- at the head of an answer that is no error, by its kind
+abbrev pub success_fault : (option : ℕ) (proper : Bool) (info : Option Exporting) (kind len : ℕ) → Option WireFault
+success_fault option proper info kind len =
+    fault_if (is_followed option && not (answers_option option kind)) BadReplyKind
+    (fault_if (not (is_followed option)) OutOfProfile
+    (ack_fault kind len (at_ack (kind == answers.ACK) (info_fault option proper info))))
+
+-- an info on the export has HAS_FLAGS
+abbrev pub is_good_info : Option Info → Bool
+is_good_info None = false
+is_good_info (Some (Export size flags)) = has flags transmission.HAS_FLAGS
+is_good_info (Some (BlockSize least preferred most)) = true
+is_good_info (Some (Other kind)) = true
+
+abbrev pub is_bad_payload : (kind : ℕ) → List ℕ → Bool
+is_bad_payload kind payload =
+    ((kind == answers.SERVER) && not (is_listed payload))
+    || ((kind == answers.INFO) && not (is_good_info (info_of payload)))
+
+-- at the last byte of an answer that is no error
+abbrev pub payload_fault : (proper : Bool) (kind : ℕ) → List ℕ → Option WireFault
+payload_fault proper kind payload =
+    fault_if (is_bad_payload kind payload) BadReplyPayload
+    (fault_if (not proper) SuccessOfImproper None)
+
+-- the answer to this option: whether its data was proper, and the last EXPORT info since
+abbrev pub answer : (option : ℕ) (proper : Bool) (info : Option Exporting) → List ℕ → Decision
+answer option proper info bytes = record {
+  head_length = 20;
+  head_fault = answer_fault option (number_at 0 8 bytes) (number_at 8 4 bytes)
+      (unless_error (is_error (number_at 12 4 bytes))
+      (success_fault option proper info (number_at 12 4 bytes) (number_at 16 4 bytes)));
+  payload_length = number_at 16 4 bytes;
+  last_fault = unless_error (is_error (number_at 12 4 bytes))
+      (payload_fault proper (number_at 12 4 bytes) (drop 20 bytes));
+  message = answer_of bytes;
+}

@@ -1,0 +1,46 @@
+//! Worked examples: small captures, byte by byte, and the place at which the rules refuse them. The captures
+//! stand in specs/captures/Refused.antt.
+ghost use Rattle.std.specs.Prelude.{[], ◌∷◌};
+ghost use Rattle.nbd_wire.specs.protocol.Captures.{flat};
+ghost use Rattle.nbd_wire.specs.protocol.Splits.{IsPlace};
+ghost use Rattle.nbd_wire.specs.declared.fault.WireFault.TheVariants.{BadMagic, NotFixedNewstyle, BadClientFlags, OutOfTurn, UnknownCookie, BadDisconnect};
+ghost use Rattle.nbd_wire.specs.declared.message.Message.TheVariants.{Greeting};
+ghost use Rattle.nbd_laws.specs.captures.Openings.{hasty_client};
+ghost use Rattle.nbd_laws.specs.captures.Refused as refused;
+ghost use Rattle.nbd_laws.specs.captures.Messages.{opening_messages};
+
+/// The client speaks first.
+pub fn client_first()
+    ensures { IsPlace (flat hasty_client) [] OutOfTurn }
+{}
+
+/// A greeting with another number.
+pub fn wrong_greeting()
+    ensures { IsPlace (flat refused.wrong_greeting) [] BadMagic }
+{}
+
+/// A greeting without fixed newstyle.
+pub fn old_greeting()
+    ensures { IsPlace (flat refused.old_greeting) [] NotFixedNewstyle }
+{}
+
+/// Of two faults at one byte the first in the table counts.
+pub fn two_faults()
+    ensures greeting { IsPlace (flat refused.wrong_old_greeting) [] BadMagic }
+    ensures flags { IsPlace (flat refused.strange_client) (Greeting 3 ∷ []) NotFixedNewstyle }
+{}
+
+/// A flag that was not offered.
+pub fn greedy_client()
+    ensures { IsPlace (flat refused.greedy_client) (Greeting 1 ∷ []) BadClientFlags }
+{}
+
+/// A reply to no request.
+pub fn unasked_reply()
+    ensures { IsPlace (flat refused.unasked_reply) opening_messages UnknownCookie }
+{}
+
+/// A DISC with a length.
+pub fn long_disconnect()
+    ensures { IsPlace (flat refused.long_disconnect) opening_messages BadDisconnect }
+{}

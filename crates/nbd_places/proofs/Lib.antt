@@ -1,2 +1,0 @@
-pub mod judge
-pub mod rows

@@ -1,5 +1,0 @@
-use Rattle.nbd_places.proofs.rows.MarkLemmas.{places_begin_no_run}
-use Rattle.nbd_places.proofs.laws.places_begin_no_run.Goals as goal
-
-pub returns : goal.returns
-returns c = places_begin_no_run
