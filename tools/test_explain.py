@@ -12,7 +12,7 @@ from pathlib import Path
 from built import TOP, Ended, Room, Tally
 from messages import (CACHE, CLIENT, DISC, FLUSH, READ, SERVER, TRIM, WRITE, WRITE_ZEROES, answer, begun, chunk, client_flags, content,
                       cut, done, export_info, front, greeting, hole, option, read, request, simple, text, write)
-from test_commands import fault
+from test_commands import EMPTY, fault
 from test_cuts import SESSIONS
 
 EXPLAINED = Path(__file__).resolve().parent / "explained"
@@ -570,7 +570,7 @@ def race(rng, count):
 def names(tally, room):
     capture = room.put("named", text(NAMED))
     tally.want("show --names", room.run("show", "--names", capture), Ended(0, NAMES.encode(), b""))
-    tally.want("order of an empty capture", room.run("order", room.put("empty", b""), "--arrival"), Ended(0, b"", b""))
+    tally.want("order of an empty capture", room.run("order", room.put("empty", b""), "--arrival"), Ended(0, b"", EMPTY))
 
 
 def fronts(tally, room):
