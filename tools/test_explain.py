@@ -406,11 +406,14 @@ def reasons(tally, room):
         tally.want(reason, reasons_of(tally, room, reason, records), [reason])
     several = request(WRITE, 1, 7, 2, b"\1\2", flags=0x8017)
     tally.want("several reasons", reasons_of(tally, room, "several reasons", improper(several, 0x83)), SEVERAL)
+    page = (TOP / "docs/RECORDING.md").read_text()
     for number, extension in GRANTED.items():
         told = told_of(tally, f"granted {number}", room.run("explain", room.put("granted", text(opted(number, b"")))))
         lines = told.split("\n")
         tally.holds(f"granted {number}", lines[3].startswith("granted: ") and lines[3].endswith(f", for {extension}"), told)
         tally.holds(f"instead of {number}", lines[4].startswith("instead: record with"), told)
+        named = re.findall(r"--[\w=-]+|h\.\w+|tls-creds|add_meta_context", lines[4])
+        tally.want(f"instead of {number}, in docs/RECORDING.md", [word for word in named if word not in page], [])
 
 
 def arriving(tally, room):
