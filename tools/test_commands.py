@@ -10,6 +10,7 @@ from messages import begun, read, records_of, simple, text, write
 
 LF = b"\n"
 EMPTY = b"the capture is empty: nothing was recorded\n"
+SEARCHED = b"line 1 is no entry of an order but the answer of a search that found none: 'no' or 'gave up'\n"
 CAPTURE = text(begun() + [read(1, 0, 4), simple(1, bytes(4))])
 YES = b"yes requests 1 answered 1 improper 0\n"
 # A READ of a byte that nobody wrote.
@@ -285,12 +286,11 @@ def bad_order_lines(tally, room):
             wanted = Ended(3, b"", b"fault order line 2\n" + what + LF)
             tally.want(f"{command}, {name}, on a terminal", on_a_terminal(room, command, good, bad), wanted)
             tally.want(f"{command}, {name}", room.run(command, good, bad), fault("order line 2"))
-    searched = b"line 1 is no entry of an order but the answer of a search that found none: 'no' or 'gave up'\n"
     for line in (b"no content request 1 offset 0 in any order\n", b"gave up: too many steps at request 1 offset 0\n"):
         bad = room.put("bad", line)
         for command in ("check", "explain"):
             found = room.run(command, good, bad)
-            tally.want(f"{command} of a search's answer", found, Ended(3, b"", b"fault order line 1\n" + searched))
+            tally.want(f"{command} of a search's answer", found, Ended(3, b"", b"fault order line 1\n" + SEARCHED))
     bad = room.put("bad", b"1\nno order: the session was refused\n")
     tally.want("an answer behind an entry", room.run("check", good, bad), fault("order line 2"))
 

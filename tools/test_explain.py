@@ -626,8 +626,9 @@ def follow(tally, name, told):
 def deduced(tally, room):
     """Of sessions at random that no order explains: each step follows from what stands above it, as a reader can see."""
     rng, ends = random.Random(21), [0, 0]
-    for turn in range(300):
-        found = room.run("explain", room.put("race.cap", text(race(rng, rng.randint(3, 6)))), "--start", "zero")
+    for turn in range(600):
+        start = rng.choice(("zero", "zero", "unknown"))
+        found = room.run("explain", room.put("race.cap", text(race(rng, rng.randint(3, 6)))), "--start", start)
         told = told_of(tally, f"deduced {turn}", found)
         if told.startswith("no order explains"):
             ends[follow(tally, f"deduced {turn}", told)] += 1
@@ -643,16 +644,18 @@ def deduced(tally, room):
 
 
 def race(rng, count):
-    """WRITEs of one byte to one offset and READs of it, in flight together, whose READs get any byte."""
+    """Changes of one byte at one offset and READs of it, in flight together, whose READs get any byte; some changes fail, and
+    some requests are never answered."""
     records, waiting = begun(), []
     for number in range(1, 2 * count + 1):
-        is_read = rng.random() < 0.5
+        command = rng.choice((READ, READ, READ, WRITE, WRITE, WRITE, rng.choice((WRITE, WRITE_ZEROES, TRIM))))
         value = bytes([rng.randint(0, 2)])
-        records.append(read(number, 0, 1) if is_read else write(number, 0, value))
-        waiting.append(simple(number, value if is_read else b""))
+        records.append(request(command, number, 0, 1, value if command == WRITE else b""))
+        error = 5 if command != READ and rng.random() < 0.05 else 0
+        waiting.append(simple(number, value if command == READ else b"", error))
         while len(waiting) > 2 or waiting and rng.random() < 0.4:
             records.append(waiting.pop(rng.randrange(len(waiting))))
-    return records + waiting
+    return records + (waiting if rng.random() < 0.7 else [])
 
 
 def names(tally, room):
