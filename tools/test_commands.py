@@ -22,6 +22,11 @@ SCRIPT = b"S greeting flags=3\nC client-flags flags=3\n"
 MADE = b"S 4e42444d4147494349484156454f50540003\nC 00000003\n"
 
 
+def hint_of(capture):
+    """What stands on standard error beside the answer of a capture."""
+    return b"" if capture else EMPTY
+
+
 def fault(what, status=3):
     return Ended(status, b"", f"fault {what}\n".encode())
 
