@@ -69,6 +69,7 @@ WIRE = {
         [*HELLO, option(7, b"\0\0\0\1x\0\2\0\3"), answer(7, 3, export_info()), answer(7, 1)]),
     "bad-disconnect": Session([*begun(), request(DISC, 0, 0, 1)]),
     "unfinished": Session([*ASKED, cut(simple(1, bytes(4)), 19)[0]]),
+    "unfinished-write": Session([*begun(), cut(write(1, 0, b"\xab\xcd"), 29)[0]]),
     "unfinished-after-one-byte": Session([*ASKED, cut(simple(1, bytes(4)), 1)[0]]),
     "unfinished-on-both-sides": Session([*ASKED, cut(simple(1, bytes(4)), 3)[0], cut(read(2, 0, 4), 27)[0]]),
 }
