@@ -13,6 +13,7 @@ from cases import (
 from cases.messages import BEGUN, READ_1
 from messages import damaged as inverted
 from messages import front, longest_runs, one_by_one, records_of, text
+from test_commands import hint_of
 
 TABLES = (
     chunks, contents, infos, large_exports, large_numbers, negotiation, orders, parts, pieces, refused_negotiation,
@@ -43,17 +44,17 @@ def forms(capture):
     }
 
 
-def ended(line):
-    """A run that answers this line, or has this fault."""
+def ended(line, hint=b""):
+    """A run that answers this line, with a hint, or has this fault."""
     if line.startswith("fault"):
         return Ended(3, b"", line.encode())
-    return Ended(0 if line.startswith("yes") else 1, line.encode(), b"")
+    return Ended(0 if line.startswith("yes") else 1, line.encode(), hint)
 
 
 def try_case(tally, room, case, capture):
     start = case.start if isinstance(case.start, str) else f"image:{room.put('image', case.start)}"
     for form, data in forms(capture).items():
-        tally.want(f"{case.name}{form}", room.check(data, case.order.encode(), start), ended(case.want))
+        tally.want(f"{case.name}{form}", room.check(data, case.order.encode(), start), ended(case.want, hint_of(data)))
 
 
 def checks(tally, room):
@@ -84,7 +85,7 @@ def cut_sessions(tally, room):
         order, line, whole = damaged.ENDS.get(count, (*is_open, is_open[1]))
         for form, data in forms(text(front(records, count))).items():
             for entries, wanted in ((order, line), (damaged.ORDER, whole)):
-                tally.want(f"{count} bytes{form}", room.check(data, entries.encode()), ended(wanted))
+                tally.want(f"{count} bytes{form}", room.check(data, entries.encode()), ended(wanted, hint_of(data)))
 
 
 def damaged_sessions(tally, room):
@@ -98,7 +99,7 @@ def shown_lines(tally, room):
     for status, cases in ((0, shows.ACCEPTED), (1, shows.REFUSED)):
         for case in cases:
             for form, data in forms(joined(case.capture)).items():
-                tally.want(f"{case.name}{form}", room.show(data), Ended(status, joined(case.want), b""))
+                tally.want(f"{case.name}{form}", room.show(data), Ended(status, joined(case.want), hint_of(data)))
     for behind, fault in shows.BAD_TEXTS:
         tally.want(f"show of {behind!r}", room.show(joined([BEGUN, behind])), Ended(3, b"", fault.encode()))
 
@@ -118,7 +119,7 @@ def made_again(tally, room):
     for session in makes.SESSIONS:
         capture = joined(session)
         shown = room.show(capture)
-        tally.want(f"show of {session}", (shown.status, shown.out[-3:], shown.err), (0, b"ok\n", b""))
+        tally.want(f"show of {session}", (shown.status, shown.out[-3:], shown.err), (0, b"ok\n", hint_of(capture)))
         made = room.make(shown.out)
         bytes_of = [one_by_one(records_of(it)) for it in (made.out, capture)]
         tally.want(f"make of what was shown of {session}", (made.status, made.err, bytes_of[0]), (0, b"", bytes_of[1]))

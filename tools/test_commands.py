@@ -10,6 +10,7 @@ from messages import begun, read, records_of, simple, text, write
 
 LF = b"\n"
 EMPTY = b"the capture is empty: nothing was recorded\n"
+SEARCHED = b"line 1 is no entry of an order but the answer of a search that found none: 'no' or 'gave up'\n"
 CAPTURE = text(begun() + [read(1, 0, 4), simple(1, bytes(4))])
 YES = b"yes requests 1 answered 1 improper 0\n"
 # A READ of a byte that nobody wrote.
@@ -19,6 +20,11 @@ LONG = text(begun() + [write(1, 0, bytes(1 << 24))])
 LONG_SCRIPT = b"C option id=3 payload=" + b"00" * (1 << 24) + b"\n"
 SCRIPT = b"S greeting flags=3\nC client-flags flags=3\n"
 MADE = b"S 4e42444d4147494349484156454f50540003\nC 00000003\n"
+
+
+def hint_of(capture):
+    """What stands on standard error beside the answer of a capture."""
+    return b"" if capture else EMPTY
 
 
 def fault(what, status=3):
@@ -285,12 +291,11 @@ def bad_order_lines(tally, room):
             wanted = Ended(3, b"", b"fault order line 2\n" + what + LF)
             tally.want(f"{command}, {name}, on a terminal", on_a_terminal(room, command, good, bad), wanted)
             tally.want(f"{command}, {name}", room.run(command, good, bad), fault("order line 2"))
-    searched = b"line 1 is no entry of an order but the answer of a search that found none: 'no' or 'gave up'\n"
     for line in (b"no content request 1 offset 0 in any order\n", b"gave up: too many steps at request 1 offset 0\n"):
         bad = room.put("bad", line)
         for command in ("check", "explain"):
             found = room.run(command, good, bad)
-            tally.want(f"{command} of a search's answer", found, Ended(3, b"", b"fault order line 1\n" + searched))
+            tally.want(f"{command} of a search's answer", found, Ended(3, b"", b"fault order line 1\n" + SEARCHED))
     bad = room.put("bad", b"1\nno order: the session was refused\n")
     tally.want("an answer behind an entry", room.run("check", good, bad), fault("order line 2"))
 

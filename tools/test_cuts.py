@@ -13,6 +13,7 @@ from messages import (
     ERROR, TRIM, WRITE, begun, chunk, client_flags, content, cut, damaged, done, front,
     greeting, hole, longest_runs, one_by_one, option, records_of, read, request, simple, text, write,
 )
+from test_commands import hint_of
 
 MOST, LENGTH = 2**64 - 1, 2**32 - 1
 # How many places one process tries at a time.
@@ -169,17 +170,17 @@ def line_of(found):
     return found.out.decode().removesuffix("\n")
 
 
-def is_told(found):
-    """Whether an answer is a verdict's line with its status and nothing else."""
+def is_told(found, hint=b""):
+    """Whether an answer is a verdict's line with its status, beside a hint and nothing else."""
     line = found.out.decode()
-    is_line = line.endswith("\n") and line.count("\n") == 1 and found.err == b""
+    is_line = line.endswith("\n") and line.count("\n") == 1 and found.err == hint
     return is_line and found.status == (0 if line.startswith("yes ") else 1)
 
 
 def cut_off(tally, room, session, count, bytewise):
     name = f"{session.name}, {count} bytes"
     found = answers(room, session, front(session.records, count), bytewise[: 5 * count])
-    tally.holds(name, len(found) == 1 and all(map(is_told, found)), found)
+    tally.holds(name, len(found) == 1 and all(is_told(it, hint_of(bytewise[:count])) for it in found), found)
     line, unfinished = line_of(found.pop()), f"no at byte {count}: Unfinished"
     if session.known:
         tally.want(f"{name}, is open", line == unfinished, session.is_open(count))

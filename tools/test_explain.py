@@ -12,7 +12,7 @@ from pathlib import Path
 from built import TOP, Ended, Room, Tally
 from messages import (CACHE, CLIENT, DISC, FLUSH, READ, SERVER, TRIM, WRITE, WRITE_ZEROES, answer, begun, chunk, client_flags, content,
                       cut, done, export_info, front, greeting, hole, option, read, request, simple, text, write)
-from test_commands import fault
+from test_commands import EMPTY, fault
 from test_cuts import SESSIONS
 
 EXPLAINED = Path(__file__).resolve().parent / "explained"
@@ -39,6 +39,8 @@ WIRE = {
     "out-of-profile": Session([*HELLO, option(5), answer(5, 1)]),
     "out-of-profile-of-metadata-contexts": Session(
         [*HELLO, option(8), answer(8, 1), option(10, bytes(8)), answer(10, 4, b"\0\0\0\1base:allocation")]),
+    "out-of-profile-of-extended-headers": Session([*HELLO, option(11), answer(11, 1)]),
+    "out-of-profile-of-an-unknown-option": Session([*HELLO, option(77), answer(77, 1)]),
     "bad-reply-payload": Session([*GO, answer(7, 1, b"\0")]),
     "missing-export-info": Session([*GO, answer(7, 1)]),
     "bad-export": Session([*HELLO, option(1, b"disk"), (SERVER, (8).to_bytes(8, "big") + b"\0\0")]),
@@ -67,6 +69,7 @@ WIRE = {
         [*HELLO, option(7, b"\0\0\0\1x\0\2\0\3"), answer(7, 3, export_info()), answer(7, 1)]),
     "bad-disconnect": Session([*begun(), request(DISC, 0, 0, 1)]),
     "unfinished": Session([*ASKED, cut(simple(1, bytes(4)), 19)[0]]),
+    "unfinished-write": Session([*begun(), cut(write(1, 0, b"\xab\xcd"), 29)[0]]),
     "unfinished-after-one-byte": Session([*ASKED, cut(simple(1, bytes(4)), 1)[0]]),
     "unfinished-on-both-sides": Session([*ASKED, cut(simple(1, bytes(4)), 3)[0], cut(read(2, 0, 4), 27)[0]]),
 }
@@ -136,6 +139,18 @@ SET = [
     *begun(), write(1, 0, b"\1"), write(2, 0, b"\0"), write(3, 0, b"\1"), simple(1), simple(2), simple(3), read(4, 0, 1),
     simple(4, b"\1"), read(5, 0, 1), simple(5, b"\0")]
 
+
+def alternating(count):
+    """READs that get 01 and 02 in turn, each after a WRITE of its byte that stays open, so many of each; and a last READ of 01,
+    for which no WRITE is left. No READ can be spared."""
+    records, replies, number = begun(), [], 0
+    for byte in (b"\1", b"\2") * count:
+        number += 2
+        records += [write(number - 1, 0, byte), read(number, 0, 1), simple(number, byte)]
+        replies.append(simple(number - 1))
+    return [*records, read(number + 1, 0, 1), simple(number + 1, b"\1"), *replies]
+
+
 # Sessions that are explained without an order.
 ORDERLESS = {
     "no-order-before-the-start": Session(SILENT),
@@ -152,10 +167,17 @@ ORDERLESS = {
     "no-source-served-after": Session([*begun(), read(1, 0, 2), simple(1, b"\xab\0"), write(2, 0, b"\xab")]),
     "no-source-changed-before": Session(
         [*begun(), write(1, 0, b"\xab\xcd"), simple(1), read(2, 0, 2), simple(2, b"\xab\xce")], start="unknown"),
+    "no-source-in-a-hole": Session(
+        [*begun(structured=True), write(1, 1, b"\7"), simple(1), read(2, 0, 4), hole(2, 0, 4), done(2)]),
+    "no-source-while-outstanding": Session(
+        [*begun(), write(1, 0, b"\1"), simple(1), read(2, 0, 1), write(3, 0, b"\3"), simple(2, b"\xff"), write(4, 0, b"\xff"),
+         simple(4), simple(3)]),
     "no-source-of-many": Session(
         [*begun(), *(record for number in range(1, 11) for record in (write(number, 0, bytes([number])), simple(number))),
          read(11, 0, 1), simple(11, b"\xff")]),
     "no-order-of-three-reads": Session(UNORDERED),
+    "no-order-of-five-reads": Session(alternating(2)),
+    "no-order-of-more-than-ten-steps": Session(alternating(5)),
     "image": Session(WRITTEN, start="image:9"),
     "unknown-cookie": WIRE["unknown-cookie"],
 }
@@ -182,7 +204,12 @@ REASONS = [
     (improper(request(FLUSH, 1, 0, 0), 1), "the export does not offer FLUSH: it lacks SEND_FLUSH"),
     (improper(request(TRIM, 1, 0, 1), 1), "the export does not offer TRIM: it lacks SEND_TRIM"),
     (improper(request(WRITE_ZEROES, 1, 0, 1), 1), "the export does not offer WRITE_ZEROES: it lacks SEND_WRITE_ZEROES"),
+    ([*begun(structured=True), read(1, 6, 4), content(1, 6, bytes(4)), done(1)],
+     "its range passes the end of the export of 8 bytes"),
+    ([*begun(size=1), write(1, 1, b"\1"), simple(1)], "its range passes the end of the export of 1 byte"),
     (improper(write(1, 0, b"\1"), 3), "it changes an export that is read-only: it has READ_ONLY"),
+    (improper(request(TRIM, 1, 0, 1), 0x6F), "it changes an export that is read-only: it has READ_ONLY"),
+    (improper(request(WRITE_ZEROES, 1, 0, 1), 0x6F), "it changes an export that is read-only: it has READ_ONLY"),
     (improper(request(FLUSH, 1, 4, 0)), "a FLUSH has neither an offset nor a length"),
     (improper(request(FLUSH, 1, 0, 4)), "a FLUSH has neither an offset nor a length"),
     (improper(request(CACHE, 1, 0, 1, flags=1), 1), "it carries FUA, and the export lacks SEND_FUA"),
@@ -194,6 +221,7 @@ REASONS = [
     ([*begun(), request(READ, 1, 0, 1, flags=4), simple(1, b"\0")], "it carries DF, and the export lacks SEND_DF"),
     (opted(3, b"\0"), "the option has no data, and there is some from byte 39 on"),
     (opted(8, b"\0\0"), "the option has no data, and there is some from byte 39 on"),
+    (opted(6, b"\0"), "the data ends within the length of the name, 4 bytes from byte 39 on"),
     (opted(7, b"\0\0\0"), "the data ends within the length of the name, 4 bytes from byte 39 on"),
     (opted(6, b"\0\0\0\3ab"), "at byte 39 the name has the length 3, and the bytes behind that are 2"),
     (opted(7, b"\0\0\0\2ab\0"), "the data ends within the count of infos, 2 bytes from byte 45 on"),
@@ -202,16 +230,20 @@ REASONS = [
     ([*HELLO, option(3), answer(3, 2, b"\0\0\0\2a")], "at byte 59 the name has the length 2, and the bytes behind that are 1"),
     ([*GO, answer(7, 3, b"\0")], "its data is shorter than the kind of an info, which has 2 bytes"),
     ([*GO, answer(7, 3, export_info()[:11])], "the data of an info on the export has 12 bytes"),
+    ([*GO, answer(7, 3, export_info() + b"\0")], "the data of an info on the export has 12 bytes"),
     ([*GO, answer(7, 3, b"\0\3" + bytes(11))], "the data of an info on block sizes has 14 bytes"),
+    ([*GO, answer(7, 3, b"\0\3" + bytes(13))], "the data of an info on block sizes has 14 bytes"),
     ([*GO, answer(7, 3, export_info(flags=2))], "the info on the export lacks HAS_FLAGS (0x1)"),
     (chunked(chunk(1, 0, b"\0", flags=1)), "a chunk of type NONE has no payload"),
     (chunked(chunk(1, 0)), "a chunk of type NONE ends its reply, so it has DONE"),
     (chunked(chunk(1, 1, bytes(7))), "its payload is shorter than an offset, which has 8 bytes"),
     (chunked(chunk(1, 1, bytes(8))), "its payload has no data behind the offset"),
+    (chunked(chunk(1, 2, bytes(13))), "the payload of a hole has 12 bytes, an offset and a size"),
     (chunked(chunk(1, 2, bytes(11))), "the payload of a hole has 12 bytes, an offset and a size"),
     (chunked(hole(1, 0, 0)), "its hole has size 0"),
     (chunked(chunk(1, 0x8001, bytes(5))), "its payload is shorter than an error and the length of a message, which have 6 bytes"),
     (chunked(chunk(1, 0x8001, bytes(6))), "its error is 0"),
+    (chunked(chunk(1, 0x8002, bytes(14))), "its error is 0"),
     (chunked(chunk(1, 0x8001, b"\0\0\0\5\0\1")), "the length of its message passes the end of its payload"),
     (chunked(chunk(1, 0x8002, b"\0\0\0\5\0\0" + bytes(7))),
      "the length of its message and an offset behind it pass the end of its payload"),
@@ -219,6 +251,19 @@ REASONS = [
     ([*begun(structured=True), write(1, 0, b"\1"), content(1, 0, b"\1")], "content answers only a READ"),
     (chunked(content(1, 3, b"\1\2")), "the content leaves the range of the READ"),
     (chunked(hole(1, 4, 1)), "the content leaves the range of the READ"),
+    ([*begun(structured=True), read(1, 4, 4), hole(1, 3, 2)], "the content leaves the range of the READ"),
+    (chunked(hole(1, 0, 2), hole(1, 1, 1)), "the content shares an offset with content before it"),
+    ([*begun(structured=True, flags=0xED), request(READ, 1, 0, 4, flags=4), content(1, 0, b"\1"), hole(1, 2, 1)],
+     "the READ has DF, so it gets one piece, and this is a second one"),
+    ([*begun(structured=True), read(1, 4, 4), chunk(1, 0x8002, b"\0\0\0\5\0\0" + bytes(7) + b"\3")],
+     "the offset of the error lies outside the range of the request"),
+]
+# Those of a WRITE that breaks as many parts of its rule as one can.
+SEVERAL = [
+    "its range passes the end of the export of 8 bytes", "it carries FUA, and the export lacks SEND_FUA",
+    "it carries NO_HOLE, which only a WRITE_ZEROES may", "it carries DF, which only a READ may",
+    "it carries FAST_ZERO, which only a WRITE_ZEROES may", "it changes an export that is read-only: it has READ_ONLY",
+    "it carries a flag that is none of FUA, NO_HOLE, DF and FAST_ZERO",
 ]
 # Options that nbdcheck does not follow, and what is said in place of a rule.
 GRANTED = {
@@ -350,20 +395,26 @@ def told_of(tally, name, found):
     return found.out.decode()
 
 
+def reasons_of(tally, room, name, records):
+    """What is said to be wrong in a session."""
+    told = told_of(tally, name, room.run("explain", room.put("reason", text(records))))
+    return re.findall(r"(?m)^wrong: (.*)$", told)
+
+
 def reasons(tally, room):
-    """Which part of its rule a message breaks: the one reason that there is."""
+    """Which part of its rule a message breaks: the one reason that there is, or each."""
     for records, reason in REASONS:
-        told = told_of(tally, reason, room.run("explain", room.put("reason", text(records))))
-        tally.want(reason, [line for line in told.split("\n") if line.startswith("wrong: ")], [f"wrong: {reason}"])
-    # Each reason of a request that has several.
+        tally.want(reason, reasons_of(tally, room, reason, records), [reason])
     several = request(WRITE, 1, 7, 2, b"\1\2", flags=0x8017)
-    told = told_of(tally, "several reasons", room.run("explain", room.put("reasons", text(improper(several, 0x83)))))
-    tally.want("several reasons", told.count("\nwrong: "), 7)
+    tally.want("several reasons", reasons_of(tally, room, "several reasons", improper(several, 0x83)), SEVERAL)
+    page = (TOP / "docs/RECORDING.md").read_text()
     for number, extension in GRANTED.items():
         told = told_of(tally, f"granted {number}", room.run("explain", room.put("granted", text(opted(number, b"")))))
         lines = told.split("\n")
         tally.holds(f"granted {number}", lines[3].startswith("granted: ") and lines[3].endswith(f", for {extension}"), told)
         tally.holds(f"instead of {number}", lines[4].startswith("instead: record with"), told)
+        named = re.findall(r"--[\w=-]+|h\.\w+|tls-creds|add_meta_context", lines[4])
+        tally.want(f"instead of {number}, in docs/RECORDING.md", [word for word in named if word not in page], [])
 
 
 def arriving(tally, room):
@@ -472,7 +523,9 @@ def large(tally, room):
 
 PARTY = re.compile(r"(?m)^(change|read): \w+ #(\d+), .*; served after byte (\d+) (?:and before byte (\d+)|or never); "
                    r"(?:left|got) (?:([0-9a-f]{2})\b|a byte)")
-SOURCES = re.compile(r"(?m)^sources: READ #(\d+) can have its ([0-9a-f]{2}) from (.*?)(?:;.*)?$")
+SOURCES = re.compile(r"(?m)^sources: READ #(\d+) can have its ([0-9a-f]{2}) from (.*?)(;.*)?$")
+HINDRANCE = re.compile(r"; not from (?:the start|\w+ #(\d+))"
+                       r"(?: \(([0-9a-f]{2})\)|, (served after the READ)|, which \w+ #(\d+) overwrote before the READ)")
 STEP = re.compile(r"READ #(\d+) can have its [0-9a-f]{2} only from ([^;]*)(?:; so served before this change: ([^;]*))?"
                   r"(?:; so served after this READ: ([^;]*))?")
 
@@ -498,11 +551,32 @@ class Pencil:
                        if (a == one or (a, one) in self.order) and (b == other or (other, b) in self.order)}
         return True
 
+    def left(self, source):
+        """What a source left at the offset, where that is known."""
+        return self.bytes[source] if source else self.start
+
+    def suspects(self, read):
+        """The sources that may have left the byte of a READ."""
+        return [source for source in (0, *self.changes) if self.left(source) in (None, self.bytes[read])]
+
+    def holds(self, read, source, byte, is_later, other):
+        """Whether a reason holds for which a READ has not its byte from a source."""
+        if byte:
+            return byte == self.left(source) != self.bytes[read]
+        if is_later:
+            return (read, source) in self.order
+        return (int(other), read) in self.order and (source == 0 or (source, int(other)) in self.order)
+
+    def hindered(self, read, words):
+        """The sources that are told not to be that of a READ, for a reason that holds."""
+        told = [(int(source or 0), *reason) for source, *reason in HINDRANCE.findall(words)]
+        return [source for source, *reason in told if self.holds(read, source, *reason)]
+
     def sources(self, read):
         """Where the byte of a READ can come from: changes by their numbers, the start as 0."""
         found = []
         for source in (0, *self.changes):
-            left = self.bytes[source] if source else self.start
+            left = self.left(source)
             is_hidden = any((other, read) in self.order and (source == 0 or (source, other) in self.order) for other in self.changes)
             if left in (None, self.bytes[read]) and not is_hidden and (read, source) not in self.order:
                 found.append(source)
@@ -528,12 +602,19 @@ def numbers_in(words):
 def follow(tally, name, told):
     """Goes along the steps with what stands above them alone; whether they end at a READ whose byte can come from nothing."""
     pencil, steps = Pencil(told), re.findall(r"(?m)^step \d+: (.*)$", told)
-    listed = {int(read): numbers_in(words) for read, _, words in SOURCES.findall(told)}
+    listed = {int(read): numbers_in(words) for read, _, words, _ in SOURCES.findall(told)}
     tally.want(f"{name}: sources", listed, {read: pencil.sources(read) for read in pencil.reads})
+    others = {int(read): pencil.hindered(int(read), words) for read, _, _, words in SOURCES.findall(told)}
+    wanted = {read: [source for source in (0, *pencil.changes) if source not in listed[read]] for read in pencil.reads}
+    tally.want(f"{name}: no sources", others, wanted)
     for step in steps:
         ended = re.match(r"READ #(\d+) can have its [0-9a-f]{2} from nothing", step)
         if ended or step.startswith("none; "):
-            tally.want(f"{name}: the last step", [step, bool(ended) and pencil.sources(int(ended[1]))], [steps[-1], [] if ended else False])
+            tally.want(f"{name}: the last step", [step, bool(ended) and pencil.sources(int(ended[1]))],
+                       [steps[-1], [] if ended else False])
+            if ended:
+                read = int(ended[1])
+                tally.want(f"{name}: {step}, reasons", pencil.hindered(read, step), pencil.suspects(read))
             return bool(ended)
         read, source, before, after = STEP.fullmatch(step).groups()
         tally.want(f"{name}: {step}", numbers_in(source), pencil.sources(int(read)))
@@ -546,31 +627,42 @@ def follow(tally, name, told):
 def deduced(tally, room):
     """Of sessions at random that no order explains: each step follows from what stands above it, as a reader can see."""
     rng, ends = random.Random(21), [0, 0]
-    for turn in range(300):
-        found = room.run("explain", room.put("race.cap", text(race(rng, rng.randint(3, 6)))), "--start", "zero")
+    for turn in range(600):
+        start = rng.choice(("zero", "zero", "unknown"))
+        found = room.run("explain", room.put("race.cap", text(race(rng, rng.randint(3, 6)))), "--start", start)
         told = told_of(tally, f"deduced {turn}", found)
         if told.startswith("no order explains"):
             ends[follow(tally, f"deduced {turn}", told)] += 1
     tally.holds("deduced: most of them end", ends[1] > 4 * ends[0], ends)
+    # Of a longer one ten steps; of more than 64 requests none.
+    for count, is_told in ((5, True), (15, True), (16, False)):
+        name = f"deduced, {4 * count + 1} requests"
+        told = told_of(tally, name, room.run("explain", room.put("long.cap", text(alternating(count))), "--start", "zero"))
+        unknown, more = ("\nsources: not told of more than 64 requests\n", "\nfurther steps are not told\n")
+        tally.want(f"{name}: how much is told", (unknown in told, more in told), (not is_told, is_told))
+        if is_told:
+            tally.want(f"{name}: is no end", follow(tally, name, told), False)
 
 
 def race(rng, count):
-    """WRITEs of one byte to one offset and READs of it, in flight together, whose READs get any byte."""
+    """Changes of one byte at one offset and READs of it, in flight together, whose READs get any byte; some changes fail, and
+    some requests are never answered."""
     records, waiting = begun(), []
     for number in range(1, 2 * count + 1):
-        is_read = rng.random() < 0.5
+        command = rng.choice((READ, READ, READ, WRITE, WRITE, WRITE, rng.choice((WRITE, WRITE_ZEROES, TRIM))))
         value = bytes([rng.randint(0, 2)])
-        records.append(read(number, 0, 1) if is_read else write(number, 0, value))
-        waiting.append(simple(number, value if is_read else b""))
+        records.append(request(command, number, 0, 1, value if command == WRITE else b""))
+        error = 5 if command != READ and rng.random() < 0.05 else 0
+        waiting.append(simple(number, value if command == READ else b"", error))
         while len(waiting) > 2 or waiting and rng.random() < 0.4:
             records.append(waiting.pop(rng.randrange(len(waiting))))
-    return records + waiting
+    return records + (waiting if rng.random() < 0.7 else [])
 
 
 def names(tally, room):
     capture = room.put("named", text(NAMED))
     tally.want("show --names", room.run("show", "--names", capture), Ended(0, NAMES.encode(), b""))
-    tally.want("order of an empty capture", room.run("order", room.put("empty", b""), "--arrival"), Ended(0, b"", b""))
+    tally.want("order of an empty capture", room.run("order", room.put("empty", b""), "--arrival"), Ended(0, b"", EMPTY))
 
 
 def fronts(tally, room):

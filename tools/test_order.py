@@ -7,7 +7,7 @@ import subprocess
 from bench_order import Shape
 from built import PROGRAM, TOP, Ended, Room, Tally
 from messages import begun, content, done, read, simple, text, write
-from test_commands import fault, on_a_terminal
+from test_commands import EMPTY, SEARCHED, fault, on_a_terminal
 
 # Sessions of examples/ for which `check` has another answer than that with an order which explains them.
 OTHERS = {
@@ -74,7 +74,7 @@ def examples(tally, room):
 def lines(tally, room):
     """The line of each answer, and its status."""
     for name, capture, asked, wanted in (
-        ("nothing", b"", [], Ended(0, b"", b"")),
+        ("nothing", b"", [], Ended(0, b"", EMPTY)),
         ("no request", text(begun()), [], Ended(0, b"", b"")),
         ("a refused byte", b"C 00\n", [], Ended(1, b"no at byte 1: OutOfTurn\n", b"")),
         ("cut off", b"S 4e\n", [], Ended(1, b"no at byte 1: Unfinished\n", b"")),
@@ -98,7 +98,13 @@ def lines(tally, room):
         ("2^64", ALONE, ["--steps", str(2**64)], fault("limit", 2)),
         ("a start", ALONE, ["--start", "zeroes"], fault("start", 2)),
     ):
-        tally.want(f"order: {name}", room.run("order", room.put("capture", capture), *asked), wanted)
+        found = room.run("order", room.put("capture", capture), *asked)
+        tally.want(f"order: {name}", found, wanted)
+        if found.status in (1, 5):
+            judged = room.run("check", room.put("capture", TORN), room.put("written", found.out))
+            tally.want(f"order: {name}, its line as an order", judged, Ended(3, b"", b"fault order line 1\n" + SEARCHED))
+    page = " ".join((TOP / "docs/nbdcheck.1").read_text().split())
+    tally.holds("the manual page says what decides", "holds an order only where the status is 0." in page)
     torn = room.put("torn", TORN)
     found = room.run("order", torn, "--start", "zero")
     tally.want("torn", (found.status, found.err, b" 0 1\n" in found.out), (0, b"", True))

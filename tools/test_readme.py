@@ -23,6 +23,8 @@ PRINTED = {
 }
 # These need socat, nbdkit and nbdsh, which the gate has not.
 RECORDING = ("socat ", "nbdsh ", "nbdkit ", "tools/nbdcheck-record ")
+# What recording by hand takes: these packages of Debian, a server, and the end of a socat to which no client came.
+NEEDED = ("nbdkit,", "python3-libnbd", "libnbd-bin", "socat:", "\nnbdkit memory ", "kill %1")
 LONGEST = 150
 # These have the program built where it is not; what is said of that.
 WRAPPED = ("./nbdcheck ", "tools/install ")
@@ -77,6 +79,8 @@ def alone(tally, lines, folder, home):
 def run(tally):
     page = TOP / "README.md"
     tally.holds("its length", len(page.read_text().splitlines()) <= LONGEST)
+    section = page.read_text().split("\n## Record your own session\n")[1].split("\n## ")[0]
+    tally.want("what a recording takes", [part for part in NEEDED if part not in section], [])
     with tempfile.TemporaryDirectory(prefix="nbdcheck-") as folder:
         home = f"{folder}/home"
         os.symlink(TOP / "tools", f"{folder}/tools")

@@ -6,7 +6,7 @@ import resource
 
 from built import Ended, Room, Tally
 from messages import (
-    DONE, OFFSET_HOLE, WRITE, WRITE_ZEROES, answer, begun, chunk, client_flags, content, done, greeting, one_by_one, option,
+    DONE, OFFSET_HOLE, TRIM, WRITE, WRITE_ZEROES, answer, begun, chunk, client_flags, content, done, greeting, one_by_one, option,
     read, request, simple, text, write,
 )
 
@@ -15,6 +15,8 @@ LIMIT = 2**63 - 1
 MIB = 2**20
 # The changes and the READs of the smallest session of holes, and what a run may take beside what grows, in seconds.
 HOLES, APART = 20_000, 0.5
+# What changes each second byte there, and the start.
+KINDS = ((WRITE_ZEROES, "unknown"), (WRITE, "unknown"), (TRIM, "zero"), (WRITE, "image"))
 
 
 def yes(requests, answered, improper):
@@ -73,11 +75,12 @@ def many_chunks(tally, room):
     tally.want("70,000 records without bytes", room.check(text(records), b"1\n"), yes(1, 1, 0))
 
 
-def holes(count):
-    """WRITE_ZEROES of each second byte, so many, and then as many READs of all of these bytes, each answered by one hole."""
+def holes(count, command):
+    """Changes of each second byte, a WRITE to zero, so many, and then as many READs of all of these bytes, each answered by one
+    hole."""
     records = begun(structured=True, size=4 * count)
     for cookie in range(1, count + 1):
-        records += [request(WRITE_ZEROES, cookie, 2 * cookie - 2, 1), done(cookie)]
+        records += [request(command, cookie, 2 * cookie - 2, 1, b"\0" if command == WRITE else b""), done(cookie)]
     whole = bytes(8) + (2 * count).to_bytes(4, "big")
     for cookie in range(count + 1, 2 * count + 1):
         records += [read(cookie, 0, 2 * count), chunk(cookie, OFFSET_HOLE, whole, DONE)]
@@ -97,19 +100,27 @@ def costs(tally, room, name, wanted, *words):
 
 def costs_of_holes(tally, room):
     """READs as holes over many changes cost no more than eight times as much where there are four times as many of both."""
-    measured = {}
-    for times in (1, 2, 4):
-        count = 2 * times * HOLES
-        numbers = b"".join(b"%d\n" % number for number in range(1, count + 1))
-        capture, order = room.put("holes.cap", holes(times * HOLES)), room.put("holes.ord", numbers)
+    for kind in KINDS:
+        measured = [costs_of(tally, room, times * HOLES, *kind) for times in (1, 2, 4)]
+        for command in measured[0]:
+            one, two, four = (costs[command] for costs in measured)
+            name = f"{command} of holes over changes {kind}"
+            tally.holds(f"{name}, twice as many", two <= 4 * one + APART, (one, two, four))
+            tally.holds(f"{name}, four times as many", four <= 8 * one + APART, (one, two, four))
+
+
+def costs_of(tally, room, changes, change, start):
+    """What each command costs on holes over so many changes."""
+    count, image = 2 * changes, room.put("holes.image", bytes(4 * changes))
+    numbers = b"".join(b"%d\n" % number for number in range(1, count + 1))
+    capture, order = room.put("holes.cap", holes(changes, change)), room.put("holes.ord", numbers)
+    return {
+        command: costs(tally, room, f"{command}, {count} requests on holes, {change}, {start}", wanted, command, *words,
+                       "--start", f"image:{image}" if start == "image" else start)
         for command, words, wanted in (("check", [capture, order], yes(count, count, 0)),
                                        ("explain", [capture, order], yes(count, count, 0)),
-                                       ("order", [capture], Ended(0, numbers, b""))):
-            cost = costs(tally, room, f"{command}, {count} requests on holes", wanted, command, *words, "--start", "unknown")
-            measured.setdefault(command, []).append(cost)
-    for command, (one, two, four) in measured.items():
-        tally.holds(f"{command} of holes, twice as many", two <= 4 * one + APART, (one, two, four))
-        tally.holds(f"{command} of holes, four times as many", four <= 8 * one + APART, (one, two, four))
+                                       ("order", [capture], Ended(0, numbers, b"")))
+    }
 
 
 def exports(tally, room):

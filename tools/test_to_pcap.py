@@ -11,7 +11,7 @@ from types import ModuleType
 
 from built import TOP, Ended, Room, Tally
 from messages import begun, longest_runs, read, records_of, simple, text, write
-from test_commands import fault
+from test_commands import fault, hint_of
 
 NAME = "capture-to-pcap"
 SCRIPT, BACK = str(TOP / "tools" / NAME), str(TOP / "tools/pcap-to-capture")
@@ -159,7 +159,7 @@ def lines(tally, room):
         tally.want(f"{name}: status", (found.status, found.err), (0, b""))
         judged = room.show(capture)
         tally.want(f"{name}: nbdcheck", judged, room.show(plain))
-        tally.want(f"{name}: nbdcheck takes it", (judged.status in (0, 1), judged.err), (True, b""))
+        tally.want(f"{name}: nbdcheck takes it", (judged.status in (0, 1), judged.err), (True, hint_of(capture)))
     for name, (capture, number) in REFUSED.items():
         found = run_script(room.put("capture", capture))
         tally.want(name, (found.status, found.out), (1, b""))
