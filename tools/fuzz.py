@@ -69,7 +69,7 @@ BAD_TEXTS = {
 }
 BAD_CAPTURE = r"fault capture line \d+\n"
 EXCHANGED = b"the first bytes of C are a server's (NBDMAGIC): C and S are exchanged in this capture\n"
-SEARCHED = b"line 1 is no entry of an order but the answer of a search that found none: 'no' or 'gave up'\n"
+SEARCHED = b"line 1 is no entry of an order but an answer: 'no' or 'gave up'\n"
 EMPTY = b"the capture is empty: nothing was recorded\n"
 REFUSED = b"no order: the session was refused\n"
 

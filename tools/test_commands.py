@@ -10,7 +10,7 @@ from messages import begun, read, records_of, simple, text, write
 
 LF = b"\n"
 EMPTY = b"the capture is empty: nothing was recorded\n"
-SEARCHED = b"line 1 is no entry of an order but the answer of a search that found none: 'no' or 'gave up'\n"
+SEARCHED = b"line 1 is no entry of an order but an answer: 'no' or 'gave up'\n"
 CAPTURE = text(begun() + [read(1, 0, 4), simple(1, bytes(4))])
 YES = b"yes requests 1 answered 1 improper 0\n"
 # A READ of a byte that nobody wrote.

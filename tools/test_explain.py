@@ -37,6 +37,8 @@ WIRE = {
     "wrong-option": Session([*GO, answer(6, 3, export_info())]),
     "bad-reply-kind": Session([*GO, answer(7, 2, b"\0\0\0\0")]),
     "out-of-profile": Session([*HELLO, option(5), answer(5, 1)]),
+    "out-of-profile-of-listed-contexts": Session(
+        [*HELLO, option(8), answer(8, 1), option(9, bytes(8)), answer(9, 4, b"\0\0\0\0base:allocation")]),
     "out-of-profile-of-metadata-contexts": Session(
         [*HELLO, option(8), answer(8, 1), option(10, bytes(8)), answer(10, 4, b"\0\0\0\1base:allocation")]),
     "out-of-profile-of-extended-headers": Session([*HELLO, option(11), answer(11, 1)]),
@@ -413,7 +415,7 @@ def reasons(tally, room):
         lines = told.split("\n")
         tally.holds(f"granted {number}", lines[3].startswith("granted: ") and lines[3].endswith(f", for {extension}"), told)
         tally.holds(f"instead of {number}", lines[4].startswith("instead: record with"), told)
-        named = re.findall(r"--[\w=-]+|h\.\w+|tls-creds|add_meta_context", lines[4])
+        named = re.findall(r"--[\w=-]+|h\.\w+|tls-creds|add_meta_context|opt_\w+", lines[4])
         tally.want(f"instead of {number}, in docs/RECORDING.md", [word for word in named if word not in page], [])
 
 
@@ -526,8 +528,8 @@ PARTY = re.compile(r"(?m)^(change|read): \w+ #(\d+), .*; served after byte (\d+)
 SOURCES = re.compile(r"(?m)^sources: READ #(\d+) can have its ([0-9a-f]{2}) from (.*?)(;.*)?$")
 HINDRANCE = re.compile(r"; not from (?:the start|\w+ #(\d+))"
                        r"(?: \(([0-9a-f]{2})\)|, (served after the READ)|, which \w+ #(\d+) overwrote before the READ)")
-STEP = re.compile(r"READ #(\d+) can have its [0-9a-f]{2} only from ([^;]*)(?:; so served before this change: ([^;]*))?"
-                  r"(?:; so served after this READ: ([^;]*))?")
+STEP = re.compile(r"READ #(\d+) can have its [0-9a-f]{2} only from ([^;]*)((?:; not from [^;]*)*)"
+                  r"(?:; so served before this change: ([^;]*))?(?:; so served after this READ: ([^;]*))?")
 
 
 class Pencil:
@@ -583,14 +585,17 @@ class Pencil:
         return found
 
     def settle(self, read, source):
-        """The changes that are now known to be served before the source, and after the READ."""
+        """The requests that are now known to be served before the source, and after the READ: changes, and where it is known what the
+        source left READs that got another byte."""
         before, after = set(), set()
         if source:
             self.put(source, read)
-        for other in self.changes:
+        others = [one for one in self.reads if self.left(source) and self.bytes[one] != self.bytes[read]]
+        for other in [*self.changes, *others]:
             if source and other != source and (other, read) in self.order:
-                before |= {other} if self.put(other, source) else set()
-            elif other != source and (source == 0 or (source, other) in self.order):
+                if (source, other) not in self.order:
+                    before |= {other} if self.put(other, source) else set()
+            elif other != source and (source == 0 or (source, other) in self.order) and (other, read) not in self.order:
                 after |= {other} if self.put(read, other) else set()
         return before, after
 
@@ -616,10 +621,12 @@ def follow(tally, name, told):
                 read = int(ended[1])
                 tally.want(f"{name}: {step}, reasons", pencil.hindered(read, step), pencil.suspects(read))
             return bool(ended)
-        read, source, before, after = STEP.fullmatch(step).groups()
-        tally.want(f"{name}: {step}", numbers_in(source), pencil.sources(int(read)))
+        read, source, others, before, after = STEP.fullmatch(step).groups()
+        read, source = int(read), numbers_in(source)
+        tally.want(f"{name}: {step}", source, pencil.sources(read))
+        tally.want(f"{name}: {step}, reasons", pencil.hindered(read, others), [one for one in pencil.suspects(read) if one not in source])
         listed = tuple(set(numbers_in(words or "")) for words in (before, after))
-        tally.want(f"{name}: {step}, what follows", listed, pencil.settle(int(read), numbers_in(source)[0]))
+        tally.want(f"{name}: {step}, what follows", listed, pencil.settle(read, source[0]))
     tally.want(f"{name}: ten steps", len(steps), 10)
     return False
 

@@ -191,8 +191,8 @@ fn count_from(content: Option<Part>, offset: u64) -> u64 {
     }
 }
 
-// What stands at the place of a byte that a message brought.
-fn place_of(brief: &Brief) -> &'static str {
+/// What stands at the place of a byte that a message brought.
+pub fn place_of(brief: &Brief) -> &'static str {
     if is_hole(brief) {
         ", in a hole, whose chunk ends at byte "
     } else {

@@ -32,9 +32,10 @@ pub struct Step {
     /// The place of the READ.
     pub read: usize,
     pub source: Source,
-    /// The places, as bits, of changes that were served before the READ, and so before the source.
+    /// The places, as bits, of requests that were served before the READ, and so before the source: changes, and READs that got another
+    /// byte.
     pub before: u64,
-    /// Those of changes that were served after the source, and so after the READ.
+    /// Those of such requests that were served after the source, and so after the READ.
     pub after: u64,
 }
 
@@ -196,6 +197,17 @@ impl Deduced {
         (count, last)
     }
 
+    // Whether a request can't stand between a source and the READ that has its byte from there: a change, or a READ that got another byte,
+    // where the byte is known that the source left.
+    fn stands_apart(&self, other: usize, read: usize, source: Source) -> bool {
+        let is_known = match source {
+            Source::Start => self.start.is_some(),
+            Source::Change(place) => self.bytes[place % MOST].is_some(),
+        };
+        other < self.changes
+            || is_known && self.bytes[other % MOST] != self.bytes[read % MOST]
+    }
+
     // Notes what follows for a READ whose byte comes from one source, where that is something new.
     fn settle(&mut self, read: usize, source: Source) -> Option<Step> {
         let (mut is_new, itself, after) = match source {
@@ -208,15 +220,17 @@ impl Deduced {
             before: 0,
             after: 0,
         };
-        for other in 0..self.changes {
-            if other == itself {
+        for other in 0..self.count {
+            if other == itself || !self.stands_apart(other, read, source) {
                 continue;
             }
             if self.is_after(other, read) && itself != MOST {
-                if self.note(other, itself) {
+                if !self.is_after(itself, other) && self.note(other, itself) {
                     step.before |= bit(other);
                 }
-            } else if after & bit(other) != 0 && self.note(read, other) {
+            } else if after & bit(other) != 0
+                && !self.is_after(other, read)
+                && self.note(read, other) {
                 step.after |= bit(other);
             }
         }

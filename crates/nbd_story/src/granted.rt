@@ -32,7 +32,9 @@ fn advice(option: u32) -> &'static str {
     match option {
         options::STARTTLS =>
             "record without TLS: a client of nbd: in place of nbds:, qemu without tls-creds, nbdkit --tls=off",
-        options::LIST_META_CONTEXT | options::SET_META_CONTEXT =>
+        options::LIST_META_CONTEXT =>
+            "record without listing contexts: nbdinfo --size, nbdsh without opt_list_meta_context; qemu-nbd --list always asks",
+        options::SET_META_CONTEXT =>
             "record without block status: nbdsh without --base-allocation and add_meta_context, nbdcopy --no-extents; qemu always asks, so serve without structured replies: nbdkit --no-sr",
         options::EXTENDED_HEADERS =>
             "record without them: in libnbd h.set_request_extended_headers(False), or a server that has none",

@@ -1,6 +1,6 @@
 //! Why no order explains a session.
 
-use crate::content::{byte_at_first, byte_by, found_byte};
+use crate::content::{byte_at_first, byte_by, found_byte, place_of};
 use crate::explanation::Sources;
 use crate::story::{Request, Story};
 use crate::text::Text;
@@ -74,7 +74,8 @@ impl Text {
         match found_byte(read, offset, story) {
             Some(came) => self
                 .byte("got ", came.byte)
-                .number(", at byte ", came.place)
+                .say(place_of(&came.reply.brief))
+                .number("", came.place)
                 .say("\n"),
             None => self.say("got no byte\n"),
         }

@@ -120,8 +120,9 @@ impl Text {
         let mut text = self;
         for number in 0..MOST_STEPS {
             text = text.number("step ", number + 1).say(": ");
+            let known = *deduced;
             match deduced.next() {
-                Next::Step(step) => text = text.step(step, deduced, story),
+                Next::Step(step) => text = text.step(step, &known, story),
                 Next::End(read) => return text.last_step(read, deduced, story),
                 Next::Nothing => return text.say(
                     "none; the search went through each order of these\n",
@@ -131,11 +132,13 @@ impl Text {
         text.say("further steps are not told\n")
     }
 
+    // What follows from what is known, and why the other sources fall away.
     fn step(self, step: Step, deduced: &Deduced, story: &Story) -> Text {
         let text = self
             .got_by(step.read, deduced, story)
             .say(" only from ")
-            .source(step.source, deduced, story);
+            .source(step.source, deduced, story)
+            .impossible(step.read, false, deduced, story);
         text.group(
             "; so served before this change: ",
             step.before,
@@ -146,11 +149,11 @@ impl Text {
         .say("\n")
     }
 
-    // Changes at these places, as bits, behind words, where there are some.
+    // Requests at these places, as bits, behind words, where there are some.
     fn group(self, words: &str, places: u64, deduced: &Deduced, story: &Story) -> Text {
         let mut text = self;
         let mut mark = words;
-        for place in 0..deduced.changes {
+        for place in 0..deduced.count {
             if places & bit(place) != 0 {
                 text = text.say(mark).party(place, deduced, story);
                 mark = ", ";

@@ -52,7 +52,7 @@ fn behind<'a>(wanted: &'a [u8], came: &[u8]) -> Option<&'a [u8]> {
     }
 }
 
-/// Whether a file begins as what a search writes that found no order.
+/// Whether a file begins as an answer that has no order.
 pub fn is_answer(rt: &HostRuntime, path: &str) -> bool {
     let mut first = [0u8; 7];
     match read_first(rt, path, &mut first) {

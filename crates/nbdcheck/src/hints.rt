@@ -29,12 +29,12 @@ pub fn tell_of_fault(rt: &HostRuntime, fault: &RunFault, capture: &str, order: &
     }
 }
 
-// Says that an order is the answer of a search, and else, on a terminal, what is wrong with its line.
+// Says that an order is an answer that has none, and else, on a terminal, what is wrong with its line.
 fn tell_of_order(rt: &HostRuntime, path: &str, number: u64) {
     if number == 1 && is_answer(rt, path) {
         tell(
             rt,
-            "line 1 is no entry of an order but the answer of a search that found none: 'no' or 'gave up'",
+            "line 1 is no entry of an order but an answer: 'no' or 'gave up'",
         );
     } else if let Some(line) = shown_line(rt, path, number) {
         hint_at(rt, order_mistake(&line));
