@@ -153,6 +153,14 @@ def alternating(count):
     return [*records, read(number + 1, 0, 1), simple(number + 1, b"\1"), *replies]
 
 
+# Three WRITEs that are outstanding, of 01, 01 and 02, and READs one after the other that get 02, 01 and 02: the second READ stands between
+# the WRITE of 02 and the last READ.
+BETWEEN = [*begun(), write(1, 0, b"\1"), write(2, 0, b"\1"), write(3, 0, b"\2"), read(4, 0, 1), simple(4, b"\2"), read(5, 0, 1),
+           simple(5, b"\1"), read(6, 0, 1), simple(6, b"\2"), simple(1), simple(2), simple(3)]
+# Three WRITEs of 01, 00 and 01 that end before two READs, which get 01, and 00 as a hole.
+HOLED = [*begun(structured=True), write(1, 0, b"\1"), write(2, 0, b"\0"), write(3, 0, b"\1"), done(1), done(2), done(3), read(4, 0, 1),
+         content(4, 0, b"\1"), done(4), read(5, 0, 1), hole(5, 0, 1), done(5)]
+
 # Sessions that are explained without an order.
 ORDERLESS = {
     "no-order-before-the-start": Session(SILENT),
@@ -178,8 +186,10 @@ ORDERLESS = {
         [*begun(), *(record for number in range(1, 11) for record in (write(number, 0, bytes([number])), simple(number))),
          read(11, 0, 1), simple(11, b"\xff")]),
     "no-order-of-three-reads": Session(UNORDERED),
+    "no-order-of-a-read-between": Session(BETWEEN),
+    "no-order-of-a-hole": Session(HOLED),
     "no-order-of-five-reads": Session(alternating(2)),
-    "no-order-of-more-than-ten-steps": Session(alternating(5)),
+    "no-order-of-more-than-ten-steps": Session(alternating(6)),
     "image": Session(WRITTEN, start="image:9"),
     "unknown-cookie": WIRE["unknown-cookie"],
 }
@@ -527,7 +537,8 @@ PARTY = re.compile(r"(?m)^(change|read): \w+ #(\d+), .*; served after byte (\d+)
                    r"(?:left|got) (?:([0-9a-f]{2})\b|a byte)")
 SOURCES = re.compile(r"(?m)^sources: READ #(\d+) can have its ([0-9a-f]{2}) from (.*?)(;.*)?$")
 HINDRANCE = re.compile(r"; not from (?:the start|\w+ #(\d+))"
-                       r"(?: \(([0-9a-f]{2})\)|, (served after the READ)|, which \w+ #(\d+) overwrote before the READ)")
+                       r"(?: \(([0-9a-f]{2})\)|, (served after the READ)|, which \w+ #(\d+) overwrote before the READ|"
+                       r", after which READ #(\d+) got ([0-9a-f]{2}) before the READ)")
 STEP = re.compile(r"READ #(\d+) can have its [0-9a-f]{2} only from ([^;]*)((?:; not from [^;]*)*)"
                   r"(?:; so served before this change: ([^;]*))?(?:; so served after this READ: ([^;]*))?")
 
@@ -561,13 +572,24 @@ class Pencil:
         """The sources that may have left the byte of a READ."""
         return [source for source in (0, *self.changes) if self.left(source) in (None, self.bytes[read])]
 
-    def holds(self, read, source, byte, is_later, other):
+    def is_between(self, source, other, read):
+        return (other, read) in self.order and (source == 0 or (source, other) in self.order)
+
+    def others(self, read, source):
+        """The requests that can't stand between a source and the READ that has its byte from there: the changes, and where it is known
+        what the source left READs that got another byte."""
+        return [*self.changes, *(one for one in self.reads if self.left(source) and self.bytes[one] != self.bytes[read])]
+
+    def holds(self, read, source, byte, is_later, change, other, got):
         """Whether a reason holds for which a READ has not its byte from a source."""
         if byte:
             return byte == self.left(source) != self.bytes[read]
         if is_later:
             return (read, source) in self.order
-        return (int(other), read) in self.order and (source == 0 or (source, int(other)) in self.order)
+        between = int(change or other)
+        if other and got != self.bytes[between]:
+            return False
+        return between in self.others(read, source) and self.is_between(source, between, read)
 
     def hindered(self, read, words):
         """The sources that are told not to be that of a READ, for a reason that holds."""
@@ -579,19 +601,17 @@ class Pencil:
         found = []
         for source in (0, *self.changes):
             left = self.left(source)
-            is_hidden = any((other, read) in self.order and (source == 0 or (source, other) in self.order) for other in self.changes)
+            is_hidden = any(self.is_between(source, other, read) for other in self.others(read, source))
             if left in (None, self.bytes[read]) and not is_hidden and (read, source) not in self.order:
                 found.append(source)
         return found
 
     def settle(self, read, source):
-        """The requests that are now known to be served before the source, and after the READ: changes, and where it is known what the
-        source left READs that got another byte."""
+        """The requests that are now known to be served before the source, and after the READ."""
         before, after = set(), set()
         if source:
             self.put(source, read)
-        others = [one for one in self.reads if self.left(source) and self.bytes[one] != self.bytes[read]]
-        for other in [*self.changes, *others]:
+        for other in self.others(read, source):
             if source and other != source and (other, read) in self.order:
                 if (source, other) not in self.order:
                     before |= {other} if self.put(other, source) else set()
@@ -640,9 +660,9 @@ def deduced(tally, room):
         told = told_of(tally, f"deduced {turn}", found)
         if told.startswith("no order explains"):
             ends[follow(tally, f"deduced {turn}", told)] += 1
-    tally.holds("deduced: most of them end", ends[1] > 4 * ends[0], ends)
+    tally.want("deduced: all of them end", (ends[0], ends[1] > 10), (0, True))
     # Of a longer one ten steps; of more than 64 requests none.
-    for count, is_told in ((5, True), (15, True), (16, False)):
+    for count, is_told in ((6, True), (15, True), (16, False)):
         name = f"deduced, {4 * count + 1} requests"
         told = told_of(tally, name, room.run("explain", room.put("long.cap", text(alternating(count))), "--start", "zero"))
         unknown, more = ("\nsources: not told of more than 64 requests\n", "\nfurther steps are not told\n")

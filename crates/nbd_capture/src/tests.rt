@@ -68,7 +68,9 @@ fn reads_order_lines(rt: HostRuntime) -> Result<(), Fail> {
         offset: 0,
         length: 8,
     };
-    assert!(rt; entries.as_slice() == [atomically(0), atomically(u64::MAX), in_part(2, part)].as_slice());
+    assert!(rt;
+        entries.as_slice() == [atomically(0), atomically(u64::MAX), in_part(2, part)].as_slice()
+    );
     assert!(rt; parse_order(rt.alloc(), b"")?.is_empty());
     Ok(())
 }

@@ -24,6 +24,7 @@ use Rattle.nbd_tool.specs.declared.start.StartFrom.{StartFrom}
 use Rattle.nbd_tool.specs.declared.start.Beginning.{Beginning}
 use Rattle.nbd_tool.specs.Beginnings.{IsReadAs, room_in}
 use Rattle.nbd_tool.specs.Runs.{IsCapture, IsCause, IsOrder, flat_of}
+use Rattle.nbd_tool.specs.Starts.{IsWithinLimit}
 use Rattle.nbd_explain.specs.Ordering.{IsOrderingCause}
 use Rattle.nbd_tool.proofs.JudgedLemmas.{verdict_on}
 use Rattle.nbd_tool.proofs.OverLemmas.{checked_over, fault_over, report_over}
@@ -31,7 +32,7 @@ use Rattle.nbd_explain.specs.Arrival.{Arrives, number_lines}
 use Rattle.nbd_explain.specs.Arrival.HasArrival.{accepted, refused}
 use Rattle.nbd_explain.specs.declared.answer.Answer.{Answer}
 use Rattle.nbd_explain.specs.Answering.{IsAnswerTo}
-use Rattle.nbd_explain.specs.Explained.{BeginsWithLine, Explains, IsExplainCause, IsExplained}
+use Rattle.nbd_explain.specs.Explained.{BeginsWithLine, Explains, IsExplainCause, IsExplained, IsOrderWithinLimit}
 use Rattle.nbd_explain.specs.Orderless.{Tells}
 use Rattle.nbd_explain.specs.internal.Lines.{IsToldOn}
 
@@ -123,3 +124,14 @@ pub cause_without : {O I : Type 0} (remaining : O → Option (List ℕ)) (known 
     IsCapture known → IfErr o (λ fault. (k : Option (List ℕ)) → IsCapture k → IsOrderingCause k start fault) → IfErr o (IsExplainCause remaining known order start)
 cause_without remaining known order start (Ok b) none capture cause = tt
 cause_without remaining known order start (Err fault) none capture cause = subst (λ q. IsExplainCause remaining known q start fault) (sym none) (cause known capture)
+
+-- an order that is given is within the limit
+pub limited_with : {O : Type 0} (remaining : O → Option (List ℕ)) (order : Option O) (given : O) (o : Result Answer RunFault) → order ≡ Some given →
+    OnOk o (IsWithinLimit (remaining given)) → OnOk o (IsOrderWithinLimit remaining order)
+limited_with remaining order given (Ok a) is within = subst (IsOrderWithinLimit remaining) (sym is) within
+limited_with remaining order given (Err fault) is within = tt
+
+-- where none is
+pub limited_without : {O : Type 0} (remaining : O → Option (List ℕ)) (order : Option O) (o : Result Answer RunFault) → order ≡ None → OnOk o (IsOrderWithinLimit remaining order)
+limited_without remaining order (Ok a) none = subst (IsOrderWithinLimit remaining) (sym none) tt
+limited_without remaining order (Err fault) none = tt

@@ -1,31 +1,66 @@
 -- What the end of a session says of its capture.
-use Rattle.std.proofs.Common.{◌≡◌, ℕ, List, Bool, sym, ◌∙◌, ap, subst, Option, Result, Ok, Err, IfOk, IfErr, IsErrAnd, ◌⊎◌, inl, inr}
+use Rattle.std.proofs.Common.{◌≡◌, ℕ, List, [], ◌∷◌, ◌++◌, Bool, refl, sym, ◌∙◌, ap, subst, Option, Some, None, Result, Ok, Err, IfOk, IfErr, IfSome, IsErrAnd, OnOk, ◌⊎◌, inl, inr}
+use Rattle.std.specs.Io.KnownBytes.{Appends}
+use Rattle.std.proofs.KnownBytes.{Appends-trans}
 use Rattle.nbd_wire.specs.protocol.Captures.{Pair}
 use Rattle.nbd_session.specs.declared.fault.SessionFault.{SessionFault}
-use Rattle.nbd_session.specs.Refusals.{IsComplete}
-use Rattle.nbd_session.specs.Sessions.{IsOfRun, SessionView, fault_at_end}
+use Rattle.nbd_session.specs.declared.fault.SessionFault.TheVariants as session
+use Rattle.nbd_session.specs.Refusals.{EndsIn, IsComplete}
+use Rattle.nbd_session.specs.Sessions.{IsOfRun, SessionView, bytes_taken, end_by, fault_at_end, fault_of, open_end_fault}
 use Rattle.nbd_tool.specs.declared.fault.RunFault.{RunFault}
 use Rattle.nbd_tool.specs.declared.fault.RunFault.TheVariants as faults
-use Rattle.nbd_tool.specs.Ends.{IsOverText, LeavesLast, is_accepted}
+use Rattle.nbd_tool.specs.Ends.{IsOver, IsOverText, IsWireAt, LeavesLast, is_accepted, last_line}
 use Rattle.nbd_tool.specs.Runs.{flat_of}
 use Rattle.nbd_tool.specs.Shown.{IsOutput, IsShowCause}
 use Rattle.nbd_tool.specs.Shown.IsOutput.{accepted, refused}
 use Rattle.nbd_tool.proofs.LastLineLemmas.{capture_over, shown}
-use Rattle.nbd_explain.specs.Settled.{IsSettled, Settles}
+use Rattle.nbd_tool.proofs.OverLemmas.{fault_over}
+use Rattle.nbd_explain.specs.Settled.{IsLastLine, IsSettled, Settles}
+use Rattle.nbd_explain.specs.Settled.IsLastLine.{accepted as last_accepted, refused as last_refused}
+use Rattle.nbd_explain.specs.internal.Lines.{AppendsSome}
 
 -- what is shown of a capture tells whether a run has its bytes
 settled_by : (capture : List Pair) (answer : Bool) (lines : List ℕ) → IsOutput capture answer lines → IsSettled capture answer
 settled_by capture _ _ (accepted messages run) = (run.items, run.is_run, run.has_pairs)
 settled_by capture _ _ (refused prefix messages fault leads why none) = none
 
+-- a session that is over does not end out of memory
+not_memory : (r : SessionView) → IfSome r.closed (IsWireAt (bytes_taken r)) → fault_at_end r ≡ Some session.Memory → ⊥
+not_memory r at e = go r.closed refl at
+  where
+    ends : (c : Option SessionFault) → r.closed ≡ c → end_by c (open_end_fault r.client r.server (bytes_taken r)) ≡ Some session.Memory
+    ends c closed = sym (ap (λ o. end_by o (open_end_fault r.client r.server (bytes_taken r))) closed) ∙ e
+
+    open_end : (client server : List ℕ) (n : ℕ) → open_end_fault client server n ≡ Some session.Memory → ⊥
+    open_end [] [] n is = cc
+    open_end (b ∷ client) server n is = cc
+    open_end [] (b ∷ server) n is = cc
+
+    go : (c : Option SessionFault) → r.closed ≡ c → IfSome c (IsWireAt (bytes_taken r)) → ⊥
+    go None closed u = open_end r.client r.server (bytes_taken r) (ends None closed)
+    go (Some (session.Wire at fault)) closed u = (let is : Some (session.Wire at fault) ≡ Some session.Memory = ends (Some (session.Wire at fault)) closed in cc)
+    go (Some session.Memory) closed u = absurd u
+
+-- the last line that it gets
+last_of : {A : Type 0} (capture : List Pair) (r : SessionView) (finished : Result A SessionFault) → IsOver capture r → fault_of finished ≡ fault_at_end r → IfErr finished (EndsIn r) →
+    IsLastLine capture (is_accepted (fault_of finished)) (last_line (fault_of finished))
+last_of {A} capture r (Ok told) over same ends = last_accepted
+last_of {A} capture r (Err (session.Wire at fault)) over same ends =
+    let why = fault_over {A = A} capture r (Err (session.Wire at fault)) over same ends in last_refused why.0 at fault why.1
+last_of {A} capture r (Err session.Memory) over same ends = absurd (not_memory r over.at (sym same))
+
 -- the end of a session that is over
-pub settled : (known : Option (List ℕ)) (r : SessionView) (ended : Option SessionFault) (answer : Bool) → IsOverText known r → IsOfRun r → IsComplete r →
-    ended ≡ fault_at_end r → answer ≡ is_accepted ended → Settles known answer
-settled known r ended answer session run complete same is = record {
+pub settled : {A : Type 0} (known : Option (List ℕ)) (r : SessionView) (finished : Result A SessionFault) (answer : Bool) (old mid new : Option (List ℕ)) → IsOverText known r → IsOfRun r → IsComplete r →
+    fault_of finished ≡ fault_at_end r → IfErr finished (EndsIn r) → answer ≡ is_accepted (fault_of finished) → AppendsSome old mid → Appends mid new (last_line (fault_of finished)) → Settles known answer old new
+settled known r finished answer old mid new session run complete same ends is some written = record {
   chunks = session.chunks;
   is_text = session.is_text;
   settled = subst (IsSettled (flat_of session.chunks)) (sym (is ∙ ap is_accepted same))
       (settled_by (flat_of session.chunks) (is_accepted (fault_at_end r)) _ (shown (flat_of session.chunks) r session.over run complete));
+  front = some.0;
+  last = last_line (fault_of finished);
+  is_last = subst (λ yes. IsLastLine (flat_of session.chunks) yes (last_line (fault_of finished))) (sym is) (last_of (flat_of session.chunks) r finished session.over same ends);
+  appended = Appends-trans old mid new some.0 (last_line (fault_of finished)) some.1 written;
 }
 
 -- what a fault of the last line says of the capture
@@ -50,10 +85,11 @@ told_cause A known r (Err f) fault session is (inl e) = subst (IsShowCause known
 told_cause A known r (Err f) fault session is (inr e) = subst (IsShowCause known) (sym (is ∙ e)) tt
 
 -- the same of each capture text whose bytes a session took
-pub settled_over : (r : SessionView) (ended : Option SessionFault) (o : Result Bool RunFault) → IsOfRun r → IsComplete r → ended ≡ fault_at_end r → IfOk o (λ b. b ≡ is_accepted ended) →
-    IfOk o (λ b. (known : Option (List ℕ)) → IsOverText known r → Settles known b)
-settled_over r ended (Ok b) run complete same is = λ known session. settled known r ended b session run complete same is
-settled_over r ended (Err fault) run complete same is = tt
+pub settled_over : {A : Type 0} (r : SessionView) (finished : Result A SessionFault) (o : Result Bool RunFault) (old mid new : Option (List ℕ)) → IsOfRun r → IsComplete r →
+    fault_of finished ≡ fault_at_end r → IfErr finished (EndsIn r) → AppendsSome old mid → IfOk o (λ b. b ≡ is_accepted (fault_of finished)) → OnOk o (Appends mid new (last_line (fault_of finished))) →
+    IfOk o (λ b. (known : Option (List ℕ)) → IsOverText known r → Settles known b old new)
+settled_over r finished (Ok b) old mid new run complete same ends some is written = λ known session. settled known r finished b old mid new session run complete same ends is some written
+settled_over r finished (Err fault) old mid new run complete same ends some is written = tt
 
 pub last_cause_over : (r : SessionView) (ended : Option SessionFault) (old new : Option (List ℕ)) (o : Result Bool RunFault) → IfErr o (LeavesLast ended old new) →
     IfErr o (λ fault. (known : Option (List ℕ)) → IsOverText known r → IsShowCause known fault)
@@ -66,10 +102,15 @@ told_cause_over A r (Ok a) fault is either = tt
 told_cause_over A r (Err f) fault is either = λ known session. told_cause A known r (Err f) fault session is either
 
 -- of the capture text whose bytes it took
-pub settled_of : (known : Option (List ℕ)) (r : SessionView) (o : Result Bool RunFault) → IsOverText known r → IfOk o (λ b. (k : Option (List ℕ)) → IsOverText k r → Settles k b) → IfOk o (Settles known)
-settled_of known r (Ok b) session settles = settles known session
-settled_of known r (Err fault) session settles = tt
+pub settled_of : (known : Option (List ℕ)) (r : SessionView) (o : Result Bool RunFault) (old new : Option (List ℕ)) → IsOverText known r →
+    IfOk o (λ b. (k : Option (List ℕ)) → IsOverText k r → Settles k b old new) → IfOk o (λ b. Settles known b old new)
+settled_of known r (Ok b) old new session settles = settles known session
+settled_of known r (Err fault) old new session settles = tt
 
 pub cause_of : (known : Option (List ℕ)) (r : SessionView) (o : Result Bool RunFault) → IsOverText known r → IfErr o (λ fault. (k : Option (List ℕ)) → IsOverText k r → IsShowCause k fault) → IfErr o (IsShowCause known)
 cause_of known r (Ok b) session cause = tt
 cause_of known r (Err fault) session cause = cause known session
+
+-- some text behind some text
+pub some_more : (a b c : Option (List ℕ)) → AppendsSome a b → AppendsSome b c → AppendsSome a c
+some_more a b c one more = (one.0 ++ more.0, Appends-trans a b c one.0 more.0 one.1 more.1)

@@ -6,6 +6,7 @@ use Rattle.nbd_tool.specs.declared.fault.RunFault.{RunFault}
 use Rattle.nbd_tool.specs.declared.start.StartFrom.{StartFrom}
 use Rattle.nbd_explain.specs.Ordering.{IsOrderingCause}
 use Rattle.nbd_tool.specs.Runs.{IsCause, IsVerdictOn}
+use Rattle.nbd_tool.specs.Starts.{IsWithinLimit}
 use Rattle.nbd_tool.specs.Verdicts.{line}
 use Rattle.nbd_explain.specs.declared.answer.Answer.{Answer}
 use Rattle.nbd_explain.specs.Answering.{IsAnswerTo}
@@ -30,6 +31,11 @@ abbrev pub IsExplained : {O : Type 0} → (O → Option (List ℕ)) → Option (
 IsExplained remaining capture (Some order) initial answer old new =
     Explains capture (remaining order) initial answer old new
 IsExplained remaining capture None initial answer old new = Tells capture initial answer old new
+
+-- an order that is given has no more bytes than an input may have
+abbrev pub IsOrderWithinLimit : {O : Type 0} → (O → Option (List ℕ)) → Option O → Type 0
+IsOrderWithinLimit remaining (Some order) = IsWithinLimit (remaining order)
+IsOrderWithinLimit remaining None = Unit {0}
 
 -- what a fault says of the inputs: as of `check`, or without an order as of `order`
 abbrev pub IsExplainCause : {O I : Type 0} → (O → Option (List ℕ)) → Option (List ℕ) → Option O → StartFrom I → RunFault

@@ -1,25 +1,40 @@
 -- Whether a capture is that of a run, where its reader states its bytes.
-use Rattle.std.specs.Prelude.{◌≡◌, ℕ, List, Bool, true, false, Option, IfSome}
-use Rattle.std.specs.Io.KnownBytes.{Keeps}
+use Rattle.std.specs.Prelude.{◌≡◌, ◌++◌, ℕ, List, Bool, true, false, Option, IfSome, codes}
+use Rattle.std.specs.Io.KnownBytes.{Appends, Keeps}
+use Rattle.nbd_wire.specs.declared.fault.WireFault.{WireFault}
+use Rattle.nbd_wire.specs.declared.message.Message.{Message}
 use Rattle.nbd_wire.specs.protocol.Captures.{Pair}
 use Rattle.nbd_wire.specs.protocol.Marks.{Item, pairs}
 use Rattle.nbd_wire.specs.protocol.Rules.{IsRun}
 use Rattle.nbd_wire.specs.protocol.Within.{IsOfNoRun}
 use Rattle.nbd_capture.specs.Capture.{Chunk, IsCaptureText}
+use Rattle.nbd_session.specs.Refusals.{IsWireFault}
+use Rattle.nbd_judge.specs.declared.verdict.Verdict.TheVariants.{Wire}
 use Rattle.nbd_tool.specs.declared.fault.RunFault.{RunFault}
 use Rattle.nbd_tool.specs.declared.fault.RunFault.TheVariants.{Write, Memory}
 use Rattle.nbd_tool.specs.Runs.{flat_of}
+use Rattle.nbd_tool.specs.Verdicts.{line}
 
 -- true of the bytes of some run, false of those of none
 abbrev pub IsSettled : List Pair → Bool → Type 0
 IsSettled capture true = (items : List Item) × IsRun items × (pairs items ≡ capture)
 IsSettled capture false = IsOfNoRun capture
 
--- the same of a capture text
-pub record Settles (known : Option (List ℕ)) (yes : Bool) : Type 0 where
+-- the last line: `ok` of the bytes of some run, else where and why they are of none
+pub data IsLastLine (capture : List Pair) : Bool → List ℕ → Type 0 where
+  accepted : IsLastLine capture true (codes "ok\n")
+  refused : (messages : List Message) (at : ℕ) (fault : WireFault) → IsWireFault capture messages at fault
+      → IsLastLine capture false (line (Wire at fault))
+
+-- the same of a capture text, and behind some text the last line was written
+pub record Settles (known : Option (List ℕ)) (yes : Bool) (old new : Option (List ℕ)) : Type 0 where
   pub chunks : List Chunk
   pub is_text : IfSome known (λ text. IsCaptureText text chunks)
   pub settled : IsSettled (flat_of chunks) yes
+  pub front : List ℕ
+  pub last : List ℕ
+  pub is_last : IsLastLine (flat_of chunks) yes last
+  pub appended : Appends old new (front ++ last)
 
 -- nothing was written before a fault, but where the writer failed or memory ran out
 abbrev pub KeepsUnread : (old new : Option (List ℕ)) → RunFault → Type 0

@@ -7,7 +7,7 @@ ghost use Rattle.nbd_tool.specs.Ends.{IsOverText};
 ghost use Rattle.nbd_explain.specs.Ordering.{LeavesOrdered};
 ghost use Rattle.nbd_tool.specs.Runs.{IsCapture, IsCause, IsOrder};
 ghost use Rattle.nbd_tool.specs.Starts.{IsStartWithinLimit, IsWithinLimit, initial_from};
-ghost use Rattle.nbd_explain.specs.Explained.{Explains, IsExplainCause, IsExplained};
+ghost use Rattle.nbd_explain.specs.Explained.{Explains, IsExplainCause, IsExplained, IsOrderWithinLimit};
 ghost use Rattle.nbd_explain.specs.internal.Lines.{IsToldOn};
 
 use crate::answer::Answer;
@@ -45,6 +45,7 @@ pub fn run_explain<C: BufRead + Drop, O: Read + Drop, I: Measured + Drop, W: Wri
         (initial_from I.remaining start) answer (W.contents out.old) (W.contents out.new)) }
     ensures well_formed { OnOk result (IsCapture (C.remaining capture)) }
     ensures limited { OnOk result (IsWithinLimit (C.remaining capture)) }
+    ensures order_limited { OnOk result (IsOrderWithinLimit O.remaining order) }
     ensures start_limited { OnOk result (IsStartWithinLimit I.remaining start) }
     ensures cause { IfErr result (IsExplainCause O.remaining (C.remaining capture) order start) }
     ensures left { IfErr result (LeavesOrdered (W.contents out.old) (W.contents out.new)) }
@@ -69,6 +70,7 @@ fn explain_verdict<O: Read + Drop, I: Measured + Drop, W: Write>(
 ) -> Result<Answer, RunFault>
     ensures written { IfOk result (λ answer. (known : Option (List ℕ)) → IsOverText known session → Explains known
         (O.remaining order) (initial_from I.remaining start) answer (W.contents out.old) (W.contents out.new)) }
+    ensures limited { OnOk result (IsWithinLimit (O.remaining order)) }
     ensures start_limited { OnOk result (IsStartWithinLimit I.remaining start) }
     ensures cause { IfErr result (λ fault. (known : Option (List ℕ)) → IsCapture known →
         IsCause known (O.remaining order) start fault) }

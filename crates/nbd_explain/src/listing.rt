@@ -7,6 +7,7 @@ ghost use Rattle.nbd_tool.specs.Runs.{IsCapture};
 ghost use Rattle.nbd_tool.specs.Shown.{IsShowCause};
 ghost use Rattle.nbd_tool.specs.Starts.{IsWithinLimit};
 ghost use Rattle.nbd_explain.specs.Settled.{KeepsUnread, Settles};
+ghost use Rattle.nbd_explain.specs.internal.Lines.{AppendsSome};
 
 use crate::reading::Recorder;
 use nbd_capture::write_whole;
@@ -27,7 +28,7 @@ pub fn run_names<C: BufRead + Drop, W: Write>(
     capture: C,
     out: &mut W,
 ) -> Result<bool, RunFault>
-    ensures answer { IfOk result (Settles (C.remaining capture)) }
+    ensures answer { IfOk result (λ yes. Settles (C.remaining capture) yes (W.contents out.old) (W.contents out.new)) }
     ensures well_formed { OnOk result (IsCapture (C.remaining capture)) }
     ensures limited { OnOk result (IsWithinLimit (C.remaining capture)) }
     ensures cause { IfErr result (IsShowCause (C.remaining capture)) }
@@ -45,7 +46,8 @@ fn write_names<W: Write>(
     story: &mut Story,
     out: &mut W,
 ) -> Result<bool, RunFault>
-    ensures answer { IfOk result (λ yes. (known : Option (List ℕ)) → IsOverText known session → Settles known yes) }
+    ensures answer { IfOk result (λ yes. (known : Option (List ℕ)) → IsOverText known session →
+        Settles known yes (W.contents out.old) (W.contents out.new)) }
     ensures cause { IfErr result (λ fault. (known : Option (List ℕ)) → IsOverText known session → IsShowCause known fault) }
     ensures left { IfErr result (KeepsUnread (W.contents out.old) (W.contents out.new)) }
 {
@@ -60,7 +62,8 @@ fn write_story<W: Write>(
     story: &mut Story,
     out: &mut W,
 ) -> Result<(), RunFault>
-    ensures { IfErr result (λ fault. (fault ≡ Write) ⊎ (fault ≡ Memory)) }
+    ensures appends { OnOk result (AppendsSome (W.contents out.old) (W.contents out.new)) }
+    ensures fault { IfErr result (λ fault. (fault ≡ Write) ⊎ (fault ≡ Memory)) }
 {
     story.tell(messages)?;
     for told in &story.told {
@@ -76,7 +79,8 @@ fn write_told<W: Write>(
     story: &Story,
     out: &mut W,
 ) -> Result<(), RunFault>
-    ensures { IfErr result (λ fault. (fault ≡ Write) ⊎ (fault ≡ Memory)) }
+    ensures appends { OnOk result (AppendsSome (W.contents out.old) (W.contents out.new)) }
+    ensures fault { IfErr result (λ fault. (fault ≡ Write) ⊎ (fault ≡ Memory)) }
 {
     let line = told_line(alloc, told, story)?;
     Ok(write_whole(out, line.as_bytes())?)

@@ -24,6 +24,8 @@ pub enum Hindrance {
     Later,
     /// The change at this place was served between it and the READ.
     Overwritten(usize),
+    /// The READ at this place was served between, and got another byte.
+    Followed(usize),
 }
 
 /// A READ whose byte can come only from one source, and what follows.
@@ -156,12 +158,24 @@ impl Deduced {
         if is_later {
             return Some(Hindrance::Later);
         }
-        for other in 0..self.changes {
-            if after & bit(other) != 0 && self.is_after(other, read) {
-                return Some(Hindrance::Overwritten(other));
+        for other in 0..self.count {
+            if after & bit(other) != 0
+                && self.is_after(other, read)
+                && self.stands_apart(other, read, source)
+            {
+                return Some(self.hindrance_by(other));
             }
         }
         None
+    }
+
+    // The same of the request at a place that was served between a source and a READ.
+    fn hindrance_by(&self, place: usize) -> Hindrance {
+        if place < self.changes {
+            Hindrance::Overwritten(place)
+        } else {
+            Hindrance::Followed(place)
+        }
     }
 
     /// Deduces something more.
@@ -204,8 +218,7 @@ impl Deduced {
             Source::Start => self.start.is_some(),
             Source::Change(place) => self.bytes[place % MOST].is_some(),
         };
-        other < self.changes
-            || is_known && self.bytes[other % MOST] != self.bytes[read % MOST]
+        other < self.changes || is_known && self.bytes[other % MOST] != self.bytes[read % MOST]
     }
 
     // Notes what follows for a READ whose byte comes from one source, where that is something new.
@@ -230,7 +243,8 @@ impl Deduced {
                 }
             } else if after & bit(other) != 0
                 && !self.is_after(other, read)
-                && self.note(read, other) {
+                && self.note(read, other)
+            {
                 step.after |= bit(other);
             }
         }

@@ -104,6 +104,11 @@ impl Text {
                 .say(", which ")
                 .party(place, deduced, story)
                 .say(" overwrote before the READ"),
+            Hindrance::Followed(place) => self
+                .say(", after which ")
+                .party(place, deduced, story)
+                .byte(" got ", deduced.bytes[place % MOST].unwrap_or(0))
+                .say(" before the READ"),
         }
     }
 

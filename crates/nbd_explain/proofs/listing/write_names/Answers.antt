@@ -4,11 +4,12 @@ use Rattle.nbd_explain.proofs.listing.write_names.Goals as goal
 pub returns-in_err-write_story-clause-cause : goal.returns-in_err-write_story-clause-cause
 returns-in_err-write_story-clause-cause g c =
     told_cause_over _ c.args.session c.from_residual.result c.in_err-write_story.field-0.0
-    c.from_residual.ensures.1 c.in_err-write_story.ensures
+    c.from_residual.ensures.1 c.in_err-write_story.ensures.fault
 
 pub returns-clause-answer : goal.returns-clause-answer
 returns-clause-answer g c =
-    settled_over c.args.session _ c.write_end.result c.messages.ensures.run c.messages.ensures.complete c.finish.ensures.fault c.write_end.ensures.answer
+    settled_over c.args.session c.finish.result c.write_end.result (g.W.Write.contents c.args.out.now) (g.W.Write.contents c.write_story.new.out) (g.W.Write.contents c.write_end.new.out)
+    c.messages.ensures.run c.messages.ensures.complete c.finish.ensures.fault c.finish.ensures.wire c.in_ok-write_story.ensures.appends c.write_end.ensures.answer c.write_end.ensures.written
 
 pub returns-clause-cause : goal.returns-clause-cause
 returns-clause-cause g c = last_cause_over c.args.session _ _ _ c.write_end.result c.write_end.ensures.left
