@@ -75,6 +75,15 @@ def many_chunks(tally, room):
     tally.want("70,000 records without bytes", room.check(text(records), b"1\n"), yes(1, 1, 0))
 
 
+def a_million(tally, room):
+    """A million FLUSHes, each answered before the next, and as many entries of an order: no growth is told as out of memory."""
+    count, nothing = 10**6, "0" * 24
+    lines = (f"C 2560951300000003{cookie:016x}{nothing}\nS 6744669800000000{cookie:016x}\n" for cookie in range(count))
+    capture, numbers = text(begun()) + "".join(lines).encode(), b"".join(b"%d\n" % number for number in range(1, count + 1))
+    tally.want("a million requests and entries", room.check(capture, numbers), yes(count, count, 0))
+    tally.want("a million requests, their numbers", room.run("order", "--arrival", room.put("million", capture)), Ended(0, numbers, b""))
+
+
 def holes(count, command):
     """Changes of each second byte, a WRITE to zero, so many, and then as many READs of all of these bytes, each answered by one
     hole."""
@@ -169,7 +178,7 @@ def long_lines(tally, room):
 
 def run(tally):
     with Room() as room:
-        for part in (long_messages, many_chunks, costs_of_holes, exports, long_lines):
+        for part in (long_messages, many_chunks, a_million, costs_of_holes, exports, long_lines):
             part(tally, room)
 
 

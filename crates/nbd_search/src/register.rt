@@ -96,8 +96,7 @@ impl Register {
         0
     }
 
-    // Looks for an order from `lo` to before `hi`: of all as one value, else of shorter ranges, each for itself, and then the range is
-    // torn.
+    // Looks for an order from `lo` to before `hi`: of all as one value, else of shorter ranges, each for itself: the range is torn.
     fn settle(&mut self, source: &Source, lo: u64, hi: u64, is_torn: &mut bool) {
         let (mut at, mut end) = (lo, hi);
         for _ in lo..u64::MAX {

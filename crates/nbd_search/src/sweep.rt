@@ -1,8 +1,7 @@
 //! The search for an order of the requests of one range, whose bytes are taken as one value.
 //!
 //! All choices are made as late as possible. A READ is served atomically where the value matches; a change in its last slot, by a switch
-//! to its value or hidden directly before the last switch; a READ in its last slot takes an open change of its value with it, in the
-//! same way.
+//! to its value or hidden directly before the last switch; so does a READ in its last slot with an open change of its value.
 
 use crate::columns::{COUNT, Columns};
 use crate::scene::{NEVER, Patch};

@@ -21,8 +21,7 @@ pub struct Limits {
 impl Limits {
     /// Limits that suffice for recorded sessions.
     pub fn usual() -> Limits
-        ensures states { result.states ≡ 5000 }
-        ensures steps { result.steps ≡ 1000000000 }
+        ensures { result ≡ record { states = 5000; steps = 1000000000 } }
     {
         Limits {
             states: 5_000,
