@@ -309,7 +309,8 @@ class Fuzz:
         made = self.make(message_lines(shown))
         self.want("make of show", made.status, 0)
         if shown.status == 0:
-            self.want("show of make of show", self.show(made.out), shown)
+            again = self.show(made.out)
+            self.want("show of make of show", (again.status, again.out), (shown.status, shown.out))
 
     def ask_explain(self, capture, order, start):
         told, found = (self.judged(command, capture, order, start) for command in ("explain", "check"))
