@@ -1,0 +1,130 @@
+// The ranges of the export over the session: which request wrote what stands there.
+const EXPORT_TOP = 22, EXPORT_ROWS = 180, EXPORT_HEIGHT = EXPORT_TOP + EXPORT_ROWS + 10;
+
+// The changes and reads in the order in which they are drawn: by the order of service, or without one by their first reply.
+const events = [];
+function addEvent(number, at, begin, length) {
+  events.push({ number, at, begin, end: begin + BigInt(length) });
+}
+if (services.count > 0) {
+  services.request.forEach((number, at) => {
+    if (number < 1 || number > requests.count) return;
+    const isWhole = services.begin[at] === null;
+    addEvent(number, services.at[at], isWhole ? requests.begin[number] : services.begin[at], isWhole ? requests.length[number] : services.length[at]);
+  });
+} else {
+  for (let number = 1; number <= requests.count; number++) {
+    addEvent(number, replyOf(number) === null ? requests.end[number] : replyOf(number) - 1, requests.begin[number], requests.length[number]);
+  }
+  events.sort((one, other) => one.at - other.at);
+}
+const changes = events.filter((event) => isChange(event.number) && event.end > event.begin);
+const reads = events.filter((event) => requests.command[event.number] === READ && event.end > event.begin);
+
+const questioned = () => (view.offset === null ? guiltyOffset : view.offset);
+
+// The offsets that are shown: of the requests in question, of those at the offset, or of all.
+function offsetWindow() {
+  const offset = questioned();
+  let chosen = [...inQuestion, ...(guilt.expected ? [guilt.expected] : [])].filter((number) => requests.length[number] > 0);
+  if (offset !== null && !(offset === guiltyOffset && chosen.length)) {
+    chosen = events.map((event) => event.number).filter((number) => holds(number, offset));
+  } else if (!chosen.length) {
+    chosen = events.map((event) => event.number).filter((number) => requests.length[number] > 0);
+  }
+  let begin = null, end = null;
+  for (const number of chosen) {
+    if (begin === null || requests.begin[number] < begin) begin = requests.begin[number];
+    if (end === null || rangeEnd(number) > end) end = rangeEnd(number);
+  }
+  if (begin === null) [begin, end] = [offset === null ? 0n : offset, offset === null ? 16n : offset + 1n];
+  const margin = (end - begin) / 16n;
+  return [begin > margin ? begin - margin : 0n, end + margin];
+}
+
+const shade = (number) => (number % 2 ? 1 : 0.82);
+
+function rgb(number) {
+  const color = colorOf(requests.command[number]), hatched = isHatched(number);
+  return [1, 3, 5].map((at) => {
+    const value = parseInt(color.slice(at, at + 2), 16) * shade(number);
+    return hatched ? value * 0.4 + 150 : value;
+  });
+}
+
+// The pixels of the chart: each row keeps its last writer, and the columns up to the next change show it.
+function paint(rowOf, width, height, scale) {
+  const image = new ImageData(width, height), rows = new Int32Array(height);
+  let column = 0;
+  const fill = (until) => {
+    for (let y = 0; y < height; y++) {
+      const [red, green, blue] = rows[y] ? colors.get(rows[y]) : [244, 244, 244];
+      for (let x = column; x < until; x++) image.data.set([red, green, blue, 255], 4 * (y * width + x));
+    }
+    column = until;
+  };
+  const colors = new Map();
+  for (const change of changes) {
+    if (change.at > view.to) break;
+    const [top, bottom] = [Math.floor(rowOf(change.begin) * scale), Math.ceil(rowOf(change.end) * scale)];
+    if (bottom <= 0 || top >= height) continue;
+    const x = Math.max(0, Math.min(width, Math.round((xOf(change.at) - GUTTER) * scale)));
+    if (x > column) fill(x);
+    if (!colors.has(change.number)) colors.set(change.number, rgb(change.number));
+    rows.fill(change.number, Math.max(top, 0), Math.min(Math.max(bottom, top + 1), height));
+  }
+  fill(width);
+  return image;
+}
+
+function drawOffsets(drawing, base, span, yOf) {
+  for (let step = 0; step <= 4; step++) {
+    const offset = base + (span * BigInt(step)) / 4n;
+    if (questioned() !== null && Math.abs(yOf(offset) - yOf(questioned())) < 14) continue;
+    drawing.append(svg("text", { class: "soft", x: GUTTER - 6, y: yOf(offset) + 4, "text-anchor": "end" }, String(offset)));
+  }
+}
+
+function drawQuestion(drawing, yOf) {
+  const offset = questioned();
+  if (offset === null) return;
+  const y = yOf(offset);
+  drawing.append(svg("line", { class: "redline dash", x1: GUTTER, x2: view.width - RIGHT, y1: y, y2: y }));
+  drawing.append(svg("text", { class: "red", x: GUTTER - 6, y: y + 4, "text-anchor": "end" }, String(offset)));
+}
+
+// The changes and reads in view, few of them, with their numbers.
+function drawNames(drawing, yOf) {
+  const isShown = (event) => event.at >= view.from && event.at <= view.to && yOf(event.end) > EXPORT_TOP && yOf(event.begin) < EXPORT_TOP + EXPORT_ROWS;
+  const limit = (y) => Math.min(Math.max(y, EXPORT_TOP), EXPORT_TOP + EXPORT_ROWS);
+  const written = changes.filter(isShown), read = reads.filter(isShown);
+  const texts = [];
+  for (const event of written.length <= FEW ? written : []) {
+    const x = xOf(event.at), top = limit(yOf(event.begin)), bottom = limit(yOf(event.end));
+    drawing.append(svg("line", { x1: x, x2: x, y1: top, y2: bottom, stroke: "#fff", "stroke-width": 1.5 }));
+    if (written.length <= 60 && bottom - top >= 12) texts.push([x + 4, (top + bottom) / 2 + 4, `#${event.number}`, ""]);
+  }
+  for (const event of read.length <= FEW ? read : read.filter((event) => inQuestion.has(event.number))) {
+    const isRed = inQuestion.has(event.number), x = xOf(event.at), top = limit(yOf(event.begin)), bottom = limit(yOf(event.end));
+    drawing.append(svg("rect", { x: x - 2.5, y: top, width: 5, height: Math.max(bottom - top, 2), fill: isRed ? "#c40000" : COLORS[READ],
+      stroke: isRed ? "#c40000" : "#1a1a1a", "stroke-width": 1 }, svg("title", {}, lineOf(event.number))));
+    if (isRed || read.length <= 60) texts.push([x + 6, top + 12, `READ #${event.number}`, isRed ? "red " : ""]);
+  }
+  for (const [x, y, text, red] of texts) {
+    const isRight = x > view.width - 90;
+    drawing.append(svg("text", { class: `${red}on`, x: isRight ? x - 12 : x, y, "text-anchor": isRight ? "end" : "start" }, text));
+  }
+}
+
+function drawExport() {
+  const { pen, drawing, scale, canvas } = prepare("export", EXPORT_HEIGHT);
+  const [base, end] = offsetWindow(), span = end - base > 0n ? end - base : 1n;
+  const rowOf = (offset) => (Number(offset - base) / Number(span)) * EXPORT_ROWS;
+  const yOf = (offset) => EXPORT_TOP + rowOf(offset);
+  const width = Math.round((view.width - GUTTER - RIGHT) * scale), height = Math.round(EXPORT_ROWS * scale);
+  if (width > 0) pen.putImageData(paint(rowOf, width, height, scale), Math.round(GUTTER * scale), Math.round(EXPORT_TOP * scale));
+  drawAxis(drawing, EXPORT_TOP - 2);
+  drawOffsets(drawing, base, span, yOf);
+  drawNames(drawing, yOf);
+  drawQuestion(drawing, yOf);
+}
