@@ -7,6 +7,7 @@ import tempfile
 from .faults import FAILED, MEMORY, REFUSED, Fault, printable
 
 YES, NO, GAVE_UP, OUT_OF_MEMORY = 0, 1, 5, 4
+BUFFER = 1 << 20
 # nbdcheck's words for an input that is malformed; behind each other fault an input could not be read.
 MALFORMED = re.compile(r"fault (capture|order) line \d+")
 
@@ -19,7 +20,8 @@ class Nbdcheck:
 
     def _begin(self, words, errors):
         try:
-            return subprocess.Popen([self.program, *words], stdin=subprocess.DEVNULL, stdout=subprocess.PIPE, stderr=errors)
+            return subprocess.Popen([self.program, *words], bufsize=BUFFER, stdin=subprocess.DEVNULL, stdout=subprocess.PIPE,
+                                    stderr=errors)
         except OSError as error:
             raise Fault(FAILED, f"cannot run {printable(self.program)}: {error.strerror or error}") from None
 

@@ -1,9 +1,11 @@
 // The requests as bars in lanes, below the messages of both sides.
-const CLIENT_ROW = 24, SERVER_ROW = 38, ROW = 11, LANES = 58;
-const laneHeight = Math.max(4, Math.min(22, Math.floor(520 / Math.max(data.lanes, 1)) - 4));
-const laneStep = laneHeight + (laneHeight > 10 ? 8 : 3);
-const barsHeight = LANES + Math.max(data.lanes, 1) * laneStep + 8;
-const laneTop = (number) => LANES + requests.lane[number] * laneStep;
+const CLIENT_ROW = 24, SERVER_ROW = 38, ROW = 11, LANES = 72;
+// Where there are few lanes each has a line of text above its bars.
+const TEXT = data.lanes <= 16 ? 15 : 0;
+const laneHeight = TEXT ? 15 : Math.max(3, Math.min(14, Math.floor(480 / data.lanes) - 3));
+const laneStep = laneHeight + (TEXT ? TEXT + 5 : 3);
+const barsHeight = LANES + Math.max(data.lanes, 1) * laneStep + 16;
+const laneTop = (number) => LANES + requests.lane[number] * laneStep + TEXT;
 const messagesOf = { C: [], S: [] };
 for (let at = 0; at < messages.count; at++) messagesOf[messages.sides[at]].push(at);
 
@@ -11,7 +13,7 @@ for (let at = 0; at < messages.count; at++) messagesOf[messages.sides[at]].push(
 function drawMany(pen, numbers, color) {
   const covered = new Float64Array(data.lanes);
   for (const number of numbers) {
-    const x = clampX(xOf(firstOf(number) - 1)), end = Math.max(clampX(xOf(requests.end[number])), x + 1);
+    const x = Math.round(clampX(xOf(firstOf(number) - 1))), end = Math.max(Math.round(clampX(xOf(requests.end[number]))), x + 1);
     const lane = requests.lane[number];
     if (end <= covered[lane] && !isHatched(number)) continue;
     pen.fillStyle = color || colorOf(requests.command[number]);
@@ -32,11 +34,12 @@ function drawMessages(pen, side, top) {
   const from = firstWhere(0, list.length, (at) => messages.last[list[at]] >= view.from);
   let covered = 0;
   for (let at = from; at < list.length && messages.first[list[at]] - 1 <= view.to; at++) {
-    const x = clampX(xOf(messages.first[list[at]] - 1)), end = clampX(xOf(messages.last[list[at]]));
-    if (Math.max(end, x + 1) <= covered) continue;
+    const x = Math.round(clampX(xOf(messages.first[list[at]] - 1)));
+    const end = Math.max(Math.round(clampX(xOf(messages.last[list[at]]))), x + 1);
+    if (end <= covered) continue;
     pen.fillStyle = at % 2 ? "#8d8d8d" : "#5f5f5f";
-    pen.fillRect(x, top, Math.max(end - x, 1), ROW);
-    covered = Math.max(end, x + 1);
+    pen.fillRect(x, top, end - x, ROW);
+    covered = end;
   }
 }
 
@@ -57,17 +60,18 @@ function barParts(number) {
   if (isHatched(number)) parts.push(rect(x, end, top, laneHeight, "url(#hatch)"));
   if (reply !== null && reply - 1 >= view.from && reply - 1 <= view.to) {
     const at = xOf(reply - 1);
-    parts.push(svg("line", { class: "tick", x1: at, x2: at, y1: top - 2, y2: top + laneHeight + 2 }));
+    parts.push(svg("line", { class: "tick", x1: at, x2: at, y1: top - 3, y2: top + laneHeight + 3 }));
   }
-  parts.push(rect(x - 1, end + 1, top - 1, laneHeight + 2, "transparent", { class: "frame" }));
+  parts.push(rect(x - 1, end + 1, top - 2, laneHeight + 4, "transparent", { class: "frame" }));
   return parts;
 }
 
 function barText(number) {
   const x = clampX(xOf(firstOf(number) - 1)), room = clampX(xOf(requests.end[number])) - x;
-  const words = [`${shortName(number)}  ${requests.length[number]} at ${requests.begin[number]}`, shortName(number), `#${number}`];
-  const fits = laneHeight < 12 ? undefined : words.find((text) => text.length * 6.7 + 8 < room);
-  return fits ? [svg("text", { class: "on", x: x + 5, y: laneTop(number) + laneHeight / 2 + 4.5 }, fits)] : [];
+  const range = requests.length[number] ? `, ${requests.length[number]} at ${requests.begin[number]}` : "";
+  const words = [shortName(number) + range, shortName(number), `#${number}`];
+  const fits = TEXT ? words.find((text) => text.length * 7 + 6 < room) : undefined;
+  return fits ? [svg("text", { class: inQuestion.has(number) ? "red" : "", x, y: laneTop(number) - 4 }, fits)] : [];
 }
 
 function serviceMarks(number) {
@@ -102,7 +106,7 @@ function drawByte(drawing) {
   const x = xOf(guilt.place - 0.5), width = Math.max(2, xOf(guilt.place) - xOf(guilt.place - 1));
   drawing.append(svg("rect", { class: "redfill", x: x - width / 2, y: 20, width, height: barsHeight - 20, opacity: 0.75, "pointer-events": "none" }));
   const isRight = x > view.width - 160;
-  drawing.append(svg("text", { class: "red on", x: isRight ? x - 5 : x + 5, y: LANES - 2, "text-anchor": isRight ? "end" : "start" },
+  drawing.append(svg("text", { class: "red on", x: isRight ? x - 5 : x + 5, y: LANES - 8, "text-anchor": isRight ? "end" : "start" },
     `byte ${guilt.place}${guilt.fault ? ": " + guilt.fault : ""}`));
 }
 
@@ -120,11 +124,15 @@ function drawLink(drawing) {
   const [to] = guilt.requests, from = guilt.expected;
   if (from === null || from === to) return;
   const service = services.at[guilt.wrote - 1], end = guilt.place === null ? firstOf(to) : guilt.place - 0.5;
-  const x = clampX(xOf(service)), y = laneTop(from) + laneHeight / 2, x2 = clampX(xOf(end)), y2 = laneTop(to) + (y <= laneTop(to) ? 0 : laneHeight);
-  const high = Math.min(y, y2) - (requests.lane[from] === requests.lane[to] ? 16 : 0);
+  const x = clampX(xOf(service)), y = laneTop(from) + laneHeight / 2, x2 = clampX(xOf(end));
   if (x === x2) return;
+  if (service < view.from || service > view.to) {
+    drawing.append(svg("text", { class: "red on", x: x > x2 ? x - 4 : x + 4, y: y + 4, "text-anchor": x > x2 ? "end" : "start" }, `to ${shortName(from)}`));
+  }
+  const isAbove = laneTop(from) < laneTop(to), y2 = laneTop(to) + (isAbove ? 0 : laneHeight);
+  const turn = requests.lane[from] === requests.lane[to] ? y + 34 : isAbove ? y : y2 + 26;
   drawing.append(svg("path", { class: "redline dash", "marker-end": "url(#arrow)", "pointer-events": "none",
-    d: `M${x} ${y}C${x} ${high} ${(x + x2) / 2} ${high} ${x2} ${y2}` }));
+    d: `M${x} ${y}C${x} ${turn} ${x2} ${turn} ${x2} ${y2}` }));
 }
 
 function drawRows(drawing) {
@@ -132,8 +140,8 @@ function drawRows(drawing) {
   for (const [text, y] of rows) drawing.append(svg("text", { x: 6, y }, text));
   const every = Math.ceil(14 / laneStep);
   for (let lane = 0; lane < data.lanes; lane += every) {
-    const y = LANES + lane * laneStep + Math.min(laneHeight / 2 + 4, laneHeight + 3);
-    drawing.append(svg("text", { class: "soft", x: 6, y }, lane === 0 && laneHeight > 10 ? "lane 1" : String(lane + 1)));
+    const y = LANES + lane * laneStep + TEXT + laneHeight / 2 + 4;
+    drawing.append(svg("text", { class: "soft", x: 6, y }, lane === 0 ? "lane 1" : String(lane + 1)));
   }
 }
 

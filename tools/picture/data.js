@@ -8,18 +8,21 @@ const WRITE = 1, TRIM = 4, WRITE_ZEROES = 6, READ = 0;
 const COLORS = ["#7cc4f0", "#0b4a8f", "#000000", "#f2d95c", "#b3701a", "#3f7a4f", "#8a5fc4"];
 const OTHER = "#6b6b6b";
 
+// The line of each message stands by itself, and is read when it is shown.
+const lines = document.getElementById("lines").textContent.trim().split("\n");
+const wordsOf = (at) => JSON.parse(lines[at]);
+
 function sums(steps) {
   let sum = 0;
   return Float64Array.from(steps, (step) => (sum += step));
 }
 
 const messages = {
-  count: data.messages.lines.length,
+  count: data.messages.sides.length,
   first: sums(data.messages.firsts),
   last: null,
   sides: data.messages.sides,
   request: Uint32Array.from(data.messages.requests),
-  lines: data.messages.lines,
 };
 messages.last = messages.first.map((first, at) => first + data.messages.spans[at]);
 
@@ -85,7 +88,7 @@ const colorOf = (command) => COLORS[command] || OTHER;
 const isChange = (number) => [WRITE, TRIM, WRITE_ZEROES].includes(requests.command[number]);
 const isHatched = (number) => requests.improper.has(number) || requests.result[number] === FAILURE;
 const shortName = (number) => `${nameOf(requests.command[number])} #${number}`;
-const lineOf = (number) => messages.lines[requests.message[number]];
+const lineOf = (number) => wordsOf(requests.message[number]);
 const guiltyOffset = guilt.offset === null ? null : BigInt(guilt.offset);
 const byteAt = new Map(guilt.bytes);
 // What a refused message replies to, and what an entry of the order serves, is in question too.
@@ -114,7 +117,7 @@ function roleOf(number) {
 
 function servedBy(number) {
   return (services.of.get(number) || []).map((at) => {
-    const part = services.begin[at] === null ? "" : ` (${services.length[at]} bytes at ${services.begin[at]})`;
+    const part = services.begin[at] === null ? "" : ` (${services.length[at]} ${services.length[at] === 1 ? "byte" : "bytes"} at ${services.begin[at]})`;
     return `${at + 1}${part}`;
   });
 }

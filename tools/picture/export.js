@@ -42,6 +42,7 @@ function offsetWindow() {
   return [begin > margin ? begin - margin : 0n, end + margin];
 }
 
+const isDark = (number) => !["#7cc4f0", "#f2d95c"].includes(colorOf(requests.command[number])) && !isHatched(number);
 const shade = (number) => (number % 2 ? 1 : 0.82);
 
 function rgb(number) {
@@ -52,36 +53,52 @@ function rgb(number) {
   });
 }
 
+const isLittle = new Uint8Array(new Uint32Array([1]).buffer)[0] === 1;
+function pixelOf([red, green, blue]) {
+  return (isLittle ? (255 << 24) | (blue << 16) | (green << 8) | red : (red << 24) | (green << 16) | (blue << 8) | 255) >>> 0;
+}
+
 // The pixels of the chart: each row keeps its last writer, and the columns up to the next change show it.
 function paint(rowOf, width, height, scale) {
-  const image = new ImageData(width, height), rows = new Int32Array(height);
+  const image = new ImageData(width, height), pixels = new Uint32Array(image.data.buffer), rows = new Int32Array(height);
+  const colors = new Map([[0, pixelOf([244, 244, 244])]]);
   let column = 0;
   const fill = (until) => {
-    for (let y = 0; y < height; y++) {
-      const [red, green, blue] = rows[y] ? colors.get(rows[y]) : [244, 244, 244];
-      for (let x = column; x < until; x++) image.data.set([red, green, blue, 255], 4 * (y * width + x));
-    }
+    for (let y = 0; y < height; y++) pixels.fill(colors.get(rows[y]), y * width + column, y * width + until);
     column = until;
   };
-  const colors = new Map();
   for (const change of changes) {
     if (change.at > view.to) break;
     const [top, bottom] = [Math.floor(rowOf(change.begin) * scale), Math.ceil(rowOf(change.end) * scale)];
     if (bottom <= 0 || top >= height) continue;
     const x = Math.max(0, Math.min(width, Math.round((xOf(change.at) - GUTTER) * scale)));
     if (x > column) fill(x);
-    if (!colors.has(change.number)) colors.set(change.number, rgb(change.number));
+    if (!colors.has(change.number)) colors.set(change.number, pixelOf(rgb(change.number)));
     rows.fill(change.number, Math.max(top, 0), Math.min(Math.max(bottom, top + 1), height));
   }
   fill(width);
   return image;
 }
 
+// Multiples of a power of two, as ranges of disks have them.
+function evenOffsets(base, span) {
+  let step = 1n;
+  while (step * 5n < span) step *= 2n;
+  const found = [];
+  for (let at = ((base + step - 1n) / step) * step; at <= base + span; at += step) found.push(at);
+  return found;
+}
+
 function drawOffsets(drawing, base, span, yOf) {
-  for (let step = 0; step <= 4; step++) {
-    const offset = base + (span * BigInt(step)) / 4n;
-    if (questioned() !== null && Math.abs(yOf(offset) - yOf(questioned())) < 14) continue;
-    drawing.append(svg("text", { class: "soft", x: GUTTER - 6, y: yOf(offset) + 4, "text-anchor": "end" }, String(offset)));
+  const named = [...inQuestion, ...(guilt.expected ? [guilt.expected] : [])].filter((number) => requests.length[number] > 0);
+  const ends = named.flatMap((number) => [requests.begin[number], rangeEnd(number) - 1n]);
+  const even = evenOffsets(base, span);
+  const placed = questioned() === null ? [] : [yOf(questioned())];
+  for (const offset of [...ends, ...even]) {
+    const y = yOf(offset);
+    if (y < EXPORT_TOP - 1 || y > EXPORT_TOP + EXPORT_ROWS + 1 || placed.some((other) => Math.abs(other - y) < 14)) continue;
+    placed.push(y);
+    drawing.append(svg("text", { class: "soft", x: GUTTER - 6, y: y + 4, "text-anchor": "end" }, String(offset)));
   }
 }
 
@@ -102,17 +119,25 @@ function drawNames(drawing, yOf) {
   for (const event of written.length <= FEW ? written : []) {
     const x = xOf(event.at), top = limit(yOf(event.begin)), bottom = limit(yOf(event.end));
     drawing.append(svg("line", { x1: x, x2: x, y1: top, y2: bottom, stroke: "#fff", "stroke-width": 1.5 }));
-    if (written.length <= 60 && bottom - top >= 12) texts.push([x + 4, (top + bottom) / 2 + 4, `#${event.number}`, ""]);
+    if (written.length <= 60 && bottom - top >= 12) texts.push([x + 6, bottom - 4, `#${event.number}`, isDark(event.number) ? "light" : ""]);
   }
   for (const event of read.length <= FEW ? read : read.filter((event) => inQuestion.has(event.number))) {
     const isRed = inQuestion.has(event.number), x = xOf(event.at), top = limit(yOf(event.begin)), bottom = limit(yOf(event.end));
     drawing.append(svg("rect", { x: x - 2.5, y: top, width: 5, height: Math.max(bottom - top, 2), fill: isRed ? "#c40000" : COLORS[READ],
       stroke: isRed ? "#c40000" : "#1a1a1a", "stroke-width": 1 }, svg("title", {}, lineOf(event.number))));
-    if (isRed || read.length <= 60) texts.push([x + 6, top + 12, `READ #${event.number}`, isRed ? "red " : ""]);
+    if (isRed || read.length <= 60) texts.push([x + 6, top + 12, `READ #${event.number}`, isRed ? "red on" : "on"]);
   }
-  for (const [x, y, text, red] of texts) {
-    const isRight = x > view.width - 90;
-    drawing.append(svg("text", { class: `${red}on`, x: isRight ? x - 12 : x, y, "text-anchor": isRight ? "end" : "start" }, text));
+  drawTexts(drawing, texts);
+}
+
+// Texts of which none covers another; those in red come first.
+function drawTexts(drawing, texts) {
+  const placed = [];
+  for (const [x, y, text, look] of texts.sort((one, other) => other[3].startsWith("red") - one[3].startsWith("red"))) {
+    const isRight = x > view.width - 90, width = text.length * 7.5, from = isRight ? x - 12 - width : x;
+    if (placed.some(([left, right, height]) => from < right && left < from + width && Math.abs(height - y) < 13)) continue;
+    placed.push([from, from + width, y]);
+    drawing.append(svg("text", { class: look, x: isRight ? x - 12 : x, y, "text-anchor": isRight ? "end" : "start" }, text));
   }
 }
 

@@ -40,13 +40,12 @@ def differences(numbers):
     return [value - before for before, value in zip([0, *numbers], numbers)]
 
 
-def messages_data(session, told):
+def messages_data(session):
     return {
         "sides": "".join(session.sides),
         "firsts": differences(session.firsts),
         "spans": [last - first for first, last in zip(session.firsts, session.lasts)],
         "requests": session.numbers,
-        "lines": told,
     }
 
 
@@ -74,9 +73,10 @@ def guilt_data(session, verdict, entries, end, capture):
     """What is marked in red, and what belongs to it."""
     told = [] if verdict.offset is None else history(entries, session.requests, verdict.offset)
     wrote, place = None, None
-    if verdict.kind == "content" and verdict.requests[0] <= len(session.requests):
-        wrote = expected(told, session.requests, verdict.requests[0])
+    if verdict.kind in ("content", "any"):
         place = session.requests[verdict.requests[0] - 1].place
+    if verdict.kind == "content":
+        wrote = expected(told, session.requests, verdict.requests[0])
     is_refused = verdict.kind == "place"
     return {
         "kind": verdict.kind,
@@ -108,14 +108,14 @@ def order_of(nbdcheck, verdict, path):
 
 
 def facts(nbdcheck, capture, order, names):
-    """All that the page shows. The names are those of the capture, the order and the start, as the page has them."""
+    """All that the page shows, and the line of each message. The names are those of the capture, the order and the start."""
     explained, _, said = nbdcheck.explain()
     verdict = read_verdict(explained.split("\n")[0])
     session, told = read_session(nbdcheck, capture, verdict.offset)
     end = verdict.place if verdict.kind == "place" else session.places.length
     entries, source = order_of(nbdcheck, verdict, order)
     requests = session.requests
-    return {
+    data = {
         **names,
         "verdict": verdict.line,
         "explained": explained,
@@ -124,9 +124,10 @@ def facts(nbdcheck, capture, order, names):
         "unread": session.places.length - end,
         "size": number(session.export.size),
         "source": source,
-        "messages": messages_data(session, told),
+        "messages": messages_data(session),
         "lanes": set_lanes(requests, end),
         "requests": requests_data(requests),
         "services": services_data(entries, requests, end),
         "guilt": guilt_data(session, verdict, entries, end, capture),
     }
+    return data, told

@@ -31,6 +31,11 @@ function fillLink() {
     else link.append(`${byteOf(guilt.expected)} of `, anchor(guilt.expected, shortName(guilt.expected)), `, entry ${guilt.wrote} of the order.`);
     return;
   }
+  if (guilt.kind === "any") {
+    const [number] = guilt.requests;
+    link.append(anchor(number, shortName(number)), ` returned ${byteAt.get(number)} for offset ${guilt.offset}, at byte ${guilt.place}; in no order can it.`);
+    return;
+  }
   for (const number of [...inQuestion].sort((one, other) => one - other)) link.append(link.firstChild ? ", " : "In question: ", anchor(number, shortName(number)));
 }
 
@@ -64,7 +69,7 @@ function showDetail(number) {
   for (let at = requests.reply[number]; at >= 0 && at <= requests.lastReply[number]; at++) {
     if (messages.request[at] === number && messages.sides[at] === "S") replies.push(at);
   }
-  const item = (at) => element("li", {}, element("span", { class: "line" }, messages.lines[at]), ` (bytes ${messages.first[at]} to ${messages.last[at]})`);
+  const item = (at) => element("li", {}, element("span", { class: "line" }, wordsOf(at)), ` (bytes ${messages.first[at]} to ${messages.last[at]})`);
   const entries = servedBy(number), role = roleOf(number), parts = [requests.message[number], ...replies.slice(0, 20)].map(item);
   if (replies.length > 20) parts.push(element("li", {}, `${replies.length - 20} more`));
   if (entries.length) parts.push(element("li", {}, `served by entry ${entries.slice(0, 20).join(", ")}${entries.length > 20 ? ", .." : ""}`));
@@ -76,7 +81,7 @@ function showMessage(at) {
   const number = messages.request[at];
   if (number) return select(number);
   byId("detail").className = "";
-  byId("detail").replaceChildren(element("span", { class: "line" }, messages.lines[at]), ` (bytes ${messages.first[at]} to ${messages.last[at]})`);
+  byId("detail").replaceChildren(element("span", { class: "line" }, wordsOf(at)), ` (bytes ${messages.first[at]} to ${messages.last[at]})`);
 }
 
 // Selects a request; it comes into view where it is not, or where this is wanted.

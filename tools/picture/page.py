@@ -20,9 +20,12 @@ def escaped(data):
     return text.replace("&", "\\u0026").replace("<", "\\u003c").replace(">", "\\u003e")
 
 
-def page(data):
-    """The parts of the page's text. What a capture holds stands in the data alone, and in the title."""
-    front, back = part("page.html").split("@data@")
-    yield front.replace("@title@", html.escape(data["name"])).replace("@style@", part("page.css"))
+def page(data, lines):
+    """The parts of the page's text, with the line of each message. What a capture holds stands there alone, and in the title."""
+    front, rest = part("page.html").split("@data@")
+    between, back = rest.split("@lines@")
+    yield front.replace("@style@", part("page.css")).replace("@title@", html.escape(data["name"]))
     yield escaped(data)
+    yield between
+    yield "\n".join(map(escaped, lines))
     yield back.replace("@script@", "\n".join(part(name) for name in SCRIPTS))

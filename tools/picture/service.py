@@ -1,6 +1,7 @@
 """An order of service: at which moments of the session its entries fit, and which of them wrote a byte."""
 
 from collections import namedtuple
+from itertools import groupby
 
 from .session import FAILURE, PENDING, READ, SUCCESS, TRIM, WRITE, WRITE_ZEROES
 
@@ -38,18 +39,24 @@ def windows(entries, requests, end):
     return begins, ends
 
 
+def limits(begins, ends, end):
+    """Of each entry how far it is drawn at most: to the end of its window, and to where a later one's begins."""
+    found, later = list(ends), end
+    for at in reversed(range(len(begins) - 1)):
+        if begins[at] < begins[at + 1]:
+            later = begins[at + 1]
+        found[at] = min(ends[at], later)
+    return found
+
+
 def moments(entries, requests, end):
-    """A moment for each entry, in their order; those that came to their window together stand apart in equal steps."""
+    """A moment for each entry, in their order; those with one window stand apart in equal steps."""
     begins, ends = windows(entries, requests, end)
-    found, at = [], 0
-    while at < len(entries):
-        behind = at
-        while behind < len(entries) and begins[behind] == begins[at]:
-            behind += 1
-        limit = min(ends[at], begins[behind] if behind < len(entries) else end)
-        room, count = max(limit - begins[at], 0), behind - at
-        found += [round(begins[at] + room * (step + 1) / (count + 1), 2) for step in range(count)]
-        at = behind
+    found = []
+    for (begin, limit), run in groupby(zip(begins, limits(begins, ends, end))):
+        count, begin = len(list(run)), max(begin, found[-1] if found else 0)
+        room = max(limit - begin, 0)
+        found += [round(begin + room * step / (count + 1), 2) for step in range(1, count + 1)]
     return found
 
 

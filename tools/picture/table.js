@@ -73,7 +73,7 @@ const requestTable = makeTable(byId("table"), "Requests", [
 
 const messageTable = makeTable(byId("messages"), "Messages of both sides", [
   { name: "Message" }, { name: "Bytes" }, { name: "In words", left: true, mono: true },
-], (at) => [at + 1, `${messages.first[at]} to ${messages.last[at]}`, messages.lines[at]], (at) => (mark(messages.request[at]) === "guilty" ? "guilty" : ""));
+], (at) => [at + 1, `${messages.first[at]} to ${messages.last[at]}`, wordsOf(at)], (at) => (mark(messages.request[at]) === "guilty" ? "guilty" : ""));
 messageTable.fill(Array.from({ length: messages.count }, (_, at) => at));
 
 // What a change left of the offset in question, or a READ returned.
@@ -86,7 +86,7 @@ function byteOf(number) {
 // Which write the guilty READ should have returned: this entry's.
 function historyRow(event) {
   const number = event.number, did = isChange(number) ? "left" : "returned";
-  const note = inQuestion.has(number) ? "wrong" : number === guilt.expected ? "should have been returned" : "";
+  const note = inQuestion.has(number) ? "wrong" : number === guilt.expected ? "should have been returned" : event.note;
   return [event.entry || "", chooser(number, shortName(number)), did, byteOf(number), note];
 }
 
@@ -101,7 +101,13 @@ function fillHistory() {
   byId("history").querySelector("caption").textContent =
     `Who wrote and read offset ${offset}, ${services.count ? "in the order of service" : "by their first replies"}; at first it was ${startByte()}`;
   const found = events.filter((event) => event.begin <= offset && offset < event.end && (isChange(event.number) || requests.command[event.number] === READ));
-  found.forEach((event) => (event.entry = services.count ? (services.of.get(event.number) || []).find((at) => covers(at, offset)) + 1 : ""));
+  let held = { unknown: "unknown", zero: "00" }[data.start] || "";
+  for (const event of found) {
+    const byte = byteOf(event.number), isKnown = byte && held && held !== "unknown";
+    event.entry = services.count ? (services.of.get(event.number) || []).find((at) => covers(at, offset)) + 1 : "";
+    event.note = services.count && isKnown && !isChange(event.number) && byte !== held ? `not ${held}, which the last change left` : "";
+    if (isChange(event.number)) held = byte;
+  }
   historyTable.fill(found);
 }
 

@@ -1,5 +1,6 @@
 // What is in view, and how it is drawn: places of the session become pixels.
-const GUTTER = 96, RIGHT = 16, LEAST = 24;
+const LONGEST = requests.begin.reduce((most, begin, number) => (rangeEnd(number) > most ? rangeEnd(number) : most), 0n);
+const GUTTER = Math.max(96, 20 + 7.6 * String(LONGEST).length), RIGHT = 16, LEAST = 24;
 const FEW = 300;
 const view = { from: 0, to: Math.max(data.bytes, 1), width: 1000, selected: 0, offset: null, numbers: null };
 const byId = (id) => document.getElementById(id);
@@ -54,7 +55,7 @@ const grouped = (number) => String(number).replace(/\B(?=(\d{3})+$)/g, " ");
 function drawAxis(drawing, height) {
   for (const at of steps(view.from, view.to, Math.max(2, Math.floor((view.width - GUTTER) / 110)))) {
     drawing.append(svg("line", { class: "grid", x1: xOf(at), x2: xOf(at), y1: 20, y2: height }));
-    const anchor = xOf(at) > view.width - 50 ? "end" : "middle";
+    const anchor = xOf(at) > view.width - 30 ? "end" : "middle";
     drawing.append(svg("text", { class: "soft", x: xOf(at), y: 14, "text-anchor": anchor }, grouped(at)));
   }
   drawing.append(svg("text", { x: 6, y: 14 }, "byte"));
