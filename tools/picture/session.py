@@ -140,7 +140,7 @@ class Session:
         at = self.offset - base
         if at >= 0 and kind == "chunk" and of == OFFSET_HOLE:
             if at < int(payload[16:24], 16):
-                request.byte, request.place = "00", self.places.streams["S"].place(begin + front)
+                request.byte, request.place = "00", self.places.streams["S"].place(begin + len(payload) // 2 - 1)
         elif 0 <= at < len(payload) // 2 - front:
             at += front
             request.byte, request.place = payload[2 * at : 2 * at + 2].decode(), self.places.streams["S"].place(begin + at)
