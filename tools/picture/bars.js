@@ -152,8 +152,22 @@ function barsFor(shown) {
   return shown.filter((number) => named.has(number));
 }
 
+// The request whose bar has the focus, 0 where it is the whole chart, or -1.
+function focused() {
+  const element = document.activeElement;
+  return element && byId("bars").contains(element) ? Number(element.dataset.request || 0) : -1;
+}
+
+// One bar can be reached with the tab key, or where there is none the chart; what had the focus before it was drawn has it again.
+function setFocus(drawing, before) {
+  const reached = drawing.querySelector(`[data-request="${view.selected}"]`) || drawing.querySelector(".guilty") || drawing.querySelector(".bar");
+  drawing.setAttribute("tabindex", reached ? -1 : 0);
+  if (reached) reached.setAttribute("tabindex", 0);
+  if (before >= 0) (drawing.querySelector(`[data-request="${before}"]`) || drawing).focus({ preventScroll: true });
+}
+
 function drawBars() {
-  const { pen, drawing } = prepare("bars", barsHeight), shown = inView();
+  const before = focused(), { pen, drawing } = prepare("bars", barsHeight), shown = inView();
   drawing.append(hatching());
   drawAxis(drawing, barsHeight);
   drawMessages(pen, "C", CLIENT_ROW);
@@ -170,8 +184,7 @@ function drawBars() {
   drawByte(drawing);
   drawRefused(drawing);
   drawLink(drawing);
-  const reached = drawing.querySelector(`[data-request="${view.selected}"]`) || drawing.querySelector(".guilty") || drawing.querySelector(".bar");
-  if (reached) reached.setAttribute("tabindex", 0);
+  setFocus(drawing, before);
   byId("shown").textContent = `${grouped(shown.length)} of ${grouped(requests.count)} requests in view` +
     (shown.length > FEW ? "; zoom in to see each with its first reply and its service" : "") +
     (data.unread > 0 ? `; ${grouped(data.unread)} bytes behind the refusal were not judged` : "");

@@ -180,8 +180,8 @@ function filter() {
   view.numbers = readField("numbers", /^#?(\d+)(?:-(\d+))?$/, (found) => [Number(found[1]), Number(found[2] || found[1])]);
   fillTable();
   fillHistory();
-  const first = requestTable.rows[0];
-  if (first && (view.offset !== null || view.numbers !== null) && !inView().some(matches)) select(first, true);
+  const [first] = requestTable.rows, isFiltered = view.offset !== null || view.numbers !== null;
+  if (first && isFiltered && (requestTable.rows.length === 1 || !inView().some(matches))) select(first, true);
   drawAll();
 }
 
