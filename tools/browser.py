@@ -1,4 +1,7 @@
-"""Debian's chromium without a window, over the pipes of its DevTools protocol."""
+"""Debian's chromium without a window, over the pipes of its DevTools protocol.
+
+    browser.py PAGE PNG WIDTH HEIGHT    # a screenshot of a page
+"""
 
 import base64
 import json
@@ -6,6 +9,7 @@ import os
 import select
 import shutil
 import subprocess
+import sys
 import tempfile
 import time
 
@@ -136,8 +140,19 @@ class Browser:
         found = self.send("Accessibility.queryAXTree", nodeId=root, **words)["nodes"]
         return [node["name"]["value"] for node in found if not node["ignored"]]
 
-    def picture(self, path, whole=False):
+    def picture(self, path):
         """Writes what is seen as a PNG file."""
-        data = self.send("Page.captureScreenshot", format="png", captureBeyondViewport=whole)["data"]
+        data = self.send("Page.captureScreenshot", format="png")["data"]
         with open(path, "wb") as file:
             file.write(base64.b64decode(data))
+
+
+def main():
+    page, png, width, height = sys.argv[1:]
+    with Browser(int(width), int(height)) as shown:
+        shown.open(os.path.abspath(page))
+        shown.picture(png)
+
+
+if __name__ == "__main__":
+    main()

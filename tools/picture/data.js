@@ -5,7 +5,7 @@ const guilt = data.guilt;
 const PENDING = "0", SUCCESS = "1", FAILURE = "2";
 const COMMANDS = ["READ", "WRITE", "DISC", "FLUSH", "TRIM", "CACHE", "WRITE_ZEROES"];
 const WRITE = 1, TRIM = 4, WRITE_ZEROES = 6, READ = 0;
-const COLORS = ["#7cc4f0", "#0b4a8f", "#000000", "#f2d95c", "#b3701a", "#3f7a4f", "#8a5fc4"];
+const COLORS = ["#7cc4f0", "#0b3f80", "#000000", "#f2d95c", "#cf8a33", "#3f8f5b", "#6d3fae"];
 const OTHER = "#6b6b6b";
 
 // The line of each message stands by itself, and is read when it is shown.

@@ -42,7 +42,7 @@ function offsetWindow() {
   return [begin > margin ? begin - margin : 0n, end + margin];
 }
 
-const isDark = (number) => !["#7cc4f0", "#f2d95c"].includes(colorOf(requests.command[number])) && !isHatched(number);
+const isDark = (number) => !["#7cc4f0", "#f2d95c", "#cf8a33"].includes(colorOf(requests.command[number])) && !isHatched(number);
 const shade = (number) => (number % 2 ? 1 : 0.82);
 
 function rgb(number) {
