@@ -5,6 +5,7 @@ import json
 import os
 import re
 import resource
+import signal
 import subprocess
 import sys
 import time
@@ -250,6 +251,27 @@ def refusals(tally, room):
         tally.want(f"a pipe {words}", (by_pipe.pop("name"), by_pipe), ("stdin", (by_name.pop("name"), by_name)[1]))
 
 
+def interrupts(tally, room):
+    """A signal ends the tool and nbdcheck, and leaves no copy of what came from a pipe."""
+    number = room.path("number")
+    slow = room.put("slow", f"#!/bin/sh\necho $$ > {number}.new; mv {number}.new {number}; exec sleep 600\n".encode())
+    os.chmod(slow, 0o755)
+    for stop in (signal.SIGINT, signal.SIGTERM, signal.SIGHUP):
+        kept = room.path(f"kept-{stop}")
+        os.mkdir(kept)
+        with subprocess.Popen([sys.executable, SCRIPT, "/dev/stdin"], stdin=subprocess.DEVNULL, stdout=subprocess.PIPE,
+                              stderr=subprocess.PIPE, env={**os.environ, "NBDCHECK": slow, "TMPDIR": kept}) as child:
+            while not os.path.exists(number):
+                time.sleep(0.02)
+            tally.want(f"{stop.name}: a copy", len(os.listdir(kept)), 1)
+            child.send_signal(stop)
+            out, err = child.communicate(timeout=60)
+        with open(number, encoding="ascii") as file:
+            running = os.path.exists(f"/proc/{file.read().strip()}")
+        os.remove(number)
+        tally.want(f"{stop.name}: how it ends", (child.returncode, out, err, running, os.listdir(kept)), (-stop, b"", b"", False, []))
+
+
 def examples(tally, room):
     """The sessions of examples/: the answer, and as many numbers as there are messages and requests."""
     for path in sorted((TOP / "examples").glob("*.cap")):
@@ -292,7 +314,7 @@ def many(tally, room):
     tally.holds("many requests: seconds", seconds < 30, (seconds, time.monotonic() - begun_at))
 
 
-PARTS = (places, lanes, results, proper_requests, guilt, in_words, escaping, refusals, examples, many)
+PARTS = (places, lanes, results, proper_requests, guilt, in_words, escaping, refusals, interrupts, examples, many)
 
 
 def run(tally):

@@ -135,6 +135,7 @@ def keyboard(tally, room, page):
     whole = page.ask("view.to - view.from")
     page.press("+", "+")
     tally.want("+ shows half", page.ask("view.to - view.from"), whole / 2)
+    tally.want("the focus stays", reached(page), 2)
     page.press("0", "0")
     tally.want("0 shows all", page.ask("view.to - view.from"), whole)
     page.ask("document.querySelector('[aria-label=\"Select READ #3\"]') || document.getElementById('clear').click()")
@@ -196,7 +197,22 @@ def many(tally, room, page):
     tally.want("complaints", page.complaints, [])
 
 
-PARTS = (loads, names, filters, keyboard, mouse, many)
+def refused(tally, room, page):
+    """The message at which a session was refused, and the request that it replies to."""
+    records = [*begun(structured=True), read(1, 0, 8), chunk(1, 1, bytes(8) + b"abcd"), done(1), read(2, 0, 8)]
+    page.open(put(room, "refused", records, "1\n"))
+    tally.want("the answer", text_of(page, "#verdict"), "no at byte 212: IncompleteRead")
+    message = "Refused: message of the server, bytes 193 to 212"
+    tally.want("the message", page.named("image", message), [message])
+    request = "In question: READ #1, cookie 0x1, 8 bytes at 0: pending"
+    tally.want("its request", page.named("button", request), [request])
+    tally.holds("the place", "byte 212: IncompleteRead" in page.ask("document.querySelector('#bars svg').textContent"))
+    # The READ behind it has 28 bytes.
+    tally.want("what is not shown", text_of(page, "#shown"), "1 of 1 requests in view; 28 bytes behind the refusal were not judged")
+    tally.want("complaints", page.complaints, [])
+
+
+PARTS = (loads, names, refused, filters, keyboard, mouse, many)
 
 
 def run(tally):

@@ -1,5 +1,6 @@
 """What nbdcheck says of a capture: its answer and its messages, as lines and in words."""
 
+import contextlib
 import re
 import subprocess
 import tempfile
@@ -18,12 +19,20 @@ class Nbdcheck:
     def __init__(self, program, capture, order, start):
         self.program, self.capture, self.order, self.start = program, capture, order, start
 
-    def _begin(self, words, errors):
+    @contextlib.contextmanager
+    def _running(self, words, errors):
+        """A run; one that is not wanted any more is ended."""
         try:
-            return subprocess.Popen([self.program, *words], bufsize=BUFFER, stdin=subprocess.DEVNULL, stdout=subprocess.PIPE,
-                                    stderr=errors)
+            child = subprocess.Popen([self.program, *words], bufsize=BUFFER, stdin=subprocess.DEVNULL, stdout=subprocess.PIPE,
+                                     stderr=errors)
         except OSError as error:
             raise Fault(FAILED, f"cannot run {printable(self.program)}: {error.strerror or error}") from None
+        with child:
+            try:
+                yield child
+            except BaseException:
+                child.kill()
+                raise
 
     def _judge(self, status, said, taken):
         """Raises what nbdcheck said, where its status is none of those that are taken."""
@@ -40,7 +49,7 @@ class Nbdcheck:
     def _run(self, words, taken):
         """The output of a run, and what it said on standard error."""
         with tempfile.TemporaryFile() as errors:
-            with self._begin(words, errors) as child:
+            with self._running(words, errors) as child:
                 out = child.stdout.read()
             errors.seek(0)
             said = errors.read()
@@ -60,7 +69,7 @@ class Nbdcheck:
     def lines(self, *options):
         """The lines of `show`, each without its line feed."""
         with tempfile.TemporaryFile() as errors:
-            with self._begin(["show", *options, self.capture], errors) as child:
+            with self._running(["show", *options, self.capture], errors) as child:
                 for line in child.stdout:
                     yield line.rstrip(b"\n")
             errors.seek(0)

@@ -1,7 +1,7 @@
 // The requests as bars in lanes, below the messages of both sides.
 const CLIENT_ROW = 24, SERVER_ROW = 38, ROW = 11, LANES = 72;
 // Where there are few lanes each has a line of text above its bars.
-const TEXT = data.lanes <= 16 ? 15 : 0;
+const TEXT = data.lanes <= 16 ? 16 : 0;
 const laneHeight = TEXT ? 15 : Math.max(3, Math.min(14, Math.floor(480 / data.lanes) - 3));
 const laneStep = laneHeight + (TEXT ? TEXT + 5 : 3);
 const barsHeight = LANES + Math.max(data.lanes, 1) * laneStep + 16;
@@ -71,7 +71,7 @@ function barText(number) {
   const range = requests.length[number] ? `, ${requests.length[number]} at ${requests.begin[number]}` : "";
   const words = [shortName(number) + range, shortName(number), `#${number}`];
   const fits = TEXT ? words.find((text) => text.length * 7 + 6 < room) : undefined;
-  return fits ? [svg("text", { class: inQuestion.has(number) ? "red" : "", x, y: laneTop(number) - 4 }, fits)] : [];
+  return fits ? [svg("text", { class: inQuestion.has(number) ? "red" : "", x, y: laneTop(number) - 5 }, fits)] : [];
 }
 
 function serviceMarks(number) {

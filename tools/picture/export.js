@@ -42,15 +42,13 @@ function offsetWindow() {
   return [begin > margin ? begin - margin : 0n, end + margin];
 }
 
-const isDark = (number) => !["#7cc4f0", "#f2d95c", "#cf8a33"].includes(colorOf(requests.command[number])) && !isHatched(number);
-const shade = (number) => (number % 2 ? 1 : 0.82);
+const isDark = (number) => !["#7cc4f0", "#f2d95c", "#cf8a33"].includes(colorOf(requests.command[number])) && requests.result[number] === SUCCESS;
+// Of neighbours with one colour one is lighter; a change without success is pale, since what it left is not known.
+const lightOf = (number) => (requests.result[number] !== SUCCESS ? 0.6 : number % 2 ? 0 : 0.14);
 
 function rgb(number) {
-  const color = colorOf(requests.command[number]), hatched = isHatched(number);
-  return [1, 3, 5].map((at) => {
-    const value = parseInt(color.slice(at, at + 2), 16) * shade(number);
-    return hatched ? value * 0.4 + 150 : value;
-  });
+  const color = colorOf(requests.command[number]), light = lightOf(number);
+  return [1, 3, 5].map((at) => parseInt(color.slice(at, at + 2), 16) * (1 - light) + 255 * light);
 }
 
 const isLittle = new Uint8Array(new Uint32Array([1]).buffer)[0] === 1;
@@ -134,7 +132,7 @@ function drawNames(drawing, yOf) {
 function drawTexts(drawing, texts) {
   const placed = [];
   for (const [x, y, text, look] of texts.sort((one, other) => other[3].startsWith("red") - one[3].startsWith("red"))) {
-    const isRight = x > view.width - 90, width = text.length * 7.5, from = isRight ? x - 12 - width : x;
+    const isRight = x > view.width - 90, width = text.length * 7.5 + 4, from = isRight ? x - 12 - width : x;
     if (placed.some(([left, right, height]) => from < right && left < from + width && Math.abs(height - y) < 13)) continue;
     placed.push([from, from + width, y]);
     drawing.append(svg("text", { class: look, x: isRight ? x - 12 : x, y, "text-anchor": isRight ? "end" : "start" }, text));

@@ -61,7 +61,7 @@ function fillLegend() {
   byId("export-hint").textContent = (services.count
     ? "A change is painted from its service on, until another one replaces it; a READ is a thin bar where it was served."
     : "There is no order: a change is painted from its first reply on, and may have been carried out before; a READ is a thin bar there.") +
-    " Grey: as at the start.";
+    " Grey: as at the start." + (changes.some((change) => requests.result[change.number] !== SUCCESS) ? " Pale: it did not succeed, and what it left is not known." : "");
 }
 
 function showDetail(number) {
