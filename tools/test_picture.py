@@ -241,14 +241,24 @@ def refusals(tally, room):
                    Ended(3, None, f"{NAME}: standard output: No space left on device; the help is not whole\n"))
     closed = run_script(good, order, before=["sh", "-c", 'exec "$@" >&-', "sh"])
     tally.want("no standard output", closed, Ended(3, b"", f"{NAME}: standard output: Bad file descriptor; {NOT_WHOLE}\n"))
-    for words in ([order], [order, "--start", "zero"]):
-        by_name = data_of(run_script(good, *words).out.decode())
-        with open(good, "rb") as piped:
-            reader = subprocess.Popen(["cat"], stdin=piped, stdout=subprocess.PIPE)
-            by_pipe = data_of(run_script("/dev/stdin", *words, stdin=reader.stdout).out.decode())
-            reader.stdout.close()
-            reader.wait()
-        tally.want(f"a pipe {words}", (by_pipe.pop("name"), by_pipe), ("stdin", (by_name.pop("name"), by_name)[1]))
+
+
+def pipes(tally, room):
+    """What comes from standard input, by a pipe or from a file, as a capture, an order and an image."""
+    places = {"capture": room.put("good.cap", text(WRITTEN)), "order": room.put("good.ord", b"1\n2\n"), "image": room.put("8", bytes(8))}
+    by_name = data_of(run_script(places["capture"], places["order"], "--start", f"image:{places['image']}").out.decode())
+    for kind, path in places.items():
+        for name in ("/dev/stdin", "/proc/self/fd/0"):
+            words = {**places, kind: name}
+            line = [words["capture"], words["order"], "--start", f"image:{words['image']}"]
+            with open(path, "rb") as file:
+                by_file = run_script(*line, stdin=file)
+            with subprocess.Popen(["cat", path], stdout=subprocess.PIPE) as reader:
+                by_pipe = run_script(*line, stdin=reader.stdout)
+            for how, ended in (("a file", by_file), ("a pipe", by_pipe)):
+                found = data_of(ended.out.decode()) if ended.status == 0 else {"failed": ended}
+                names = {key: by_name[key] for key in ("name", "order", "start")}
+                tally.want(f"{kind} of {how} by {name}", {**found, **names}, by_name)
 
 
 def interrupts(tally, room):
@@ -314,7 +324,7 @@ def many(tally, room):
     tally.holds("many requests: seconds", seconds < 30, (seconds, time.monotonic() - begun_at))
 
 
-PARTS = (places, lanes, results, proper_requests, guilt, in_words, escaping, refusals, interrupts, examples, many)
+PARTS = (places, lanes, results, proper_requests, guilt, in_words, escaping, refusals, pipes, interrupts, examples, many)
 
 
 def run(tally):

@@ -80,6 +80,19 @@ def names(tally, room, page):
     tally.want("and the page again", shown.status, 0)
 
 
+def several(tally, room, page):
+    """READs of which in each order one has a wrong byte."""
+    records = [*begun(), write(1, 0, b"\1"), write(2, 0, b"\2"), simple(1), simple(2), read(3, 0, 1), simple(3, b"\1"),
+               read(4, 0, 1), simple(4, b"\2")]
+    page.open(put(room, "several", records))
+    tally.want("the answer of several", text_of(page, "#verdict"), "no order explains requests 3 4 at offset 0")
+    tally.want("several in a sentence", text_of(page, "#link"), "In each order one of these has a wrong byte for offset 0: READ #3, READ #4")
+    tally.want("what they did", rows_of(page, "#history"), [
+        ["", "WRITE #1", "left", "01", ""], ["", "WRITE #2", "left", "02", ""], ["", "READ #3", "returned", "01", "in question"],
+        ["", "READ #4", "returned", "02", "in question"]])
+    tally.want("complaints", page.complaints, [])
+
+
 def type_in(page, field, words):
     """Types words in a field in place of what is there, and Enter."""
     page.ask(f"document.getElementById({field!r}).focus(); document.getElementById({field!r}).value = ''")
@@ -206,13 +219,15 @@ def refused(tally, room, page):
     tally.want("the message", page.named("image", message), [message])
     request = "In question: READ #1, cookie 0x1, 8 bytes at 0: pending"
     tally.want("its request", page.named("button", request), [request])
+    told = text_of(page, "#detail").split("\n")
+    tally.want("in words", (told[0], told[-1]), ("In question", "refused at byte 212, IncompleteRead: bytes 193 to 212 of the server"))
     tally.holds("the place", "byte 212: IncompleteRead" in page.ask("document.querySelector('#bars svg').textContent"))
     # The READ behind it has 28 bytes.
-    tally.want("what is not shown", text_of(page, "#shown"), "1 of 1 requests in view; 28 bytes behind the refusal were not judged")
+    tally.want("what is not shown", text_of(page, "#shown"), "1 of 1 request in view; not judged: 28 bytes behind the refusal")
     tally.want("complaints", page.complaints, [])
 
 
-PARTS = (loads, names, refused, filters, keyboard, mouse, many)
+PARTS = (loads, names, refused, several, filters, keyboard, mouse, many)
 
 
 def run(tally):

@@ -185,7 +185,7 @@ function drawBars() {
   drawRefused(drawing);
   drawLink(drawing);
   setFocus(drawing, before);
-  byId("shown").textContent = `${grouped(shown.length)} of ${grouped(requests.count)} requests in view` +
+  byId("shown").textContent = `${grouped(shown.length)} of ${counted(requests.count, "request")} in view` +
     (shown.length > FEW ? "; zoom in to see each with its first reply and its service" : "") +
-    (data.unread > 0 ? `; ${grouped(data.unread)} bytes behind the refusal were not judged` : "");
+    (data.unread > 0 ? `; not judged: ${counted(data.unread, "byte")} behind the refusal` : "");
 }

@@ -97,6 +97,8 @@ const inQuestion = new Set([
   ...guilt.messages.map((message) => message[3]),
   ...(guilt.entry === null ? [] : [services.request[guilt.entry - 1]]),
 ].filter((number) => number > 0 && number <= requests.count));
+// Of one READ the answer says that its byte is wrong, of several that in each order one of them has a wrong one.
+const isWrong = guilt.kind === "content" || guilt.kind === "any";
 const isNo = data.verdict.startsWith("no ");
 
 // The first place in a range at which this holds, where it holds from there on.
@@ -111,7 +113,7 @@ function firstWhere(from, to, test) {
 
 // What is said of a request's part in the answer, before its line.
 function roleOf(number) {
-  if (inQuestion.has(number)) return guilt.offset === null ? "In question" : "Wrong byte";
+  if (inQuestion.has(number)) return isWrong ? "Wrong byte" : "In question";
   return number === guilt.expected ? "Expected write" : "";
 }
 

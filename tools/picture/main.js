@@ -5,8 +5,8 @@ function fillHeader() {
   verdict.textContent = data.verdict;
   verdict.className = isNo ? "no" : data.verdict.startsWith("yes") ? "yes" : "";
   const order = { given: `the order of ${data.order}`, found: "an order that nbdcheck found" }[data.source] || "no order";
-  byId("facts").textContent = [`${grouped(data.bytes)} bytes`, `${grouped(requests.count)} requests`, `at most ${data.lanes} outstanding`,
-    data.size === null ? "" : `an export of ${grouped(data.size)} bytes`, `start ${data.start}`, order].filter(Boolean).join(", ");
+  byId("facts").textContent = [`${counted(data.bytes, "byte")}`, counted(requests.count, "request"), `at most ${data.lanes} outstanding`,
+    data.size === null ? "" : `an export of ${counted(data.size, "byte")}`, `start ${data.start}`, order].filter(Boolean).join(", ");
   byId("explained").textContent = data.explained.trimEnd() + (data.said ? `\n\n${data.said.trimEnd()}` : "");
   fillLink();
 }
@@ -36,7 +36,8 @@ function fillLink() {
     link.append(anchor(number, shortName(number)), ` returned ${byteAt.get(number)} for offset ${guilt.offset}, at byte ${guilt.place}; in no order can it.`);
     return;
   }
-  for (const number of [...inQuestion].sort((one, other) => one - other)) link.append(link.firstChild ? ", " : "In question: ", anchor(number, shortName(number)));
+  const front = guilt.kind === "none" ? `In each order one of these has a wrong byte for offset ${guilt.offset}: ` : "In question: ";
+  for (const number of [...inQuestion].sort((one, other) => one - other)) link.append(link.firstChild ? ", " : front, anchor(number, shortName(number)));
 }
 
 function legendPart(text, draw) {
@@ -55,7 +56,7 @@ function fillLegend() {
     svg("rect", { x: 18, y: 1, width: 8, height: 12, fill: "#777" })]));
   if (requests.count) parts.push(legendPart("first reply", [svg("line", { class: "tick", x1: 13, x2: 13, y1: 0, y2: 14 })]));
   if (services.count) parts.push(legendPart("served: a moment that fits the order", [svg("path", { class: "service", d: "M7 7L13 1L19 7L13 13Z" })]));
-  if (isNo) parts.push(legendPart(guilt.offset === null ? "in question" : "wrong", [svg("rect", { x: 2, y: 2, width: 22, height: 10, fill: "none", class: "redline" })]));
+  if (isNo) parts.push(legendPart(isWrong ? "wrong" : "in question", [svg("rect", { x: 2, y: 2, width: 22, height: 10, fill: "none", class: "redline" })]));
   if (guilt.expected) parts.push(legendPart("should have been returned", [svg("rect", { x: 2, y: 2, width: 22, height: 10, fill: "none", stroke: "#1a1a1a", "stroke-width": 2, "stroke-dasharray": "5 3" })]));
   byId("legend").append(...parts);
   byId("export-hint").textContent = (services.count
@@ -73,6 +74,10 @@ function showDetail(number) {
   const entries = servedBy(number), role = roleOf(number), parts = [requests.message[number], ...replies.slice(0, 20)].map(item);
   if (replies.length > 20) parts.push(element("li", {}, `${replies.length - 20} more`));
   if (entries.length) parts.push(element("li", {}, `served by entry ${entries.slice(0, 20).join(", ")}${entries.length > 20 ? ", .." : ""}`));
+  for (const [side, first, last] of guilt.messages.filter((message) => message[3] === number)) {
+    const sender = side === "C" ? "client" : "server";
+    parts.push(element("li", {}, `refused at byte ${guilt.place}, ${guilt.fault}: bytes ${first} to ${last} of the ${sender}`));
+  }
   detail.className = inQuestion.has(number) ? "red" : "";
   detail.replaceChildren(...(role ? [element("strong", {}, role)] : []), element("ul", {}, ...parts));
 }

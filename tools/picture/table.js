@@ -86,7 +86,7 @@ function byteOf(number) {
 // Which write the guilty READ should have returned: this entry's.
 function historyRow(event) {
   const number = event.number, did = isChange(number) ? "left" : "returned";
-  const note = inQuestion.has(number) ? "wrong" : number === guilt.expected ? "should have been returned" : event.note;
+  const note = inQuestion.has(number) ? (isWrong ? "wrong" : "in question") : number === guilt.expected ? "should have been returned" : event.note;
   return [event.entry || "", chooser(number, shortName(number)), did, byteOf(number), note];
 }
 
@@ -119,5 +119,5 @@ function fillTable() {
   for (let number = 1; number <= requests.count; number++) if (matches(number)) found.push(number);
   requestTable.fill(found);
   const isFiltered = view.offset !== null || view.numbers !== null;
-  byId("count").textContent = isFiltered ? `${grouped(found.length)} of ${grouped(requests.count)} requests` : `${grouped(requests.count)} requests`;
+  byId("count").textContent = `${isFiltered ? `${grouped(found.length)} of ` : ""}${counted(requests.count, "request")}`;
 }

@@ -50,6 +50,7 @@ function steps(from, to, most) {
 }
 
 const grouped = (number) => String(number).replace(/\B(?=(\d{3})+$)/g, " ");
+const counted = (number, word) => `${grouped(number)} ${word}${Number(number) === 1 ? "" : "s"}`;
 
 // The axis of the session's bytes, and its lines down to this height.
 function drawAxis(drawing, height) {
