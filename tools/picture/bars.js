@@ -55,7 +55,8 @@ function barParts(number) {
   parts.push(rect(x, end, top + laneHeight * 0.3, laneHeight * 0.4, color, { opacity: 0.55 }));
   parts.push(rect(x, Math.max(xOf(wholeOf(number)), x + 1.5), top, laneHeight, color));
   if (reply !== null) {
-    parts.push(rect(xOf(reply - 1), Math.max(xOf(messages.last[requests.lastReply[number]]), xOf(reply - 1) + 1.5), top, laneHeight, color));
+    const begin = xOf(reply - 1), last = xOf(messages.last[requests.lastReply[number]]);
+    parts.push(rect(begin, Math.max(last, begin + 1.5), top, laneHeight, color));
   }
   if (isHatched(number)) parts.push(rect(x, end, top, laneHeight, "url(#hatch)"));
   if (reply !== null && reply - 1 >= view.from && reply - 1 <= view.to) {
@@ -104,7 +105,8 @@ function bar(number) {
 function drawByte(drawing) {
   if (guilt.place === null || guilt.place < view.from || guilt.place - 1 > view.to) return;
   const x = xOf(guilt.place - 0.5), width = Math.max(2, xOf(guilt.place) - xOf(guilt.place - 1));
-  drawing.append(svg("rect", { class: "redfill", x: x - width / 2, y: 20, width, height: barsHeight - 20, opacity: 0.75, "pointer-events": "none" }));
+  drawing.append(svg("rect", { class: "redfill", x: x - width / 2, y: 20, width, height: barsHeight - 20, opacity: 0.75,
+    "pointer-events": "none" }));
   const isRight = x > view.width - 160;
   drawing.append(svg("text", { class: "red on", x: isRight ? x - 5 : x + 5, y: LANES - 8, "text-anchor": isRight ? "end" : "start" },
     `byte ${guilt.place}${guilt.fault ? ": " + guilt.fault : ""}`));
@@ -127,7 +129,8 @@ function drawLink(drawing) {
   const x = clampX(xOf(service)), y = laneTop(from) + laneHeight / 2, x2 = clampX(xOf(end));
   if (x === x2) return;
   if (service < view.from || service > view.to) {
-    drawing.append(svg("text", { class: "red on", x: x > x2 ? x - 4 : x + 4, y: y + 4, "text-anchor": x > x2 ? "end" : "start" }, `to ${shortName(from)}`));
+    const isRight = x > x2, words = `to ${shortName(from)}`;
+    drawing.append(svg("text", { class: "red on", x: isRight ? x - 4 : x + 4, y: y + 4, "text-anchor": isRight ? "end" : "start" }, words));
   }
   const isAbove = laneTop(from) < laneTop(to), y2 = laneTop(to) + (isAbove ? 0 : laneHeight);
   const turn = requests.lane[from] === requests.lane[to] ? y + 34 : isAbove ? y : y2 + 26;
@@ -160,7 +163,8 @@ function focused() {
 
 // One bar can be reached with the tab key, or where there is none the chart; what had the focus before it was drawn has it again.
 function setFocus(drawing, before) {
-  const reached = drawing.querySelector(`[data-request="${view.selected}"]`) || drawing.querySelector(".guilty") || drawing.querySelector(".bar");
+  const wanted = [`[data-request="${view.selected}"]`, ".guilty", ".bar"];
+  const reached = wanted.map((selector) => drawing.querySelector(selector)).find(Boolean);
   drawing.setAttribute("tabindex", reached ? -1 : 0);
   if (reached) reached.setAttribute("tabindex", 0);
   if (before >= 0) (drawing.querySelector(`[data-request="${before}"]`) || drawing).focus({ preventScroll: true });

@@ -5,8 +5,10 @@ const guilt = data.guilt;
 const PENDING = "0", SUCCESS = "1", FAILURE = "2";
 const COMMANDS = ["READ", "WRITE", "DISC", "FLUSH", "TRIM", "CACHE", "WRITE_ZEROES"];
 const WRITE = 1, TRIM = 4, WRITE_ZEROES = 6, READ = 0;
+// By the numbers of the commands; they differ in lightness too.
 const COLORS = ["#7cc4f0", "#0b3f80", "#000000", "#f2d95c", "#cf8a33", "#3f8f5b", "#6d3fae"];
 const OTHER = "#6b6b6b";
+const LIGHT = ["#7cc4f0", "#f2d95c", "#cf8a33"];
 
 // The line of each message stands by itself, and is read when it is shown.
 const lines = document.getElementById("lines").textContent.trim().split("\n");
@@ -111,6 +113,9 @@ function firstWhere(from, to, test) {
   return from;
 }
 
+const grouped = (number) => String(number).replace(/\B(?=(\d{3})+$)/g, " ");
+const counted = (number, word) => `${grouped(number)} ${word}${Number(number) === 1 ? "" : "s"}`;
+
 // What is said of a request's part in the answer, before its line.
 function roleOf(number) {
   if (inQuestion.has(number)) return isWrong ? "Wrong byte" : "In question";
@@ -119,7 +124,7 @@ function roleOf(number) {
 
 function servedBy(number) {
   return (services.of.get(number) || []).map((at) => {
-    const part = services.begin[at] === null ? "" : ` (${services.length[at]} ${services.length[at] === 1 ? "byte" : "bytes"} at ${services.begin[at]})`;
-    return `${at + 1}${part}`;
+    if (services.begin[at] === null) return `${at + 1}`;
+    return `${at + 1} (${counted(services.length[at], "byte")} at ${services.begin[at]})`;
   });
 }

@@ -9,12 +9,13 @@ function addEvent(number, at, begin, length) {
 if (services.count > 0) {
   services.request.forEach((number, at) => {
     if (number < 1 || number > requests.count) return;
-    const isWhole = services.begin[at] === null;
-    addEvent(number, services.at[at], isWhole ? requests.begin[number] : services.begin[at], isWhole ? requests.length[number] : services.length[at]);
+    if (services.begin[at] === null) addEvent(number, services.at[at], requests.begin[number], requests.length[number]);
+    else addEvent(number, services.at[at], services.begin[at], services.length[at]);
   });
 } else {
   for (let number = 1; number <= requests.count; number++) {
-    addEvent(number, replyOf(number) === null ? requests.end[number] : replyOf(number) - 1, requests.begin[number], requests.length[number]);
+    const at = replyOf(number) === null ? requests.end[number] : replyOf(number) - 1;
+    addEvent(number, at, requests.begin[number], requests.length[number]);
   }
   events.sort((one, other) => one.at - other.at);
 }
@@ -42,7 +43,7 @@ function offsetWindow() {
   return [begin > margin ? begin - margin : 0n, end + margin];
 }
 
-const isDark = (number) => !["#7cc4f0", "#f2d95c", "#cf8a33"].includes(colorOf(requests.command[number])) && requests.result[number] === SUCCESS;
+const isDark = (number) => !LIGHT.includes(colorOf(requests.command[number])) && requests.result[number] === SUCCESS;
 // Of neighbours with one colour one is lighter; a change without success is pale, since what it left is not known.
 const lightOf = (number) => (requests.result[number] !== SUCCESS ? 0.6 : number % 2 ? 0 : 0.14);
 
@@ -110,14 +111,16 @@ function drawQuestion(drawing, yOf) {
 
 // The changes and reads in view, few of them, with their numbers.
 function drawNames(drawing, yOf) {
-  const isShown = (event) => event.at >= view.from && event.at <= view.to && yOf(event.end) > EXPORT_TOP && yOf(event.begin) < EXPORT_TOP + EXPORT_ROWS;
+  const isHigh = (event) => yOf(event.end) > EXPORT_TOP && yOf(event.begin) < EXPORT_TOP + EXPORT_ROWS;
+  const isShown = (event) => event.at >= view.from && event.at <= view.to && isHigh(event);
   const limit = (y) => Math.min(Math.max(y, EXPORT_TOP), EXPORT_TOP + EXPORT_ROWS);
   const written = changes.filter(isShown), read = reads.filter(isShown);
   const texts = [];
   for (const event of written.length <= FEW ? written : []) {
     const x = xOf(event.at), top = limit(yOf(event.begin)), bottom = limit(yOf(event.end));
     drawing.append(svg("line", { x1: x, x2: x, y1: top, y2: bottom, stroke: "#fff", "stroke-width": 1.5 }));
-    if (written.length <= 60 && bottom - top >= 12) texts.push([x + 6, bottom - 4, `#${event.number}`, isDark(event.number) ? "light" : ""]);
+    const look = isDark(event.number) ? "light" : "";
+    if (written.length <= 60 && bottom - top >= 12) texts.push([x + 6, bottom - 4, `#${event.number}`, look]);
   }
   for (const event of read.length <= FEW ? read : read.filter((event) => inQuestion.has(event.number))) {
     const isRed = inQuestion.has(event.number), x = xOf(event.at), top = limit(yOf(event.begin)), bottom = limit(yOf(event.end));

@@ -1,93 +1,4 @@
-// The page's text, and what the mouse and the keyboard do.
-function fillHeader() {
-  byId("name").textContent = `Session ${data.name}`;
-  const verdict = byId("verdict");
-  verdict.textContent = data.verdict;
-  verdict.className = isNo ? "no" : data.verdict.startsWith("yes") ? "yes" : "";
-  const order = { given: `the order of ${data.order}`, found: "an order that nbdcheck found" }[data.source] || "no order";
-  byId("facts").textContent = [`${counted(data.bytes, "byte")}`, counted(requests.count, "request"), `at most ${data.lanes} outstanding`,
-    data.size === null ? "" : `an export of ${counted(data.size, "byte")}`, `start ${data.start}`, order].filter(Boolean).join(", ");
-  byId("explained").textContent = data.explained.trimEnd() + (data.said ? `\n\n${data.said.trimEnd()}` : "");
-  fillLink();
-}
-
-function anchor(number, text) {
-  const link = element("a", { href: "#bars" }, text);
-  link.addEventListener("click", (event) => {
-    event.preventDefault();
-    select(number, true);
-    focusBar();
-  });
-  return link;
-}
-
-// The requests that the answer names, with links to their bars.
-function fillLink() {
-  const link = byId("link");
-  if (guilt.kind === "content") {
-    const [number] = guilt.requests;
-    link.append(anchor(number, shortName(number)), ` returned ${byteAt.get(number) || "a byte"} for offset ${guilt.offset}, at byte ${guilt.place}; it should have been `);
-    if (guilt.expected === null) link.append(`the byte of the start: ${startByte()}.`);
-    else link.append(`${byteOf(guilt.expected)} of `, anchor(guilt.expected, shortName(guilt.expected)), `, entry ${guilt.wrote} of the order.`);
-    return;
-  }
-  if (guilt.kind === "any") {
-    const [number] = guilt.requests;
-    link.append(anchor(number, shortName(number)), ` returned ${byteAt.get(number)} for offset ${guilt.offset}, at byte ${guilt.place}; in no order can it.`);
-    return;
-  }
-  const front = guilt.kind === "none" ? `In each order one of these has a wrong byte for offset ${guilt.offset}: ` : "In question: ";
-  for (const number of [...inQuestion].sort((one, other) => one - other)) link.append(link.firstChild ? ", " : front, anchor(number, shortName(number)));
-}
-
-function legendPart(text, draw) {
-  const box = svg("svg", { width: 26, height: 14, "aria-hidden": "true" }, ...draw);
-  return element("span", {}, box, text);
-}
-
-function fillLegend() {
-  const box = (fill) => svg("rect", { x: 0, y: 1, width: 26, height: 12, fill });
-  const used = [...new Set(requests.command.slice(1))].sort((one, other) => one - other);
-  const parts = used.map((command) => legendPart(nameOf(command), [box(colorOf(command))]));
-  const isAny = requests.improper.size > 0 || requests.result.includes(FAILURE, 1);
-  if (isAny) parts.push(legendPart("improper or failed", [box("#444"), svg("path", { d: "M2 14L9 0M10 14L17 0M18 14L25 0", stroke: "#fff", "stroke-width": 3 })]));
-  if (requests.count) parts.push(legendPart("request, wait, reply", [
-    svg("rect", { x: 0, y: 1, width: 6, height: 12, fill: "#777" }), svg("rect", { x: 0, y: 5, width: 26, height: 4, fill: "#bbb" }),
-    svg("rect", { x: 18, y: 1, width: 8, height: 12, fill: "#777" })]));
-  if (requests.count) parts.push(legendPart("first reply", [svg("line", { class: "tick", x1: 13, x2: 13, y1: 0, y2: 14 })]));
-  if (services.count) parts.push(legendPart("served: a moment that fits the order", [svg("path", { class: "service", d: "M7 7L13 1L19 7L13 13Z" })]));
-  if (isNo) parts.push(legendPart(isWrong ? "wrong" : "in question", [svg("rect", { x: 2, y: 2, width: 22, height: 10, fill: "none", class: "redline" })]));
-  if (guilt.expected) parts.push(legendPart("should have been returned", [svg("rect", { x: 2, y: 2, width: 22, height: 10, fill: "none", stroke: "#1a1a1a", "stroke-width": 2, "stroke-dasharray": "5 3" })]));
-  byId("legend").append(...parts);
-  byId("export-hint").textContent = (services.count
-    ? "A change is painted from its service on, until another one replaces it; a READ is a thin bar where it was served."
-    : "There is no order: a change is painted from its first reply on, and may have been carried out before; a READ is a thin bar there.") +
-    " Grey: as at the start." + (changes.some((change) => requests.result[change.number] !== SUCCESS) ? " Pale: it did not succeed, and what it left is not known." : "");
-}
-
-function showDetail(number) {
-  const detail = byId("detail"), replies = [];
-  for (let at = requests.reply[number]; at >= 0 && at <= requests.lastReply[number]; at++) {
-    if (messages.request[at] === number && messages.sides[at] === "S") replies.push(at);
-  }
-  const item = (at) => element("li", {}, element("span", { class: "line" }, wordsOf(at)), ` (bytes ${messages.first[at]} to ${messages.last[at]})`);
-  const entries = servedBy(number), role = roleOf(number), parts = [requests.message[number], ...replies.slice(0, 20)].map(item);
-  if (replies.length > 20) parts.push(element("li", {}, `${replies.length - 20} more`));
-  if (entries.length) parts.push(element("li", {}, `served by entry ${entries.slice(0, 20).join(", ")}${entries.length > 20 ? ", .." : ""}`));
-  for (const [side, first, last] of guilt.messages.filter((message) => message[3] === number)) {
-    const sender = side === "C" ? "client" : "server";
-    parts.push(element("li", {}, `refused at byte ${guilt.place}, ${guilt.fault}: bytes ${first} to ${last} of the ${sender}`));
-  }
-  detail.className = inQuestion.has(number) ? "red" : "";
-  detail.replaceChildren(...(role ? [element("strong", {}, role)] : []), element("ul", {}, ...parts));
-}
-
-function showMessage(at) {
-  const number = messages.request[at];
-  if (number) return select(number);
-  byId("detail").className = "";
-  byId("detail").replaceChildren(element("span", { class: "line" }, wordsOf(at)), ` (bytes ${messages.first[at]} to ${messages.last[at]})`);
-}
+// What the mouse, the keyboard and the filter do.
 
 // Selects a request; it comes into view where it is not, or where this is wanted.
 function select(number, isLookedFor = false) {
@@ -146,7 +57,8 @@ function pick(x, y) {
     return;
   }
   const lane = Math.floor((y - LANES + 2) / laneStep);
-  const found = inView().find((number) => requests.lane[number] === lane && firstOf(number) - 1 - near <= place && requests.end[number] + near >= place);
+  const isThere = (number) => firstOf(number) - 1 - near <= place && requests.end[number] + near >= place;
+  const found = inView().find((number) => requests.lane[number] === lane && isThere(number));
   if (found) select(found);
 }
 

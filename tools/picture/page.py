@@ -6,7 +6,7 @@ import os
 
 HERE = os.path.dirname(os.path.realpath(__file__))
 # In the order in which they stand in the page.
-SCRIPTS = ("data.js", "view.js", "bars.js", "export.js", "table.js", "main.js")
+SCRIPTS = ("data.js", "view.js", "bars.js", "export.js", "table.js", "header.js", "main.js")
 
 
 def part(name):

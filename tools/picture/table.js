@@ -60,20 +60,22 @@ function resultOf(number) {
 const mark = (number) => (inQuestion.has(number) ? "guilty" : number === view.selected ? "chosen" : "");
 
 function requestRow(number) {
-  const reply = replyOf(number), note = number === guilt.expected ? "the write that should have been returned" : roleOf(number).toLowerCase();
+  const note = number === guilt.expected ? "the write that should have been returned" : roleOf(number).toLowerCase();
+  const replies = replyOf(number) === null ? ["", ""] : [replyOf(number), messages.last[requests.lastReply[number]]];
   return [chooser(number), nameOf(requests.command[number]), String(requests.begin[number]), requests.length[number],
-    `${firstOf(number)} to ${wholeOf(number)}`, reply === null ? "" : reply, reply === null ? "" : messages.last[requests.lastReply[number]],
-    servedBy(number).join(", "), resultOf(number), note];
+    `${firstOf(number)} to ${wholeOf(number)}`, ...replies, servedBy(number).join(", "), resultOf(number), note];
 }
 
 const requestTable = makeTable(byId("table"), "Requests", [
   { name: "Request" }, { name: "Command", left: true }, { name: "Offset" }, { name: "Length" }, { name: "Its bytes" },
-  { name: "First reply" }, { name: "Last reply" }, { name: "Served by entry" }, { name: "Result", left: true }, { name: "Note", left: true },
+  { name: "First reply" }, { name: "Last reply" }, { name: "Served by entry" }, { name: "Result", left: true },
+  { name: "Note", left: true },
 ], requestRow, mark);
 
 const messageTable = makeTable(byId("messages"), "Messages of both sides", [
   { name: "Message" }, { name: "Bytes" }, { name: "In words", left: true, mono: true },
-], (at) => [at + 1, `${messages.first[at]} to ${messages.last[at]}`, wordsOf(at)], (at) => (mark(messages.request[at]) === "guilty" ? "guilty" : ""));
+], (at) => [at + 1, `${messages.first[at]} to ${messages.last[at]}`, wordsOf(at)],
+  (at) => (inQuestion.has(messages.request[at]) ? "guilty" : ""));
 messageTable.fill(Array.from({ length: messages.count }, (_, at) => at));
 
 // What a change left of the offset in question, or a READ returned.
@@ -83,24 +85,29 @@ function byteOf(number) {
   return questioned() === guiltyOffset || view.offset === guiltyOffset ? byteAt.get(number) || "" : "";
 }
 
-// Which write the guilty READ should have returned: this entry's.
+function historyNote(event) {
+  if (inQuestion.has(event.number)) return isWrong ? "wrong" : "in question";
+  return event.number === guilt.expected ? "should have been returned" : event.note;
+}
+
 function historyRow(event) {
-  const number = event.number, did = isChange(number) ? "left" : "returned";
-  const note = inQuestion.has(number) ? (isWrong ? "wrong" : "in question") : number === guilt.expected ? "should have been returned" : event.note;
-  return [event.entry || "", chooser(number, shortName(number)), did, byteOf(number), note];
+  const did = isChange(event.number) ? "left" : "returned";
+  return [event.entry || "", chooser(event.number, shortName(event.number)), did, byteOf(event.number), historyNote(event)];
 }
 
 const historyTable = makeTable(byId("history"), "Who wrote and read the offset in question", [
-  { name: "Entry" }, { name: "Request", left: true }, { name: "Did", left: true }, { name: "Byte", left: true, mono: true }, { name: "Note", left: true },
+  { name: "Entry" }, { name: "Request", left: true }, { name: "Did", left: true }, { name: "Byte", left: true, mono: true },
+  { name: "Note", left: true },
 ], historyRow, (event) => mark(event.number));
 
 function fillHistory() {
   const offset = questioned();
   byId("history").hidden = offset === null;
   if (offset === null) return;
-  byId("history").querySelector("caption").textContent =
-    `Who wrote and read offset ${offset}, ${services.count ? "in the order of service" : "by their first replies"}; at first it was ${startByte()}`;
-  const found = events.filter((event) => event.begin <= offset && offset < event.end && (isChange(event.number) || requests.command[event.number] === READ));
+  const sorted = services.count ? "in the order of service" : "by their first replies";
+  byId("history").querySelector("caption").textContent = `Who wrote and read offset ${offset}, ${sorted}; at first it was ${startByte()}`;
+  const isOf = (event) => isChange(event.number) || requests.command[event.number] === READ;
+  const found = events.filter((event) => event.begin <= offset && offset < event.end && isOf(event));
   let held = { unknown: "unknown", zero: "00" }[data.start] || "";
   for (const event of found) {
     const byte = byteOf(event.number), isKnown = byte && held && held !== "unknown";
@@ -111,7 +118,8 @@ function fillHistory() {
   historyTable.fill(found);
 }
 
-const covers = (at, offset) => services.begin[at] === null || (services.begin[at] <= offset && offset < services.begin[at] + BigInt(services.length[at]));
+const partEnd = (at) => services.begin[at] + BigInt(services.length[at]);
+const covers = (at, offset) => services.begin[at] === null || (services.begin[at] <= offset && offset < partEnd(at));
 const startByte = () => ({ unknown: "unknown", zero: "00" })[data.start] || `that of ${data.start.slice(6)}`;
 
 function fillTable() {

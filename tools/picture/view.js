@@ -49,9 +49,6 @@ function steps(from, to, most) {
   return found;
 }
 
-const grouped = (number) => String(number).replace(/\B(?=(\d{3})+$)/g, " ");
-const counted = (number, word) => `${grouped(number)} ${word}${Number(number) === 1 ? "" : "s"}`;
-
 // The axis of the session's bytes, and its lines down to this height.
 function drawAxis(drawing, height) {
   for (const at of steps(view.from, view.to, Math.max(2, Math.floor((view.width - GUTTER) / 110)))) {
