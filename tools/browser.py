@@ -133,6 +133,15 @@ class Browser:
         for kind in ("mousePressed", "mouseReleased"):
             self.send("Input.dispatchMouseEvent", type=kind, x=x, y=y, button="left", buttons=1, clickCount=1)
 
+    def drag(self, x, y, step):
+        """Moves the mouse so far to the right, with its button held."""
+        for kind, at in (("mousePressed", x), ("mouseMoved", x + step / 2), ("mouseMoved", x + step), ("mouseReleased", x + step)):
+            self.send("Input.dispatchMouseEvent", type=kind, x=at, y=y, button="left", buttons=1, clickCount=1)
+
+    def turn(self, x, y, step, control):
+        """Turns the mouse's wheel, with the control key or without."""
+        self.send("Input.dispatchMouseEvent", type="mouseWheel", x=x, y=y, deltaX=0, deltaY=step, modifiers=2 if control else 0)
+
     def named(self, role, name=None):
         """The names of what has this role for a screen reader; with a name, those that have it."""
         words = {"role": role, **({"accessibleName": name} if name else {})}

@@ -203,6 +203,17 @@ elif words[0] == "show":
     tally.want("no other file", re.findall(r"""(?:src|href)=["'][^#]""", page_of(room, WRITTEN, "1\n2\n")), [])
 
 
+def gave_up(tally, room):
+    """A search that gave up proves nothing, and its page has no order; the rest is as ever."""
+    line = "gave up: too many states, request 2 offset 0"
+    path = room.put("gives-up", f'#!/bin/sh\n[ "$1" = explain ] || exec {PROGRAM} "$@"\necho "{line}"; exit 5\n'.encode())
+    os.chmod(path, 0o755)
+    ended = run_script(room.put("s.cap", text(CROSSED)), more={"NBDCHECK": path})
+    data = data_of(ended.out.decode())
+    tally.want("a search that gave up", (ended.status, ended.err, data["verdict"], data["guilt"]["kind"]), (0, "", line, "other"))
+    tally.want("its order and requests", (data["source"], data["services"]["at"], data["lanes"]), (None, [], 2))
+
+
 def stand_in_of(room, status, err=""):
     path = room.put(f"ends-{status}", f"#!/bin/sh\n[ -z '{err}' ] || echo '{err}' >&2\n{status}\n".encode())
     os.chmod(path, 0o755)
@@ -282,6 +293,20 @@ def interrupts(tally, room):
         tally.want(f"{stop.name}: how it ends", (child.returncode, out, err, running, os.listdir(kept)), (-stop, b"", b"", False, []))
 
 
+def are_moments(data):
+    """Whether each service stands behind its request and before the first reply to it, and none before an earlier entry's."""
+    messages, services, wholes, replies, first = data["messages"], data["services"], {}, {}, 0
+    for side, step, span, number in zip(*(messages[key] for key in ("sides", "firsts", "spans", "requests"))):
+        first += step
+        if side == "C":
+            wholes[number] = first + span
+        else:
+            replies.setdefault(number, first)
+    at = services["at"]
+    return at == sorted(at) and all(wholes[number] <= moment < replies.get(number, data["bytes"] + 1)
+                                    for number, moment in zip(services["requests"], at))
+
+
 def examples(tally, room):
     """The sessions of examples/: the answer, and as many numbers as there are messages and requests."""
     for path in sorted((TOP / "examples").glob("*.cap")):
@@ -293,6 +318,7 @@ def examples(tally, room):
         tally.want(f"{path.name}: lines", [json.loads(line) for line in LINES.search(page).group(1).split("\n")], told)
         tally.want(f"{path.name}: explained", data["explained"], path.with_suffix(".why").read_text())
         if data["verdict"].startswith("yes"):
+            tally.holds(f"{path.name}: moments", are_moments(data), data["services"])
             results, improper = data["requests"]["results"], data["requests"]["improper"]
             tally.want(f"{path.name}: numbers", f"yes requests {len(results)} answered {len(results) - results.count('0')} "
                        f"improper {len(improper)}", data["verdict"])
@@ -324,7 +350,7 @@ def many(tally, room):
     tally.holds("many requests: seconds", seconds < 30, (seconds, time.monotonic() - begun_at))
 
 
-PARTS = (places, lanes, results, proper_requests, guilt, in_words, escaping, refusals, pipes, interrupts, examples, many)
+PARTS = (places, lanes, results, proper_requests, guilt, in_words, escaping, refusals, gave_up, pipes, interrupts, examples, many)
 
 
 def run(tally):

@@ -180,6 +180,18 @@ def mouse(tally, room, page):
     # The greeting, the first of the server's messages.
     page.click(left + page.ask("xOf(9)"), top + page.ask("SERVER_ROW + 5"))
     tally.holds("a click on a message", text_of(page, "#detail").startswith("S greeting, "), text_of(page, "#detail"))
+    page.click(*middle_of(page, "#in"))
+    shown = page.ask("[view.from, view.to]")
+    tally.want("zoomed in at the middle", shown, [83.5, 250.5])
+    # A drag by a tenth of the chart to the left shows what lies a tenth of the view further right, and selects nothing.
+    before = text_of(page, "#detail")
+    page.drag(left + 500, top + 90, page.ask("(GUTTER + RIGHT - view.width) / 10"))
+    tally.want("dragged", [round(at, 3) for at in page.ask("[view.from, view.to]")], [100.2, 267.2])
+    tally.want("a drag selects nothing", text_of(page, "#detail"), before)
+    page.turn(left + 500, top + 90, 100, control=True)
+    tally.want("the wheel zooms out", round(page.ask("view.to - view.from"), 3), 167 * 1.25)
+    page.turn(left + 500, top + 90, 100, control=False)
+    tally.want("the wheel alone does not", round(page.ask("view.to - view.from"), 3), 167 * 1.25)
     tally.want("complaints", page.complaints, [])
 
 
@@ -196,6 +208,13 @@ def many(tally, room, page):
     tally.want("the whole session has no bar of its own", page.ask(count), 0)
     tally.holds("it has pixels", page.ask(
         "document.querySelector('#bars canvas').getContext('2d').getImageData(GUTTER + 20, laneTop(1) + 3, 1, 1).data[3]") == 255)
+    page.ask("document.getElementById('whole').focus()")
+    page.press("Tab")
+    tally.want("the chart can be reached", page.ask("document.activeElement.tagName"), "svg")
+    page.press("ArrowRight")
+    tally.want("and the first request from there", reached(page), 1)
+    page.press("End")
+    tally.want("and the last", reached(page), MANY)
     type_in(page, "numbers", "50001")
     page.ask("document.getElementById('clear').click()")
     bars = page.ask(count)

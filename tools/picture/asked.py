@@ -6,6 +6,7 @@ import subprocess
 import tempfile
 
 from .faults import FAILED, MEMORY, REFUSED, Fault, printable
+from .signals import SIGNALS
 
 YES, NO, GAVE_UP, OUT_OF_MEMORY = 0, 1, 5, 4
 BUFFER = 1 << 20
@@ -21,14 +22,17 @@ class Nbdcheck:
 
     @contextlib.contextmanager
     def _running(self, words, errors):
-        """A run; one that is not wanted any more is ended."""
+        """A run; one that is not wanted any more is ended, also where a signal comes while it begins."""
+        SIGNALS.hold()
         try:
             child = subprocess.Popen([self.program, *words], bufsize=BUFFER, stdin=subprocess.DEVNULL, stdout=subprocess.PIPE,
                                      stderr=errors)
         except OSError as error:
+            SIGNALS.let_go()
             raise Fault(FAILED, f"cannot run {printable(self.program)}: {error.strerror or error}") from None
         with child:
             try:
+                SIGNALS.let_go()
                 yield child
             except BaseException:
                 child.kill()

@@ -64,14 +64,21 @@ function pick(x, y) {
 
 function watchMouse(box) {
   let held = null;
-  box.addEventListener("pointerdown", (event) => (held = { x: event.clientX, from: view.from, to: view.to, isMoved: false }));
-  window.addEventListener("pointermove", (event) => {
-    if (!held || !(event.buttons & 1)) return;
+  box.addEventListener("pointerdown", (event) => (held = { x: event.clientX, from: view.from, to: view.to, isDown: true, isMoved: false }));
+  const follow = (event) => {
+    if (!held || !held.isDown) return;
     const step = ((held.x - event.clientX) / (view.width - GUTTER - RIGHT)) * (held.to - held.from);
     held.isMoved = held.isMoved || Math.abs(held.x - event.clientX) > 4;
     if (held.isMoved) look(held.from + step, held.to + step);
+  };
+  window.addEventListener("pointermove", (event) => {
+    if (held && !(event.buttons & 1)) held.isDown = false;
+    follow(event);
   });
-  window.addEventListener("pointerup", () => setTimeout(() => (held = null)));
+  window.addEventListener("pointerup", (event) => {
+    follow(event);
+    if (held) held.isDown = false;
+  });
   box.addEventListener("click", (event) => {
     const reached = event.target.closest("[data-request]"), edge = box.getBoundingClientRect();
     if (held && held.isMoved) return;
