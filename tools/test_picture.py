@@ -257,6 +257,9 @@ def refusals(tally, room):
 def pipes(tally, room):
     """What comes from standard input, by a pipe or from a file, as a capture, an order and an image."""
     places = {"capture": room.put("good.cap", text(WRITTEN)), "order": room.put("good.ord", b"1\n2\n"), "image": room.put("8", bytes(8))}
+    odd = room.put(os.fsdecode(b"\xff.cap"), text(WRITTEN))
+    ended = run_script(odd, places["order"])
+    tally.want("a name that is no text", (ended.status, ended.err, data_of(ended.out.decode())["name"]), (0, "", "\\xff.cap"))
     by_name = data_of(run_script(places["capture"], places["order"], "--start", f"image:{places['image']}").out.decode())
     for kind, path in places.items():
         for name in ("/dev/stdin", "/proc/self/fd/0"):
