@@ -109,6 +109,12 @@ function drawQuestion(drawing, yOf) {
   drawing.append(svg("text", { class: "red", x: GUTTER - 6, y: y + 4, "text-anchor": "end" }, String(offset)));
 }
 
+// Without an order: from when a change was whole to its first reply it may have been carried out.
+function drawEarlier(number, x, top, bottom) {
+  const from = xOf(wholeOf(number));
+  return [colorOf(requests.command[number]), "url(#hatch)"].map((fill) => rect(from, x, top, bottom - top, fill, { opacity: 0.6 }));
+}
+
 // The changes and reads in view, few of them, with their numbers.
 function drawNames(drawing, yOf) {
   const isHigh = (event) => yOf(event.end) > EXPORT_TOP && yOf(event.begin) < EXPORT_TOP + EXPORT_ROWS;
@@ -118,8 +124,9 @@ function drawNames(drawing, yOf) {
   const texts = [];
   for (const event of written.length <= FEW ? written : []) {
     const x = xOf(event.at), top = limit(yOf(event.begin)), bottom = limit(yOf(event.end));
+    if (services.count === 0) drawing.append(...drawEarlier(event.number, x, top, bottom));
     drawing.append(svg("line", { x1: x, x2: x, y1: top, y2: bottom, stroke: "#fff", "stroke-width": 1.5 }));
-    const look = isDark(event.number) ? "light" : "";
+    const look = services.count > 0 && isDark(event.number) ? "light" : "on";
     if (written.length <= 60 && bottom - top >= 12) texts.push([x + 6, bottom - 4, `#${event.number}`, look]);
   }
   for (const event of read.length <= FEW ? read : read.filter((event) => inQuestion.has(event.number))) {

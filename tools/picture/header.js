@@ -67,7 +67,8 @@ function fillLegend() {
   const isPale = changes.some((change) => requests.result[change.number] !== SUCCESS);
   byId("export-hint").textContent = (services.count
     ? "A change is painted from its service on, until another one replaces it; a READ is a thin bar where it was served."
-    : "There is no order: a change is painted from its first reply on, and may have been carried out before; a READ is a thin bar there.") +
+    : "There is no order: a change is painted from its first reply on, and hatched where it may have been carried out before; " +
+      "a READ is a thin bar at its first reply.") +
     " Grey: as at the start." + (isPale ? " Pale: it did not succeed, and what it left is not known." : "");
 }
 
