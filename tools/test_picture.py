@@ -215,7 +215,7 @@ def gave_up(tally, room):
 
 
 def stand_in_of(room, status, err=""):
-    path = room.put(f"ends-{status}", f"#!/bin/sh\n[ -z '{err}' ] || echo '{err}' >&2\n{status}\n".encode())
+    path = room.put(f"ends-{status}", f"#!/bin/sh\n[ $1 != --version ] || exit 0\n[ -z '{err}' ] || echo '{err}' >&2\n{status}\n".encode())
     os.chmod(path, 0o755)
     return {"more": {"NBDCHECK": path}}
 
@@ -233,6 +233,8 @@ def refusals(tally, room):
         ("a malformed order", [good, bad_order], {}, 1, "fault order line 2"),
         ("no image", [good, order, "--start", "image:/nonexistent"], {}, 3, "fault image read"),
         ("no nbdcheck", [good], {"more": {"NBDCHECK": "/nonexistent"}}, 3, "cannot run /nonexistent: No such file or directory"),
+        ("no nbdcheck but another program", [good], {"more": {"NBDCHECK": "/bin/false"}}, 3,
+         "cannot run /bin/false: it ended with status 1"),
         ("no memory", [good], stand_in_of(room, "exit 4", "fault memory"), 4, "fault memory"),
         ("another status", [good], stand_in_of(room, "exit 9"), 3, f"{room.path('ends-exit 9')} ended with status 9"),
         ("words", [good], stand_in_of(room, "exit 3", loud), 3, loud),

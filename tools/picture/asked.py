@@ -60,6 +60,13 @@ class Nbdcheck:
         self._judge(child.returncode, said, taken)
         return child.returncode, out, said
 
+    def try_out(self):
+        """Runs it once: the repository's is built here, where it is not built yet, and says on standard error how far it is."""
+        with self._running(["--version"], None) as child:
+            child.stdout.read()
+        if child.returncode != 0:
+            raise Fault(FAILED, f"cannot run {printable(self.program)}: it ended with status {child.returncode}")
+
     def explain(self):
         """The lines of `explain`, its status, and what it said beside them."""
         order = [] if self.order is None else [self.order]

@@ -109,6 +109,7 @@ def order_of(nbdcheck, verdict, path):
 
 def facts(nbdcheck, capture, order, names):
     """All that the page shows, and the line of each message. The names are those of the capture, the order and the start."""
+    nbdcheck.try_out()
     explained, _, said = nbdcheck.explain()
     verdict = read_verdict(explained.split("\n")[0])
     session, told = read_session(nbdcheck, capture, verdict.offset)
