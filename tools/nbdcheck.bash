@@ -1,4 +1,4 @@
-# Completions of nbdcheck, nbdcheck-record and capture-to-pcap for bash.
+# Completions of nbdcheck, nbdcheck-record, nbdcheck-picture and capture-to-pcap for bash.
 
 _nbdcheck() {
     # The commands, each with its options; every other word is the name of a file.
@@ -42,6 +42,23 @@ _capture_to_pcap() {
 }
 
 complete -o filenames -F _capture_to_pcap capture-to-pcap
+
+_nbdcheck_picture() {
+    # The names of a capture and of an order, or an option.
+    local starts="unknown zero image:"
+    local word=${COMP_WORDS[COMP_CWORD]} before=${COMP_WORDS[COMP_CWORD - 1]}
+
+    if [ "$before" = --start ]; then
+        mapfile -t COMPREPLY < <(compgen -W "$starts" -- "$word")
+        [[ ${COMPREPLY[0]:-} = image: ]] && compopt -o nospace 2>/dev/null
+    elif [[ $word = -* ]]; then
+        mapfile -t COMPREPLY < <(compgen -W "--start --help" -- "$word")
+    else
+        mapfile -t COMPREPLY < <(compgen -f -- "${word#:}")
+    fi
+}
+
+complete -o filenames -F _nbdcheck_picture nbdcheck-picture
 
 _nbdcheck_record() {
     local asked="--to --listen --start --arrival --order --profile --keep --out --help"

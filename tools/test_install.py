@@ -1,4 +1,4 @@
-"""tools/install in a folder of its own, the completions against what the programs' helps name, and the installed recorder."""
+"""tools/install in a folder of its own, the completions against what the programs' helps name, and the installed tools."""
 
 import os
 import re
@@ -8,13 +8,15 @@ from pathlib import Path
 
 from built import TOP, Tally
 
-PROGRAMS = ("nbdcheck", "nbdcheck-record", "capture-to-pcap")
+PROGRAMS = ("nbdcheck", "nbdcheck-record", "nbdcheck-picture", "capture-to-pcap")
+PARTS = ("*.py", "*.html", "*.css", "*.js")
 # In the order in which they are installed.
 INSTALLED = {
     **{f"bin/{name}": 0o755 for name in PROGRAMS},
     **{name: 0o644 for program in PROGRAMS
        for name in (f"share/man/man1/{program}.1", f"share/bash-completion/completions/{program}")},
     **{f"share/nbdcheck/recorder/{path.name}": 0o644 for path in sorted(TOP.glob("tools/recorder/*.py"))},
+    **{f"share/nbdcheck/picture/{path.name}": 0o644 for part in PARTS for path in sorted(TOP.glob(f"tools/picture/{part}"))},
 }
 SESSION = TOP / "examples/first.cap"
 
@@ -43,7 +45,7 @@ def installs(tally, prefix):
 def occupied(tally, folder):
     """A folder where a file has to be, and a file where a folder has to be: nothing is installed."""
     for name in INSTALLED:
-        prefix = Path(folder, "occupied", Path(name).name, name.split("/")[1])
+        prefix = Path(folder, "occupied", name.replace("/", "-"))
         (prefix / name).mkdir(parents=True)
         found = ended(TOP / "tools/install", prefix)
         tally.want(f"{name} is a folder", found, (1, "", f"install: {prefix}/{name} is a folder; nothing was installed\n"))
@@ -62,7 +64,7 @@ def words(tally, folder):
     status, usage, err = ended(TOP / "tools/install", "--help")
     tally.want("install --help", (status, err), (0, ""))
     tally.holds("install --help has an example", "tools/install ~/.local" in usage, usage)
-    for name in {re.sub("/recorder/.*", "/recorder, the parts of nbdcheck-record", name) for name in INSTALLED}:
+    for name in {re.sub("/nbdcheck/(record|picture)(er)?/.*", r"/nbdcheck/\1\2, the parts of nbdcheck-\1", name) for name in INSTALLED}:
         tally.holds(f"install --help has {name}", f"\n  /usr/local/{name}\n" in usage, usage)
     for asked in ([], ["--prefix"], [""], ["a", "b"]):
         tally.want(f"install {asked}", ended(TOP / "tools/install", *asked, cwd=folder), (2, "", usage))
@@ -115,7 +117,8 @@ def recorder(tally, prefix, folder):
     tally.want("nbdcheck-record --help", found, ended(TOP / "tools/nbdcheck-record", "--help"))
     tally.want("nbdcheck-record runs", ended(program, "--to", "1", "--", "true", "{uri}", cwd=folder),
                (3, "", "nbdcheck-record: no connection came: nothing was recorded\n"))
-    tally.want("no file beside its modules", sorted(path.name for path in (prefix / "share/nbdcheck").iterdir()), ["recorder"])
+    tally.want("no file beside its modules", sorted(path.name for path in (prefix / "share/nbdcheck").iterdir()),
+               ["picture", "recorder"])
     options = set(re.findall(r"^  (?:-h, )?(--\w+)", found[1].split("options:\n")[1].split("\n\n")[0], re.MULTILINE))
     page = (prefix / "share/man/man1/nbdcheck-record.1").read_text().replace("\\-", "-")
     tally.want("options of the manual page", {option for option in options if f"{option}" in page}, options)
@@ -130,6 +133,23 @@ def recorder(tally, prefix, folder):
         tally.want(f"completion of {line}", completed(prefix, folder, *line, **complete), wanted)
 
 
+def picture(tally, prefix, folder):
+    """The installed nbdcheck-picture: its modules, its help, its page, and its completions."""
+    program = prefix / "bin/nbdcheck-picture"
+    words = [SESSION, SESSION.with_suffix(".ord"), "--start", "zero"]
+    status, page, err = ended(program, *words, cwd=folder)
+    tally.want("nbdcheck-picture", (status, err, page), (0, "", ended(TOP / "tools/nbdcheck-picture", *words)[1]))
+    tally.holds("nbdcheck-picture writes a page", page.startswith("<!DOCTYPE html>") and page.endswith("</html>\n"))
+    options = set(re.findall(r"^  (?:-h, )?(--\w+)", helped(program).split("options:\n")[1].split("\n\n")[0], re.MULTILINE))
+    page = (prefix / "share/man/man1/nbdcheck-picture.1").read_text().replace("\\-", "-")
+    tally.want("options of its manual page", {option for option in options if option in page}, options)
+    complete = {"command": "nbdcheck-picture"}
+    tally.want("options of nbdcheck-picture", completed(prefix, folder, "-", **complete), options)
+    for line, wanted in ((["--start", ""], {"unknown", "zero", "image:"}), (["--start", "image", ":", "tw"], {"two.cap"}),
+                         (["on"], {"one.cap", "one.ord"})):
+        tally.want(f"completion of nbdcheck-picture {line}", completed(prefix, folder, *line, **complete), wanted)
+
+
 def run(tally):
     with tempfile.TemporaryDirectory(prefix="nbdcheck-") as folder:
         prefix, empty = Path(folder, "prefix"), Path(folder, "empty")
@@ -139,6 +159,7 @@ def run(tally):
         installs(tally, prefix)
         completions(tally, prefix, empty)
         recorder(tally, prefix, empty)
+        picture(tally, prefix, empty)
 
 
 if __name__ == "__main__":

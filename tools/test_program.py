@@ -1,10 +1,10 @@
 #!/usr/bin/env python3
 """Runs the built program: its commands, sessions as data, cut off and damaged, all that can fail, inputs at size; and the
-scripts round it: the build, the installation, the conversions of recordings and of captures, and the relay that records.
+scripts round it: the build, the installation, the conversions of recordings and of captures, the pages of sessions, and the relay that records.
 
 The last line is `N passed, M failed`. With names as words, runs these parts alone: build, cases, commands, conversions,
-cuts, explain, install, names, order, readme, record, record_answers, record_programs, refusals, search, sizes, texts,
-to_pcap.
+cuts, explain, install, names, order, picture, picture_pages, readme, record, record_answers, record_programs, refusals,
+search, sizes, texts, to_pcap.
 """
 
 import sys
@@ -19,6 +19,8 @@ import test_explain
 import test_install
 import test_names
 import test_order
+import test_picture
+import test_picture_pages
 import test_readme
 import test_record
 import test_record_answers
@@ -40,6 +42,8 @@ PARTS = {
     "install": test_install,
     "names": test_names,
     "order": test_order,
+    "picture": test_picture,
+    "picture_pages": test_picture_pages,
     "readme": test_readme,
     "record": test_record,
     "record_answers": test_record_answers,

@@ -1,0 +1,87 @@
+"""What nbdcheck says of a capture: its answer and its messages, as lines and in words."""
+
+import contextlib
+import re
+import subprocess
+import tempfile
+
+from .faults import FAILED, MEMORY, REFUSED, Fault, printable
+from .signals import SIGNALS
+
+YES, NO, GAVE_UP, OUT_OF_MEMORY = 0, 1, 5, 4
+BUFFER = 1 << 20
+# nbdcheck's words for an input that is malformed; behind each other fault an input could not be read.
+MALFORMED = re.compile(r"fault (capture|order) line \d+")
+
+
+class Nbdcheck:
+    """Runs of nbdcheck over one capture, with one order and one start."""
+
+    def __init__(self, program, capture, order, start):
+        self.program, self.capture, self.order, self.start = program, capture, order, start
+
+    @contextlib.contextmanager
+    def _running(self, words, errors):
+        """A run; one that is not wanted any more is ended, also where a signal comes while it begins."""
+        SIGNALS.hold()
+        try:
+            child = subprocess.Popen([self.program, *words], bufsize=BUFFER, stdin=subprocess.DEVNULL, stdout=subprocess.PIPE,
+                                     stderr=errors)
+        except OSError as error:
+            SIGNALS.let_go()
+            raise Fault(FAILED, f"cannot run {printable(self.program)}: {error.strerror or error}") from None
+        with child:
+            try:
+                SIGNALS.let_go()
+                yield child
+            except BaseException:
+                child.kill()
+                raise
+
+    def _judge(self, status, said, taken):
+        """Raises what nbdcheck said, where its status is none of those that are taken."""
+        if status in taken:
+            return
+        first = said.decode(errors="backslashreplace").strip().split("\n")[0]
+        if status == OUT_OF_MEMORY:
+            raise Fault(MEMORY, first or "out of memory")
+        if first and status > 0:
+            raise Fault(REFUSED if MALFORMED.match(first) else FAILED, first)
+        how = f"ended with status {status}" if status >= 0 else f"was ended by signal {-status}"
+        raise Fault(FAILED, f"{printable(self.program)} {how}")
+
+    def _run(self, words, taken):
+        """The output of a run, and what it said on standard error."""
+        with tempfile.TemporaryFile() as errors:
+            with self._running(words, errors) as child:
+                out = child.stdout.read()
+            errors.seek(0)
+            said = errors.read()
+        self._judge(child.returncode, said, taken)
+        return child.returncode, out, said
+
+    def try_out(self):
+        """Runs it once: the repository's is built here, where it is not built yet, and says on standard error how far it is."""
+        with self._running(["--version"], None) as child:
+            child.stdout.read()
+        if child.returncode != 0:
+            raise Fault(FAILED, f"cannot run {printable(self.program)}: it ended with status {child.returncode}")
+
+    def explain(self):
+        """The lines of `explain`, its status, and what it said beside them."""
+        order = [] if self.order is None else [self.order]
+        status, out, said = self._run(["explain", self.capture, *order, "--start", self.start], (YES, NO, GAVE_UP))
+        return out.decode(errors="backslashreplace"), status, said.decode(errors="backslashreplace")
+
+    def found_order(self):
+        """The order that nbdcheck finds."""
+        return self._run(["order", self.capture, "--start", self.start], (YES,))[1]
+
+    def lines(self, *options):
+        """The lines of `show`, each without its line feed."""
+        with tempfile.TemporaryFile() as errors:
+            with self._running(["show", *options, self.capture], errors) as child:
+                for line in child.stdout:
+                    yield line.rstrip(b"\n")
+            errors.seek(0)
+            self._judge(child.returncode, errors.read(), (YES, NO))

@@ -1,0 +1,161 @@
+"""The messages of a session with their places, and its requests, from the lines of `show`."""
+
+import heapq
+import struct
+
+from .places import SIDES
+
+READ, WRITE, DISC, FLUSH, TRIM, CACHE, WRITE_ZEROES = range(7)
+OFFSET_DATA, OFFSET_HOLE = 1, 2
+# Types of chunks from here on are errors.
+ERRORS = 0x8000
+PENDING, SUCCESS, FAILURE = range(3)
+# The bytes of each message without its payload.
+HEADS = {"greeting": 18, "client-flags": 4, "option": 16, "answer": 20, "export": 10, "request": 28, "simple": 16, "chunk": 20}
+PADDING = 124
+INFO, INFO_EXPORT = 3, 0
+READ_ONLY, SEND_FLUSH, SEND_FUA, SEND_TRIM, SEND_WRITE_ZEROES, SEND_DF, SEND_FAST_ZERO = (1 << at for at in (1, 2, 3, 5, 6, 7, 11))
+FUA, NO_HOLE, DF, FAST_ZERO = 1, 2, 4, 16
+
+
+class Request:
+    """A request, with the messages of its reply: where it begins, is whole, is first answered, and ends."""
+
+    def __init__(self, number, command, flags, offset, length, first, last):
+        self.number, self.command, self.flags, self.offset, self.length = number, command, flags, offset, length
+        self.first, self.last, self.reply, self.end = first, last, None, None
+        self.result, self.is_improper, self.lane, self.has_error = PENDING, False, 0, False
+        # Of the offset in question: the byte that a WRITE has, or that a READ returned, and where that stands.
+        self.byte, self.place = None, None
+
+    def holds(self, offset):
+        return self.offset <= offset < self.offset + self.length
+
+
+class Export:
+    """The size and the flags of the export, as last told."""
+
+    def __init__(self):
+        self.size, self.flags = None, 0
+
+    def told(self, kind, fields, payload):
+        if kind == "export":
+            self.size, self.flags = int(fields["size"]), int(fields["flags"])
+        elif kind == "answer" and int(fields["kind"]) == INFO and len(payload) == 24 and int(payload[:4], 16) == INFO_EXPORT:
+            self.size, self.flags = struct.unpack(">QH", bytes.fromhex(payload[4:].decode()))
+
+    def _allowed(self, command):
+        """The command flags that a request may have."""
+        allowed = FUA if self.flags & SEND_FUA else 0
+        if command == READ and self.flags & SEND_DF:
+            allowed |= DF
+        if command == WRITE_ZEROES:
+            allowed |= NO_HOLE | (FAST_ZERO if self.flags & SEND_FAST_ZERO else 0)
+        return allowed
+
+    def is_improper(self, request):
+        """Whether the client should not have sent it: docs/PROFILE.md, "Requests"."""
+        command = request.command
+        needed = {FLUSH: SEND_FLUSH, TRIM: SEND_TRIM, WRITE_ZEROES: SEND_WRITE_ZEROES}.get(command, 0)
+        if command == FLUSH:
+            is_outside = request.offset != 0 or request.length != 0
+        else:
+            is_outside = request.offset + request.length > self.size
+        may_not_change = command in (WRITE, TRIM, WRITE_ZEROES) and self.flags & READ_ONLY
+        return bool(command not in (READ, WRITE, FLUSH, TRIM, CACHE, WRITE_ZEROES) or is_outside or may_not_change
+                    or needed & ~self.flags or request.flags & ~self._allowed(command))
+
+
+class Session:
+    """What was read of a session. The messages are four lists, since there may be many."""
+
+    def __init__(self, places, offset):
+        self.places, self.offset = places, offset
+        self.sides, self.firsts, self.lasts, self.numbers = [], [], [], []
+        self.requests, self.export, self.end = [], Export(), None
+        self.read = dict.fromkeys(SIDES, 0)
+        self.outstanding = {}
+
+    def add(self, line):
+        """A line of `show`; its last one is the end."""
+        front, has_payload, payload = line.partition(b" payload=")
+        words = front.decode().split(" ")
+        if words[0] not in SIDES or len(words) < 2 or words[1] not in HEADS:
+            self.end = line
+            return
+        fields = dict(word.split("=") for word in words[2:])
+        self._message(words[0], words[1], fields, payload if has_payload else b"")
+
+    def _message(self, side, kind, fields, payload):
+        length = HEADS[kind] + len(payload) // 2 + (PADDING if fields.get("padded") == "1" else 0)
+        begin, stream = self.read[side], self.places.streams[side]
+        self.read[side] += length
+        first, last = stream.place(begin), stream.place(begin + length - 1)
+        self.export.told(kind, fields, payload)
+        number = 0
+        if kind == "request":
+            number = self._request(fields, payload, first, last)
+        elif kind in ("simple", "chunk"):
+            number = self._reply(kind, fields, payload, first, last, begin + HEADS[kind])
+        for column, value in zip((self.sides, self.firsts, self.lasts, self.numbers), (side, first, last, number)):
+            column.append(value)
+
+    def _request(self, fields, payload, first, last):
+        command, flags, offset, length = (int(fields[name]) for name in ("command", "flags", "offset", "length"))
+        if command == DISC:
+            return 0
+        request = Request(len(self.requests) + 1, command, flags, offset, length, first, last)
+        request.is_improper = self.export.is_improper(request)
+        if command == WRITE and self.offset is not None and request.holds(self.offset):
+            at = self.offset - offset
+            request.byte = payload[2 * at : 2 * at + 2].decode()
+        self.requests.append(request)
+        self.outstanding[int(fields["cookie"])] = request
+        return request.number
+
+    def _reply(self, kind, fields, payload, first, last, begin):
+        """A reply's message, whose payload begins at this byte of its side."""
+        cookie = int(fields["cookie"])
+        request = self.outstanding[cookie]
+        request.reply, request.end = request.reply or first, last
+        if self.offset is not None and request.command == READ:
+            self._content(request, kind, int(fields.get("kind", OFFSET_DATA)), payload, begin)
+        if kind == "simple":
+            request.result = SUCCESS if int(fields["error"]) == 0 else FAILURE
+        else:
+            request.has_error |= int(fields["kind"]) >= ERRORS
+            if int(fields["flags"]) & 1 == 0:
+                return request.number
+            request.result = FAILURE if request.has_error else SUCCESS
+        del self.outstanding[cookie]
+        return request.number
+
+    def _content(self, request, kind, of, payload, begin):
+        """The byte of the offset in question, where this piece of a reply has it."""
+        base, front = request.offset, 0
+        if kind == "chunk":
+            if of not in (OFFSET_DATA, OFFSET_HOLE):
+                return
+            base, front = int(payload[:16], 16), 8
+        at = self.offset - base
+        if at >= 0 and kind == "chunk" and of == OFFSET_HOLE:
+            if at < int(payload[16:24], 16):
+                request.byte, request.place = "00", self.places.streams["S"].place(begin + len(payload) // 2 - 1)
+        elif 0 <= at < len(payload) // 2 - front:
+            at += front
+            request.byte, request.place = payload[2 * at : 2 * at + 2].decode(), self.places.streams["S"].place(begin + at)
+
+
+def set_lanes(requests, end):
+    """Gives each request the first lane that is free from its first byte on; how many lanes there are."""
+    free, used, taken = [], [], 0
+    for request in requests:
+        while used and used[0][0] < request.first:
+            heapq.heappush(free, heapq.heappop(used)[1])
+        if not free:
+            heapq.heappush(free, taken)
+            taken += 1
+        request.lane = heapq.heappop(free)
+        # A reply that is not finished keeps its lane.
+        heapq.heappush(used, (end + 1 if request.result == PENDING else request.end, request.lane))
+    return taken

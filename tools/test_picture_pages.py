@@ -1,0 +1,265 @@
+"""The pages of nbdcheck-picture in chromium, where it is installed: that they load, what a screen reader finds, filter, keyboard, mouse."""
+
+import time
+
+import browser
+from built import TOP, Room, Tally
+from messages import DONE, ERROR, begun, chunk, done, read, request, simple, text, write
+from test_picture import CROSSED, MANY, WRITTEN, long_session, page_of, run_script
+
+# The sessions of examples/ whose pages are opened: each kind of answer, chunks, parts, a range at 2^63, none but a negotiation.
+EXAMPLES = ("nbdkit-split", "nbdkit-python-parts", "nbdkit-huge-export", "nbdkit-memory-libnbd-sr", "nbdserver-not-offered",
+            "raw-nbdserver-list-data", "write-read-late-order", "write-half-served", "nbdinfo-size")
+# How long a page with many requests may take; the best of some times, since a machine may be busy.
+SECONDS, TIMES = 2, 5
+# What is drawn at most as elements of a page.
+MOST = 300
+# A WRITE and a READ of it, wrong; a READ that fails; a FLUSH that was not offered, which fails too.
+MISREAD = [*begun(structured=True), write(1, 0, b"\xab\xcd"), simple(1), read(2, 0, 2), chunk(2, 1, bytes(8) + b"\xab\xce", DONE),
+           read(3, 4, 2), chunk(3, ERROR, b"\0\0\0\5\0\0", DONE), request(9, 4, 0, 0), simple(4, error=22)]
+ORDER = "1\n2\n3\n4\n"
+WRONG = "READ #2, cookie 0x2, 2 bytes at 0: success"
+WROTE = "WRITE #1, cookie 0x1, 2 bytes at 0: success"
+
+
+def put(room, name, records, order=None, start="zero"):
+    return room.put(f"{name}.html", page_of(room, records, order, start).encode())
+
+
+def text_of(page, selector):
+    return page.ask(f"document.querySelector({selector!r}).innerText")
+
+
+def rows_of(page, selector):
+    """The cells of a table's rows."""
+    return page.ask(f"[...document.querySelectorAll({selector + ' tbody tr'!r})]"
+                    ".map((row) => [...row.cells].map((cell) => cell.innerText))")
+
+
+def loads(tally, room, page):
+    """Each kind of page opens without a complaint, and asks for nothing."""
+    paths = {"an empty capture": put(room, "empty", []), "a start": put(room, "begun", begun(), "")}
+    for name in EXAMPLES:
+        capture = TOP / "examples" / f"{name}.cap"
+        ended = run_script(capture, capture.with_suffix(".ord"), "--start", capture.with_suffix(".start").read_text().strip())
+        paths[name] = room.put(f"{name}.html", ended.out)
+    odd = "<b>&amp;'\"</script>".replace("/", "") + ".cap"
+    paths["an odd name"] = room.put("odd.html", run_script(room.put(odd, text(CROSSED)), "--start", "zero").out)
+    for name, path in paths.items():
+        page.open(path)
+        tally.want(f"{name}: complaints", page.complaints, [])
+        page.complaints.clear()
+        tally.holds(f"{name}: it is drawn", page.ask("document.querySelectorAll('#bars svg text').length") > 2)
+    tally.want("the odd name", text_of(page, "h1"), f"Session {odd}")
+    tally.want("the odd title", page.ask("document.title"), f"{odd} - nbdcheck")
+
+
+def names(tally, room, page):
+    """What a screen reader finds: the bars by their roles and names, the links, and the tables."""
+    page.open(put(room, "misread", MISREAD, ORDER))
+    tally.want("the wrong READ", page.named("button", f"Wrong byte: {WRONG}"), [f"Wrong byte: {WRONG}"])
+    tally.want("the write", page.named("button", f"Expected write: {WROTE}"), [f"Expected write: {WROTE}"])
+    tally.want("links", page.named("link"), ["READ #2", "WRITE #1"])
+    tally.want("the answer", text_of(page, "#verdict"), "no content request 2 offset 1")
+    # 132 bytes, a WRITE of 30, its reply of 16, a READ of 28, a chunk of 20 and 8 before the bytes ab ce.
+    tally.want("in a sentence", text_of(page, "#link"),
+               "READ #2 returned ce for offset 1, at byte 236; it should have been cd of WRITE #1, entry 1 of the order.")
+    tally.want("hatched", page.ask("[...document.querySelectorAll('.bar')].filter((bar) => bar.querySelector('[fill=\"url(#hatch)\"]'))"
+                                   ".map((bar) => Number(bar.dataset.request)).sort()"), [3, 4])
+    tally.want("requests", rows_of(page, "#table"), [
+        ["1", "WRITE", "0", "2", "133 to 162", "163", "178", "1", "success", "the write that should have been returned"],
+        ["2", "READ", "0", "2", "179 to 206", "207", "236", "2", "success", "wrong byte"],
+        ["3", "READ", "4", "2", "237 to 264", "265", "290", "3", "failed", ""],
+        ["4", "command 9", "0", "0", "291 to 318", "319", "334", "4", "failed, improper", ""]])
+    tally.want("history", rows_of(page, "#history"),
+               [["1", "WRITE #1", "left", "cd", "should have been returned"], ["2", "READ #2", "returned", "ce", "wrong"]])
+    tally.want("the first message", rows_of(page, "#messages")[0][:2], ["1", "1 to 18"])
+    tally.want("tables", page.named("table")[1:], ["Requests", "Messages of both sides"])
+    shown = run_script(room.path("s.cap"), room.path("s.ord"), "--start", "zero")
+    tally.want("what explain says", text_of(page, "#explained").split("\n")[0], "no content request 2 offset 1")
+    tally.want("and the page again", shown.status, 0)
+
+
+def several(tally, room, page):
+    """READs of which in each order one has a wrong byte."""
+    records = [*begun(), write(1, 0, b"\1"), write(2, 0, b"\2"), simple(1), simple(2), read(3, 0, 1), simple(3, b"\1"),
+               read(4, 0, 1), simple(4, b"\2")]
+    page.open(put(room, "several", records))
+    tally.want("the answer of several", text_of(page, "#verdict"), "no order explains requests 3 4 at offset 0")
+    tally.want("several in a sentence", text_of(page, "#link"),
+               "In each order one of these has a wrong byte for offset 0: READ #3, READ #4")
+    tally.want("what they did", rows_of(page, "#history"), [
+        ["", "WRITE #1", "left", "01", ""], ["", "WRITE #2", "left", "02", ""], ["", "READ #3", "returned", "01", "in question"],
+        ["", "READ #4", "returned", "02", "in question"]])
+    tally.want("complaints", page.complaints, [])
+
+
+def type_in(page, field, words):
+    """Types words in a field in place of what is there, and Enter."""
+    page.ask(f"document.getElementById({field!r}).focus(); document.getElementById({field!r}).value = ''")
+    page.send("Input.insertText", text=words)
+    page.press("Enter", "\r")
+
+
+def filters(tally, room, page):
+    page.open(put(room, "misread", MISREAD, ORDER))
+    faint = "[...document.querySelectorAll('.bar.faint')].map((bar) => Number(bar.dataset.request)).sort()"
+    for field, words, count, kept, other in (
+        ("offset", "5", "1 of 4 requests", ["3"], [1, 2, 4]),
+        ("offset", "0x1", "2 of 4 requests", ["1", "2"], [3, 4]),
+        ("offset", "", "4 requests", ["1", "2", "3", "4"], []),
+        ("numbers", "2-3", "2 of 4 requests", ["2", "3"], [1, 4]),
+        ("numbers", "#4", "1 of 4 requests", ["4"], [1, 2, 3]),
+        ("numbers", "9", "0 of 4 requests", [], [1, 2, 3, 4]),
+    ):
+        type_in(page, field, words)
+        tally.want(f"{field} {words!r}: how many", text_of(page, "#count"), count)
+        tally.want(f"{field} {words!r}: rows", [row[0] for row in rows_of(page, "#table")], kept)
+        tally.want(f"{field} {words!r}: faint bars", page.ask(faint), other)
+    type_in(page, "offset", "x")
+    tally.want("no offset", page.ask("document.getElementById('offset').getAttribute('aria-invalid')"), "true")
+    page.ask("document.getElementById('clear').click()")
+    tally.want("cleared", (text_of(page, "#count"), page.ask(faint)), ("4 requests", []))
+    type_in(page, "offset", "4")
+    tally.want("history of another offset", rows_of(page, "#history"), [["3", "READ #3", "returned", "", ""]])
+    tally.want("complaints", page.complaints, [])
+
+
+def reached(page):
+    return page.ask("Number((document.activeElement.dataset || {}).request || 0)")
+
+
+def keyboard(tally, room, page):
+    page.open(put(room, "misread", MISREAD, ORDER))
+    stops = page.ask("[...document.querySelectorAll('.bar')].filter((bar) => bar.tabIndex === 0).map((bar) => bar.dataset.request)")
+    tally.want("the bar that the tab key reaches", stops, ["2"])
+    page.ask("document.getElementById('whole').focus()")
+    page.press("Tab")
+    tally.want("behind the last button", reached(page), 2)
+    for key, number in (("ArrowRight", 3), ("ArrowRight", 4), ("ArrowRight", 4), ("Home", 1), ("ArrowLeft", 1), ("End", 4),
+                        ("ArrowLeft", 3)):
+        page.press(key)
+        tally.want(f"{key} reaches", reached(page), number)
+        tally.holds(f"{key} tells", f" #{number}, cookie " in text_of(page, "#detail"), text_of(page, "#detail"))
+    type_in(page, "numbers", "1-2")
+    page.ask("document.querySelector('[data-request=\"2\"]').focus()")
+    page.press("Enter", "\r")
+    tally.holds("Enter selects", "Wrong byte" in text_of(page, "#detail"), text_of(page, "#detail"))
+    page.press("ArrowRight")
+    tally.want("what the filter leaves", reached(page), 2)
+    whole = page.ask("view.to - view.from")
+    page.press("+", "+")
+    tally.want("+ shows half", page.ask("view.to - view.from"), whole / 2)
+    tally.want("the focus stays", reached(page), 2)
+    page.press("0", "0")
+    tally.want("0 shows all", page.ask("view.to - view.from"), whole)
+    page.ask("document.getElementById('clear').click()")
+    page.ask("document.querySelector('#table [aria-label=\"Select READ #3\"]').focus()")
+    page.press(" ", " ")
+    tally.holds("a row's button selects", "READ #3" in text_of(page, "#detail"), text_of(page, "#detail"))
+    tally.want("complaints", page.complaints, [])
+
+
+def middle_of(page, selector):
+    return page.ask(f"(() => {{ const box = document.querySelector({selector!r}).getBoundingClientRect();"
+                    " return [box.x + box.width / 2, box.y + box.height / 2]; })()")
+
+
+def mouse(tally, room, page):
+    page.open(put(room, "misread", MISREAD, ORDER))
+    lines = {number: "\n".join(told) for number, told in (
+        (1, [f"C {WROTE} (bytes 133 to 162)", "S simple reply to WRITE #1, cookie 0x1: success (bytes 163 to 178)", "served by entry 1"]),
+        (4, ["C command 9 #4, cookie 0x4: failure, EINVAL (22) (bytes 291 to 318)",
+             "S simple reply to command 9 #4, cookie 0x4: EINVAL (22) (bytes 319 to 334)", "served by entry 4"]))}
+    page.click(*middle_of(page, '.bar[data-request="4"]'))
+    tally.want("a click on a bar", text_of(page, "#detail"), lines[4])
+    page.click(*middle_of(page, "#link a:last-of-type"))
+    tally.want("a click on the link", text_of(page, "#detail"), f"Expected write\n{lines[1]}")
+    tally.want("the link's bar", reached(page), 1)
+    left, top = page.ask("(() => { const box = document.getElementById('bars').getBoundingClientRect(); return [box.x, box.y]; })()")
+    # The greeting, the first of the server's messages.
+    page.click(left + page.ask("xOf(9)"), top + page.ask("SERVER_ROW + 5"))
+    tally.holds("a click on a message", text_of(page, "#detail").startswith("S greeting, "), text_of(page, "#detail"))
+    page.click(*middle_of(page, "#in"))
+    shown = page.ask("[view.from, view.to]")
+    tally.want("zoomed in at the middle", shown, [83.5, 250.5])
+    # A drag by a tenth of the chart to the left shows what lies a tenth of the view further right, and selects nothing.
+    before = text_of(page, "#detail")
+    page.drag(left + 500, top + 90, page.ask("(GUTTER + RIGHT - view.width) / 10"))
+    tally.want("dragged", [round(at, 3) for at in page.ask("[view.from, view.to]")], [100.2, 267.2])
+    tally.want("a drag selects nothing", text_of(page, "#detail"), before)
+    page.turn(left + 500, top + 90, 100, control=True)
+    tally.want("the wheel zooms out", round(page.ask("view.to - view.from"), 3), 167 * 1.25)
+    page.turn(left + 500, top + 90, 100, control=False)
+    tally.want("the wheel alone does not", round(page.ask("view.to - view.from"), 3), 167 * 1.25)
+    tally.want("complaints", page.complaints, [])
+
+
+def many(tally, room, page):
+    """100,000 requests open in two seconds, and no more is drawn than is in view."""
+    order = "".join(f"{number}\n" for number in range(1, MANY + 1))
+    path, times = put(room, "many", long_session(MANY), order), []
+    while not times or (min(times) > SECONDS and len(times) < TIMES):
+        times.append(page.open(path))
+    tally.holds("seconds until it is drawn", min(times) <= SECONDS, times)
+    print(f"many requests: {min(times):.2f} s until they are drawn", flush=True)
+    tally.want("how many", text_of(page, "#count"), "100 000 requests")
+    count = "document.querySelectorAll('.bar').length"
+    tally.want("the whole session has no bar of its own", page.ask(count), 0)
+    tally.holds("it has pixels", page.ask(
+        "document.querySelector('#bars canvas').getContext('2d').getImageData(GUTTER + 20, laneTop(1) + 3, 1, 1).data[3]") == 255)
+    page.ask("document.getElementById('whole').focus()")
+    page.press("Tab")
+    tally.want("the chart can be reached", page.ask("document.activeElement.tagName"), "svg")
+    page.press("ArrowRight")
+    tally.want("and the first request from there", reached(page), 1)
+    page.press("End")
+    tally.want("and the last", reached(page), MANY)
+    type_in(page, "numbers", "50001")
+    page.ask("document.getElementById('clear').click()")
+    bars = page.ask(count)
+    tally.holds("bars in view", 0 < bars <= MOST, bars)
+    tally.holds("the one that was looked for", "READ #50001, " in text_of(page, "#detail"), text_of(page, "#detail"))
+    begun_at = time.monotonic()
+    type_in(page, "offset", "0")
+    # Of each 2^20 / 64 = 16,384 requests one is at offset 0: the numbers 16384, 32768 and so on, and no FLUSH has a range.
+    wanted = [str(number) for number in range(16384, MANY + 1, 16384) if number % 4 != 3]
+    tally.want("at one offset", [row[0] for row in rows_of(page, "#table")], wanted)
+    tally.holds("the filter's seconds", time.monotonic() - begun_at < SECONDS * TIMES, time.monotonic() - begun_at)
+    tally.want("complaints", page.complaints, [])
+
+
+def refused(tally, room, page):
+    """The message at which a session was refused, and the request that it replies to."""
+    records = [*begun(structured=True), read(1, 0, 8), chunk(1, 1, bytes(8) + b"abcd"), done(1), read(2, 0, 8)]
+    page.open(put(room, "refused", records, "1\n"))
+    tally.want("the answer", text_of(page, "#verdict"), "no at byte 212: IncompleteRead")
+    message = "Refused: message of the server, bytes 193 to 212"
+    tally.want("the message", page.named("image", message), [message])
+    request = "In question: READ #1, cookie 0x1, 8 bytes at 0: pending"
+    tally.want("its request", page.named("button", request), [request])
+    told = text_of(page, "#detail").split("\n")
+    tally.want("in words", (told[0], told[-1]), ("In question", "refused at byte 212, IncompleteRead: bytes 193 to 212 of the server"))
+    tally.holds("the place", "byte 212: IncompleteRead" in page.ask("document.querySelector('#bars svg').textContent"))
+    # The READ behind it has 28 bytes.
+    tally.want("what is not shown", text_of(page, "#shown"), "1 of 1 request in view; not judged: 28 bytes behind the refusal")
+    tally.want("complaints", page.complaints, [])
+
+
+PARTS = (loads, names, refused, several, filters, keyboard, mouse, many)
+
+
+def run(tally):
+    if not browser.is_there():
+        print("skipped: chromium", flush=True)
+        return
+    with Room() as room:
+        for part in PARTS:
+            with browser.Browser() as page:
+                part(tally, room, page)
+
+
+if __name__ == "__main__":
+    told = Tally()
+    run(told)
+    print(f"{told.passed} passed, {told.failed} failed")
