@@ -8,6 +8,7 @@ pub mod PartLemmas
 pub mod PlaceLemmas
 pub mod PlacingLemmas
 pub mod PrefixLemmas
+pub mod ProfileLemmas
 pub mod ReachLemmas
 pub mod RestLemmas
 pub mod RunByteLemmas

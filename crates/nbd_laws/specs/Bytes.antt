@@ -2,11 +2,12 @@
 use Rattle.std.specs.Prelude.{◌≡◌, ◌++◌, ◌∷◌, ◌-◌, ℕ, List, [], nat_lt, length, if◌then◌else◌}
 use Rattle.nbd_wire.specs.declared.message.Side.{Side}
 use Rattle.nbd_wire.specs.declared.message.Side.TheVariants.{Client, Server}
+use Rattle.nbd_wire.specs.declared.profile.Profile.{Profile}
 use Rattle.nbd_wire.specs.protocol.Marks.{Item, completed_messages, pairs}
 use Rattle.nbd_wire.specs.protocol.Captures.{Pair}
 use Rattle.nbd_wire.specs.declared.message.Message.{Message}
 use Rattle.nbd_wire.specs.protocol.Encoding.{enc}
-use Rattle.nbd_wire.specs.protocol.Rules.{IsRun, IsRunBut}
+use Rattle.nbd_wire.specs.protocol.Rules.{IsRunOf, IsRunBut}
 use Rattle.nbd_wire.specs.protocol.Sides.{same_side, side}
 
 -- the bytes of one side, in order
@@ -27,7 +28,8 @@ of_two Server client server = server
 -- each side's bytes in a run but for open bytes are the encodings of its completed messages, and the open ones after
 -- them
 abbrev pub RunsHoldEachSide : Type 0
-RunsHoldEachSide = (items : List Item) (client server : List ℕ) → IsRunBut items client server → (s : Side) →
+RunsHoldEachSide = (profile : Profile) (items : List Item) (client server : List ℕ)
+    → IsRunBut profile items client server → (s : Side) →
     bytes_from s (pairs items) ≡ bytes_of s (completed_messages items) ++ of_two s client server
 
 -- the first so many bytes of each side
@@ -41,7 +43,8 @@ first_bytes client server (p ∷ ps) =
 -- a run but for open bytes is worth a run: one with the same completed messages, whose bytes are those without the open
 -- ones, of each side as many as its messages have
 abbrev pub OpenBytesEndRuns : Type 0
-OpenBytesEndRuns = (items : List Item) (client server : List ℕ) → IsRunBut items client server →
-    (others : List Item) × IsRun others × (completed_messages others ≡ completed_messages items)
+OpenBytesEndRuns = (profile : Profile) (items : List Item) (client server : List ℕ)
+    → IsRunBut profile items client server →
+    (others : List Item) × IsRunOf profile others × (completed_messages others ≡ completed_messages items)
     × (pairs others ≡ first_bytes (length (bytes_of Client (completed_messages items)))
     (length (bytes_of Server (completed_messages items))) (pairs items))

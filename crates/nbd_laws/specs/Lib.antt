@@ -5,6 +5,7 @@ pub mod Marking
 pub mod Moments
 pub mod Negotiating
 pub mod Prefixes
+pub mod Profiles
 pub mod Reached
 pub mod Replying
 pub mod Sameness

@@ -6,12 +6,13 @@ use Rattle.nbd_wire.specs.declared.options.TheConstants as options
 use Rattle.nbd_wire.specs.declared.message.Message.{Message}
 use Rattle.nbd_wire.specs.declared.message.Message.TheVariants.{Greeting, ClientFlags, Choice, Answer}
 use Rattle.nbd_wire.specs.declared.message.Side.TheVariants.{Server}
+use Rattle.nbd_wire.specs.declared.profile.Profile.{Profile}
 use Rattle.nbd_wire.specs.protocol.Marks.{Item, Completes, completed_messages}
 use Rattle.nbd_wire.specs.protocol.Options.{is_error, is_proper_option, last_info}
 use Rattle.nbd_wire.specs.protocol.Payloads.{info_of}
 use Rattle.nbd_wire.specs.protocol.Operations.{Exporting}
 use Rattle.nbd_wire.specs.protocol.Flags.{has}
-use Rattle.nbd_wire.specs.protocol.Rules.{IsRun}
+use Rattle.nbd_wire.specs.protocol.Rules.{IsRunOf}
 
 -- the client speaks fixed newstyle, and takes NO_ZEROES at most, where it was offered
 abbrev pub AreFairFlags : (offered flags : ℕ) → Type 0
@@ -26,7 +27,7 @@ BeginsWithFlags offered messages = (messages ≡ [])
 
 -- a session begins with a greeting of a server that speaks fixed newstyle and the client's flags
 abbrev pub HandshakesAreFair : Type 0
-HandshakesAreFair = (items : List Item) → IsRun items →
+HandshakesAreFair = (profile : Profile) (items : List Item) → IsRunOf profile items →
     (completed_messages items ≡ []) ⊎ ((flags : ℕ) × (rest : List Message)
     × (completed_messages items ≡ Greeting flags ∷ rest) × IsTrue (has flags handshake.FIXED_NEWSTYLE)
     × BeginsWithFlags flags rest)
@@ -68,7 +69,7 @@ IsAnswer asked info kind payload =
 
 -- an answer is one to the option that was chosen last
 abbrev pub AnswersFollowChoices : Type 0
-AnswersFollowChoices = (prefix back : List Item) (option kind : ℕ) (payload : List ℕ)
-    → IsRun (prefix ++ Completes Server (Answer option kind payload) ∷ back) →
+AnswersFollowChoices = (profile : Profile) (prefix back : List Item) (option kind : ℕ) (payload : List ℕ)
+    → IsRunOf profile (prefix ++ Completes Server (Answer option kind payload) ∷ back) →
     (asked : Chosen) × (choice_after None (completed_messages prefix) ≡ Some asked) × (asked.option ≡ option)
     × IsAnswer asked (info_after None (completed_messages prefix)) kind payload

@@ -2,9 +2,10 @@
 use Rattle.std.specs.Prelude.{◌≡◌, ℕ, List, [], ◌∷◌, ◌++◌, if◌then◌else◌}
 use Rattle.nbd_wire.specs.declared.message.Side.{Side}
 use Rattle.nbd_wire.specs.declared.message.Message.{Message}
+use Rattle.nbd_wire.specs.declared.profile.Profile.{Profile}
 use Rattle.nbd_wire.specs.protocol.Encoding.{enc}
 use Rattle.nbd_wire.specs.protocol.Marks.{Item, Byte, Starts, Completes, Serves}
-use Rattle.nbd_wire.specs.protocol.Rules.{IsRun, MayComplete}
+use Rattle.nbd_wire.specs.protocol.Rules.{IsRunOf, MayComplete}
 use Rattle.nbd_wire.specs.protocol.Sendable.{IsSendable}
 use Rattle.nbd_wire.specs.protocol.Sides.{side, same_side}
 use Rattle.nbd_wire.specs.protocol.States.{Core}
@@ -38,15 +39,17 @@ HasNoneOpen items = (s : Side) → started_messages s items ≡ ended_messages s
 
 -- a prefix of a run at which no message is open is a run
 abbrev pub PrefixesAreRuns : Type 0
-PrefixesAreRuns = (prefix back : List Item) → IsRun (prefix ++ back) → HasNoneOpen prefix → IsRun prefix
+PrefixesAreRuns = (profile : Profile) (prefix back : List Item) → IsRunOf profile (prefix ++ back)
+    → HasNoneOpen prefix → IsRunOf profile prefix
 
 -- a message starts directly before its first byte
 abbrev pub StartsStandBeforeBytes : Type 0
-StartsStandBeforeBytes = (prefix back : List Item) (s : Side) (m : Message) → IsRun (prefix ++ Starts s m ∷ back) →
+StartsStandBeforeBytes = (profile : Profile) (prefix back : List Item) (s : Side) (m : Message)
+    → IsRunOf profile (prefix ++ Starts s m ∷ back) →
     (b : ℕ) × (left : List ℕ) × (rest : List Item) × (back ≡ Byte s b ∷ rest) × (enc m ≡ b ∷ left)
 
 -- a message completes directly after a byte of its side
 abbrev pub CompletionsStandAfterBytes : Type 0
-CompletionsStandAfterBytes = (prefix back : List Item) (s : Side) (m : Message)
-    → IsRun (prefix ++ Completes s m ∷ back) →
+CompletionsStandAfterBytes = (profile : Profile) (prefix back : List Item) (s : Side) (m : Message)
+    → IsRunOf profile (prefix ++ Completes s m ∷ back) →
     (first : List Item) × (b : ℕ) × (prefix ≡ first ++ Byte s b ∷ [])

@@ -1,11 +1,12 @@
 -- The states that a session can be in.
 use Rattle.nbd_wire.specs.declared.message.Message.{Message}
+use Rattle.nbd_wire.specs.declared.profile.Profile.{Profile}
 use Rattle.nbd_wire.specs.protocol.Rules.{MayComplete, complete}
 use Rattle.nbd_wire.specs.protocol.Sendable.{IsSendable}
-use Rattle.nbd_wire.specs.protocol.States.{Core, start}
+use Rattle.nbd_wire.specs.protocol.States.{Core, start_of}
 
--- what completed messages lead to
+-- what completed messages lead to, of each profile
 pub data IsReached : Core → Type 0 where
-  at_start : IsReached start.core
+  at_start : {profile : Profile} → IsReached (start_of profile).core
   after_message : {c : Core} (m : Message) → IsReached c → IsSendable m → MayComplete c c.phase m
       → IsReached (complete c m)

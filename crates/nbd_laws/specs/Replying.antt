@@ -6,13 +6,14 @@ use Rattle.nbd_wire.specs.declared.message.Message.{Message}
 use Rattle.nbd_wire.specs.declared.message.Message.TheVariants.{Simple, Chunk}
 use Rattle.nbd_wire.specs.declared.payloads.Failure.{Failure}
 use Rattle.nbd_wire.specs.declared.payloads.Piece.{Piece}
+use Rattle.nbd_wire.specs.declared.profile.Profile.{Profile}
 use Rattle.nbd_wire.specs.protocol.Marks.{Item}
 use Rattle.nbd_wire.specs.protocol.Payloads.{content_of, failure_of}
 use Rattle.nbd_wire.specs.protocol.Reports.{operations_of}
 use Rattle.nbd_wire.specs.protocol.Operations.{Operation, ends_reply}
 use Rattle.nbd_wire.specs.protocol.Flags.{has}
 use Rattle.nbd_wire.specs.protocol.Pieces.{is_in}
-use Rattle.nbd_wire.specs.protocol.Rules.{IsRun, cookie_of, ends_at}
+use Rattle.nbd_wire.specs.protocol.Rules.{IsRunOf, cookie_of, ends_at}
 use Rattle.nbd_wire.specs.protocol.States.{operation, start}
 
 -- a chunk to this request: an empty one with DONE, content of a READ, or an error in its range
@@ -40,7 +41,7 @@ pub record IsReplyBetween (structured : Bool) (e : Operation) (prefix : List Mes
 
 -- of each request of a run
 abbrev pub RepliesAreWhole : Type 0
-RepliesAreWhole = (items : List Item) → IsRun items
+RepliesAreWhole = (profile : Profile) (items : List Item) → IsRunOf profile items
     → (k : ℕ) (e : Operation) (prefix back : List Message) (m : Message) →
     operation k (operations_of items) ≡ Some e → e.replies ≡ prefix ++ m ∷ back
     → IsReplyBetween (ends_at start items).core.structured e prefix m back

@@ -1,18 +1,19 @@
 -- The bytes of a run determine all of it but the moments of service.
 use Rattle.std.specs.Prelude.{◌≡◌, List}
+use Rattle.nbd_wire.specs.declared.profile.Profile.{Profile}
 use Rattle.nbd_wire.specs.protocol.Marks.{Item, pairs, without_service}
 use Rattle.nbd_wire.specs.protocol.Reports.{report}
-use Rattle.nbd_wire.specs.protocol.Rules.{IsRun}
+use Rattle.nbd_wire.specs.protocol.Rules.{IsRunOf}
 
 -- runs with the same bytes have the same marks at the same places, but for those of service
 abbrev pub SameMarks : Type 0
-SameMarks = (items items' : List Item) → IsRun items → IsRun items' → pairs items ≡ pairs items'
-    → without_service items ≡ without_service items'
+SameMarks = (profile : Profile) (items items' : List Item) → IsRunOf profile items → IsRunOf profile items'
+    → pairs items ≡ pairs items' → without_service items ≡ without_service items'
 
 -- runs with the same bytes have the same report
 abbrev pub SameReports : Type 0
-SameReports = (items items' : List Item) → IsRun items → IsRun items' → pairs items ≡ pairs items'
-    → report items ≡ report items'
+SameReports = (profile : Profile) (items items' : List Item) → IsRunOf profile items → IsRunOf profile items'
+    → pairs items ≡ pairs items' → report items ≡ report items'
 
 -- the report does not depend on where requests are served
 abbrev pub ReportsIgnoreService : Type 0

@@ -5,12 +5,13 @@ use Rattle.nbd_wire.specs.declared.commands.TheConstants as commands
 use Rattle.nbd_wire.specs.declared.message.Side.TheVariants.{Client, Server}
 use Rattle.nbd_wire.specs.declared.message.Message.{Message}
 use Rattle.nbd_wire.specs.declared.message.Message.TheVariants.{Request}
+use Rattle.nbd_wire.specs.declared.profile.Profile.{Profile}
 use Rattle.nbd_wire.specs.protocol.Entries.{IsWhollyServed, MayServe}
-use Rattle.nbd_wire.specs.protocol.Explains.{IsExplained, Start}
+use Rattle.nbd_wire.specs.protocol.Explains.{IsExplainedOf, Start}
 use Rattle.nbd_wire.specs.protocol.Reports.{operations_of, export_of}
 use Rattle.nbd_wire.specs.protocol.Marks.{Item, Completes, Starts, Serves, service_order}
 use Rattle.nbd_wire.specs.protocol.Operations.{Operation, Exporting, is_finished}
-use Rattle.nbd_wire.specs.protocol.Rules.{IsRun, request_of_reply, cookie_of, ends_at, inside_at}
+use Rattle.nbd_wire.specs.protocol.Rules.{IsRunOf, request_of_reply, cookie_of, ends_at, inside_at}
 use Rattle.nbd_wire.specs.protocol.States.{operation, start}
 use Rattle.nbd_laws.specs.Prefixes.{ended_messages}
 
@@ -21,7 +22,8 @@ pub record IsOutstanding (prefix : List Item) (k : ℕ) (e : Operation) : Type 0
 
 -- no two outstanding requests have one cookie
 abbrev pub CookiesAreDistinct : Type 0
-CookiesAreDistinct = (prefix back : List Item) → IsRun (prefix ++ back) → (j k : ℕ) (d e : Operation) →
+CookiesAreDistinct = (profile : Profile) (prefix back : List Item) → IsRunOf profile (prefix ++ back)
+    → (j k : ℕ) (d e : Operation) →
     IsOutstanding prefix j d → IsOutstanding prefix k e → d.cookie ≡ e.cookie → j ≡ k
 
 -- the request that a reply answers: it is outstanding with the reply's cookie when the reply starts, it was wholly
@@ -34,38 +36,41 @@ pub record AnswersRequest (prefix : List Item) (m : Message) (k : ℕ) (e : Oper
 
 -- each server message of transmission answers exactly one request, completed and wholly served before its first byte
 abbrev pub EachReplyAnswersOne : Type 0
-EachReplyAnswersOne = (prefix back : List Item) (m : Message) (export : Exporting)
-    → IsRun (prefix ++ Starts Server m ∷ back) → export_of prefix ≡ Some export →
+EachReplyAnswersOne = (profile : Profile) (prefix back : List Item) (m : Message) (export : Exporting)
+    → IsRunOf profile (prefix ++ Starts Server m ∷ back) → export_of prefix ≡ Some export →
     (k : ℕ) × (e : Operation) × AnswersRequest prefix m k e
 
 -- what is served is of a request that has completed; a part of it is inside it, not empty, and none of it was served
 -- before
 abbrev pub ServedOnceAfterCompletion : Type 0
-ServedOnceAfterCompletion = (prefix back : List Item) (e : Entry) → IsRun (prefix ++ Serves e ∷ back) →
+ServedOnceAfterCompletion = (profile : Profile) (prefix back : List Item) (e : Entry)
+    → IsRunOf profile (prefix ++ Serves e ∷ back) →
     (0 < e.request) × (e.request ≤ length (operations_of prefix))
     × MayServe (inside_at (ends_at start prefix).core e.request) (service_order prefix) e
 
 -- the empty capture is explained by the empty order, from every start
 abbrev pub EmptyIsExplained : Type 0
-EmptyIsExplained = (initial : Start) → IsExplained [] [] initial
+EmptyIsExplained = (profile : Profile) (initial : Start) → IsExplainedOf profile [] [] initial
 
 -- a DISC is empty
 abbrev pub DisconnectsAreEmpty : Type 0
-DisconnectsAreEmpty = (prefix back : List Item) (flags cookie offset len : ℕ) (payload : List ℕ) →
-    IsRun (prefix ++ Completes Client (Request flags commands.DISC cookie offset len payload) ∷ back)
+DisconnectsAreEmpty = (profile : Profile) (prefix back : List Item) (flags cookie offset len : ℕ)
+    (payload : List ℕ) →
+    IsRunOf profile (prefix ++ Completes Client (Request flags commands.DISC cookie offset len payload) ∷ back)
     → (offset ≡ 0) × (len ≡ 0)
 
 -- the client starts nothing after a DISC
 abbrev pub NothingAfterDisconnect : Type 0
-NothingAfterDisconnect = (prefix middle back : List Item) (flags cookie offset len : ℕ) (payload : List ℕ)
-    (m : Message) →
-    IsRun (prefix ++ Completes Client (Request flags commands.DISC cookie offset len payload) ∷ (middle
+NothingAfterDisconnect = (profile : Profile) (prefix middle back : List Item) (flags cookie offset len : ℕ)
+    (payload : List ℕ) (m : Message) →
+    IsRunOf profile (prefix ++ Completes Client (Request flags commands.DISC cookie offset len payload) ∷ (middle
     ++ Starts Client m ∷ back)) → ⊥
 
 -- the reply that completes next is the one that started, and it still answers the same request
 abbrev pub RepliesEndAsTheyStart : Type 0
-RepliesEndAsTheyStart = (prefix middle back : List Item) (m n : Message) (export : Exporting) →
-    IsRun (prefix ++ Starts Server m ∷ (middle ++ Completes Server n ∷ back)) → export_of prefix ≡ Some export
+RepliesEndAsTheyStart = (profile : Profile) (prefix middle back : List Item) (m n : Message) (export : Exporting) →
+    IsRunOf profile (prefix ++ Starts Server m ∷ (middle ++ Completes Server n ∷ back))
+    → export_of prefix ≡ Some export
     → ended_messages Server middle ≡ [] →
     (n ≡ m) × (request_of_reply (ends_at start (prefix ++ Starts Server m ∷ middle)).core m
     ≡ request_of_reply (ends_at start prefix).core m)

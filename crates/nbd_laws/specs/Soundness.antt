@@ -5,12 +5,13 @@ use Rattle.nbd_wire.specs.declared.commands.TheConstants as commands
 use Rattle.nbd_wire.specs.declared.limits.TheConstants.{EXPORT_SIZE}
 use Rattle.nbd_wire.specs.declared.transmission.TheConstants as transmission
 use Rattle.nbd_wire.specs.declared.payloads.Piece.{Piece}
+use Rattle.nbd_wire.specs.declared.profile.Profile.{Profile}
 use Rattle.nbd_wire.specs.protocol.Marks.{Item}
 use Rattle.nbd_wire.specs.protocol.Reports.{Asked, Report, asked_at, report}
 use Rattle.nbd_wire.specs.protocol.Operations.{Exporting, Success, has_range}
 use Rattle.nbd_wire.specs.protocol.Pieces.{byte_at, holds, is_in, piece_offset, piece_size}
 use Rattle.nbd_wire.specs.protocol.Flags.{has}
-use Rattle.nbd_wire.specs.protocol.Rules.{IsRun}
+use Rattle.nbd_wire.specs.protocol.Rules.{IsRunOf}
 
 -- the pieces of a READ lie in its range, and no two of them share an offset
 pub record AreLaid (offset len : ℕ) (pieces : List Piece) : Type 0 where
@@ -49,4 +50,4 @@ pub record IsSoundReport (r : Report) : Type 0 where
 
 -- the report of a run is sound
 abbrev pub ReportsAreSound : Type 0
-ReportsAreSound = (items : List Item) → IsRun items → IsSoundReport (report items)
+ReportsAreSound = (profile : Profile) (items : List Item) → IsRunOf profile items → IsSoundReport (report items)

@@ -5,6 +5,7 @@ ghost use Rattle.nbd_laws.specs.Prefixes.{CompletionsStandAfterBytes, PrefixesAr
 ghost use Rattle.nbd_laws.specs.Cuts.{CutsDoNotCount};
 ghost use Rattle.nbd_laws.specs.Moments.{LatestMoments, OrdersAreFaultless};
 ghost use Rattle.nbd_laws.specs.Negotiating.{AnswersFollowChoices, HandshakesAreFair};
+ghost use Rattle.nbd_laws.specs.Profiles.{EndsAgree};
 ghost use Rattle.nbd_laws.specs.Replying.{RepliesAreWhole};
 ghost use Rattle.nbd_laws.specs.Sameness.{SameMarks, SameReports, ReportsIgnoreService};
 ghost use Rattle.nbd_laws.specs.Service.{CookiesAreDistinct, DisconnectsAreEmpty, EachReplyAnswersOne, EmptyIsExplained, NothingAfterDisconnect, RepliesEndAsTheyStart, ServedOnceAfterCompletion};
@@ -138,4 +139,9 @@ pub fn runs_hold_each_side()
 /// open ones.
 pub fn open_bytes_end_runs()
     ensures { OpenBytesEndRuns }
+{}
+
+/// What items lead to does not hang on the profile that a session is held to, but for the profile itself.
+pub fn ends_ignore_profiles()
+    ensures { EndsAgree }
 {}

@@ -1,6 +1,7 @@
 -- What is found of a report, and of the runs with that report.
 use Rattle.std.proofs.Common.{◌≡◌, ℕ, zero, suc, List, [], ◌∷◌, refl, sym, subst, Option, Some, None}
 use Rattle.std.proofs.lemmas.List.Elements.{All-append, All-cons, All-nil}
+use Rattle.nbd_wire.specs.declared.profile.Profile.TheVariants.{Base}
 use Rattle.nbd_wire.specs.declared.entry.Entry.{Entry}
 use Rattle.nbd_wire.specs.protocol.Entries.{whole}
 use Rattle.nbd_wire.specs.protocol.Explains.{FitsImage, Image, Start, Unknown, Zeroes}
@@ -30,14 +31,14 @@ other_size_fits (Some export) Zeroes image size o f = o
 other_size_fits None initial image size o f = o
 
 pub found_is_so : PassingIsExplained → ExplainedPasses → RefutedIsUnexplained → FoundIsSo
-found_is_so passing only refuted items initial (Order order) is_run found = passing items order.items initial is_run found
+found_is_so passing only refuted items initial (Order order) is_run found = passing Base items order.items initial is_run found
 found_is_so passing only refuted items initial (Unexplained refutation) is_run found = refuted items initial refutation.offset refutation.reads.items is_run found
 found_is_so passing only refuted items initial (FoundImage image size) is_run found = λ order explained.
-    other_size_fits (report items).export initial image size found (only items order initial is_run explained).fits_image
+    other_size_fits (report items).export initial image size found (only Base items order initial is_run explained).fits_image
 found_is_so passing only refuted items initial NoneWhole is_run found = λ explained.
-    found (only items (arrival (request_count (report items))) initial is_run explained)
+    found (only Base items (arrival (request_count (report items))) initial is_run explained)
 found_is_so passing only refuted items initial (GaveUp request offset reason) is_run found = λ explained.
-    found (only items (arrival (request_count (report items))) initial is_run explained)
+    found (only Base items (arrival (request_count (report items))) initial is_run explained)
 
 pub passes : (r : Report) (order : List Entry) (initial : Start) (a b c : ℕ) → IsVerdict r order initial (Yes a b c) → Passes r order initial
 passes r order initial a b c v = record { faultless = v.1.0; fits_image = v.0; reads = v.1.1 }

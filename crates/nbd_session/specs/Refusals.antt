@@ -1,35 +1,50 @@
 -- What a session's fault says of the bytes that it was given and of its messages.
 use Rattle.std.specs.Prelude.{◌≡◌, ◌≢◌, ◌⊎◌, ◌∷◌, ◌++◌, ℕ, List, [], Option, Some, None, length}
+use Rattle.nbd_wire.specs.declared.profile.Profile.{Profile}
+use Rattle.nbd_wire.specs.declared.profile.Profile.TheVariants.{Base}
 use Rattle.nbd_wire.specs.declared.message.Message.{Message}
 use Rattle.nbd_wire.specs.declared.message.Side.TheVariants.{Client, Server}
 use Rattle.nbd_wire.specs.protocol.Captures.{Pair}
 use Rattle.nbd_wire.specs.protocol.Marks.{Item}
-use Rattle.nbd_wire.specs.protocol.Splits.{IsPlace, IsUnderWay, open_bytes}
-use Rattle.nbd_wire.specs.protocol.Within.{BeginsNoRun, CompletesExactly, IsOfNoRun}
+use Rattle.nbd_wire.specs.protocol.Splits.{IsPlaceOf, IsUnderWayOf, open_bytes}
+use Rattle.nbd_wire.specs.protocol.Within.{BeginsNoRunOf, CompletesExactlyOf, IsOfNoRunOf}
 use Rattle.nbd_wire.specs.declared.fault.WireFault.{WireFault}
 use Rattle.nbd_wire.specs.declared.fault.WireFault.TheVariants.{Unfinished}
 use Rattle.nbd_session.specs.declared.fault.SessionFault.{SessionFault}
 use Rattle.nbd_session.specs.declared.fault.SessionFault.TheVariants.{Memory, Wire}
 use Rattle.nbd_session.specs.Sessions.{SessionView, pairs_of, bytes_taken}
 
--- a fault at the last of these bytes, which is the place that the rules name, with these messages: no run begins with
--- them, and before the last one exactly these messages complete in each run that begins so
-pub record IsRefusal (ps : List Pair) (messages : List Message) (fault : WireFault) : Type 0 where
-  pub place : IsPlace ps messages fault
-  pub none : BeginsNoRun ps
-  pub before : (prefix : List Pair) (last : Pair) → ps ≡ prefix ++ last ∷ [] → CompletesExactly prefix messages
+-- a fault at the last of these bytes, which is the place that the profile's rules name, with these messages: no run
+-- begins with them, and before the last one exactly these messages complete in each run that begins so
+pub record IsRefusalOf (profile : Profile) (ps : List Pair) (messages : List Message) (fault : WireFault) : Type 0 where
+  pub place : IsPlaceOf profile ps messages fault
+  pub none : BeginsNoRunOf profile ps
+  pub before : (prefix : List Pair) (last : Pair) → ps ≡ prefix ++ last ∷ []
+      → CompletesExactlyOf profile prefix messages
+
+-- the same, of the profile Base
+abbrev pub IsRefusal : List Pair → List Message → WireFault → Type 0
+IsRefusal ps messages fault = IsRefusalOf Base ps messages fault
 
 -- no prefix of these bytes has a place
+abbrev pub HasNoPlaceOf : Profile → List Pair → Type 0
+HasNoPlaceOf profile ps = (prefix rest : List Pair) (messages : List Message) (fault : WireFault)
+    → prefix ++ rest ≡ ps → IsPlaceOf profile prefix messages fault → ⊥
+
+-- the same, of the profile Base
 abbrev pub HasNoPlace : List Pair → Type 0
-HasNoPlace ps = (prefix rest : List Pair) (messages : List Message) (fault : WireFault) → prefix ++ rest ≡ ps
-    → IsPlace prefix messages fault → ⊥
+HasNoPlace ps = HasNoPlaceOf Base ps
 
 -- bytes taken without a fault, and their messages: the session is under way with these messages, no prefix of the bytes
 -- has a place, and these messages complete in each run that begins with them
-pub record IsAccepted (ps : List Pair) (messages : List Message) : Type 0 where
-  pub under_way : IsUnderWay ps messages
-  pub placeless : HasNoPlace ps
-  pub all : CompletesExactly ps messages
+pub record IsAcceptedOf (profile : Profile) (ps : List Pair) (messages : List Message) : Type 0 where
+  pub under_way : IsUnderWayOf profile ps messages
+  pub placeless : HasNoPlaceOf profile ps
+  pub all : CompletesExactlyOf profile ps messages
+
+-- the same, of the profile Base
+abbrev pub IsAccepted : List Pair → List Message → Type 0
+IsAccepted ps messages = IsAcceptedOf Base ps messages
 
 -- bytes of a side are open at the end of these items
 abbrev pub LeavesOpen : List Item → Type 0
@@ -37,37 +52,52 @@ LeavesOpen items = (open_bytes Client items ≢ []) ⊎ (open_bytes Server items
 
 -- an end within a message: the bytes were taken without a fault, some are open at their end, and no run has exactly
 -- these bytes
-pub record IsOpenEnd (ps : List Pair) (messages : List Message) : Type 0 where
-  pub accepted : IsAccepted ps messages
+pub record IsOpenEndOf (profile : Profile) (ps : List Pair) (messages : List Message) : Type 0 where
+  pub accepted : IsAcceptedOf profile ps messages
   pub leaves_open : LeavesOpen accepted.under_way.items
-  pub none : IsOfNoRun ps
+  pub none : IsOfNoRunOf profile ps
+
+-- the same, of the profile Base
+abbrev pub IsOpenEnd : List Pair → List Message → Type 0
+IsOpenEnd ps messages = IsOpenEndOf Base ps messages
 
 -- a capture is refused at the last byte of a prefix of it
-pub record IsRefusedAt (capture : List Pair) (messages : List Message) (at : ℕ) (fault : WireFault) : Type 0 where
+pub record IsRefusedAtOf (profile : Profile) (capture : List Pair) (messages : List Message) (at : ℕ)
+    (fault : WireFault) : Type 0 where
   pub prefix : List Pair
   pub rest : List Pair
   pub parts : prefix ++ rest ≡ capture
   pub at_is : at ≡ length prefix
-  pub refusal : IsRefusal prefix messages fault
+  pub refusal : IsRefusalOf profile prefix messages fault
+
+-- the same, of the profile Base
+abbrev pub IsRefusedAt : (capture : List Pair) (messages : List Message) (at : ℕ) (fault : WireFault) → Type 0
+IsRefusedAt capture messages at fault = IsRefusedAtOf Base capture messages at fault
 
 -- the fault of a capture, and the messages that completed before it: at a byte, or at the end of all
+abbrev pub IsWireFaultOf : Profile → (capture : List Pair) (messages : List Message) (at : ℕ) (fault : WireFault)
+    → Type 0
+IsWireFaultOf profile capture messages at fault =
+    IsRefusedAtOf profile capture messages at fault
+    ⊎ (fault ≡ Unfinished) × (at ≡ length capture) × IsOpenEndOf profile capture messages
+
+-- the same, of the profile Base
 abbrev pub IsWireFault : (capture : List Pair) (messages : List Message) (at : ℕ) (fault : WireFault) → Type 0
-IsWireFault capture messages at fault =
-    IsRefusedAt capture messages at fault ⊎ (fault ≡ Unfinished) × (at ≡ length capture) × IsOpenEnd capture messages
+IsWireFault capture messages at fault = IsWireFaultOf Base capture messages at fault
 
 -- a session that answers this fault was refused at the last byte that it took; of out of memory nothing is said
 abbrev pub Refuses : SessionView → SessionFault → Type 0
-Refuses r (Wire at fault) = (at ≡ bytes_taken r) × IsRefusal (pairs_of r) r.messages fault
+Refuses r (Wire at fault) = (at ≡ bytes_taken r) × IsRefusalOf r.profile (pairs_of r) r.messages fault
 Refuses r Memory = Unit {0}
 
 -- a session that ends in this fault
 abbrev pub EndsIn : SessionView → SessionFault → Type 0
-EndsIn r (Wire at fault) = IsWireFault (pairs_of r) r.messages at fault
+EndsIn r (Wire at fault) = IsWireFaultOf r.profile (pairs_of r) r.messages at fault
 EndsIn r Memory = Unit {0}
 
 -- the bytes of a session that no fault closed were taken without one, with its messages; one that is closed was refused
 abbrev pub IsCompleteBy : Option SessionFault → SessionView → Type 0
-IsCompleteBy None r = IsAccepted (pairs_of r) r.messages
+IsCompleteBy None r = IsAcceptedOf r.profile (pairs_of r) r.messages
 IsCompleteBy (Some fault) r = Refuses r fault
 
 -- the same of a session, by the fault that closed it

@@ -1,19 +1,22 @@
 -- What a session holds, what of a run that is, and what a piece adds to it.
 use Rattle.std.specs.Prelude.{◌≡◌, ◌++◌, ℕ, List, [], Option, Some, None, Result, Ok, Err, length}
+use Rattle.nbd_wire.specs.declared.profile.Profile.{Profile}
+use Rattle.nbd_wire.specs.declared.profile.Profile.TheVariants.{Base}
 use Rattle.nbd_wire.specs.declared.message.Message.{Message}
 use Rattle.nbd_wire.specs.declared.message.Side.{Side}
 use Rattle.nbd_wire.specs.protocol.Marks.{Item, completed_messages, pairs}
 use Rattle.nbd_wire.specs.protocol.Captures.{Pair, side_pairs}
 use Rattle.nbd_session.specs.Pushed.{Stretch, pushed_pairs}
 use Rattle.nbd_wire.specs.protocol.Reports.{Report, report}
-use Rattle.nbd_wire.specs.protocol.Rules.{IsRun, IsRunBut}
+use Rattle.nbd_wire.specs.protocol.Rules.{IsRunOf, IsRunBut}
 use Rattle.nbd_session.specs.declared.fault.SessionFault.{SessionFault}
 use Rattle.nbd_session.specs.declared.fault.SessionFault.TheVariants.{Memory, Wire}
 use Rattle.nbd_wire.specs.declared.fault.WireFault.TheVariants.{Unfinished}
 
--- the accepted messages in the order of their completion, each side's bytes after its messages, the
--- stretches of all bytes, and the fault that closed the session, if one did
+-- the profile that the session is held to, the accepted messages in the order of their completion, each side's bytes
+-- after its messages, the stretches of all bytes, and the fault that closed the session, if one did
 pub record SessionView : Type 0 where
+  pub profile : Profile
   pub messages : List Message
   pub client : List ℕ
   pub server : List ℕ
@@ -28,17 +31,22 @@ pairs_of r = pushed_pairs r.messages r.client r.server r.stretches
 abbrev pub bytes_taken : SessionView → ℕ
 bytes_taken r = length (pairs_of r)
 
--- some run, but for these bytes after each side's last message, has the pairs, and these messages
+-- some run of the profile, but for these bytes after each side's last message, has the pairs, and these messages
 -- complete in it in this order
-pub record HasRun (ps : List Pair) (messages : List Message) (client server : List ℕ) : Type 0 where
+pub record HasRunOf (profile : Profile) (ps : List Pair) (messages : List Message)
+    (client server : List ℕ) : Type 0 where
   pub items : List Item
-  pub is_run : IsRunBut items client server
+  pub is_run : IsRunBut profile items client server
   pub has_pairs : pairs items ≡ ps
   pub has_messages : completed_messages items ≡ messages
 
+-- the same, of the profile Base
+abbrev pub HasRun : List Pair → List Message → (client server : List ℕ) → Type 0
+HasRun ps messages client server = HasRunOf Base ps messages client server
+
 -- what was taken belongs to such a run
 abbrev pub IsOfRun : SessionView → Type 0
-IsOfRun r = HasRun (pairs_of r) r.messages r.client r.server
+IsOfRun r = HasRunOf r.profile (pairs_of r) r.messages r.client r.server
 
 -- of a side's piece all but `left` was taken, and more messages may have been accepted
 pub record Adds (before after : List Pair) (earlier later : List Message) (s : Side)
@@ -78,14 +86,26 @@ fault_of (Ok a) = None
 fault_of (Err fault) = Some fault
 
 -- before the first byte
-abbrev pub empty_session : SessionView
-empty_session = record { messages = []; client = []; server = []; stretches = []; closed = None }
+abbrev pub empty_session_of : Profile → SessionView
+empty_session_of profile = record {
+  profile = profile;
+  messages = [];
+  client = [];
+  server = [];
+  stretches = [];
+  closed = None;
+}
 
--- some run has exactly the bytes that were taken and these messages, and the report of any such run
--- is this one
+-- the same, of the profile Base
+abbrev pub empty_session : SessionView
+empty_session = empty_session_of Base
+
+-- some run of the session's profile has exactly the bytes that were taken and these messages, and the report of any
+-- such run is this one
 pub record IsReported (r : SessionView) (found : Report) : Type 0 where
   pub items : List Item
-  pub is_run : IsRun items
+  pub is_run : IsRunOf r.profile items
   pub has_pairs : pairs items ≡ pairs_of r
   pub has_messages : completed_messages items ≡ r.messages
-  pub same_report : (others : List Item) → IsRun others → pairs others ≡ pairs_of r → report others ≡ found
+  pub same_report : (others : List Item) → IsRunOf r.profile others → pairs others ≡ pairs_of r
+      → report others ≡ found

@@ -17,6 +17,7 @@ stretches_of stretches = map stretch_of stretches
 -- what is held, as a session states it
 abbrev pub session_view : Held → Option SessionFault → SessionView
 session_view held closed = record {
+  profile = held.state.profile;
   messages = held.messages.items;
   client = bytes_come held.client;
   server = bytes_come held.server;

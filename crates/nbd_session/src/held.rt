@@ -1,7 +1,7 @@
 //! What a session under way holds of the bytes that it was given.
 
 ghost use Rattle.std.specs.Prelude.{◌≡◌, ◌+◌, ◌<◌, ◌≤◌, ◌^◌, [], drop, length, IfErr, IfOk, None, OnErr, OnOk, Some};
-ghost use Rattle.nbd_wire.specs.protocol.States.{start};
+ghost use Rattle.nbd_wire.specs.protocol.States.{start_of};
 ghost use Rattle.nbd_session.specs.Incoming.{incoming_with, nothing_come};
 ghost use Rattle.nbd_session.specs.internal.Holdings.{holding_of, incoming_of, with_expected, with_incoming};
 ghost use Rattle.nbd_session.specs.Views.{stretches_of, session_view};
@@ -19,7 +19,7 @@ use crate::fault::SessionFault;
 use crate::incoming::Incoming;
 use crate::stretches::Stretch;
 use nbd_state::{State, Transcript};
-use nbd_wire::{Message, Side, WireFault};
+use nbd_wire::{Message, Profile, Side, WireFault};
 use std::alloc::{AllocError, Global};
 
 /// What a session under way holds.
@@ -42,8 +42,8 @@ pub(crate) struct Held {
 
 impl Held {
     /// Before the first byte; takes no memory.
-    pub(crate) fn new(alloc: Global) -> Held
-        ensures shows { Shows result.state start.core }
+    pub(crate) fn new(alloc: Global, profile: Profile) -> Held
+        ensures shows { Shows result.state (start_of profile).core }
         ensures none { result.state.exchanges.items ≡ [] }
         ensures client { result.client ≡ nothing_come }
         ensures server { result.server ≡ nothing_come }
@@ -51,7 +51,7 @@ impl Held {
             × (result.taken ≡ 0) }
     {
         Held {
-            state: State::new(alloc),
+            state: State::of(alloc, profile),
             messages: Vec::new(alloc),
             client: Incoming::new(alloc),
             server: Incoming::new(alloc),
@@ -73,6 +73,7 @@ impl Held {
         requires fits { self.old.taken + length piece.now < 2 ^ 63 }
         ensures stands { OnOk result (Stands self.new) }
         ensures adds { OnOk result (AddsHeld self.old self.new side piece.now []) }
+        ensures profile { OnOk result (self.new.state.profile ≡ self.old.state.profile) }
         ensures refused { IfErr result (λ fault. IsRefused self.old self.new side piece.now fault) }
     {
         let mut left = piece;
@@ -93,6 +94,7 @@ impl Held {
         ensures stands { OnOk result (Stands self.new) }
         ensures taken { IfOk result (λ count. self.new.taken ≡ self.old.taken + count) }
         ensures adds { IfOk result (λ count. AddsHeld self.old self.new side left.now (drop count left.now)) }
+        ensures profile { OnOk result (self.new.state.profile ≡ self.old.state.profile) }
         ensures refused { IfErr result (λ fault. IsRefused self.old self.new side left.now fault) }
     {
         let count = self.missing(side).min(left.len());

@@ -2,23 +2,23 @@
 
 ghost use Rattle.std.specs.Prelude.{◌≡◌, ◌+◌, ◌++◌, ◌<◌, ◌^◌, Err, IfErr, IfOk, None, OnOk, Some, length};
 ghost use Rattle.nbd_wire.specs.protocol.Captures.{side_pairs};
-ghost use Rattle.nbd_wire.specs.protocol.Splits.{IsUnderWay};
-ghost use Rattle.nbd_wire.specs.protocol.Within.{CompletesExactly};
+ghost use Rattle.nbd_wire.specs.protocol.Splits.{IsUnderWayOf};
+ghost use Rattle.nbd_wire.specs.protocol.Within.{CompletesExactlyOf};
 ghost use Rattle.nbd_session.specs.declared.fault.SessionFault.{SessionFault};
-ghost use Rattle.nbd_session.specs.Refusals.{EndsIn, HasNoPlace, IsComplete, Refuses};
-ghost use Rattle.nbd_session.specs.Sessions.{AddsPrefix, IsAtEnd, IsOfRun, IsReported, fault_at_end, fault_of, empty_session, pairs_of, bytes_taken};
+ghost use Rattle.nbd_session.specs.Refusals.{EndsIn, HasNoPlaceOf, IsComplete, Refuses};
+ghost use Rattle.nbd_session.specs.Sessions.{AddsPrefix, IsAtEnd, IsOfRun, IsReported, fault_at_end, fault_of, empty_session, empty_session_of, pairs_of, bytes_taken};
 
 use crate::fault::SessionFault;
 use crate::held::Held;
 use nbd_state::Transcript;
-use nbd_wire::{Message, Side};
+use nbd_wire::{Message, Profile, Side};
 use std::alloc::Global;
 use std::marker::Model;
 
 /// A session under way, or one that was closed by a fault.
 ///
-/// In a contract it is what it holds of the bytes that it was given (`specs/Sessions.antt`): the
-/// accepted messages, each side's bytes after them, and the side and length of each one-sided run, which
+/// In a contract it is the profile that it is held to, and what it holds of the bytes that it was given
+/// (`specs/Sessions.antt`): the accepted messages, each side's bytes after them, and the side and length of each one-sided run, which
 /// together give back every byte that was taken.
 #[derive(Drop)]
 pub struct Session {
@@ -40,13 +40,20 @@ impl Model for Session {
 }
 
 impl Session {
-    /// A session that has taken nothing; takes no memory.
+    /// A session that has taken nothing and is held to the profile `Base`; takes no memory.
     pub fn new(alloc: Global) -> Session
         ensures { result ≡ empty_session }
     {
+        Session::of(alloc, Profile::Base)
+    }
+
+    /// The same, held to this profile.
+    pub fn of(alloc: Global, profile: Profile) -> Session
+        ensures { result ≡ empty_session_of profile }
+    {
         Session {
             alloc,
-            held: Held::new(alloc),
+            held: Held::new(alloc, profile),
             closed: None,
         }
     }
@@ -69,14 +76,15 @@ impl Session {
         requires { bytes_taken self.old + length piece.now < 2 ^ 63 }
         ensures added { OnOk result (pairs_of self.new ≡ pairs_of self.old ++ side_pairs side piece.now) }
         ensures open { OnOk result (self.new.closed ≡ None) }
+        ensures profile { self.new.profile ≡ self.old.profile }
         ensures prefix { AddsPrefix self.old self.new side piece.now }
         ensures refused { IfErr result (λ fault. self.new.closed ≡ Some fault) }
         ensures at { IfErr result (λ fault. self.old.closed ≡ None → IsAtEnd self.new fault) }
         ensures closed { (fault : SessionFault) → self.old.closed ≡ Some fault → (result ≡ Err fault)
             × (self.new ≡ self.old) }
-        ensures complete { OnOk result (CompletesExactly (pairs_of self.new) self.new.messages) }
-        ensures placeless { OnOk result (HasNoPlace (pairs_of self.new)) }
-        ensures under_way { OnOk result (IsUnderWay (pairs_of self.new) self.new.messages) }
+        ensures complete { OnOk result (CompletesExactlyOf self.new.profile (pairs_of self.new) self.new.messages) }
+        ensures placeless { OnOk result (HasNoPlaceOf self.new.profile (pairs_of self.new)) }
+        ensures under_way { OnOk result (IsUnderWayOf self.new.profile (pairs_of self.new) self.new.messages) }
         ensures wire { IfErr result (λ fault. Refuses self.new fault) }
     {
         if let Some(fault) = self.closed {

@@ -52,8 +52,9 @@ place_if_last false n j t e = refl
 
 -- a message of the negotiation changes the phase and what it says of the handshake
 pub negotiation_is_shown : (old new : State) (core next : Core) → Shows old core → export_in core.phase ≡ None → next.entries ≡ core.entries → new.exchanges ≡ old.exchanges → new.outstanding ≡ old.outstanding →
-    new.phase ≡ phase_shown next.phase → new.offered ≡ next.offered → new.client_flags ≡ next.client_flags → new.structured ≡ next.structured → new.disconnected ≡ next.disconnected → Shows new next
-negotiation_is_shown old new core next s n entries exchanges outstanding phase offered client_flags structured disconnected = record {
+    new.profile ≡ next.profile → new.phase ≡ phase_shown next.phase → new.offered ≡ next.offered → new.client_flags ≡ next.client_flags → new.structured ≡ next.structured → new.disconnected ≡ next.disconnected → Shows new next
+negotiation_is_shown old new core next s n entries exchanges outstanding profile phase offered client_flags structured disconnected = record {
+  profile_is = profile;
   phase_is = phase;
   offered_is = offered;
   client_flags_are = client_flags;
@@ -69,6 +70,7 @@ pub requested_shows : (old new : State) (core : Core) (export : Exporting) (e : 
     new.exchanges.items ≡ old.exchanges.items ++ x ∷ [] → ((q : ℕ) → get nat_cmp new.outstanding q ≡ (if e.cookie == q then Some (length old.exchanges.items) else get nat_cmp old.outstanding q)) →
     new ≡ record old { exchanges = new.exchanges; outstanding = new.outstanding } → Shows new (record core { entries = core.entries ++ e ∷ [] })
 requested_shows old new core export e x s p r t h items places kept = record {
+  profile_is = ap (λ (z : State). z.profile) kept ∙ s.profile_is;
   phase_is = ap (λ (z : State). z.phase) kept ∙ s.phase_is;
   offered_is = ap (λ (z : State). z.offered) kept ∙ s.offered_is;
   client_flags_are = ap (λ (z : State). z.client_flags) kept ∙ s.client_flags_are;
@@ -102,6 +104,7 @@ replied_shows old mid new core export cookie place m x y r s p c g i step kept l
 
     shows : Shows new (record core { entries = with_reply_at (suc place) m core.entries })
     shows = record {
+      profile_is = ap (λ (z : State). z.profile) made ∙ ap (λ (z : State). z.profile) kept ∙ s.profile_is;
       phase_is = ap (λ (z : State). z.phase) made ∙ ap (λ (z : State). z.phase) kept ∙ s.phase_is;
       offered_is = ap (λ (z : State). z.offered) made ∙ ap (λ (z : State). z.offered) kept ∙ s.offered_is;
       client_flags_are = ap (λ (z : State). z.client_flags) made ∙ ap (λ (z : State). z.client_flags) kept ∙ s.client_flags_are;

@@ -1,8 +1,11 @@
 -- What a log knows of a request, with one more message.
 use Rattle.std.proofs.Common.{◌≡◌, ℕ, ◌<◌, ◌≤◌, ◌==◌, List, [], ◌∷◌, ◌++◌, length, refl, ◌∙◌, ap, subst, inl, inr, Option, Some, None, Bool, true, false, arith, eq-eqb, eqb-true, ne_eqb, is_some, if◌then◌else◌}
 use Rattle.nbd_wire.specs.declared.message.Message.{Message}
+use Rattle.nbd_wire.specs.declared.profile.Profile.{Profile}
 use Rattle.nbd_wire.specs.protocol.Rules.{request_of_reply, complete}
 use Rattle.nbd_wire.specs.protocol.States.{Core}
+use Rattle.nbd_laws.proofs.runs.ProfileLemmas.{complete_with}
+use Rattle.nbd_laws.specs.Profiles.{with_profile}
 use Rattle.nbd_laws.proofs.runs.TraceLemmas.{answered_by-within, length-complete}
 use Rattle.nbd_state.specs.Completions.{core_from}
 use Rattle.nbd_state.specs.Logs.{LogEntry, known_by, known_here, known_if, messages_of}
@@ -46,6 +49,11 @@ known_here-other (Some j) n k ne = ap (λ b. known_if b n None) (ne_eqb j k (λ 
 
 complete_grows : (core : Core) (m : Message) → length core.entries ≤ length (complete core m).entries
 complete_grows core m = elim (length-complete core m) [ inl e ↦ omega (arith, e) | inr e ↦ omega (arith, e) ]
+
+-- what messages lead to does not hang on the profile
+pub core_from_with : (q : Profile) (core : Core) (messages : List Message) → core_from (with_profile q core) messages ≡ with_profile q (core_from core messages)
+core_from_with q core [] = refl
+core_from_with q core (m ∷ messages) = ap (λ c. core_from c messages) (complete_with q core m) ∙ core_from_with q (complete core m) messages
 
 -- no request is forgotten
 pub core_from_grows : (core : Core) (messages : List Message) → length core.entries ≤ length (core_from core messages).entries

@@ -158,6 +158,7 @@ module _ (old new : State) (core : Core) (s : Shows old core) where
   shows_greeted flags ok made =
       let r = greets core core.phase flags ok in
       negotiation_is_shown old new core (complete core (Greeting flags)) s r.0 refl (ap (λ (z : State). z.exchanges) made) (ap (λ (z : State). z.outstanding) made)
+      (ap (λ (z : State). z.profile) made ∙ s.profile_is)
       (ap (λ (z : State). z.phase) made ∙ r.1) (ap (λ (z : State). z.offered) made) (ap (λ (z : State). z.client_flags) made ∙ s.client_flags_are)
       (ap (λ (z : State). z.structured) made ∙ s.structured_is) (ap (λ (z : State). z.disconnected) made ∙ s.disconnected_is)
 
@@ -166,6 +167,7 @@ module _ (old new : State) (core : Core) (s : Shows old core) where
   shows_flags flags ok made =
       let r = flags_in core core.phase flags ok in
       negotiation_is_shown old new core (complete core (ClientFlags flags)) s r.0 refl (ap (λ (z : State). z.exchanges) made) (ap (λ (z : State). z.outstanding) made)
+      (ap (λ (z : State). z.profile) made ∙ s.profile_is)
       (ap (λ (z : State). z.phase) made ∙ r.1) (ap (λ (z : State). z.offered) made ∙ s.offered_is) (ap (λ (z : State). z.client_flags) made)
       (ap (λ (z : State). z.structured) made ∙ s.structured_is) (ap (λ (z : State). z.disconnected) made ∙ s.disconnected_is)
 
@@ -174,6 +176,7 @@ module _ (old new : State) (core : Core) (s : Shows old core) where
   shows_chosen id payload phase ok is made =
       let r = chooses core core.phase id payload ok in
       negotiation_is_shown old new core (complete core (Choice id payload)) s r.0 refl (ap (λ (z : State). z.exchanges) made) (ap (λ (z : State). z.outstanding) made)
+      (ap (λ (z : State). z.profile) made ∙ s.profile_is)
       (ap (λ (z : State). z.phase) made ∙ is ∙ r.1) (ap (λ (z : State). z.offered) made ∙ s.offered_is) (ap (λ (z : State). z.client_flags) made ∙ s.client_flags_are)
       (ap (λ (z : State). z.structured) made ∙ s.structured_is) (ap (λ (z : State). z.disconnected) made ∙ s.disconnected_is)
 
@@ -182,6 +185,7 @@ module _ (old new : State) (core : Core) (s : Shows old core) where
   unfolding complete
   shows_answered option kind payload phase grants ok is granted made =
       negotiation_is_shown old new core (complete core (Answer option kind payload)) s (answers core core.phase option kind payload ok) refl (ap (λ (z : State). z.exchanges) made) (ap (λ (z : State). z.outstanding) made)
+      (ap (λ (z : State). z.profile) made ∙ s.profile_is)
       (ap (λ (z : State). z.phase) made ∙ is) (ap (λ (z : State). z.offered) made ∙ s.offered_is) (ap (λ (z : State). z.client_flags) made ∙ s.client_flags_are)
       (ap (λ (z : State). z.structured) made ∙ ap (λ b. b || grants) s.structured_is ∙ ap (λ b. core.structured || b) granted) (ap (λ (z : State). z.disconnected) made ∙ s.disconnected_is)
 
@@ -190,6 +194,7 @@ module _ (old new : State) (core : Core) (s : Shows old core) where
   shows_exported size flags padded phase ok is made =
       let r = exports core core.phase size flags padded ok in
       negotiation_is_shown old new core (complete core (Exported size flags padded)) s r.0 refl (ap (λ (z : State). z.exchanges) made) (ap (λ (z : State). z.outstanding) made)
+      (ap (λ (z : State). z.profile) made ∙ s.profile_is)
       (ap (λ (z : State). z.phase) made ∙ is ∙ r.1) (ap (λ (z : State). z.offered) made ∙ s.offered_is) (ap (λ (z : State). z.client_flags) made ∙ s.client_flags_are)
       (ap (λ (z : State). z.structured) made ∙ s.structured_is) (ap (λ (z : State). z.disconnected) made ∙ s.disconnected_is)
 

@@ -3,8 +3,10 @@ use Rattle.std.proofs.Common.{◌≡◌, ℕ, zero, suc, ◌+◌, ◌-◌, ◌<�
 use Rattle.std.specs.BTreeMap.{get}
 use Rattle.std.specs.Ordering.{nat_cmp}
 use Rattle.nbd_wire.specs.declared.message.Message.{Message}
+use Rattle.nbd_wire.specs.declared.profile.Profile.{Profile}
+use Rattle.nbd_wire.specs.declared.profile.Profile.TheVariants.{Base}
 use Rattle.nbd_wire.specs.protocol.Rules.{request_of_reply, cookie_of, target_of}
-use Rattle.nbd_wire.specs.protocol.States.{Core, start, target, export_in}
+use Rattle.nbd_wire.specs.protocol.States.{Core, start, start_of, target, export_in}
 use Rattle.nbd_state.specs.declared.asked.Exchange.{Exchange}
 use Rattle.nbd_state.specs.declared.state.State.{State}
 use Rattle.nbd_state.specs.internal.Completing.{AddsUnanswered, TellsOne, known_first}
@@ -13,7 +15,8 @@ use Rattle.nbd_state.specs.Logs.{LogEntry, known_by, known_here, messages_of}
 use Rattle.nbd_state.specs.Shows.{AreKnown, Shows, place_of}
 use Rattle.nbd_state.proofs.PlacedLemmas.{shown_length, no_entry}
 use Rattle.nbd_laws.proofs.service.EntryLemmas.{same_number}
-use Rattle.nbd_state.proofs.KnownLemmas.{known_by-within, known_by-snoc, known_here-other, known_here-same, known_or, or_is, or_none}
+use Rattle.nbd_laws.specs.Profiles.{with_profile}
+use Rattle.nbd_state.proofs.KnownLemmas.{core_from_with, known_by-within, known_by-snoc, known_here-other, known_here-same, known_or, or_is, or_none}
 use Rattle.nbd_laws.proofs.requests.OutstandingLemmas.{find}
 
 -- an element of a list with another at one place
@@ -34,13 +37,16 @@ tells_at told n place old new z y t stands k is p x q = elim (set_at old place p
   | inr b ↦ (x, b.1, (λ u. absurd (b.0 (let w : Some p ≡ Some place = sym u ∙ t in cc))), λ ne. refl)
 ]
 
-module _ (core : Core) (log : List LogEntry) (m : Message) (n : ℕ) (e : core ≡ core_from start.core (messages_of log)) where
+module _ (core : Core) (profile : Profile) (log : List LogEntry) (m : Message) (n : ℕ) (e : core ≡ core_from (start_of profile).core (messages_of log)) where
+  at_base : core_from start.core (messages_of log) ≡ with_profile Base core
+  at_base = core_from_with Base (start_of profile).core (messages_of log) ∙ ap (with_profile Base) (sym e)
+
   l : LogEntry
   l = record { message = m; known = n }
 
   -- one more message, by the request that it answers
   next : (k : ℕ) → known_by start.core k (log ++ record { message = m; known = n } ∷ []) ≡ known_or (known_by start.core k log) (known_here (request_of_reply core m) n k None)
-  next k = known_by-snoc start.core k log (record { message = m; known = n }) ∙ ap (λ (c : Core). known_or (known_by start.core k log) (known_here (request_of_reply c m) n k None)) (sym e)
+  next k = known_by-snoc start.core k log (record { message = m; known = n }) ∙ ap (λ (c : Core). known_or (known_by start.core k log) (known_here (request_of_reply c m) n k None)) at_base
 
   told : (k : ℕ) → request_of_reply core m ≡ Some k → known_by start.core k (log ++ record { message = m; known = n } ∷ []) ≡ known_first (known_by start.core k log) n
   told k a = next k ∙ ap (known_or (known_by start.core k log)) (known_here-same (request_of_reply core m) n k a) ∙ or_is (known_by start.core k log) n
@@ -59,7 +65,7 @@ module _ (core : Core) (log : List LogEntry) (m : Message) (n : ℕ) (e : core �
   fresh k w None q = refl
   fresh k w (Some j) q =
       let b : (0 < k) × (k ≤ length (core_from start.core (messages_of log)).entries) = known_by-within start.core k j log q in
-      let a : k ≤ length core.entries = subst (λ (c : Core). k ≤ length c.entries) (sym e) b.1 in
+      let a : k ≤ length core.entries = subst (λ (c : Core). k ≤ length c.entries) at_base b.1 in
       absurd (omega (arith, w, a))
 
   pub known_added : (state : State) (new : List Exchange) → Shows state core → cookie_of m ≡ None → AddsUnanswered state.exchanges.items new → AreKnown log state.exchanges.items → AreKnown (log ++ record { message = m; known = n } ∷ []) new

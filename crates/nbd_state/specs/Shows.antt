@@ -47,6 +47,7 @@ place_of None = None
 
 -- the state shows the core
 pub record Shows (state : State) (core : Core) : Type 0 where
+  pub profile_is : state.profile ≡ core.profile
   pub phase_is : state.phase ≡ phase_shown core.phase
   pub offered_is : state.offered ≡ core.offered
   pub client_flags_are : state.client_flags ≡ core.client_flags

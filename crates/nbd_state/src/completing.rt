@@ -5,13 +5,14 @@ ghost use Rattle.std.specs.BTreeMap.{get};
 ghost use Rattle.std.specs.Ordering.{nat_cmp};
 ghost use Rattle.nbd_wire.specs.declared.commands.TheConstants as commands;
 ghost use Rattle.nbd_wire.specs.declared.message.Message.TheVariants.{Answer, Chunk, Simple};
+ghost use Rattle.nbd_wire.specs.declared.profile.Profile.{Profile};
 ghost use Rattle.nbd_wire.specs.protocol.Options as options;
 ghost use Rattle.nbd_wire.specs.protocol.Options.{ack_phase, reply_phase, is_proper_option, next_phase};
 ghost use Rattle.nbd_wire.specs.protocol.Operations.{Exporting};
 ghost use Rattle.nbd_wire.specs.protocol.Rules.{MayComplete, complete, grants_structured, core_with_reply, core_with_request};
 ghost use Rattle.nbd_wire.specs.protocol.Sendable.{IsSendable};
 ghost use Rattle.nbd_wire.specs.protocol.States as definitions;
-ghost use Rattle.nbd_wire.specs.protocol.States.{Core, start, target};
+ghost use Rattle.nbd_wire.specs.protocol.States.{Core, start_of, target};
 ghost use Rattle.nbd_state.specs.internal.Showing.{operation_of_head};
 ghost use Rattle.nbd_state.specs.internal.Completing.{AddsUnanswered, IsTransmitting, TellsOne};
 ghost use Rattle.nbd_state.specs.Completions.{Answers, MayTake, core_from};
@@ -33,7 +34,7 @@ impl State {
     /// of other messages the two do not matter.
     ///
     /// The condition is that the message may complete where the state stands; the state then shows what it
-    /// leads to. After an `Err`, that memory ran out, nothing is known of the state.
+    /// leads to. After an `Err`, that memory ran out, nothing is known of the state but its profile.
     pub fn complete(
         &mut self,
         alloc: Global,
@@ -43,11 +44,13 @@ impl State {
     ) -> Result<(), AllocError>
         requires may { MayTake self.old message.now }
         requires place { Answers self.old message.now place }
+        ensures profile { self.new.profile ≡ self.old.profile }
         ensures shown { OnOk result ((core : Core) → IsReached core → Shows self.old core →
             IsSendable message.now → MayComplete core core.phase message.now →
             Shows self.new (complete core message.now)) }
-        ensures known { OnOk result ((core : Core) (log : List LogEntry) → IsReached core → Shows self.old core →
-            MayComplete core core.phase message.now → core ≡ core_from start.core (messages_of log) →
+        ensures known { OnOk result ((core : Core) (profile : Profile) (log : List LogEntry) → IsReached core →
+            Shows self.old core → MayComplete core core.phase message.now →
+            core ≡ core_from (start_of profile).core (messages_of log) →
             AreKnown log self.old.exchanges.items →
             AreKnown (log ++ record { message = message.now; known = known } ∷ []) self.new.exchanges.items) }
     {
@@ -132,6 +135,7 @@ impl State {
             Shows self.new (core_with_request (head.now.command == commands.DISC) core
             (operation_of_head head.now payload.now []))) }
         ensures adds { OnOk result (AddsUnanswered self.old.exchanges.items self.new.exchanges.items) }
+        ensures profile { self.new.profile ≡ self.old.profile }
     {
         if head.command == commands::DISC {
             self.disconnected = true;
@@ -147,6 +151,7 @@ impl State {
 
     // One more exchange, outstanding with this cookie.
     fn add(&mut self, cookie: u64, exchange: Exchange) -> Result<(), AllocError>
+        ensures profile { self.new.profile ≡ self.old.profile }
         ensures items { OnOk result (self.new.exchanges.items ≡ self.old.exchanges.items ++ exchange ∷ []) }
         ensures places { OnOk result ((q : ℕ) →
             get nat_cmp self.new.outstanding q ≡ (if cookie == q then Some (length self.old.exchanges.items)
@@ -175,6 +180,7 @@ impl State {
     ) -> Result<(), AllocError>
         requires place { get nat_cmp self.old.outstanding cookie ≡ Some place }
         requires within { place < length self.old.exchanges.items }
+        ensures profile { self.new.profile ≡ self.old.profile }
         ensures shown { OnOk result ((core : Core) (export : Exporting) → IsReached core →
             Shows self.old core → core.phase ≡ definitions.Transmission export →
             Shows self.new (core_with_reply core (Simple error cookie payload.now))) }
@@ -198,6 +204,7 @@ impl State {
     ) -> Result<(), AllocError>
         requires place { get nat_cmp self.old.outstanding cookie ≡ Some place }
         requires within { place < length self.old.exchanges.items }
+        ensures profile { self.new.profile ≡ self.old.profile }
         ensures shown { OnOk result ((core : Core) (export : Exporting) → IsReached core →
             Shows self.old core → core.phase ≡ definitions.Transmission export →
             Shows self.new (core_with_reply core (Chunk flags kind cookie payload.now))) }

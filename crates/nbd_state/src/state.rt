@@ -2,6 +2,7 @@
 
 use crate::asked::Exchange;
 use crate::transcript::Transcript;
+use nbd_wire::Profile;
 use std::alloc::Global;
 use std::collections::BTreeMap;
 
@@ -45,6 +46,8 @@ pub enum Phase {
 /// What the completed messages have led to.
 #[derive(Drop)]
 pub struct State {
+    /// The profile that the session is held to.
+    pub profile: Profile,
     pub phase: Phase,
     /// The server's handshake flags.
     pub offered: u16,
@@ -60,17 +63,26 @@ pub struct State {
 }
 
 impl State {
-    ghost use Rattle.nbd_wire.specs.protocol.States.{start};
+    ghost use Rattle.nbd_wire.specs.protocol.States.{start, start_of};
     ghost use Rattle.std.specs.Prelude.{◌≡◌};
     ghost use Rattle.nbd_state.specs.Shows.{Shows};
     ghost use Rattle.nbd_laws.specs.Soundness.{IsSoundReport};
     ghost use Rattle.nbd_state.specs.Transcripts.{export_of, transcript_report};
 
-    /// Before the first message (proto.md, "Newstyle negotiation"); takes no memory.
+    /// Before the first message of a session that is held to the profile `Base` (proto.md, "Newstyle
+    /// negotiation"); takes no memory.
     pub fn new(alloc: Global) -> State
         ensures { Shows result start.core }
     {
+        State::of(alloc, Profile::Base)
+    }
+
+    /// The same, of a session that is held to this profile.
+    pub fn of(alloc: Global, profile: Profile) -> State
+        ensures { Shows result (start_of profile).core }
+    {
         State {
+            profile,
             phase: Phase::Greet,
             offered: 0,
             client_flags: 0,

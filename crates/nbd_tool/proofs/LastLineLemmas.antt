@@ -9,9 +9,9 @@ use Rattle.nbd_wire.specs.declared.fault.WireFault.{WireFault}
 use Rattle.nbd_wire.specs.declared.fault.WireFault.TheVariants.{Unfinished}
 use Rattle.nbd_session.specs.declared.fault.SessionFault.{SessionFault}
 use Rattle.nbd_session.specs.declared.fault.SessionFault.TheVariants as session
-use Rattle.nbd_session.specs.Refusals.{IsAccepted, IsComplete, IsCompleteBy, IsOpenEnd, IsWireFault}
+use Rattle.nbd_session.specs.Refusals.{IsAccepted, IsAcceptedOf, IsRefusalOf, IsComplete, IsCompleteBy, IsOpenEnd, IsWireFault}
 use Rattle.nbd_session.proofs.judge.RefusalLemmas.{no_run_of, open_end_of}
-use Rattle.nbd_session.specs.Sessions.{HasRun, IsOfRun, SessionView, end_by, fault_at_end, pairs_of, bytes_taken, open_end_fault}
+use Rattle.nbd_session.specs.Sessions.{HasRun, HasRunOf, IsOfRun, SessionView, end_by, fault_at_end, pairs_of, bytes_taken, open_end_fault}
 use Rattle.nbd_lines.specs.Script.{message_lines}
 use Rattle.nbd_tool.specs.declared.fault.RunFault.{RunFault}
 use Rattle.nbd_tool.specs.declared.fault.RunFault.TheVariants as faults
@@ -26,7 +26,7 @@ use Rattle.nbd_tool.proofs.OverLemmas.{took_all}
 
 -- the messages of a session that is over are those of a prefix of the capture
 pub leads : (capture : List Pair) (r : SessionView) → IsOver capture r → IsOfRun r → Leads capture (pairs_of r) r.messages
-leads capture r over run = record { rest = over.left; client = r.client; server = r.server; parts = over.parts; run = run }
+leads capture r over run = record { rest = over.left; client = r.client; server = r.server; parts = over.parts; run = subst (λ q. HasRunOf q (pairs_of r) r.messages r.client r.server) over.profile_is run }
 
 -- what a session shows that ends in this way
 abbrev EndsAs : List Pair → SessionView → Option SessionFault → Type 0
@@ -53,9 +53,9 @@ pub shown : (capture : List Pair) (r : SessionView) → IsOver capture r → IsO
 shown capture r over run complete = go r.closed refl over.at complete
   where
     go : (c : Option SessionFault) → r.closed ≡ c → IfSome c (IsWireAt (bytes_taken r)) → IsCompleteBy c r → EndsAs capture r (end_by c (open_end_fault r.client r.server (bytes_taken r)))
-    go None unclosed at all = open_end capture r r.client r.server over run unclosed run all
+    go None unclosed at all = open_end capture r r.client r.server over run unclosed (subst (λ q. HasRunOf q (pairs_of r) r.messages r.client r.server) over.profile_is run) (subst (λ q. IsAcceptedOf q (pairs_of r) r.messages) over.profile_is all)
     go (Some (session.Wire at fault)) closed is refusal =
-        refused_at capture r at fault over run is (inl (record { prefix = pairs_of r; rest = over.left; parts = over.parts; at_is = is; refusal = refusal.1 }))
+        refused_at capture r at fault over run is (inl (record { prefix = pairs_of r; rest = over.left; parts = over.parts; at_is = is; refusal = subst (λ q. IsRefusalOf q (pairs_of r) r.messages fault) over.profile_is refusal.1 }))
     go (Some session.Memory) closed is refusal = absurd is
 
 then_kept : (old mid new : Option (List ℕ)) (bytes : List ℕ) → Appends old mid bytes → Keeps mid new → Appends old new bytes

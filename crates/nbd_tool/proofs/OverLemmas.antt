@@ -1,6 +1,7 @@
 -- A session over a capture's chunks: what it took, and how it stands at its end.
 use Rattle.std.proofs.Common.{◌≡◌, ℕ, ◌≤◌, List, [], ◌∷◌, ◌++◌, length, refl, sym, ◌∙◌, ap, subst, arith, length-append, append_assoc, append-nil, Option, Some, None, IfSome, Result, Ok, Err, IfOk, IfErr, OnErr, OnOk, inl}
 use Rattle.std.specs.Result.{result_and}
+use Rattle.nbd_wire.specs.declared.profile.Profile.TheVariants.{Base}
 use Rattle.nbd_wire.specs.declared.entry.Entry.{Entry}
 use Rattle.nbd_wire.specs.declared.fault.WireFault.{WireFault}
 use Rattle.nbd_wire.specs.declared.message.Side.{Side}
@@ -17,7 +18,7 @@ use Rattle.nbd_capture.specs.declared.capture.CaptureFault.{CaptureFault}
 use Rattle.nbd_capture.specs.declared.capture.CaptureFault.TheVariants as reader
 use Rattle.nbd_session.specs.declared.fault.SessionFault.{SessionFault}
 use Rattle.nbd_session.specs.declared.fault.SessionFault.TheVariants.{Memory, Wire}
-use Rattle.nbd_session.specs.Refusals.{EndsIn, IsWireFault, Refuses}
+use Rattle.nbd_session.specs.Refusals.{EndsIn, IsRefusalOf, IsWireFault, IsWireFaultOf, Refuses}
 use Rattle.nbd_session.specs.Sessions.{AddsPrefix, IsAtEnd, IsReported, SessionView, bytes_taken, end_by, fault_at_end, fault_of, open_end_fault, pairs_of}
 use Rattle.nbd_judge.specs.Captures.{IsChecked, IsFaultOf}
 use Rattle.nbd_judge.specs.Conclusions.{Answers, IsConclusion, IsReportOf}
@@ -46,8 +47,9 @@ taken_within capture r over =
     omega arith
 
 -- a session that took all and is open
-pub over_open : (capture : List Pair) (r : SessionView) → pairs_of r ≡ capture → r.closed ≡ None → IsOver capture r
-over_open capture r took unclosed = record {
+pub over_open : (capture : List Pair) (r : SessionView) → r.profile ≡ Base → pairs_of r ≡ capture → r.closed ≡ None → IsOver capture r
+over_open capture r base took unclosed = record {
+  profile_is = base;
   left = [];
   parts = append-nil (pairs_of r) ∙ took;
   all = λ e. refl;
@@ -60,11 +62,12 @@ pub took_all : (capture : List Pair) (r : SessionView) → IsOver capture r → 
 took_all capture r over unclosed = sym (append-nil (pairs_of r)) ∙ ap (λ ps. pairs_of r ++ ps) (sym (over.all unclosed)) ∙ over.parts
 
 -- a session that a wire fault closed in these bytes
-over_closed : (capture : List Pair) (s : Side) (piece : List ℕ) (old new : SessionView) (at : ℕ) (fault : WireFault) → pairs_of old ≡ capture → AddsPrefix old new s piece →
+over_closed : (capture : List Pair) (s : Side) (piece : List ℕ) (old new : SessionView) (at : ℕ) (fault : WireFault) → new.profile ≡ Base → pairs_of old ≡ capture → AddsPrefix old new s piece →
     new.closed ≡ Some (Wire at fault) → at ≡ bytes_taken new → Refuses new (Wire at fault) → IsOver (capture ++ side_pairs s piece) new
-over_closed capture s piece old new at fault took prefix closed is refuses =
+over_closed capture s piece old new at fault base took prefix closed is refuses =
     let added = prefix.1 in
     record {
+      profile_is = base;
       left = side_pairs s prefix.0;
       parts = ap (λ ps. ps ++ side_pairs s prefix.0) added.has_pairs
           ∙ append_assoc (pairs_of old) (side_pairs s added.prefix) (side_pairs s prefix.0)
@@ -78,6 +81,7 @@ over_closed capture s piece old new at fault took prefix closed is refuses =
 -- a session that was closed before these bytes
 over_before : (capture more : List Pair) (r : SessionView) (fault : SessionFault) → IsOver capture r → r.closed ≡ Some fault → IsOver (capture ++ more) r
 over_before capture more r fault over closed = record {
+  profile_is = over.profile_is;
   left = over.left ++ more;
   parts = sym (append_assoc (pairs_of r) over.left more) ∙ ap (λ ps. ps ++ more) over.parts;
   all = λ none. absurd (let q : Some fault ≡ None = sym closed ∙ none in cc);
@@ -86,16 +90,16 @@ over_before capture more r fault over closed = record {
 }
 
 -- one more piece was pushed, and memory did not run out
-pub over_pushed : (capture : List Pair) (old new : SessionView) (s : Side) (piece : List ℕ) (o : Result (Unit {0}) SessionFault) → IsOver capture old →
+pub over_pushed : (capture : List Pair) (old new : SessionView) (s : Side) (piece : List ℕ) (o : Result (Unit {0}) SessionFault) → IsOver capture old → new.profile ≡ old.profile →
     OnOk o (pairs_of new ≡ pairs_of old ++ side_pairs s piece) → OnOk o (new.closed ≡ None) → AddsPrefix old new s piece → IfErr o (λ fault. new.closed ≡ Some fault) →
     IfErr o (λ fault. old.closed ≡ None → IsAtEnd new fault) → ((fault : SessionFault) → old.closed ≡ Some fault → (o ≡ Err fault) × (new ≡ old)) → IfErr o (Refuses new) →
     (o ≡ Err Memory → ⊥) → IsOver (capture ++ side_pairs s piece) new
-over_pushed capture old new s piece o over added unshut prefix closed at same wire some = go old.closed refl
+over_pushed capture old new s piece o over kept added unshut prefix closed at same wire some = go old.closed refl
   where
     once : (o : Result (Unit {0}) SessionFault) → old.closed ≡ None → OnOk o (pairs_of new ≡ pairs_of old ++ side_pairs s piece) → OnOk o (new.closed ≡ None) → IfErr o (λ fault. new.closed ≡ Some fault) →
         IfErr o (λ fault. old.closed ≡ None → IsAtEnd new fault) → IfErr o (Refuses new) → (o ≡ Err Memory → ⊥) → IsOver (capture ++ side_pairs s piece) new
-    once (Ok u) unclosed added unshut closed at wire some = over_open (capture ++ side_pairs s piece) new (added ∙ ap (λ ps. ps ++ side_pairs s piece) (took_all capture old over unclosed)) unshut
-    once (Err (Wire n fault)) unclosed added unshut closed at wire some = over_closed capture s piece old new n fault (took_all capture old over unclosed) prefix closed (at unclosed) wire
+    once (Ok u) unclosed added unshut closed at wire some = over_open (capture ++ side_pairs s piece) new (kept ∙ over.profile_is) (added ∙ ap (λ ps. ps ++ side_pairs s piece) (took_all capture old over unclosed)) unshut
+    once (Err (Wire n fault)) unclosed added unshut closed at wire some = over_closed capture s piece old new n fault (kept ∙ over.profile_is) (took_all capture old over unclosed) prefix closed (at unclosed) wire
     once (Err Memory) unclosed added unshut closed at wire some = absurd (some refl)
 
     go : (c : Option SessionFault) → old.closed ≡ c → IsOver (capture ++ side_pairs s piece) new
@@ -108,7 +112,7 @@ report_over capture r (Err fault) over same reported = tt
 report_over capture r (Ok told) over same reported = go r.closed refl
   where
     go : (c : Option SessionFault) → r.closed ≡ c → HasReport capture told
-    go None unclosed = told_of r capture told (took_all capture r over unclosed) reported
+    go None unclosed = told_of r capture told over.profile_is (took_all capture r over unclosed) reported
     go (Some fault) closed =
         let ends : fault_at_end r ≡ Some fault = ap (λ c. end_by c (open_end_fault r.client r.server (bytes_taken r))) closed in
         absurd (let q : None ≡ Some fault = same ∙ ends in cc)
@@ -120,12 +124,12 @@ fault_over capture r (Err Memory) over same ends = tt
 fault_over capture r (Err (Wire at fault)) over same ends = go r.closed refl over.refused
   where
     go : (c : Option SessionFault) → r.closed ≡ c → IfSome c (Refuses r) → IsFaultOf capture (Wire at fault)
-    go None unclosed refused = (r.messages, subst (λ ps. IsWireFault ps r.messages at fault) (took_all capture r over unclosed) ends)
+    go None unclosed refused = (r.messages, subst (λ ps. IsWireFault ps r.messages at fault) (took_all capture r over unclosed) (subst (λ q. IsWireFaultOf q (pairs_of r) r.messages at fault) over.profile_is ends))
     go (Some other) closed refused =
         let now : fault_at_end r ≡ Some other = ap (λ c. end_by c (open_end_fault r.client r.server (bytes_taken r))) closed in
         let is : other ≡ Wire at fault = (let q : Some (Wire at fault) ≡ Some other = same ∙ now in cc) in
         let why = subst (Refuses r) is refused in
-        (r.messages, inl (record { prefix = pairs_of r; rest = over.left; parts = over.parts; at_is = why.0; refusal = why.1 }))
+        (r.messages, inl (record { prefix = pairs_of r; rest = over.left; parts = over.parts; at_is = why.0; refusal = subst (λ q. IsRefusalOf q (pairs_of r) r.messages fault) over.profile_is why.1 }))
 
 -- a fault of the capture's reader is the cause that the run's fault states
 pub cause_of : (known : Option (List ℕ)) (fault : CaptureFault) → NamesFirstBadLine known fault → IsCaptureCause known (of_capture fault)

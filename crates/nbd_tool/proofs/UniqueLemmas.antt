@@ -1,6 +1,7 @@
 -- Each run has one line, or one output, to write.
 use Rattle.std.proofs.Common.{◌≡◌, List, [], ◌∷◌, ◌++◌, length, refl, sym, ◌∙◌, ap, subst}
 use Rattle.std.specs.Prelude.{codes}
+use Rattle.nbd_wire.specs.declared.profile.Profile.TheVariants.{Base}
 use Rattle.nbd_wire.specs.declared.entry.Entry.{Entry}
 use Rattle.nbd_wire.specs.declared.message.Message.{Message}
 use Rattle.nbd_wire.specs.protocol.Captures.{Pair}
@@ -41,7 +42,7 @@ one_run : (capture : List Pair) (messages more : List Message) → HasRun captur
 one_run capture messages more a b =
     sym a.has_messages
     ∙ sym (completed_alike a.items)
-    ∙ ap completed_messages (same_marks a.items b.items a.is_run b.is_run (a.has_pairs ∙ sym b.has_pairs))
+    ∙ ap completed_messages (same_marks Base a.items b.items a.is_run b.is_run (a.has_pairs ∙ sym b.has_pairs))
     ∙ completed_alike b.items
     ∙ b.has_messages
 

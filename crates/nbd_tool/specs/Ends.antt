@@ -1,6 +1,7 @@
 -- How a session that is shown stands at its end, and the last line.
 use Rattle.std.specs.Prelude.{◌≡◌, ℕ, List, [], ◌++◌, Bool, true, false, Option, Some, None, IfSome, codes}
 use Rattle.std.specs.Io.KnownBytes.{Keeps}
+use Rattle.nbd_wire.specs.declared.profile.Profile.TheVariants.{Base}
 use Rattle.nbd_wire.specs.protocol.Captures.{Pair}
 use Rattle.nbd_capture.specs.Capture.{Chunk, IsCaptureText}
 use Rattle.nbd_capture.specs.Writing.{AppendsPrefix}
@@ -19,8 +20,10 @@ abbrev pub IsWireAt : ℕ → SessionFault → Type 0
 IsWireAt n (session.Wire at fault) = at ≡ n
 IsWireAt n session.Memory = ⊥
 
--- a session took all of a capture's bytes, or was closed by a wire fault at the last one that it took
+-- a session that is held to the profile Base took all of a capture's bytes, or was closed by a wire fault at the last
+-- one that it took
 pub record IsOver (capture : List Pair) (r : SessionView) : Type 0 where
+  pub profile_is : r.profile ≡ Base
   pub left : List Pair
   pub parts : pairs_of r ++ left ≡ capture
   pub all : r.closed ≡ None → left ≡ []

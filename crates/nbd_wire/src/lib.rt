@@ -28,6 +28,7 @@ mod numbers;
 pub mod option_payloads;
 pub mod options;
 pub mod payloads;
+pub mod profile;
 pub mod sides;
 pub mod transmission;
 
@@ -45,6 +46,7 @@ pub use heads::transmission::{
 pub use message::{Message, Side};
 pub use option_payloads::{go_of, info_of, listed_of};
 pub use payloads::{Content, Failure, Info, Piece};
+pub use profile::Profile;
 pub use sides::{fits, side_of};
 
 #[cfg(test)]

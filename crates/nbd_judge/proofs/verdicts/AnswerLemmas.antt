@@ -1,5 +1,6 @@
 -- What a verdict on the report of a run says of the run's bytes.
 use Rattle.std.proofs.Common.{◌≡◌, ℕ, List, sym, ◌∙◌, ap, subst}
+use Rattle.nbd_wire.specs.declared.profile.Profile.TheVariants.{Base}
 use Rattle.nbd_wire.specs.declared.entry.Entry.{Entry}
 use Rattle.nbd_wire.specs.protocol.Explains.{Start, start_byte}
 use Rattle.nbd_wire.specs.protocol.Marks.{Item, pairs}
@@ -21,8 +22,8 @@ use Rattle.nbd_judge.proofs.verdicts.SingleLemmas.{fits_not, has_fault, has_wron
 fault_unserved : OrdersAreFaultless → SameReports → (items : List Item) (order : List Entry) (entry : ℕ) (fault : OrderFault) → IsRun items →
     IsOrderFault (report items) order entry fault → IsUnserved (pairs items) order
 fault_unserved faultless same items order entry fault run is other run' bytes serves = has_fault (report items) order entry fault is
-    (subst (λ (r : Report). IsFaultless r order) (same other items run' run bytes)
-    (subst (λ (o : List Entry). IsFaultless (report other) o) serves (faultless other run')))
+    (subst (λ (r : Report). IsFaultless r order) (same Base other items run' run bytes)
+    (subst (λ (o : List Entry). IsFaultless (report other) o) serves (faultless Base other run')))
 
 -- so an Order verdict is of an order that no run with the session's bytes is served in
 pub order_unserved : (r : Report) (order : List Entry) (entry : ℕ) (fault : OrderFault) → IsOrderFault r order entry fault →
@@ -33,14 +34,14 @@ order_unserved r order entry fault is items run of_run =
 module _ (passing : PassingIsExplained) (only : ExplainedPasses) (faultless : OrdersAreFaultless) (same : SameReports) where
   -- a run that does not pass is not explained
   no_pass : (items : List Item) (order : List Entry) (initial : Start) → IsRun items → (Passes (report items) order initial → ⊥) → IsNo (pairs items) order initial
-  no_pass items order initial run fails explained = fails (only items order initial run explained)
+  no_pass items order initial run fails explained = fails (only Base items order initial run explained)
 
   counted : (f : Report → ℕ) (items : List Item) (n : ℕ) → IsRun items → n ≡ f (report items) → (other : List Item) → IsRun other → pairs other ≡ pairs items → f (report other) ≡ n
-  counted f items n run is other run' e = ap f (same other items run' run e) ∙ sym is
+  counted f items n run is other run' e = ap f (same Base other items run' run e) ∙ sym is
 
   pub answers_runs : VerdictsAnswerRuns
   answers_runs items order initial (Yes a b c) run v = record {
-    explained = passing items order initial run (record { faultless = v.1.0; fits_image = v.0; reads = v.1.1 });
+    explained = passing Base items order initial run (record { faultless = v.1.0; fits_image = v.0; reads = v.1.1 });
     counts = record {
       requests_are = counted request_count items a run v.1.2;
       answered_are = counted answered_count items b run v.1.3;

@@ -2,13 +2,14 @@
 use Rattle.std.proofs.Common.{◌≡◌, ℕ, zero, suc, ◌+◌, ◌<◌, ◌≤◌, List, [], ◌∷◌, ◌++◌, length, refl, sym, ◌∙◌, ap, subst, arith, take, get_or, add-one, length-append, append_assoc, Result, Ok, Err, IfOk, IfErr, IsErrAnd}
 use Rattle.std.specs.declared.alloc.Global.{Global}
 use Rattle.std.specs.declared.vec.Vec.{Vec}
+use Rattle.nbd_wire.specs.declared.profile.Profile.TheVariants.{Base}
 use Rattle.nbd_wire.specs.declared.entry.Entry.{Entry}
 use Rattle.nbd_wire.specs.declared.message.Side.{Side}
 use Rattle.nbd_wire.specs.protocol.Explains.{Start}
 use Rattle.nbd_wire.specs.protocol.Marks.{Item, pairs}
 use Rattle.nbd_wire.specs.protocol.Captures.{Pair, flat, side_pairs}
 use Rattle.nbd_wire.specs.protocol.Reports.{Report}
-use Rattle.nbd_wire.specs.protocol.Rules.{IsRun}
+use Rattle.nbd_wire.specs.protocol.Rules.{IsRun, IsRunOf}
 use Rattle.nbd_session.specs.declared.fault.SessionFault.{SessionFault}
 use Rattle.nbd_session.specs.declared.fault.SessionFault.TheVariants as session
 use Rattle.nbd_session.specs.Sessions.{IsReported, SessionView, pairs_of}
@@ -59,12 +60,12 @@ prefix_whole (d ∷ cs) zero w = absurd (omega arith)
 prefix_whole (d ∷ cs) (suc i) w = ap (λ r. d ∷ r) (prefix_whole cs i (omega arith))
 
 -- what a finished session states is told of its bytes
-pub told_of : (r : SessionView) (capture : List Pair) (told : Report) → pairs_of r ≡ capture → IsReported r told → HasReport capture told
-told_of r capture told same reported = record {
+pub told_of : (r : SessionView) (capture : List Pair) (told : Report) → r.profile ≡ Base → pairs_of r ≡ capture → IsReported r told → HasReport capture told
+told_of r capture told p same reported = record {
   items = reported.items;
-  is_run = reported.is_run;
+  is_run = subst (λ q. IsRunOf q reported.items) p reported.is_run;
   has_pairs = reported.has_pairs ∙ same;
-  same_report = λ others run has. reported.same_report others run (has ∙ sym same);
+  same_report = λ others run has. reported.same_report others (subst (λ q. IsRunOf q others) (sym p) run) (has ∙ sym same);
 }
 
 -- the conclusion from what a session over a capture finished with is the verdict on that capture
@@ -108,9 +109,9 @@ piece_fits cs i c w e =
     let within = prefix_within cs (i + 1) in
     omega arith
 
-pub finish_told : (r : SessionView) (capture : List Pair) (o : Result Report SessionFault) → pairs_of r ≡ capture → IfOk o (IsReported r) → IfOk o (HasReport capture)
-finish_told r capture (Ok told) same h = told_of r capture told same h
-finish_told r capture (Err fault) same h = h
+pub finish_told : (r : SessionView) (capture : List Pair) (o : Result Report SessionFault) → r.profile ≡ Base → pairs_of r ≡ capture → IfOk o (IsReported r) → IfOk o (HasReport capture)
+finish_told r capture (Ok told) p same h = told_of r capture told p same h
+finish_told r capture (Err fault) p same h = h
 
 pub conclusion_checked : {E : Type 0} (capture : List Pair) (order : List Entry) (initial : Start) (finished : Result Report SessionFault) (o : Result Verdict E)
     → IfOk finished (HasReport capture) → IfErr finished (IsFaultOf capture) → IfOk o (IsConclusion finished order initial)

@@ -1,13 +1,14 @@
 -- A session over chunks that ends in a fault.
 use Rattle.std.proofs.Common.{◌≡◌, ℕ, zero, suc, ◌<◌, List, [], ◌∷◌, ◌++◌, length, refl, sym, ◌∙◌, ap, subst, arith, take, drop, get_or, append_assoc, inl, Result, Ok, Err, IfOk, IfErr, Vec}
 use Rattle.std.specs.declared.alloc.Global.{Global}
+use Rattle.nbd_wire.specs.declared.profile.Profile.TheVariants.{Base}
 use Rattle.nbd_wire.specs.declared.entry.Entry.{Entry}
 use Rattle.nbd_wire.specs.declared.message.Side.{Side}
 use Rattle.nbd_wire.specs.protocol.Explains.{IsExplained, Start}
 use Rattle.nbd_wire.specs.protocol.Captures.{Pair, flat, side_pairs}
 use Rattle.nbd_session.specs.declared.fault.SessionFault.{SessionFault}
 use Rattle.nbd_session.specs.declared.fault.SessionFault.TheVariants.{Memory, Wire}
-use Rattle.nbd_session.specs.Refusals.{EndsIn, IsWireFault, Refuses}
+use Rattle.nbd_session.specs.Refusals.{EndsIn, IsRefusalOf, IsWireFault, IsWireFaultOf, Refuses}
 use Rattle.nbd_session.specs.Sessions.{AddsPrefix, IsAtEnd, SessionView, pairs_of}
 use Rattle.nbd_session.proofs.judge.RefusalLemmas.{no_run_of}
 use Rattle.nbd_judge.specs.declared.verdict.Verdict.{Verdict}
@@ -33,9 +34,9 @@ split_at (d ∷ cs) (suc i) c w e =
 
 -- a fault in a chunk is that of the capture
 pub fault_in : (cs : List (Side × Vec ℕ Global)) (i : ℕ) (c : Side × Vec ℕ Global) (piece : List ℕ) (old new : SessionView) (fault : SessionFault) → i < length cs → c ≡ get_or cs i c → piece ≡ c.1.items →
-    pairs_of old ≡ flat (records_of (take i cs)) → AddsPrefix old new c.0 piece → IsAtEnd new fault → Refuses new fault → IsFaultOf (flat (records_of cs)) fault
-fault_in cs i c piece old new Memory w e same took prefix is refuses = tt
-fault_in cs i c piece old new (Wire at fault) w e same took prefix is refuses =
+    new.profile ≡ Base → pairs_of old ≡ flat (records_of (take i cs)) → AddsPrefix old new c.0 piece → IsAtEnd new fault → Refuses new fault → IsFaultOf (flat (records_of cs)) fault
+fault_in cs i c piece old new Memory w e same p took prefix is refuses = tt
+fault_in cs i c piece old new (Wire at fault) w e same p took prefix is refuses =
     let added = prefix.1 in
     let behind : List Pair = flat (records_of (drop (suc i) cs)) in
     let whole : side_pairs c.0 added.prefix ++ side_pairs c.0 prefix.0 ≡ side_pairs c.0 c.1.items = sym (sent_both c.0 added.prefix prefix.0) ∙ ap (side_pairs c.0) (added.parts ∙ same) in (
@@ -49,18 +50,19 @@ fault_in cs i c piece old new (Wire at fault) w e same took prefix is refuses =
             ∙ ap (λ ps. ps ++ (side_pairs c.0 c.1.items ++ behind)) took
             ∙ sym (split_at cs i c w e);
         at_is = is;
-        refusal = refuses.1;
+        refusal = subst (λ q. IsRefusalOf q (pairs_of new) new.messages fault) p refuses.1;
       }),
     )
 
-end_fault : (r : SessionView) (capture : List Pair) (fault : SessionFault) → pairs_of r ≡ capture → EndsIn r fault → IsFaultOf capture fault
-end_fault r capture Memory same e = tt
-end_fault r capture (Wire at fault) same e = (r.messages, subst (λ ps. IsWireFault ps r.messages at fault) same e)
+end_fault : (r : SessionView) (capture : List Pair) (fault : SessionFault) → r.profile ≡ Base → pairs_of r ≡ capture → EndsIn r fault → IsFaultOf capture fault
+end_fault r capture Memory p same e = tt
+end_fault r capture (Wire at fault) p same e =
+    (r.messages, subst (λ ps. IsWireFault ps r.messages at fault) same (subst (λ q. IsWireFaultOf q (pairs_of r) r.messages at fault) p e))
 
 -- so is one at the end
-pub finish_fault : {A : Type 0} (r : SessionView) (capture : List Pair) (o : Result A SessionFault) → pairs_of r ≡ capture → IfErr o (EndsIn r) → IfErr o (IsFaultOf capture)
-finish_fault r capture (Ok told) same h = tt
-finish_fault r capture (Err fault) same h = end_fault r capture fault same h
+pub finish_fault : {A : Type 0} (r : SessionView) (capture : List Pair) (o : Result A SessionFault) → r.profile ≡ Base → pairs_of r ≡ capture → IfErr o (EndsIn r) → IfErr o (IsFaultOf capture)
+finish_fault r capture (Ok told) p same h = tt
+finish_fault r capture (Err fault) p same h = end_fault r capture fault p same h
 
 -- yes is said of exactly the captures that are explained
 says_exactly : (capture : List Pair) (order : List Entry) (initial : Start) (v : Verdict) → IsChecked capture order initial v → SaysYes v ↔ IsExplained capture order initial

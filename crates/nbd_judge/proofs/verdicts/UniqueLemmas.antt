@@ -1,5 +1,6 @@
 -- A capture is refused in one way at most, and has one answer at most.
 use Rattle.std.proofs.Common.{◌≡◌, ℕ, List, [], ◌∷◌, ◌++◌, ◌⊎◌, length, refl, sym, ◌∙◌, ap, subst, inl, inr, append-nil}
+use Rattle.nbd_wire.specs.declared.profile.Profile.TheVariants.{Base}
 use Rattle.nbd_wire.specs.declared.entry.Entry.{Entry}
 use Rattle.nbd_wire.specs.declared.fault.WireFault.{WireFault}
 use Rattle.nbd_wire.specs.declared.message.Message.{Message}
@@ -33,9 +34,9 @@ prefixes (x ∷ xs) (y ∷ ys) us vs e =
 module _ (capture : List Pair) (messages more : List Message) (at place : ℕ) (fault other : WireFault) where
   longer : (a : IsRefusedAt capture messages at fault) (b : IsRefusedAt capture more place other) (w : List Pair) → b.prefix ≡ a.prefix ++ w → (at ≡ place) × (fault ≡ other) × (messages ≡ more)
   longer a b w e =
-      let none : w ≡ [] = prefixes_have_no_place a.prefix w more messages other fault (subst (λ ps. IsPlace ps more other) e b.refusal.place) a.refusal.place in
+      let none : w ≡ [] = prefixes_have_no_place Base a.prefix w more messages other fault (subst (λ ps. IsPlace ps more other) e b.refusal.place) a.refusal.place in
       let same : b.prefix ≡ a.prefix = e ∙ ap (λ l. a.prefix ++ l) none ∙ append-nil a.prefix in
-      let one = one_place a.prefix messages more fault other a.refusal.place (subst (λ ps. IsPlace ps more other) same b.refusal.place) in
+      let one = one_place Base a.prefix messages more fault other a.refusal.place (subst (λ ps. IsPlace ps more other) same b.refusal.place) in
       (a.at_is ∙ ap length (sym same) ∙ sym b.at_is, one.1, one.0)
 
   open_end : IsRefusedAt capture messages at fault → IsOpenEnd capture more → ⊥
@@ -49,7 +50,7 @@ one_wire_fault capture messages more at place fault other (inl a) (inl b) = elim
 one_wire_fault capture messages more at place fault other (inl a) (inr b) = absurd (open_end capture messages more at place fault other a b.2)
 one_wire_fault capture messages more at place fault other (inr a) (inl b) = absurd (open_end capture more messages place at other fault b a.2)
 one_wire_fault capture messages more at place fault other (inr a) (inr b) =
-    (a.1 ∙ sym b.1, a.0 ∙ sym b.0, under_way_agree capture messages more a.2.accepted.under_way b.2.accepted.under_way)
+    (a.1 ∙ sym b.1, a.0 ∙ sym b.0, under_way_agree Base capture messages more a.2.accepted.under_way b.2.accepted.under_way)
 
 -- an answer is a wire fault or the verdict on a run
 record IsRefusing (capture : List Pair) (v : Verdict) : Type 0 where

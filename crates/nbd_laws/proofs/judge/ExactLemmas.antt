@@ -1,6 +1,7 @@
 -- The judge is exact: it takes each message that the rules allow, at its last byte and not before.
 use Rattle.std.proofs.Common.{◌≡◌, ℕ, ◌+◌, ◌<◌, ◌≤◌, ◌⊎◌, ◌==◌, ◌^◌, List, [], ◌∷◌, ◌++◌, length, refl, sym, ◌∙◌, ap, subst, inl, inr, Option, Some, None, Err, Bool, true, false, not, nat_lt, is_some, IsTrue, eq-eqb, arith, length-append}
 use Rattle.std.proofs.lemmas.Bool.{le-ltb, ltb-false, ltb-true}
+use Rattle.nbd_wire.specs.declared.profile.Profile.{Profile}
 use Rattle.nbd_wire.specs.declared.handshake.TheConstants as handshake
 use Rattle.nbd_wire.specs.declared.message.Side.{Side}
 use Rattle.nbd_wire.specs.declared.message.Side.TheVariants.{Client, Server}
@@ -13,7 +14,7 @@ use Rattle.nbd_wire.specs.protocol.Options.{is_proper_option, turn}
 use Rattle.nbd_wire.specs.protocol.Payloads.{number_at}
 use Rattle.nbd_wire.specs.protocol.Operations.{Operation, Exporting}
 use Rattle.nbd_wire.specs.protocol.Flags.{has}
-use Rattle.nbd_wire.specs.protocol.Rules.{IsRun, MayComplete, MayStart, MayStartIn, request_of_reply}
+use Rattle.nbd_wire.specs.protocol.Rules.{IsRunOf, MayComplete, MayStart, MayStartIn, request_of_reply}
 use Rattle.nbd_wire.specs.protocol.Sendable.{IsSendable}
 use Rattle.nbd_wire.specs.protocol.Sides.{side}
 use Rattle.nbd_wire.specs.protocol.States.{Core, Phase, Greet, Flags, Choosing, Naming, Aborting, Answering, Transmission, operation, target}
@@ -27,7 +28,7 @@ use Rattle.nbd_laws.specs.internal.Concrete.{concrete, last_reading, reading_by_
 use Rattle.nbd_laws.proofs.judge.ExactNegotiationLemmas.{Accepts, HasHead, HasLast, abort_accepts, answer_accepts, choice_accepts, exported_accepts, flags_accepts, greeting_accepts}
 use Rattle.nbd_laws.proofs.judge.ExactTransmissionLemmas.{AcceptsChunk, chunk_accepts, chunk_begins, cookie_of_chunk, cookie_of_simple, request_accepts, simple_accepts, simple_begins}
 use Rattle.nbd_laws.proofs.machine.MachineLemmas.{IsExact, Later, Later-trans}
-use Rattle.nbd_laws.specs.internal.Machine.{IsFilled, More, Whole, reads, fresh}
+use Rattle.nbd_laws.specs.internal.Machine.{IsFilled, More, Whole, reads, fresh_of}
 use Rattle.nbd_laws.proofs.judge.PhaseLemmas.{IsAppended, Later-appended, Later-disconnected, Later-transmission, Later-turn, target-append}
 use Rattle.nbd_laws.proofs.runs.RunLemmas.{no_run}
 use Rattle.nbd_laws.proofs.judge.SoundLemmas.{kept_reached}
@@ -209,5 +210,5 @@ exact = record {
 }
 
 -- no run's bytes begin with a list that the machine refuses
-pub none_refused : (items : List Item) → IsRun items → (ps more : List Pair) → ArePairs ps → pairs items ≡ ps ++ more → (fault : WireFault) → reads concrete fresh ps ≡ Err fault → ⊥
+pub none_refused : {profile : Profile} (items : List Item) → IsRunOf profile items → (ps more : List Pair) → ArePairs ps → pairs items ≡ ps ++ more → (fault : WireFault) → reads concrete (fresh_of profile) ps ≡ Err fault → ⊥
 none_refused items run ps more lt e fault refused = no_run concrete exact items run ps more lt e fault refused

@@ -7,7 +7,7 @@ use Rattle.nbd_wire.specs.declared.message.Message.TheVariants.{Request, Simple,
 use Rattle.nbd_wire.specs.protocol.Marks.{Item, Byte, Starts, Completes, Serves}
 use Rattle.nbd_wire.specs.protocol.Operations.{Operation, Exporting}
 use Rattle.nbd_wire.specs.protocol.Rules.{MayAsk, MayComplete, MayStartIn, Obeys, after, request_of_reply, complete, ends_at, reply_to, core_with_request}
-use Rattle.nbd_wire.specs.protocol.States.{Core, Phase, State, Transmission, start}
+use Rattle.nbd_wire.specs.protocol.States.{Core, Phase, State, Transmission, start_of}
 use Rattle.nbd_laws.proofs.runs.PrefixLemmas.{InTransmission, asks, gives, phase-complete, replies, transmission_row}
 use Rattle.nbd_laws.proofs.runs.PartLemmas.{obeys_back, obeys_prefix}
 use Rattle.nbd_laws.specs.Service.{DisconnectsAreEmpty, NothingAfterDisconnect}
@@ -57,10 +57,10 @@ stays_gone (Completes s m ∷ items) state ob g =
 stays_gone (Serves k ∷ items) state ob g = stays_gone items (after state (Serves k)) ob.1 g
 
 pub disconnects_are_empty : DisconnectsAreEmpty
-disconnects_are_empty prefix back flags cookie offset len p run =
-    let state : State = ends_at start prefix in
+disconnects_are_empty profile prefix back flags cookie offset len p run =
+    let state : State = ends_at (start_of profile) prefix in
     (request_row state.core state.core.phase flags commands.DISC cookie offset len p
-    (obeys_back start prefix (Completes Client (Request flags commands.DISC cookie offset len p) ∷ back) run.obeys).0).asks_it
+    (obeys_back (start_of profile) prefix (Completes Client (Request flags commands.DISC cookie offset len p) ∷ back) run.obeys).0).asks_it
 
 gone_behind : (core : Core) (flags cookie offset len : ℕ) (p : List ℕ) → MayComplete core core.phase (Request flags commands.DISC cookie offset len p) → IsGone (complete core (Request flags commands.DISC cookie offset len p))
 unfolding complete
@@ -76,10 +76,10 @@ not_gone core m g h =
     absurd (cc)
 
 pub nothing_after_disconnect : NothingAfterDisconnect
-nothing_after_disconnect prefix middle back flags cookie offset len p m run =
+nothing_after_disconnect profile prefix middle back flags cookie offset len p m run =
     let disc : Message = Request flags commands.DISC cookie offset len p in
-    let state : State = ends_at start prefix in
-    let ob : Obeys state (Completes Client disc ∷ (middle ++ Starts Client m ∷ back)) = obeys_back start prefix (Completes Client disc ∷ (middle ++ Starts Client m ∷ back)) run.obeys in
+    let state : State = ends_at (start_of profile) prefix in
+    let ob : Obeys state (Completes Client disc ∷ (middle ++ Starts Client m ∷ back)) = obeys_back (start_of profile) prefix (Completes Client disc ∷ (middle ++ Starts Client m ∷ back)) run.obeys in
     let next : State = after state (Completes Client disc) in
     let rest : Obeys (ends_at next middle) (Starts Client m ∷ back) = obeys_back next middle (Starts Client m ∷ back) ob.1 in
     let g : IsGone (ends_at next middle).core = stays_gone middle next (obeys_prefix next middle (Starts Client m ∷ back) ob.1) (gone_behind state.core flags cookie offset len p ob.0) in

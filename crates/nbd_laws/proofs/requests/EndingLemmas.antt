@@ -3,12 +3,12 @@ use Rattle.std.proofs.Common.{◌≡◌, ℕ, List, [], ◌∷◌, ◌++◌, ref
 use Rattle.nbd_wire.specs.declared.message.Side.{Side}
 use Rattle.nbd_wire.specs.declared.message.Side.TheVariants.{Client, Server}
 use Rattle.nbd_wire.specs.declared.message.Message.{Message}
+use Rattle.nbd_wire.specs.declared.profile.Profile.{Profile}
 use Rattle.nbd_wire.specs.protocol.Marks.{Item, Byte, Starts, Completes, Serves}
-use Rattle.nbd_wire.specs.protocol.Reports.{export_of}
 use Rattle.nbd_wire.specs.protocol.Operations.{Exporting}
-use Rattle.nbd_wire.specs.protocol.Rules.{IsRun, MayStartIn, request_of_reply, complete, cookie_of, ends_at, target_of}
+use Rattle.nbd_wire.specs.protocol.Rules.{IsRunOf, MayStartIn, request_of_reply, complete, cookie_of, ends_at, target_of}
 use Rattle.nbd_wire.specs.protocol.Sides.{side}
-use Rattle.nbd_wire.specs.protocol.States.{Core, Transmission, start, target}
+use Rattle.nbd_wire.specs.protocol.States.{Core, Transmission, start, start_of, target}
 use Rattle.nbd_laws.specs.Prefixes as prefixes
 use Rattle.nbd_laws.specs.Service.{RepliesEndAsTheyStart}
 use Rattle.nbd_laws.proofs.runs.FollowLemmas.{Follows, IsSidedOpen, each_with, follows}
@@ -18,6 +18,7 @@ use Rattle.nbd_laws.specs.internal.Machine.{Both, get, put}
 use Rattle.nbd_laws.proofs.machine.MachineLemmas.{get-put_same, get-put_other, same_or_not, Open, Idle, Busy, Walk, ended, serving, opening, middle, final, loose, Later, at_once, behind}
 use Rattle.nbd_laws.proofs.requests.OutstandingLemmas.{IsFound, find, in_transmission}
 use Rattle.nbd_laws.proofs.runs.PartLemmas.{obeys_back}
+use Rattle.nbd_laws.proofs.runs.ProfileLemmas.{phase_at_base, reply_at_base}
 use Rattle.nbd_laws.proofs.runs.RunLemmas.{core_end-ends_at, walk_of}
 
 -- the open message of the server is the next to complete, and only the client's messages complete before it
@@ -186,35 +187,40 @@ same_answer c d export m k l t a = go (cookie_of m) refl
         ap (λ o. target_of o d.entries) q ∙ there.found ∙ sym a
 
 -- after the first byte of the reply
-inner_next : (prefix inner back : List Item) (m n : Message) → IsAfterStart start.core prefix (inner ++ Completes Server n ∷ back) m → HasNoEnd inner → IsNext m n (core_end start.core prefix) inner
-inner_next prefix [] back m n r h = absurd (let q : Completes Server n ∷ back ≡ Byte Server r.first ∷ r.rest = r.behind_start in (cc))
-inner_next prefix (x ∷ inner) back m n r h =
+inner_next : (core : Core) (prefix inner back : List Item) (m n : Message) → IsAfterStart core prefix (inner ++ Completes Server n ∷ back) m → HasNoEnd inner → IsNext m n (core_end core prefix) inner
+inner_next core prefix [] back m n r h = absurd (let q : Completes Server n ∷ back ≡ Byte Server r.first ∷ r.rest = r.behind_start in (cc))
+inner_next core prefix (x ∷ inner) back m n r h =
     let e : x ∷ (inner ++ Completes Server n ∷ back) ≡ Byte Server r.first ∷ r.rest = r.behind_start in
     let q : Byte Server r.first ≡ x = cc in
     let p : r.rest ≡ inner ++ Completes Server n ∷ back = cc in
-    subst (λ z. IsNext m n (core_end start.core prefix) (z ∷ inner)) q (next_on (Byte Server r.first) refl
-    (stays r.walk (core_end start.core prefix) r.follows_on r.sided m n r.left r.busy inner back p (subst (λ z. HasNoEnd (z ∷ inner)) (sym q) h)))
+    subst (λ z. IsNext m n (core_end core prefix) (z ∷ inner)) q (next_on (Byte Server r.first) refl
+    (stays r.walk (core_end core prefix) r.follows_on r.sided m n r.left r.busy inner back p (subst (λ z. HasNoEnd (z ∷ inner)) (sym q) h)))
 
 some_of : (o : Option ℕ) → IsTrue (is_some o) → (k : ℕ) × (o ≡ Some k)
 some_of (Some k) h = (k, refl)
 some_of None h = absurd (cc)
 
-asked_at_start : (prefix back : List Item) (m : Message) (export : Exporting) → IsRun (prefix ++ Starts Server m ∷ back) → export_of prefix ≡ Some export → (k : ℕ) × (request_of_reply (ends_at start prefix).core m ≡ Some k)
+asked_at_start : (profile : Profile) (prefix back : List Item) (m : Message) (export : Exporting) → IsRunOf profile (prefix ++ Starts Server m ∷ back) → (ends_at (start_of profile) prefix).core.phase ≡ Transmission export →
+    (k : ℕ) × (request_of_reply (ends_at (start_of profile) prefix).core m ≡ Some k)
 unfolding MayStartIn
-asked_at_start prefix back m export run on =
-    some_of (request_of_reply (ends_at start prefix).core m)
-    (subst (λ phase. MayStartIn phase (ends_at start prefix).core Server m) (in_transmission (ends_at start prefix).core.phase export on)
-    (obeys_back start prefix (Starts Server m ∷ back) run.obeys).0.2)
+asked_at_start profile prefix back m export run on =
+    some_of (request_of_reply (ends_at (start_of profile) prefix).core m)
+    (subst (λ phase. MayStartIn phase (ends_at (start_of profile) prefix).core Server m) on
+    (obeys_back (start_of profile) prefix (Starts Server m ∷ back) run.obeys).0.2)
 
 pub replies_end_as_they_start : RepliesEndAsTheyStart
-replies_end_as_they_start prefix inner back m n export run on none =
-    let items : List Item = prefix ++ Starts Server m ∷ (inner ++ Completes Server n ∷ back) in
-    let r : IsAfterStart start.core prefix (inner ++ Completes Server n ∷ back) m =
-    after_start (walk_of run) start.core (follows items start run.obeys) (elim [ Client ↦ tt | Server ↦ tt ]) prefix (inner ++ Completes Server n ∷ back) m refl in
-    let k : IsNext m n (core_end start.core prefix) inner = inner_next prefix inner back m n r none in
-    let here : core_end start.core prefix ≡ (ends_at start prefix).core = core_end-ends_at start.core [] prefix in
-    let there : core_end (core_end start.core prefix) inner ≡ (ends_at start (prefix ++ Starts Server m ∷ inner)).core =
-    sym (core_end-append start.core prefix (Starts Server m ∷ inner)) ∙ core_end-ends_at start.core [] (prefix ++ Starts Server m ∷ inner) in
-    let a : (k : ℕ) × (request_of_reply (ends_at start prefix).core m ≡ Some k) = asked_at_start prefix (inner ++ Completes Server n ∷ back) m export run on in
-    let l : Later Server (ends_at start prefix).core (ends_at start (prefix ++ Starts Server m ∷ inner)).core = subst (λ d. Later Server (ends_at start prefix).core d) there (subst (λ c. Later Server c (core_end (core_end start.core prefix) inner)) here k.later) in
-    (k.same, same_answer (ends_at start prefix).core (ends_at start (prefix ++ Starts Server m ∷ inner)).core export m a.0 l (in_transmission (ends_at start prefix).core.phase export on) a.1)
+replies_end_as_they_start profile prefix inner back m n export run on none =
+    let first : Core = (start_of profile).core in
+    let old : Core = (ends_at (start_of profile) prefix).core in
+    let now : Core = (ends_at (start_of profile) (prefix ++ Starts Server m ∷ inner)).core in
+    let r : IsAfterStart first prefix (inner ++ Completes Server n ∷ back) m =
+    after_start (walk_of run) first (follows (prefix ++ Starts Server m ∷ (inner ++ Completes Server n ∷ back)) (start_of profile) run.obeys) (elim [ Client ↦ tt | Server ↦ tt ]) prefix (inner ++ Completes Server n ∷ back) m refl in
+    let k : IsNext m n (core_end first prefix) inner = inner_next first prefix inner back m n r none in
+    let here : core_end first prefix ≡ old = core_end-ends_at first [] prefix in
+    let there : core_end (core_end first prefix) inner ≡ now =
+    sym (core_end-append first prefix (Starts Server m ∷ inner)) ∙ core_end-ends_at first [] (prefix ++ Starts Server m ∷ inner) in
+    let phase : old.phase ≡ Transmission export = phase_at_base profile prefix ∙ in_transmission (ends_at start prefix).core.phase export on in
+    let a : (k : ℕ) × (request_of_reply old m ≡ Some k) = asked_at_start profile prefix (inner ++ Completes Server n ∷ back) m export run phase in
+    let l : Later Server old now = subst (λ d. Later Server old d) there (subst (λ c. Later Server c (core_end (core_end first prefix) inner)) here k.later) in
+    let same : request_of_reply now m ≡ request_of_reply old m = same_answer old now export m a.0 l phase a.1 in
+    (k.same, sym (reply_at_base profile (prefix ++ Starts Server m ∷ inner) m) ∙ same ∙ reply_at_base profile prefix m)

@@ -1,16 +1,19 @@
 -- The outstanding requests of a core have distinct cookies.
-use Rattle.std.proofs.Common.{◌≡◌, ℕ, zero, suc, ◌+◌, ◌==◌, ◌&&◌, ◌||◌, not, List, [], ◌∷◌, ◌++◌, refl, sym, ◌∙◌, ap, subst, Option, Some, None, Bool, true, false, if◌then◌else◌, arith, eqb-true, eq-eqb, IsTrue, is_some}
+use Rattle.std.proofs.Common.{◌≡◌, ℕ, zero, suc, ◌+◌, ◌==◌, ◌&&◌, ◌||◌, not, ◌<◌, ◌≤◌, length, List, [], ◌∷◌, ◌++◌, refl, sym, ◌∙◌, ap, subst, Option, Some, None, Bool, true, false, if◌then◌else◌, arith, eqb-true, eq-eqb, IsTrue, is_some}
+use Rattle.nbd_wire.specs.declared.entry.Entry.{Entry}
 use Rattle.nbd_wire.specs.protocol.Entries.{IsWhollyServed, MayServe}
 use Rattle.nbd_wire.specs.declared.commands.TheConstants as commands
 use Rattle.nbd_wire.specs.declared.message.Side.TheVariants.{Server}
 use Rattle.nbd_wire.specs.declared.message.Message.{Message}
 use Rattle.nbd_wire.specs.declared.message.Message.TheVariants.{Greeting, ClientFlags, Choice, Answer, Exported, Request, Simple, Chunk}
+use Rattle.nbd_wire.specs.declared.profile.Profile.{Profile}
 use Rattle.nbd_wire.specs.protocol.Reports.{operations_of, report}
 use Rattle.nbd_wire.specs.protocol.Marks.{Item, Byte, Starts, Completes, Serves, service_order}
 use Rattle.nbd_wire.specs.protocol.Operations.{Operation, Exporting, any, ends_reply, is_finished}
 use Rattle.nbd_wire.specs.protocol.Rules.{MayAsk, MayComplete, MayStartIn, Obeys, after, request_of_reply, complete, cookie_of, ends_at, inside_at, reply_to, core_with_request, target_of}
-use Rattle.nbd_wire.specs.protocol.States.{Core, Phase, State, Greet, Flags, Choosing, Naming, Aborting, Answering, Ended, Transmission, with_reply_at, operation, is_awaiting, start, target, target_from, with_reply, export_in}
+use Rattle.nbd_wire.specs.protocol.States.{Core, Phase, State, Greet, Flags, Choosing, Naming, Aborting, Answering, Ended, Transmission, with_reply_at, operation, is_awaiting, start, start_of, target, target_from, with_reply, export_in}
 use Rattle.nbd_laws.proofs.runs.PartLemmas.{obeys_back, obeys_prefix, served_in}
+use Rattle.nbd_laws.proofs.runs.ProfileLemmas.{at_base, phase_at_base}
 use Rattle.nbd_laws.specs.Service.{AnswersRequest, CookiesAreDistinct, EachReplyAnswersOne, EmptyIsExplained, ServedOnceAfterCompletion}
 
 -- no outstanding request has this cookie
@@ -137,9 +140,13 @@ same_cookie (x ∷ es) a (suc (suc j)) (suc zero) d e h i f g c =
     absurd (free_at x.cookie (suc j) es d (a.0 (subst (λ y. is_finished y ≡ false) (sym q) g)) h (c ∙ ap (λ (y : Operation). y.cookie) (sym q)) f)
 same_cookie (x ∷ es) a (suc (suc j)) (suc (suc k)) d e h i f g c = ap suc (same_cookie es a.1 (suc j) (suc k) d e h i f g c)
 
+distinct_of : (profile : Profile) (prefix back : List Item) → Obeys (start_of profile) (prefix ++ back) → AreDistinct (operations_of prefix)
+distinct_of profile prefix back ob =
+    subst (λ (c : Core). AreDistinct c.entries) (at_base profile prefix) (distinct (start_of profile) prefix (obeys_prefix (start_of profile) prefix back ob) tt)
+
 pub cookies_are_distinct : CookiesAreDistinct
-cookies_are_distinct prefix back run j k d e h i c =
-    same_cookie (operations_of prefix) (distinct start prefix (obeys_prefix start prefix back run.obeys) tt) j k d e h.numbered i.numbered h.unfinished i.unfinished c
+cookies_are_distinct profile prefix back run j k d e h i c =
+    same_cookie (operations_of prefix) (distinct_of profile prefix back run.obeys) j k d e h.numbered i.numbered h.unfinished i.unfinished c
 
 -- the request that a cookie finds
 pub record IsFound (cookie k : ℕ) (es : List Operation) : Type 0 where
@@ -199,13 +206,17 @@ in_transmission Ended export e = absurd (cc)
 
 pub each_reply_answers_one : EachReplyAnswersOne
 unfolding MayStartIn
-each_reply_answers_one prefix back m export run e = go (cookie_of m) refl some
+each_reply_answers_one profile prefix back m export run e = go (cookie_of m) refl some
   where
-    ob : Obeys (ends_at start prefix) (Starts Server m ∷ back)
-    ob = obeys_back start prefix (Starts Server m ∷ back) run.obeys
+    ob : Obeys (ends_at (start_of profile) prefix) (Starts Server m ∷ back)
+    ob = obeys_back (start_of profile) prefix (Starts Server m ∷ back) run.obeys
 
     some : IsTrue (is_some (target_of (cookie_of m) (operations_of prefix)))
-    some = subst (λ phase. MayStartIn phase (ends_at start prefix).core Server m) (in_transmission (ends_at start prefix).core.phase export e) ob.0.2
+    some = subst (λ (c : Core). IsTrue (is_some (request_of_reply c m))) (at_base profile prefix)
+        (subst (λ phase. MayStartIn phase (ends_at (start_of profile) prefix).core Server m) (phase_at_base profile prefix ∙ in_transmission (ends_at start prefix).core.phase export e) ob.0.2)
+
+    served : (k : ℕ) → request_of_reply (ends_at start prefix).core m ≡ Some k → IsWhollyServed (inside_at (ends_at start prefix).core k) (ends_at (start_of profile) prefix).served k
+    served = subst (λ (c : Core). (k : ℕ) → request_of_reply c m ≡ Some k → IsWhollyServed (inside_at c k) (ends_at (start_of profile) prefix).served k) (at_base profile prefix) ob.0.3
 
     go : (c : Option ℕ) → cookie_of m ≡ c → IsTrue (is_some (target_of c (operations_of prefix))) → (k : ℕ) × (e : Operation) × AnswersRequest prefix m k e
     go None c h = absurd (cc)
@@ -213,17 +224,20 @@ each_reply_answers_one prefix back m export run e = go (cookie_of m) refl some
       where
         at : (t : Option ℕ) → target cookie (operations_of prefix) ≡ t → IsTrue (is_some t) → (k : ℕ) × (e : Operation) × AnswersRequest prefix m k e
         at None t h = absurd (cc)
-        at (Some k) t h = answers_found prefix m cookie k (distinct start prefix (obeys_prefix start prefix (Starts Server m ∷ back) run.obeys) tt) c t
-            (subst (λ js. IsWhollyServed (inside_at (ends_at start prefix).core k) js k) (served_in start prefix) (ob.0.3 k (ap (λ o. target_of o (operations_of prefix)) c ∙ t)))
+        at (Some k) t h = answers_found prefix m cookie k (distinct_of profile prefix (Starts Server m ∷ back) run.obeys) c t
+            (subst (λ js. IsWhollyServed (inside_at (ends_at start prefix).core k) js k) (served_in (start_of profile) prefix) (served k (ap (λ o. target_of o (operations_of prefix)) c ∙ t)))
 
 pub served_once_after_completion : ServedOnceAfterCompletion
-served_once_after_completion prefix back e run =
-    let ob : Obeys (ends_at start prefix) (Serves e ∷ back) = obeys_back start prefix (Serves e ∷ back) run.obeys in
-    (ob.0.0, ob.0.1, subst (λ js. MayServe (inside_at (ends_at start prefix).core e.request) js e) (served_in start prefix) ob.0.2)
+served_once_after_completion profile prefix back e run =
+    let ob : Obeys (ends_at (start_of profile) prefix) (Serves e ∷ back) = obeys_back (start_of profile) prefix (Serves e ∷ back) run.obeys in
+    let js : List Entry = (ends_at (start_of profile) prefix).served in
+    let at : (0 < e.request) × (e.request ≤ length (operations_of prefix)) × MayServe (inside_at (ends_at start prefix).core e.request) js e =
+    subst (λ (c : Core). (0 < e.request) × (e.request ≤ length c.entries) × MayServe (inside_at c e.request) js e) (at_base profile prefix) ob.0 in
+    (at.0, at.1, subst (λ js. MayServe (inside_at (ends_at start prefix).core e.request) js e) (served_in (start_of profile) prefix) at.2)
 
 pub empty_is_explained : EmptyIsExplained
 unfolding report
-empty_is_explained initial = record {
+empty_is_explained profile initial = record {
   items = [];
   is_run = record { marked = record { client_side = record { messages = []; blocks = refl }; server_side = record { messages = []; blocks = refl }; tight = tt }; obeys = tt };
   has_pairs = refl;

@@ -11,6 +11,7 @@ use Rattle.nbd_wire.specs.protocol.States.{Core, Phase, Greet, Flags, Choosing, 
 use Rattle.nbd_laws.proofs.runs.PrefixLemmas.{InTransmission, asks, gives, replies, transmission_row}
 use Rattle.nbd_laws.specs.Reached.{IsReached, at_start, after_message}
 use Rattle.nbd_laws.proofs.requests.OutstandingLemmas.{IsFound, both_true, find}
+use Rattle.nbd_laws.proofs.runs.ProfileLemmas.{at_base}
 use Rattle.nbd_laws.proofs.runs.ReachLemmas.{run_reaches}
 use Rattle.nbd_laws.proofs.requests.SoundnessLemmas.{InPhase, open_target, sound}
 use Rattle.nbd_laws.specs.Replying.{IsReplyAfter, IsReplyBetween, RepliesAreWhole}
@@ -176,5 +177,5 @@ whole_entry structured (suc zero) (x ∷ es) e w h = (let q : x ≡ e = cc in su
 whole_entry structured (suc (suc k)) (x ∷ es) e w h = whole_entry structured (suc k) es e w.1 h
 
 pub replies_are_whole : RepliesAreWhole
-replies_are_whole items run k e prefix back m is q =
-    whole_entry (ends_at start items).core.structured k (operations_of items) e (whole (run_reaches items run)) is prefix back m q
+replies_are_whole profile items run k e prefix back m is q =
+    whole_entry (ends_at start items).core.structured k (operations_of items) e (subst (λ (c : Core). EachIsWhole c.structured c.entries) (at_base profile items) (whole (run_reaches items run))) is prefix back m q

@@ -1,9 +1,10 @@
 -- A report says of each request what the run does.
 use Rattle.std.proofs.Common.{◌≡◌, ℕ, zero, suc, ◌+◌, ◌<◌, ◌≤◌, List, [], ◌∷◌, length, refl, sym, ◌∙◌, ap, Option, Some, None, arith, slice_get}
+use Rattle.nbd_wire.specs.declared.profile.Profile.{Profile}
 use Rattle.nbd_wire.specs.protocol.Marks.{Item}
 use Rattle.nbd_wire.specs.protocol.Reports.{Asked, asked_at, operations_of, export_of, known_count, known_in, known_of, report, asked_of, asked_list}
 use Rattle.nbd_wire.specs.protocol.Operations.{Operation, Exporting}
-use Rattle.nbd_wire.specs.protocol.Rules.{IsRun}
+use Rattle.nbd_wire.specs.protocol.Rules.{IsRunOf}
 use Rattle.nbd_wire.specs.protocol.States.{operation}
 use Rattle.nbd_laws.proofs.service.OrderLemmas.{known_within}
 
@@ -41,7 +42,7 @@ entry_within (suc zero) (e ∷ es) p h = (e, refl)
 entry_within (suc (suc k)) (e ∷ es) p h = entry_within (suc k) es (omega arith) (omega arith)
 
 -- the counts of the report are those of the run
-pub known-report : (items : List Item) → IsRun items → known_in (report items) ≡ known_count items
+pub known-report : {profile : Profile} (items : List Item) → IsRunOf profile items → known_in (report items) ≡ known_count items
 known-report items run = λ i k. (ap known_of (asked-report items k) ∙ go k (known_count items k) refl (operation k (operations_of items)) refl) i
   where
     go : (k : ℕ) (κ : Option ℕ) → known_count items k ≡ κ → (o : Option Operation) → operation k (operations_of items) ≡ o → known_of (told_if (export_of items) (known_count items k) o) ≡ known_count items k

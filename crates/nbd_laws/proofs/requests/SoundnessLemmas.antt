@@ -28,6 +28,7 @@ use Rattle.nbd_laws.proofs.requests.LaidLemmas.{are_laid}
 use Rattle.nbd_laws.proofs.service.InsideLemmas.{core_end, entries_grow}
 use Rattle.nbd_laws.specs.Reached.{IsReached, at_start, after_message}
 use Rattle.nbd_laws.proofs.requests.OutstandingLemmas.{IsFound, both_true, find, not_true_is_false}
+use Rattle.nbd_laws.proofs.runs.ProfileLemmas.{at_base}
 use Rattle.nbd_laws.proofs.runs.ReachLemmas.{run_reaches}
 use Rattle.nbd_laws.proofs.runs.RunLemmas.{core_end-ends_at}
 use Rattle.nbd_laws.proofs.requests.ReportLemmas.{asked-report, length-report, told_if}
@@ -184,7 +185,8 @@ proper_range export e h r =
 
 pub reports_are_sound : ReportsAreSound
 unfolding report
-reports_are_sound items run = go (ends_at start items).core.phase refl (sound (run_reaches items run))
+reports_are_sound profile items run =
+    go (ends_at start items).core.phase refl (subst (λ (c : Core). InPhase c.phase c.entries) (at_base profile items) (sound (run_reaches items run)))
   where
     count : length (core_end start.core items).entries ≡ length (report items).asked
     count = ap (λ (core : Core). length core.entries) (core_end-ends_at start.core [] items) ∙ sym (length-report items)

@@ -6,6 +6,7 @@ use Rattle.nbd_wire.specs.declared.fault.WireFault.TheVariants.{BadMagic, NotFix
 use Rattle.nbd_wire.specs.declared.message.Message.{Message}
 use Rattle.nbd_wire.specs.declared.message.Message.TheVariants.{Greeting}
 use Rattle.nbd_wire.specs.declared.message.Side.TheVariants.{Client, Server}
+use Rattle.nbd_wire.specs.declared.profile.Profile.TheVariants.{Base}
 use Rattle.nbd_wire.specs.protocol.Captures.{ArePairs, Pair, flat}
 use Rattle.nbd_wire.specs.protocol.Options.{is_proper_option, next_phase}
 use Rattle.nbd_wire.specs.protocol.Payloads.{content_of, failure_of, info_of, is_go, is_listed}
@@ -55,7 +56,7 @@ worked prefix p messages fault bytes read refused = go (reads concrete fresh pre
         let are : ArePairs (prefix ++ p ∷ []) = are_pairs (prefix ++ p ∷ []) bytes in
         let same : mid.messages ≡ messages = cc in
         subst (λ ms. IsPlace (prefix ++ p ∷ []) ms fault) same
-        (place_law concrete sound telling prefix mid p (are_prefix prefix (p ∷ []) are) (are_last prefix p are) e fault (bad_of mid p (rest_with mid.core (get mid.rests p.from) p.byte) _ fault r))
+        (place_law Base concrete sound telling prefix mid p (are_prefix prefix (p ∷ []) are) (are_last prefix p are) e fault (bad_of mid p (rest_with mid.core (get mid.rests p.from) p.byte) _ fault r))
 
 at : (ps : List Pair) (n : ℕ) (p : Pair) (messages : List Message) (fault : WireFault) → take n ps ++ p ∷ [] ≡ ps → are_bytes ps ≡ true → messages_in (reads concrete fresh (take n ps)) ≡ Some messages → reads concrete fresh ps ≡ Err fault →
     IsPlace ps messages fault

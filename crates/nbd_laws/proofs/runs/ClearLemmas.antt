@@ -1,5 +1,6 @@
 -- In a run no row of the table of faults holds before a byte: its messages are judged to go on until they complete.
 use Rattle.std.proofs.Common.{◌≡◌, ℕ, List, [], ◌∷◌, ◌++◌, length, refl, sym, ◌∙◌, ap, subst, Option, Some, None, Result, Ok, Err}
+use Rattle.nbd_wire.specs.declared.profile.Profile.{Profile}
 use Rattle.nbd_wire.specs.declared.entry.Entry.{Entry}
 use Rattle.nbd_wire.specs.declared.fault.WireFault.{WireFault}
 use Rattle.nbd_wire.specs.declared.message.Message.{Message}
@@ -8,12 +9,12 @@ use Rattle.nbd_wire.specs.declared.message.Side.TheVariants.{Client, Server}
 use Rattle.nbd_wire.specs.protocol.Captures.{ArePairs, Pair}
 use Rattle.nbd_wire.specs.protocol.Marks.{Item, Byte, Completes, Serves, Starts, pairs}
 use Rattle.nbd_wire.specs.protocol.Rows.{IsWhole, Row}
-use Rattle.nbd_wire.specs.protocol.Rules.{IsRun, Obeys, complete, ends_at}
-use Rattle.nbd_wire.specs.protocol.Splits.{HasNoneAt, HoldsAt, IsClear, IsUnderWay, IsWholeAt, last_or, open_bytes, since_from}
-use Rattle.nbd_wire.specs.protocol.States.{Core, start}
+use Rattle.nbd_wire.specs.protocol.Rules.{IsRunOf, Obeys, complete, ends_at}
+use Rattle.nbd_wire.specs.protocol.Splits.{HasNoneAtOf, HoldsAtOf, IsClearOf, IsUnderWayOf, IsWholeAtOf, last_or, open_bytes, since_from}
+use Rattle.nbd_wire.specs.protocol.States.{Core, start_of}
 use Rattle.nbd_wire.specs.protocol.Within.{Begins, within}
 use Rattle.nbd_laws.proofs.machine.MachineLemmas.{AreHeld, Busy, IsExact, IsMore, IsMoreAt, IsSound, Kept, Open, Tracks, Walk, ended, final, get-put_same, held_more, held_whole, kept_next, led, loose, middle, opening, reads_held, serving, with_byte}
-use Rattle.nbd_laws.specs.internal.Machine.{Bad, Both, Judge, Machine, More, Reading, Rest, Whole, fresh, get, rest_with, old_of, on_ok, put, reads, settle}
+use Rattle.nbd_laws.specs.internal.Machine.{Bad, Both, Judge, Machine, More, Reading, Rest, Whole, fresh_of, get, rest_with, old_of, on_ok, put, reads, settle}
 use Rattle.nbd_laws.proofs.runs.FollowLemmas.{HasEnd, IsSidedOpen, completes_later, each_with, follows}
 use Rattle.nbd_laws.proofs.machine.MarkLemmas.{AreInStep, InStep, IsRead, in_step_completed, in_step_sided, in_step_with, judged_whole, within_middle, within_opening}
 use Rattle.nbd_laws.proofs.runs.RunLemmas.{fresh_canonical, fresh_held, marks_law, walk_of}
@@ -60,8 +61,8 @@ module _ (judge : Judge) (exact : IsExact judge) where
       )
   tracks_run (loose s b absent is w) machine js ob st hd lt = absurd absent
 
-  pub run_clear : IsTelling judge → (items : List Item) → IsRun items → ArePairs (pairs items) → IsClear items
-  run_clear low items run lt = clear_of judge low items (tracks_run (walk_of run) fresh [] run.obeys (elim [ Client ↦ refl | Server ↦ refl ]) (fresh_held judge) lt)
+  pub run_clear : {profile : Profile} → IsTelling judge → (items : List Item) → IsRunOf profile items → ArePairs (pairs items) → IsClearOf profile items
+  run_clear {profile} low items run lt = clear_of judge low items (tracks_run (walk_of run) (fresh_of profile) [] run.obeys (elim [ Client ↦ refl | Server ↦ refl ]) (fresh_held judge) lt)
 
 -- a side's bytes are a whole message, and no row holds of them
 abbrev IsDone : Machine → Side → Type 0
@@ -147,29 +148,29 @@ module _ (judge : Judge) (exact : IsExact judge) (low : IsTelling judge) where
       (done_at w _ js ob.1.1 (in_step_completed machine o s m _ (machine.messages ++ m ∷ []) st i0.0.sided ob.1.0 refl) (held_whole judge machine s m _ refl hd i0.0.sided i0.0.sendable ob.1.0) lt.1 before more t c n q')))
   done_at (loose s b absent is w) machine js ob st hd lt before more t c n q = absurd absent
 
-  pub completions_clear : (items : List Item) → IsRun items → ArePairs (pairs items) → (before more : List Item) (s : Side) (b : ℕ) (m : Message) → items ≡ before ++ Byte s b ∷ Completes s m ∷ more →
-      IsWholeAt (before ++ Byte s b ∷ []) × ((fault : WireFault) → HoldsAt fault (before ++ Byte s b ∷ []) → ⊥)
-  completions_clear items run lt before more s b m e = (
-    record { s = s; is_last = last_snoc before None s b; whole = from_machine (λ since now bytes. IsWhole since now s bytes) s (before ++ Byte s b ∷ []) done.0 },
+  pub completions_clear : {profile : Profile} (items : List Item) → IsRunOf profile items → ArePairs (pairs items) → (before more : List Item) (s : Side) (b : ℕ) (m : Message) → items ≡ before ++ Byte s b ∷ Completes s m ∷ more →
+      IsWholeAtOf profile (before ++ Byte s b ∷ []) × ((fault : WireFault) → HoldsAtOf profile fault (before ++ Byte s b ∷ []) → ⊥)
+  completions_clear {profile} items run lt before more s b m e = (
+    record { s = s; is_last = last_snoc before None s b; whole = from_machine profile (λ since now bytes. IsWhole since now s bytes) s (before ++ Byte s b ∷ []) done.0 },
     (λ fault h. (let same : h.s ≡ s = (let w : Some h.s ≡ Some s = sym h.is_last ∙ last_snoc before None s b in cc) in
-        done.1 fault (at_machine (λ since now bytes. Row fault since now s bytes) s (before ++ Byte s b ∷ [])
-        (subst (λ u. Row fault (since_from u start.core (before ++ Byte s b ∷ [])) (ends_at start (before ++ Byte s b ∷ [])).core u (open_bytes u (before ++ Byte s b ∷ []))) same h.row)))),
+        done.1 fault (at_machine profile (λ since now bytes. Row fault since now s bytes) s (before ++ Byte s b ∷ [])
+        (subst (λ u. Row fault (since_from u (start_of profile).core (before ++ Byte s b ∷ [])) (ends_at (start_of profile) (before ++ Byte s b ∷ [])).core u (open_bytes u (before ++ Byte s b ∷ []))) same h.row)))),
   )
     where
-      done : IsDone (led fresh (before ++ Byte s b ∷ [])) s
-      done = done_at (walk_of run) fresh [] run.obeys (elim [ Client ↦ refl | Server ↦ refl ]) (fresh_held judge) lt before more s b m e
+      done : IsDone (led (fresh_of profile) (before ++ Byte s b ∷ [])) s
+      done = done_at (walk_of run) (fresh_of profile) [] run.obeys (elim [ Client ↦ refl | Server ↦ refl ]) (fresh_held judge) lt before more s b m e
 
 module _ (judge : Judge) (sound : IsSound judge) (exact : IsExact judge) (low : IsTelling judge) where
   -- of the last byte that was read without a fault
-  last_none : (prefix : List Pair) (p : Pair) (end : Machine) → ArePairs (prefix ++ p ∷ []) → reads judge fresh (prefix ++ p ∷ []) ≡ Ok end →
+  last_none : (profile : Profile) (prefix : List Pair) (p : Pair) (end : Machine) → ArePairs (prefix ++ p ∷ []) → reads judge (fresh_of profile) (prefix ++ p ∷ []) ≡ Ok end →
       HasNone (old_of end.core (get end.rests p.from)) end.core p.from (get end.rests p.from).bytes
-  last_none prefix p end are e = at_mid (reads judge fresh prefix) refl (sym (reads-append judge sound exact low fresh prefix (p ∷ [])) ∙ e)
+  last_none profile prefix p end are e = at_mid (reads judge (fresh_of profile) prefix) refl (sym (reads-append judge sound exact low (fresh_of profile) prefix (p ∷ [])) ∙ e)
     where
-      after_last : (mid : Machine) → reads judge fresh prefix ≡ Ok mid → (r : Reading) → judge (grown_by mid p).since mid.core p.from (grown_by mid p).bytes ≡ r →
+      after_last : (mid : Machine) → reads judge (fresh_of profile) prefix ≡ Ok mid → (r : Reading) → judge (grown_by mid p).since mid.core p.from (grown_by mid p).bytes ≡ r →
           on_ok (settle mid p.from (grown_by mid p) r) (λ next. Ok next) ≡ Ok end → HasNone (old_of end.core (get end.rests p.from)) end.core p.from (get end.rests p.from).bytes
       after_last mid m More j q =
           let is : with_byte mid p.from p.byte ≡ end = cc in
-          let k = kept_next judge mid.core p.from (get mid.rests p.from) p.byte (last_byte prefix p are) (reads_held judge sound prefix fresh mid (are_prefix prefix (p ∷ []) are) (fresh_held judge) m p.from) in
+          let k = kept_next judge mid.core p.from (get mid.rests p.from) p.byte (last_byte prefix p are) (reads_held judge sound prefix (fresh_of profile) mid (are_prefix prefix (p ∷ []) are) (fresh_held judge) m p.from) in
           subst (λ (x : Machine). HasNone (old_of x.core (get x.rests p.from)) x.core p.from (get x.rests p.from).bytes) is
           (to_held mid p (λ since now bytes. HasNone since now p.from bytes) (more_none judge low k j))
       after_last mid m (Whole n) j q =
@@ -180,38 +181,38 @@ module _ (judge : Judge) (sound : IsSound judge) (exact : IsExact judge) (low : 
           (subst (HasNone (old_of next.core (get next.rests p.from)) next.core p.from) (sym empty) (low.nothing (old_of next.core (get next.rests p.from)) next.core p.from))
       after_last mid m (Bad f) j q = absurd (cc)
 
-      at_mid : (o : Result Machine WireFault) → reads judge fresh prefix ≡ o → on_ok o (λ next. reads judge next (p ∷ [])) ≡ Ok end → HasNone (old_of end.core (get end.rests p.from)) end.core p.from (get end.rests p.from).bytes
+      at_mid : (o : Result Machine WireFault) → reads judge (fresh_of profile) prefix ≡ o → on_ok o (λ next. reads judge next (p ∷ [])) ≡ Ok end → HasNone (old_of end.core (get end.rests p.from)) end.core p.from (get end.rests p.from).bytes
       at_mid (Err f) m q = absurd (cc)
       at_mid (Ok mid) m q = after_last mid m (judge (grown_by mid p).since mid.core p.from (grown_by mid p).bytes) refl q
 
-  read_none : (ps : List Pair) (end : Machine) → ArePairs ps → reads judge fresh ps ≡ Ok end → (t : IsTrace judge fresh end start ps) → HasNoneAt t.items
+  read_none : {profile : Profile} (ps : List Pair) (end : Machine) → ArePairs ps → reads judge (fresh_of profile) ps ≡ Ok end → (t : IsTrace judge (fresh_of profile) end (start_of profile) ps) → HasNoneAtOf profile t.items
   read_none [] end are e t = (
     (λ f h. (let q : None ≡ Some h.s = sym (none_last t.items None t.has_pairs) ∙ h.is_last in cc)),
     (λ h. (let q : None ≡ Some h.s = sym (none_last t.items None t.has_pairs) ∙ h.is_last in cc)),
   )
-  read_none (x ∷ ps) end are e t =
+  read_none {profile} (x ∷ ps) end are e t =
       let l = last_of x ps in
-      let none = last_none l.prefix l.last end (subst ArePairs l.parts are) (sym (ap (reads judge fresh) l.parts) ∙ e) in
+      let none = last_none profile l.prefix l.last end (subst ArePairs l.parts are) (sym (ap (reads judge (fresh_of profile)) l.parts) ∙ e) in
       let at : last_or None t.items ≡ Some l.last.from = last_of_pairs t.items None l.prefix l.last (t.has_pairs ∙ l.parts) in
-      let here : HasNone (old_of (led fresh t.items).core (get (led fresh t.items).rests l.last.from)) (led fresh t.items).core l.last.from (get (led fresh t.items).rests l.last.from).bytes =
+      let here : HasNone (old_of (led (fresh_of profile) t.items).core (get (led (fresh_of profile) t.items).rests l.last.from)) (led (fresh_of profile) t.items).core l.last.from (get (led (fresh_of profile) t.items).rests l.last.from).bytes =
       subst (λ (x : Machine). HasNone (old_of x.core (get x.rests l.last.from)) x.core l.last.from (get x.rests l.last.from).bytes) (sym t.leads) none in (
-        (λ f h. here.0 f (at_machine (λ since now bytes. Row f since now l.last.from bytes) l.last.from t.items
-            (subst (λ u. Row f (since_from u start.core t.items) (ends_at start t.items).core u (open_bytes u t.items)) (same h.s l.last.from t.items h.is_last at) h.row))),
-        (λ h. here.1 (at_machine (λ since now bytes. IsWhole since now l.last.from bytes) l.last.from t.items
-            (subst (λ u. IsWhole (since_from u start.core t.items) (ends_at start t.items).core u (open_bytes u t.items)) (same h.s l.last.from t.items h.is_last at) h.whole))),
+        (λ f h. here.0 f (at_machine profile (λ since now bytes. Row f since now l.last.from bytes) l.last.from t.items
+            (subst (λ u. Row f (since_from u (start_of profile).core t.items) (ends_at (start_of profile) t.items).core u (open_bytes u t.items)) (same h.s l.last.from t.items h.is_last at) h.row))),
+        (λ h. here.1 (at_machine profile (λ since now bytes. IsWhole since now l.last.from bytes) l.last.from t.items
+            (subst (λ u. IsWhole (since_from u (start_of profile).core t.items) (ends_at (start_of profile) t.items).core u (open_bytes u t.items)) (same h.s l.last.from t.items h.is_last at) h.whole))),
       )
     where
       same : (s u : Side) (items : List Item) → last_or None items ≡ Some s → last_or None items ≡ Some u → s ≡ u
       same s u items a b = let w : Some s ≡ Some u = sym a ∙ b in cc
 
   -- what was read without a fault is a session under way
-  pub read_under_way : (ps : List Pair) (end : Machine) → ArePairs ps → reads judge fresh ps ≡ Ok end → IsUnderWay ps end.messages
-  read_under_way ps end are e =
-      let t : IsTrace judge fresh end start ps = trace judge sound ps fresh end [] are (fresh_held judge) fresh_canonical e in
+  pub read_under_way : {profile : Profile} (ps : List Pair) (end : Machine) → ArePairs ps → reads judge (fresh_of profile) ps ≡ Ok end → IsUnderWayOf profile ps end.messages
+  read_under_way {profile} ps end are e =
+      let t : IsTrace judge (fresh_of profile) end (start_of profile) ps = trace judge sound ps (fresh_of profile) end [] are (fresh_held judge) fresh_canonical e in
       record { items = t.items; split = split_of judge end ps are t; clear = clear_of judge low t.items t.tracks; none_at = read_none ps end are e t }
 
   -- with what completes within them, the bytes that a run begins with are a session under way
-  pub beginning_clear : (items : List Item) (ps : List Pair) → IsRun items → ArePairs ps → Begins items ps → IsUnderWay ps (within (length ps) items)
-  beginning_clear items ps run are begins =
-      let r : IsRead judge fresh ps (within (length ps) items) = marks_law judge exact items run ps begins.0 are begins.1 in
-      subst (IsUnderWay ps) r.messages_are (read_under_way ps r.end are r.reads_it)
+  pub beginning_clear : {profile : Profile} (items : List Item) (ps : List Pair) → IsRunOf profile items → ArePairs ps → Begins items ps → IsUnderWayOf profile ps (within (length ps) items)
+  beginning_clear {profile} items ps run are begins =
+      let r : IsRead judge (fresh_of profile) ps (within (length ps) items) = marks_law judge exact items run ps begins.0 are begins.1 in
+      subst (IsUnderWayOf profile ps) r.messages_are (read_under_way ps r.end are r.reads_it)

@@ -13,7 +13,7 @@ use Rattle.nbd_wire.specs.protocol.Payloads.{info_of}
 use Rattle.nbd_wire.specs.protocol.Operations.{Exporting}
 use Rattle.nbd_wire.specs.protocol.Flags.{has, has_only}
 use Rattle.nbd_wire.specs.protocol.Rules.{AreClientFlags, MayComplete, complete}
-use Rattle.nbd_wire.specs.protocol.States.{Core, Phase, Greet, Flags, Choosing, Naming, Aborting, Answering, Transmission, start}
+use Rattle.nbd_wire.specs.protocol.States.{Core, Phase, Greet, Flags, Choosing, Naming, Aborting, Answering, Transmission, start_of}
 use Rattle.nbd_laws.proofs.runs.FollowLemmas.{Follows, follows}
 use Rattle.nbd_laws.proofs.runs.PrefixLemmas.{flags_row, greet_row, phase-complete, transmission_row}
 use Rattle.nbd_laws.specs.Negotiating.{AnswersFollowChoices, AreFairFlags, BeginsWithFlags, Chosen, HandshakesAreFair, IsAcknowledged, IsAnswer, choice_after, info_after}
@@ -76,7 +76,7 @@ greeting_first (Completes s m ∷ items) core f p =
     )
 
 pub handshakes_are_fair : HandshakesAreFair
-handshakes_are_fair items run = greeting_first items start.core (follows items start run.obeys) refl
+handshakes_are_fair profile items run = greeting_first items (start_of profile).core (follows items (start_of profile) run.obeys) refl
 
 -- what the phase knows of the choice and its infos
 abbrev Knows : Phase → Option Chosen → Option Exporting → Type 0
@@ -238,7 +238,7 @@ follow core (Answering asked asked_with info) option kind p choice last ok k = (
 follow core phase option kind p choice last ok k = absurd ok
 
 pub answers_follow_choices : AnswersFollowChoices
-answers_follow_choices prefix back option kind p run =
-    let r : IsKnown start.core None None prefix (Completes Server (Answer option kind p) ∷ back) =
-    known_at prefix (Completes Server (Answer option kind p) ∷ back) start.core None None (follows (prefix ++ Completes Server (Answer option kind p) ∷ back) start run.obeys) tt in
+answers_follow_choices profile prefix back option kind p run =
+    let r : IsKnown (start_of profile).core None None prefix (Completes Server (Answer option kind p) ∷ back) =
+    known_at prefix (Completes Server (Answer option kind p) ∷ back) (start_of profile).core None None (follows (prefix ++ Completes Server (Answer option kind p) ∷ back) (start_of profile) run.obeys) tt in
     follow r.here r.here.phase option kind p (choice_after None (completed_messages prefix)) (info_after None (completed_messages prefix)) r.follows_on.0 r.knows

@@ -6,8 +6,8 @@ use Rattle.nbd_wire.specs.declared.message.Side.TheVariants.{Client, Server}
 use Rattle.nbd_wire.specs.protocol.Marks.{Item, Byte, Starts, Completes, Serves, completed_messages, pairs}
 use Rattle.nbd_wire.specs.protocol.Captures.{Pair}
 use Rattle.nbd_laws.specs.Bytes.{bytes_of}
-use Rattle.nbd_wire.specs.protocol.Rules.{IsRun, Obeys}
-use Rattle.nbd_wire.specs.protocol.States.{State, start}
+use Rattle.nbd_wire.specs.protocol.Rules.{IsRunOf, Obeys}
+use Rattle.nbd_wire.specs.protocol.States.{State, start_of}
 use Rattle.nbd_laws.specs.Bytes.{OpenBytesEndRuns, first_bytes}
 use Rattle.nbd_laws.specs.Bytes.{bytes_from}
 use Rattle.nbd_laws.specs.internal.Machine.{Both, get, put}
@@ -148,9 +148,9 @@ kept_pairs (final s m b {items = items} is w) = kept_byte s b (kept w) (pairs it
 kept_pairs {o = o} (loose s b {items = items} p is w) = left_byte s b (kept w) (pairs items) (none_kept w s (get-put_same o s Loose)) (kept_pairs w)
 
 pub open_bytes_end_runs : OpenBytesEndRuns
-open_bytes_end_runs items client server run =
+open_bytes_end_runs profile items client server run =
     let w : Walk (Unit {0}) Idles items = marked_is_walk items client server (λ f. tt) (λ f. tt) run.marked in
-    let whole : IsRun (kept w) = run_of (λ x. x) (kept_walk w) (kept_obeys w start run.obeys) in
+    let whole : IsRunOf profile (kept w) = run_of (λ x. x) (kept_walk w) (kept_obeys w (start_of profile) run.obeys) in
     let bytes : AreBytesOf (kept w) [] [] = run_bytes (kept w) [] [] whole in
     let c : count Client (kept w) ≡ length (bytes_of Client (completed_messages items)) = ap length (bytes.of_client ∙ append-nil (bytes_of Client (completed_messages (kept w))) ∙ ap (bytes_of Client) (kept_completed w)) in
     let s : count Server (kept w) ≡ length (bytes_of Server (completed_messages items)) = ap length (bytes.of_server ∙ append-nil (bytes_of Server (completed_messages (kept w))) ∙ ap (bytes_of Server) (kept_completed w)) in

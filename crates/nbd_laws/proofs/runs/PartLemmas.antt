@@ -6,7 +6,7 @@ use Rattle.nbd_wire.specs.declared.message.Message.{Message}
 use Rattle.nbd_wire.specs.protocol.Encoding.{enc}
 use Rattle.nbd_wire.specs.protocol.Marks.{Item, Byte, Starts, Completes, Serves, service_order}
 use Rattle.nbd_wire.specs.protocol.Rules.{Obeys, after, ends_at}
-use Rattle.nbd_wire.specs.protocol.States.{State, start}
+use Rattle.nbd_wire.specs.protocol.States.{State, start_of}
 use Rattle.nbd_laws.specs.internal.Machine.{Both, get, put}
 use Rattle.nbd_laws.proofs.machine.MachineLemmas.{get-put_same, get-put_other, same_or_not, Open, Idle, Busy, Loose, IsNotBusy, Walk, ended, serving, opening, middle, final, loose}
 use Rattle.nbd_laws.proofs.runs.BlockLemmas.{Idles}
@@ -135,8 +135,8 @@ cut_walk {o} (final s m b {items = items} i w) (x ∷ y ∷ prefix) back e h =
 cut_walk (loose s b p i w) (x ∷ prefix) back e h = absurd p
 
 pub prefixes_are_runs : PrefixesAreRuns
-prefixes_are_runs prefix back run none =
-    run_of (λ p. p) (cut_walk (walk_of run) prefix back refl even) (obeys_prefix start prefix back run.obeys)
+prefixes_are_runs profile prefix back run none =
+    run_of (λ p. p) (cut_walk (walk_of run) prefix back refl even) (obeys_prefix (start_of profile) prefix back run.obeys)
   where
     even : IsEven Idles prefix
     even Client = zero-add (length (started_messages Client prefix)) ∙ ap length (none Client)
@@ -164,7 +164,7 @@ start_at (final t n b i w) (x ∷ y ∷ prefix) back s m e = start_at w prefix b
 start_at (loose t b p i w) prefix back s m e = absurd p
 
 pub starts_stand_before_bytes : StartsStandBeforeBytes
-starts_stand_before_bytes prefix back s m run = start_at (walk_of run) prefix back s m refl
+starts_stand_before_bytes profile prefix back s m run = start_at (walk_of run) prefix back s m refl
 
 -- what stands before the completion of a message
 abbrev EndsWithByte : Side → List Item → Type 0
@@ -192,4 +192,4 @@ completion_at (final t n b i w) (x ∷ y ∷ prefix) back s m e = behind s x (y 
 completion_at (loose t b p i w) prefix back s m e = absurd p
 
 pub completions_stand_after_bytes : CompletionsStandAfterBytes
-completions_stand_after_bytes prefix back s m run = completion_at (walk_of run) prefix back s m refl
+completions_stand_after_bytes profile prefix back s m run = completion_at (walk_of run) prefix back s m refl

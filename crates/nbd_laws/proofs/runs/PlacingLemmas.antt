@@ -1,5 +1,6 @@
 -- Where a machine answers a fault is the place of that fault, over any judge that speaks in the words of the table of faults.
 use Rattle.std.proofs.Common.{◌≡◌, ℕ, ◌<◌, ◌⊎◌, List, [], ◌∷◌, ◌++◌, refl, sym, ◌∙◌, ap, subst, inl, inr, Bool, true, false, Option, Some, None, Ok}
+use Rattle.nbd_wire.specs.declared.profile.Profile.{Profile}
 use Rattle.nbd_wire.specs.declared.fault.WireFault.{WireFault}
 use Rattle.nbd_wire.specs.declared.message.Message.{Message}
 use Rattle.nbd_wire.specs.declared.message.Side.{Side}
@@ -8,10 +9,10 @@ use Rattle.nbd_wire.specs.protocol.Captures.{ArePairs, Pair}
 use Rattle.nbd_wire.specs.protocol.Marks.{Item, Byte, Starts, Completes, Serves, pairs, IsMarkedBut}
 use Rattle.nbd_wire.specs.protocol.Rows.{IsWhole, Row, rank}
 use Rattle.nbd_wire.specs.protocol.Rules.{ends_at}
-use Rattle.nbd_wire.specs.protocol.Splits.{IsClear, IsPlace, IsSplit, completes_in, last_or, open_bytes, since_from}
-use Rattle.nbd_wire.specs.protocol.States.{Core, start}
+use Rattle.nbd_wire.specs.protocol.Splits.{IsClearOf, IsPlaceOf, IsSplitOf, completes_in, last_or, open_bytes, since_from}
+use Rattle.nbd_wire.specs.protocol.States.{Core, start_of}
 use Rattle.nbd_laws.proofs.machine.MachineLemmas.{old-filled, IsFilled-snoc, Kept, kept_next, reads_held, led, with_byte, IsMore, Tracks, get-put_same, Walk, IsSound, ended_by}
-use Rattle.nbd_laws.specs.internal.Machine.{get, put, IsFilled, Rest, Machine, Reading, More, Whole, Bad, old_of, Judge, rest_with, reads, fresh}
+use Rattle.nbd_laws.specs.internal.Machine.{get, put, IsFilled, Rest, Machine, Reading, More, Whole, Bad, old_of, Judge, rest_with, reads, fresh_of}
 use Rattle.nbd_laws.proofs.runs.TraceLemmas.{IsTrace, trace_then, more_step, at_end, IsStray}
 use Rattle.nbd_laws.proofs.runs.BlockLemmas.{walk_is_marked, Idles}
 use Rattle.nbd_laws.proofs.runs.RunLemmas.{fresh_held, idle_at, both_idle, fresh_canonical}
@@ -72,16 +73,16 @@ no_row judge low machine t g = go (get machine.rests t).bytes refl
           more_none judge low (subst (λ c. Kept judge t c machine.core (get machine.rests t).bytes) (sym old) m.1) (ap (λ c. judge c machine.core t (get machine.rests t).bytes) old ∙ m.0))
     ]
 
-fresh_rest : (t : Side) → get fresh.rests t ≡ record { bytes = []; since = start.core }
+fresh_rest : {profile : Profile} (t : Side) → get (fresh_of profile).rests t ≡ record { bytes = []; since = (start_of profile).core }
 fresh_rest Client = refl
 fresh_rest Server = refl
 
 -- the data of a split are the machine's
-data_of : (t : Side) (items : List Item) → (open_bytes t items ≡ (get (led fresh items).rests t).bytes) × (since_from t start.core items ≡ old_of (led fresh items).core (get (led fresh items).rests t)) × ((ends_at start items).core ≡ (led fresh items).core)
-data_of t items =
-    let h : IsTracked t items fresh [] = machine_is_tracked t items fresh [] in (
+data_of : (profile : Profile) (t : Side) (items : List Item) → (open_bytes t items ≡ (get (led (fresh_of profile) items).rests t).bytes) × (since_from t (start_of profile).core items ≡ old_of (led (fresh_of profile) items).core (get (led (fresh_of profile) items).rests t)) × ((ends_at (start_of profile) items).core ≡ (led (fresh_of profile) items).core)
+data_of profile t items =
+    let h : IsTracked t items (fresh_of profile) [] = machine_is_tracked t items (fresh_of profile) [] in (
       sym (h.rest_is ∙ ap (λ (r : Rest). bytes_by (completes_in t items) r.bytes (open_bytes t items)) (fresh_rest t) ∙ by_bytes (completes_in t items) (open_bytes t items)),
-      sym (h.since_is ∙ ap (λ (r : Rest). since_by (completes_in t items) r (since_from t start.core items)) (fresh_rest t) ∙ by_since (completes_in t items) (since_from t start.core items)),
+      sym (h.since_is ∙ ap (λ (r : Rest). since_by (completes_in t items) r (since_from t (start_of profile).core items)) (fresh_rest t) ∙ by_since (completes_in t items) (since_from t (start_of profile).core items)),
       sym h.core_is,
     )
   where
@@ -89,22 +90,22 @@ data_of t items =
     by_bytes true bs = refl
     by_bytes false bs = refl
 
-    by_since : (c : Bool) (core : Core) → since_by c (record { bytes = []; since = start.core }) core ≡ core
+    by_since : (c : Bool) (core : Core) → since_by c (record { bytes = []; since = (start_of profile).core }) core ≡ core
     by_since true core = refl
     by_since false core = refl
 
 -- a fact of a split's data, at the machine's
-pub at_machine : (Q : Core → Core → List ℕ → Type 0) (t : Side) (items : List Item) → Q (since_from t start.core items) (ends_at start items).core (open_bytes t items) →
-    Q (old_of (led fresh items).core (get (led fresh items).rests t)) (led fresh items).core (get (led fresh items).rests t).bytes
-at_machine Q t items h =
-    let d = data_of t items in
-    subst (λ c. Q c (led fresh items).core (get (led fresh items).rests t).bytes) d.1 (subst (λ c. Q (since_from t start.core items) c (get (led fresh items).rests t).bytes) d.2 (subst (λ l. Q (since_from t start.core items) (ends_at start items).core l) d.0 h))
+pub at_machine : (profile : Profile) (Q : Core → Core → List ℕ → Type 0) (t : Side) (items : List Item) → Q (since_from t (start_of profile).core items) (ends_at (start_of profile) items).core (open_bytes t items) →
+    Q (old_of (led (fresh_of profile) items).core (get (led (fresh_of profile) items).rests t)) (led (fresh_of profile) items).core (get (led (fresh_of profile) items).rests t).bytes
+at_machine profile Q t items h =
+    let d = data_of profile t items in
+    subst (λ c. Q c (led (fresh_of profile) items).core (get (led (fresh_of profile) items).rests t).bytes) d.1 (subst (λ c. Q (since_from t (start_of profile).core items) c (get (led (fresh_of profile) items).rests t).bytes) d.2 (subst (λ l. Q (since_from t (start_of profile).core items) (ends_at (start_of profile) items).core l) d.0 h))
 
-pub from_machine : (Q : Core → Core → List ℕ → Type 0) (t : Side) (items : List Item) →
-    Q (old_of (led fresh items).core (get (led fresh items).rests t)) (led fresh items).core (get (led fresh items).rests t).bytes → Q (since_from t start.core items) (ends_at start items).core (open_bytes t items)
-from_machine Q t items h =
-    let d = data_of t items in
-    subst (λ l. Q (since_from t start.core items) (ends_at start items).core l) (sym d.0) (subst (λ c. Q (since_from t start.core items) c (get (led fresh items).rests t).bytes) (sym d.2) (subst (λ c. Q c (led fresh items).core (get (led fresh items).rests t).bytes) (sym d.1) h))
+pub from_machine : (profile : Profile) (Q : Core → Core → List ℕ → Type 0) (t : Side) (items : List Item) →
+    Q (old_of (led (fresh_of profile) items).core (get (led (fresh_of profile) items).rests t)) (led (fresh_of profile) items).core (get (led (fresh_of profile) items).rests t).bytes → Q (since_from t (start_of profile).core items) (ends_at (start_of profile) items).core (open_bytes t items)
+from_machine profile Q t items h =
+    let d = data_of profile t items in
+    subst (λ l. Q (since_from t (start_of profile).core items) (ends_at (start_of profile) items).core l) (sym d.0) (subst (λ c. Q (since_from t (start_of profile).core items) c (get (led (fresh_of profile) items).rests t).bytes) (sym d.2) (subst (λ c. Q c (led (fresh_of profile) items).core (get (led (fresh_of profile) items).rests t).bytes) (sym d.1) h))
 
 pub last_of_pairs : (items : List Item) (last : Option Side) (ps : List Pair) (p : Pair) → pairs items ≡ ps ++ p ∷ [] → last_or last items ≡ Some p.from
 last_of_pairs [] last [] p e = absurd (cc)
@@ -128,19 +129,19 @@ last_of_pairs (Byte t b ∷ items) last (x ∷ ps) p e =
     last_of_pairs items (Some t) ps p n
 
 -- what the machine tracked has no row before a byte
-pub clear_of : (judge : Judge) → IsTelling judge → (items : List Item) → Tracks judge fresh items → IsClear items
-clear_of judge low items tr before more s b is = (
-  (λ other h. (none h.s h.is_last).0 other (at_machine (λ since now bytes. Row other since now h.s bytes) h.s before h.row)),
-  (λ h. (none h.s h.is_last).1 (at_machine (λ since now bytes. IsWhole since now h.s bytes) h.s before h.whole)),
+pub clear_of : {profile : Profile} (judge : Judge) → IsTelling judge → (items : List Item) → Tracks judge (fresh_of profile) items → IsClearOf profile items
+clear_of {profile} judge low items tr before more s b is = (
+  (λ other h. (none h.s h.is_last).0 other (at_machine profile (λ since now bytes. Row other since now h.s bytes) h.s before h.row)),
+  (λ h. (none h.s h.is_last).1 (at_machine profile (λ since now bytes. IsWhole since now h.s bytes) h.s before h.whole)),
 )
   where
-    none : (t : Side) → last_or None before ≡ Some t → HasNone (old_of (led fresh before).core (get (led fresh before).rests t)) (led fresh before).core t (get (led fresh before).rests t).bytes
-    none t e = no_row judge low (led fresh before) t (good judge s b more before fresh None (λ u q. absurd (cc)) (subst (Tracks judge fresh) is tr) t e)
+    none : (t : Side) → last_or None before ≡ Some t → HasNone (old_of (led (fresh_of profile) before).core (get (led (fresh_of profile) before).rests t)) (led (fresh_of profile) before).core t (get (led (fresh_of profile) before).rests t).bytes
+    none t e = no_row judge low (led (fresh_of profile) before) t (good judge s b more before (fresh_of profile) None (λ u q. absurd (cc)) (subst (Tracks judge (fresh_of profile)) is tr) t e)
 
 -- what the machine tracked is a split
-pub split_of : (judge : Judge) (end : Machine) (ps : List Pair) → ArePairs ps → (t : IsTrace judge fresh end start ps) → IsSplit t.items ps end.messages
-split_of judge end ps are t =
-    let idle : t.open_ ≡ Idles = both_idle t.open_ (idle_at Client (get end.rests Client) (get t.open_ Client) (t.guess Client)) (idle_at Server (get end.rests Server) (get t.open_ Server) (t.guess Server)) in
+pub split_of : {profile : Profile} (judge : Judge) (end : Machine) (ps : List Pair) → ArePairs ps → (t : IsTrace judge (fresh_of profile) end (start_of profile) ps) → IsSplitOf profile t.items ps end.messages
+split_of {profile} judge end ps are t =
+    let idle : t.open_ ≡ Idles = both_idle t.open_ (idle_at profile Client (get end.rests Client) (get t.open_ Client) (t.guess Client)) (idle_at profile Server (get end.rests Server) (get t.open_ Server) (t.guess Server)) in
     let m : (client : List ℕ) × (server : List ℕ) × IsMarkedBut t.items client server × (IsFilled client → IsStray end) × (IsFilled server → IsStray end) =
     walk_is_marked (subst (λ o. Walk (IsStray end) o t.items) idle t.walk) in
     record {
@@ -173,25 +174,25 @@ are_snoc [] p are lt = (lt, tt)
 are_snoc (q ∷ ps) p are lt = (are.0, are_snoc ps p are.1 lt)
 
 -- the machine's refusal is the place
-module _ (judge : Judge) (sound : IsSound judge) (low : IsTelling judge) (ps : List Pair) (mid : Machine) (p : Pair) (are : ArePairs ps) (lt : p.byte < 256) (e : reads judge fresh ps ≡ Ok mid) where
+module _ (profile : Profile) (judge : Judge) (sound : IsSound judge) (low : IsTelling judge) (ps : List Pair) (mid : Machine) (p : Pair) (are : ArePairs ps) (lt : p.byte < 256) (e : reads judge (fresh_of profile) ps ≡ Ok mid) where
   abbrev ending : Machine
   ending = with_byte mid p.from p.byte
 
   kept_last : Kept judge p.from (grown_by mid p).since mid.core (grown_by mid p).bytes
-  kept_last = kept_next judge mid.core p.from (get mid.rests p.from) p.byte lt (reads_held judge sound ps fresh mid are (fresh_held judge) e p.from)
+  kept_last = kept_next judge mid.core p.from (get mid.rests p.from) p.byte lt (reads_held judge sound ps (fresh_of profile) mid are (fresh_held judge) e p.from)
 
-  traced : IsTrace judge fresh ending start (ps ++ p ∷ [])
-  traced = trace_then judge sound ps (p ∷ []) fresh mid ending [] are (fresh_held judge) fresh_canonical e
+  traced : IsTrace judge (fresh_of profile) ending (start_of profile) (ps ++ p ∷ [])
+  traced = trace_then judge sound ps (p ∷ []) (fresh_of profile) mid ending [] are (fresh_held judge) fresh_canonical e
       (λ js hd c. more_step judge mid ending js c p.from p.byte [] (at_end judge ending (record { core = mid.core; served = js })) (λ x xs q. absurd (cc)))
 
   -- a fact of the last side's rest, and of the split's data
-  to_split : (s : Side) → s ≡ p.from → (Q : Core → Core → List ℕ → Type 0) → Q (grown_by mid p).since mid.core (grown_by mid p).bytes → Q (since_from s start.core traced.items) (ends_at start traced.items).core (open_bytes s traced.items)
-  to_split s is Q h = subst (λ u. Q (since_from u start.core traced.items) (ends_at start traced.items).core (open_bytes u traced.items)) (sym is)
-      (from_machine Q p.from traced.items (subst (λ (x : Machine). Q (old_of x.core (get x.rests p.from)) x.core (get x.rests p.from).bytes) (sym traced.leads) (to_held mid p Q h)))
+  to_split : (s : Side) → s ≡ p.from → (Q : Core → Core → List ℕ → Type 0) → Q (grown_by mid p).since mid.core (grown_by mid p).bytes → Q (since_from s (start_of profile).core traced.items) (ends_at (start_of profile) traced.items).core (open_bytes s traced.items)
+  to_split s is Q h = subst (λ u. Q (since_from u (start_of profile).core traced.items) (ends_at (start_of profile) traced.items).core (open_bytes u traced.items)) (sym is)
+      (from_machine profile Q p.from traced.items (subst (λ (x : Machine). Q (old_of x.core (get x.rests p.from)) x.core (get x.rests p.from).bytes) (sym traced.leads) (to_held mid p Q h)))
 
-  from_split : (s : Side) → s ≡ p.from → (Q : Core → Core → List ℕ → Type 0) → Q (since_from s start.core traced.items) (ends_at start traced.items).core (open_bytes s traced.items) → Q (grown_by mid p).since mid.core (grown_by mid p).bytes
+  from_split : (s : Side) → s ≡ p.from → (Q : Core → Core → List ℕ → Type 0) → Q (since_from s (start_of profile).core traced.items) (ends_at (start_of profile) traced.items).core (open_bytes s traced.items) → Q (grown_by mid p).since mid.core (grown_by mid p).bytes
   from_split s is Q h = from_held mid p Q (subst (λ (x : Machine). Q (old_of x.core (get x.rests p.from)) x.core (get x.rests p.from).bytes) traced.leads
-      (at_machine Q p.from traced.items (subst (λ u. Q (since_from u start.core traced.items) (ends_at start traced.items).core (open_bytes u traced.items)) is h)))
+      (at_machine profile Q p.from traced.items (subst (λ u. Q (since_from u (start_of profile).core traced.items) (ends_at (start_of profile) traced.items).core (open_bytes u traced.items)) is h)))
 
   last_is : last_or None traced.items ≡ Some p.from
   last_is = last_of_pairs traced.items None ps p traced.has_pairs
@@ -199,7 +200,7 @@ module _ (judge : Judge) (sound : IsSound judge) (low : IsTelling judge) (ps : L
   same_last : (s : Side) → last_or None traced.items ≡ Some s → s ≡ p.from
   same_last s q = let w : Some s ≡ Some p.from = sym q ∙ last_is in cc
 
-  pub place_law : (fault : WireFault) → judge (grown_by mid p).since mid.core p.from (grown_by mid p).bytes ≡ Bad fault → IsPlace (ps ++ p ∷ []) mid.messages fault
+  pub place_law : (fault : WireFault) → judge (grown_by mid p).since mid.core p.from (grown_by mid p).bytes ≡ Bad fault → IsPlaceOf profile (ps ++ p ∷ []) mid.messages fault
   place_law fault refused =
       let t : Tells (λ f. Row f (grown_by mid p).since mid.core p.from (grown_by mid p).bytes) (IsWhole (grown_by mid p).since mid.core p.from (grown_by mid p).bytes) (Bad fault) =
       subst (Tells (λ f. Row f (grown_by mid p).since mid.core p.from (grown_by mid p).bytes) (IsWhole (grown_by mid p).since mid.core p.from (grown_by mid p).bytes)) refused (low.tells kept_last) in

@@ -1,11 +1,12 @@
 -- What a run leads to is reached by messages that may complete and have an encoding.
 use Rattle.std.proofs.Common.{List, [], subst}
+use Rattle.nbd_wire.specs.declared.profile.Profile.{Profile}
 use Rattle.nbd_wire.specs.declared.message.Side.{Side}
 use Rattle.nbd_wire.specs.declared.message.Side.TheVariants.{Client, Server}
 use Rattle.nbd_wire.specs.protocol.Marks.{Item}
-use Rattle.nbd_wire.specs.protocol.Rules.{IsRun, complete, ends_at}
+use Rattle.nbd_wire.specs.protocol.Rules.{IsRunOf, complete, ends_at}
 use Rattle.nbd_wire.specs.protocol.Sendable.{IsSendable}
-use Rattle.nbd_wire.specs.protocol.States.{Core, start}
+use Rattle.nbd_wire.specs.protocol.States.{Core, start_of}
 use Rattle.nbd_laws.proofs.runs.FollowLemmas.{Follows, each_with, follows}
 use Rattle.nbd_laws.proofs.service.InsideLemmas.{core_end}
 use Rattle.nbd_laws.specs.internal.Machine.{Both, get}
@@ -31,7 +32,7 @@ reached {P} {o} (final s m b i w) core f h r =
     reached w (complete core m) f.1 (each_with IsSendableOpen o s Idle h tt) (after_message m r sn f.0)
 reached {P} {o} (loose s b p i w) core f h r = reached w core f (each_with IsSendableOpen o s Loose h tt) r
 
-pub run_reaches : (items : List Item) → IsRun items → IsReached (ends_at start items).core
-run_reaches items run =
-    subst IsReached (core_end-ends_at start.core [] items)
-    (reached (walk_of run) start.core (follows items start run.obeys) (elim [ Client ↦ tt | Server ↦ tt ]) at_start)
+pub run_reaches : {profile : Profile} (items : List Item) → IsRunOf profile items → IsReached (ends_at (start_of profile) items).core
+run_reaches {profile} items run =
+    subst IsReached (core_end-ends_at (start_of profile).core [] items)
+    (reached (walk_of run) (start_of profile).core (follows items (start_of profile) run.obeys) (elim [ Client ↦ tt | Server ↦ tt ]) at_start)

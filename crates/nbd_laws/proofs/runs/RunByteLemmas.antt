@@ -1,5 +1,6 @@
 -- The bytes of a run but for open bytes: each side's are its completed messages' encodings and the open ones.
 use Rattle.std.proofs.Common.{◌≡◌, ℕ, List, [], ◌∷◌, ◌++◌, map, flat_map, refl, sym, ◌∙◌, ap, subst, Bool, true, false, if◌then◌else◌, append_assoc, append-nil}
+use Rattle.nbd_wire.specs.declared.profile.Profile.{Profile}
 use Rattle.nbd_wire.specs.declared.message.Side.{Side}
 use Rattle.nbd_wire.specs.declared.message.Side.TheVariants.{Client, Server}
 use Rattle.nbd_wire.specs.declared.message.Message.{Message}
@@ -9,7 +10,7 @@ use Rattle.nbd_wire.specs.protocol.Captures.{Pair}
 use Rattle.nbd_laws.specs.Bytes.{bytes_of}
 use Rattle.nbd_wire.specs.protocol.Rules.{IsRunBut, complete}
 use Rattle.nbd_wire.specs.protocol.Sides.{side, same_side}
-use Rattle.nbd_wire.specs.protocol.States.{Core, start}
+use Rattle.nbd_wire.specs.protocol.States.{Core, start_of}
 use Rattle.nbd_laws.specs.Bytes.{RunsHoldEachSide}
 use Rattle.nbd_laws.specs.Bytes.{bytes_from}
 use Rattle.nbd_laws.specs.internal.Machine.{Both, get}
@@ -136,11 +137,11 @@ pub record AreBytesOf (items : List Item) (client server : List ℕ) : Type 0 wh
   pub of_client : bytes_from Client (pairs items) ≡ bytes_of Client (completed_messages items) ++ client
   pub of_server : bytes_from Server (pairs items) ≡ bytes_of Server (completed_messages items) ++ server
 
-pub run_bytes : (items : List Item) (client server : List ℕ) → IsRunBut items client server → AreBytesOf items client server
-run_bytes items client server run =
-    let h : AreSided items = sided (marked_is_walk {P = Unit {0}} items client server (λ f. tt) (λ f. tt) run.marked) start.core (follows items start run.obeys) (elim [ Client ↦ tt | Server ↦ tt ]) in
+pub run_bytes : {profile : Profile} (items : List Item) (client server : List ℕ) → IsRunBut profile items client server → AreBytesOf items client server
+run_bytes {profile} items client server run =
+    let h : AreSided items = sided (marked_is_walk {P = Unit {0}} items client server (λ f. tt) (λ f. tt) run.marked) (start_of profile).core (follows items (start_of profile) run.obeys) (elim [ Client ↦ tt | Server ↦ tt ]) in
     record { of_client = side_bytes Client items client h run.marked.client_side; of_server = side_bytes Server items server h run.marked.server_side }
 
 pub runs_hold_each_side : RunsHoldEachSide
-runs_hold_each_side items client server run Client = (run_bytes items client server run).of_client
-runs_hold_each_side items client server run Server = (run_bytes items client server run).of_server
+runs_hold_each_side profile items client server run Client = (run_bytes items client server run).of_client
+runs_hold_each_side profile items client server run Server = (run_bytes items client server run).of_server

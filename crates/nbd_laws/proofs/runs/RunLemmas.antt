@@ -1,21 +1,23 @@
 -- The laws over runs.
 use Rattle.std.proofs.Common.{◌≡◌, ℕ, List, [], ◌∷◌, ◌++◌, length, refl, sym, ◌∙◌, ap, subst, inr, Ok, Err, arith}
+use Rattle.nbd_wire.specs.declared.profile.Profile.{Profile}
 use Rattle.nbd_wire.specs.declared.entry.Entry.{Entry}
 use Rattle.nbd_wire.specs.declared.message.Side.{Side}
 use Rattle.nbd_wire.specs.declared.message.Side.TheVariants.{Client, Server}
 use Rattle.nbd_wire.specs.protocol.Marks.{Item, Byte, Starts, Completes, Serves, pairs, completed_messages, service_order, IsMarkedBut}
 use Rattle.nbd_wire.specs.protocol.Captures.{Pair, ArePairs}
-use Rattle.nbd_wire.specs.protocol.States.{Core, start}
-use Rattle.nbd_wire.specs.protocol.Rules.{IsRun, IsRunBut, Obeys, complete, ends_at, inside_at}
+use Rattle.nbd_wire.specs.protocol.States.{Core, start, start_of}
+use Rattle.nbd_wire.specs.protocol.Rules.{IsRunOf, IsRunBut, Obeys, complete, ends_at, inside_at}
 use Rattle.nbd_wire.specs.protocol.Reports.{operations_of, known_count}
 use Rattle.nbd_laws.proofs.service.EntryLemmas.{HasNoFault}
 use Rattle.nbd_wire.specs.declared.fault.WireFault.{WireFault}
-use Rattle.nbd_laws.specs.internal.Machine.{fresh, Both, get, IsFilled, Rest, Machine, Judge, reads}
+use Rattle.nbd_laws.specs.internal.Machine.{fresh_of, Both, get, IsFilled, Rest, Machine, Judge, reads}
 use Rattle.nbd_laws.specs.Reached.{at_start}
 use Rattle.nbd_laws.proofs.machine.MachineLemmas.{AreHeld, none_held, Walk, Open, Idle, Busy, Loose, IsSound, IsExact}
 use Rattle.nbd_laws.proofs.runs.TraceLemmas.{trace, IsTrace, IsCanonical, IsStray, Guess, not_empty}
 use Rattle.nbd_laws.proofs.machine.MarkLemmas.{marks, IsRead}
 use Rattle.nbd_wire.specs.protocol.Within.{within}
+use Rattle.nbd_laws.proofs.runs.ProfileLemmas.{at_base, known_at_base}
 use Rattle.nbd_laws.proofs.runs.BlockLemmas.{walk_is_marked, marked_is_walk, Idles}
 use Rattle.nbd_laws.proofs.service.InsideLemmas.{core_end}
 use Rattle.nbd_laws.proofs.service.LatestLemmas.{placed, walk_placed, served_placed, pairs_placed, Fits, obeys_placed}
@@ -32,7 +34,7 @@ empty [] h = refl
 empty (b ∷ bs) h = absurd (h tt)
 
 -- a walk without stray bytes from nothing that obeys the rules is a run
-pub run_of : {P : Type 0} {items : List Item} → (P → ⊥) → Walk P Idles items → Obeys start items → IsRun items
+pub run_of : {profile : Profile} {P : Type 0} {items : List Item} → (P → ⊥) → Walk P Idles items → Obeys (start_of profile) items → IsRunOf profile items
 run_of {P} {items} no_stray w ob =
     let m : (client : List ℕ) × (server : List ℕ) × IsMarkedBut items client server × (IsFilled client → P) × (IsFilled server → P) = walk_is_marked w in
     record {
@@ -40,78 +42,80 @@ run_of {P} {items} no_stray w ob =
       obeys = ob;
     }
 
-pub walk_of : {items : List Item} → IsRun items → Walk ⊥ Idles items
+pub walk_of : {profile : Profile} {items : List Item} → IsRunOf profile items → Walk ⊥ Idles items
 walk_of {items} run = marked_is_walk items [] [] (λ f. f) (λ f. f) run.marked
 
-pub latest : (items : List Item) (order : List Entry) → IsRun items → HasNoFault (length (operations_of items)) (known_count items) (inside_at (ends_at start items).core) order →
-    (items' : List Item) × IsRun items' × (pairs items' ≡ pairs items) × (service_order items' ≡ order)
-latest items order run fit =
-    let fits : Fits (known_count items) (ends_at start items).core start.core [] order items = record {
+pub latest : {profile : Profile} (items : List Item) (order : List Entry) → IsRunOf profile items → HasNoFault (length (operations_of items)) (known_count items) (inside_at (ends_at start items).core) order →
+    (items' : List Item) × IsRunOf profile items' × (pairs items' ≡ pairs items) × (service_order items' ≡ order)
+latest {profile} items order run at_base_fit =
+    let fit : HasNoFault (length (ends_at (start_of profile) items).core.entries) (known_count items) (inside_at (ends_at (start_of profile) items).core) order =
+    subst (λ (c : Core). HasNoFault (length c.entries) (known_count items) (inside_at c) order) (sym (at_base profile items)) at_base_fit in
+    let fits : Fits (known_count items) (ends_at (start_of profile) items).core (start_of profile).core [] order items = record {
       fine = fit.fine;
       in_time = fit.in_time;
-      known = λ k. inr refl;
+      known = λ k. inr (known_at_base profile items k);
       served = fit.served;
       settled = λ l. absurd (omega arith);
-      end = core_end-ends_at start.core [] items;
+      end = core_end-ends_at (start_of profile).core [] items;
     } in (
-      placed start.core order items,
-      run_of (λ x. x) (walk_placed (walk_of run) start.core order) (obeys_placed (known_count items) (ends_at start items).core items start.core [] [] order run.obeys fits),
-      pairs_placed start.core order items,
-      served_placed start.core order items,
+      placed (start_of profile).core order items,
+      run_of (λ x. x) (walk_placed (walk_of run) (start_of profile).core order) (obeys_placed (known_count items) (ends_at (start_of profile) items).core items (start_of profile).core [] [] order run.obeys fits),
+      pairs_placed (start_of profile).core order items,
+      served_placed (start_of profile).core order items,
     )
 
-pub fresh_held : (judge : Judge) → AreHeld judge fresh
+pub fresh_held : {profile : Profile} (judge : Judge) → AreHeld judge (fresh_of profile)
 fresh_held judge = elim [ Client ↦ none_held at_start refl | Server ↦ none_held at_start refl ]
 
 -- the run's messages within a list that its pairs begin with are those that the machine reads
-pub marks_law : (judge : Judge) → IsExact judge → (items : List Item) → IsRun items → (ps more : List Pair) → ArePairs ps → pairs items ≡ ps ++ more → IsRead judge fresh ps (within (length ps) items)
-marks_law judge exact items run ps more lt e =
-    marks judge exact (walk_of run) fresh [] run.obeys (elim [ Client ↦ refl | Server ↦ refl ]) (fresh_held judge) ps more lt e
+pub marks_law : {profile : Profile} (judge : Judge) → IsExact judge → (items : List Item) → IsRunOf profile items → (ps more : List Pair) → ArePairs ps → pairs items ≡ ps ++ more → IsRead judge (fresh_of profile) ps (within (length ps) items)
+marks_law {profile} judge exact items run ps more lt e =
+    marks judge exact (walk_of run) (fresh_of profile) [] run.obeys (elim [ Client ↦ refl | Server ↦ refl ]) (fresh_held judge) ps more lt e
 
-pub idle_at : (s : Side) (end : Rest) (o : Open) → Guess (record { bytes = []; since = start.core }) end s o → o ≡ Idle
-idle_at s end Idle g = refl
-idle_at s end (Busy m left) g = absurd g.filled
-idle_at s end Loose g = absurd g.0
+pub idle_at : (profile : Profile) (s : Side) (end : Rest) (o : Open) → Guess (record { bytes = []; since = (start_of profile).core }) end s o → o ≡ Idle
+idle_at profile s end Idle g = refl
+idle_at profile s end (Busy m left) g = absurd g.filled
+idle_at profile s end Loose g = absurd g.0
 
 pub both_idle : (o : Both Open) → get o Client ≡ Idle → get o Server ≡ Idle → o ≡ Idles
 both_idle o c s = λ i. record { client = c i; server = s i }
 
-pub fresh_canonical : IsCanonical start
+pub fresh_canonical : {profile : Profile} → IsCanonical (start_of profile)
 fresh_canonical = record { all = λ k p h. absurd (omega arith); only = λ k h. absurd h }
 
 -- what the machine reads to its end is a run with exactly these pairs and messages
-pub run_law : (judge : Judge) → IsSound judge → (ps : List Pair) (end : Machine) → ArePairs ps → reads judge fresh ps ≡ Ok end → ((s : Side) → (get end.rests s).bytes ≡ []) →
-    (items : List Item) × IsRun items × (pairs items ≡ ps) × (completed_messages items ≡ end.messages)
-run_law judge sound ps end lt e none =
-    let t : IsTrace judge fresh end start ps = trace judge sound ps fresh end [] lt (fresh_held judge) fresh_canonical e in
-    let idle : t.open_ ≡ Idles = both_idle t.open_ (idle_at Client (get end.rests Client) (get t.open_ Client) (t.guess Client)) (idle_at Server (get end.rests Server) (get t.open_ Server) (t.guess Server)) in
+pub run_law : {profile : Profile} (judge : Judge) → IsSound judge → (ps : List Pair) (end : Machine) → ArePairs ps → reads judge (fresh_of profile) ps ≡ Ok end → ((s : Side) → (get end.rests s).bytes ≡ []) →
+    (items : List Item) × IsRunOf profile items × (pairs items ≡ ps) × (completed_messages items ≡ end.messages)
+run_law {profile} judge sound ps end lt e none =
+    let t : IsTrace judge (fresh_of profile) end (start_of profile) ps = trace judge sound ps (fresh_of profile) end [] lt (fresh_held judge) fresh_canonical e in
+    let idle : t.open_ ≡ Idles = both_idle t.open_ (idle_at profile Client (get end.rests Client) (get t.open_ Client) (t.guess Client)) (idle_at profile Server (get end.rests Server) (get t.open_ Server) (t.guess Server)) in
     (t.items, run_of (λ p. not_empty (get end.rests p.0).bytes p.1 (none p.0)) (subst (λ o. Walk (IsStray end) o t.items) idle t.walk) t.obeys, t.has_pairs, t.messages)
 
 -- what the machine reads without a fault is a run with exactly these pairs and messages, but for loose bytes of a side
 -- that is within a message
-pub run_but_law : (judge : Judge) → IsSound judge → (ps : List Pair) (end : Machine) → ArePairs ps → reads judge fresh ps ≡ Ok end →
-    (items : List Item) × (client : List ℕ) × (server : List ℕ) × IsRunBut items client server × (pairs items ≡ ps) × (completed_messages items ≡ end.messages)
+pub run_but_law : {profile : Profile} (judge : Judge) → IsSound judge → (ps : List Pair) (end : Machine) → ArePairs ps → reads judge (fresh_of profile) ps ≡ Ok end →
+    (items : List Item) × (client : List ℕ) × (server : List ℕ) × IsRunBut profile items client server × (pairs items ≡ ps) × (completed_messages items ≡ end.messages)
     × (IsFilled client → IsStray end) × (IsFilled server → IsStray end)
-run_but_law judge sound ps end lt e =
-    let t : IsTrace judge fresh end start ps = trace judge sound ps fresh end [] lt (fresh_held judge) fresh_canonical e in
-    let idle : t.open_ ≡ Idles = both_idle t.open_ (idle_at Client (get end.rests Client) (get t.open_ Client) (t.guess Client)) (idle_at Server (get end.rests Server) (get t.open_ Server) (t.guess Server)) in
+run_but_law {profile} judge sound ps end lt e =
+    let t : IsTrace judge (fresh_of profile) end (start_of profile) ps = trace judge sound ps (fresh_of profile) end [] lt (fresh_held judge) fresh_canonical e in
+    let idle : t.open_ ≡ Idles = both_idle t.open_ (idle_at profile Client (get end.rests Client) (get t.open_ Client) (t.guess Client)) (idle_at profile Server (get end.rests Server) (get t.open_ Server) (t.guess Server)) in
     let m : (client : List ℕ) × (server : List ℕ) × IsMarkedBut t.items client server × (IsFilled client → IsStray end) × (IsFilled server → IsStray end) =
     walk_is_marked (subst (λ o. Walk (IsStray end) o t.items) idle t.walk) in
     (t.items, m.0, m.1, record { marked = m.2; obeys = t.obeys }, t.has_pairs, t.messages, m.3, m.4)
 
 -- no run's pairs begin with a list that the machine refuses
-pub no_run : (judge : Judge) → IsExact judge → (items : List Item) → IsRun items → (ps more : List Pair) → ArePairs ps → pairs items ≡ ps ++ more → (fault : WireFault) → reads judge fresh ps ≡ Err fault → ⊥
-no_run judge exact items run ps more lt e fault refused =
-    let r : IsRead judge fresh ps (within (length ps) items) = marks_law judge exact items run ps more lt e in
+pub no_run : {profile : Profile} (judge : Judge) → IsExact judge → (items : List Item) → IsRunOf profile items → (ps more : List Pair) → ArePairs ps → pairs items ≡ ps ++ more → (fault : WireFault) → reads judge (fresh_of profile) ps ≡ Err fault → ⊥
+no_run {profile} judge exact items run ps more lt e fault refused =
+    let r : IsRead judge (fresh_of profile) ps (within (length ps) items) = marks_law judge exact items run ps more lt e in
     let q : Ok r.end ≡ Err fault = sym r.reads_it ∙ refused in
     cc
 
 -- two runs that begin with the same pairs complete the same messages within them
-pub same_messages : (judge : Judge) → IsExact judge → (items items' : List Item) → IsRun items → IsRun items' → (ps more more' : List Pair) → ArePairs ps → pairs items ≡ ps ++ more → pairs items' ≡ ps ++ more' →
+pub same_messages : {profile : Profile} (judge : Judge) → IsExact judge → (items items' : List Item) → IsRunOf profile items → IsRunOf profile items' → (ps more more' : List Pair) → ArePairs ps → pairs items ≡ ps ++ more → pairs items' ≡ ps ++ more' →
     within (length ps) items ≡ within (length ps) items'
-same_messages judge exact items items' run run' ps more more' lt e e' =
-    let r : IsRead judge fresh ps (within (length ps) items) = marks_law judge exact items run ps more lt e in
-    let r' : IsRead judge fresh ps (within (length ps) items') = marks_law judge exact items' run' ps more' lt e' in
+same_messages {profile} judge exact items items' run run' ps more more' lt e e' =
+    let r : IsRead judge (fresh_of profile) ps (within (length ps) items) = marks_law judge exact items run ps more lt e in
+    let r' : IsRead judge (fresh_of profile) ps (within (length ps) items') = marks_law judge exact items' run' ps more' lt e' in
     let q : Ok r.end ≡ Ok r'.end = sym r.reads_it ∙ r'.reads_it in
     let m : r.end ≡ r'.end = cc in
     sym r.messages_are ∙ ap (λ (x : Machine). x.messages) m ∙ r'.messages_are

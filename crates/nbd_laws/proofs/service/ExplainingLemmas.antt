@@ -1,20 +1,21 @@
 -- A capture is explained exactly where a run with its bytes passes the tests.
 use Rattle.std.proofs.Common.{◌≡◌, ℕ, List, sym, ◌∙◌, ap, subst}
+use Rattle.nbd_wire.specs.declared.profile.Profile.{Profile}
 use Rattle.nbd_wire.specs.declared.entry.Entry.{Entry}
-use Rattle.nbd_wire.specs.protocol.Explains.{IsExplained, FitsImage, HasNoWrongByte, Start}
+use Rattle.nbd_wire.specs.protocol.Explains.{IsExplainedOf, FitsImage, HasNoWrongByte, Start}
 use Rattle.nbd_wire.specs.protocol.Marks.{Item, pairs, service_order}
 use Rattle.nbd_wire.specs.protocol.Captures.{Pair}
 use Rattle.nbd_wire.specs.protocol.Reports.{Report, report}
-use Rattle.nbd_wire.specs.protocol.Rules.{IsRun}
+use Rattle.nbd_wire.specs.protocol.Rules.{IsRunOf}
 use Rattle.nbd_wire.specs.protocol.Verdicts.{IsFaultless, Passes, answered_count, improper_count, request_count}
 use Rattle.nbd_laws.proofs.service.MomentLemmas.{latest_moments, orders_are_faultless}
 use Rattle.nbd_laws.proofs.service.ServiceLemmas.{same_reports}
-use Rattle.nbd_laws.specs.Explaining.{ExplainedPasses, HasCounts, IsNo, PassingIsExplained}
+use Rattle.nbd_laws.specs.Explaining.{ExplainedPasses, HasCountsOf, IsNoOf, PassingIsExplained}
 
 pub passing_is_explained : PassingIsExplained
-passing_is_explained items order initial run p =
-    let l : (items' : List Item) × IsRun items' × (pairs items' ≡ pairs items) × (service_order items' ≡ order) = latest_moments items order run p.faultless in
-    let same : report items ≡ report l.0 = same_reports items l.0 run l.1 (sym l.2) in
+passing_is_explained profile items order initial run p =
+    let l : (items' : List Item) × IsRunOf profile items' × (pairs items' ≡ pairs items) × (service_order items' ≡ order) = latest_moments profile items order run p.faultless in
+    let same : report items ≡ report l.0 = same_reports profile items l.0 run l.1 (sym l.2) in
     record {
       items = l.0;
       is_run = l.1;
@@ -25,25 +26,25 @@ passing_is_explained items order initial run p =
     }
 
 pub explained_passes : ExplainedPasses
-explained_passes items order initial run x =
-    let same : report x.items ≡ report items = same_reports x.items items x.is_run run x.has_pairs in
+explained_passes profile items order initial run x =
+    let same : report x.items ≡ report items = same_reports profile x.items items x.is_run run x.has_pairs in
     record {
-      faultless = subst (λ r. IsFaultless r order) same (subst (IsFaultless (report x.items)) x.has_order (orders_are_faultless x.items x.is_run));
+      faultless = subst (λ r. IsFaultless r order) same (subst (IsFaultless (report x.items)) x.has_order (orders_are_faultless profile x.items x.is_run));
       fits_image = subst (λ (r : Report). FitsImage r.export initial) same x.fits_image;
       reads = subst (λ r. HasNoWrongByte r order initial) same x.reads;
     }
 
-pub counts_of : (items : List Item) (capture : List Pair) (r a i : ℕ) → IsRun items → pairs items ≡ capture → request_count (report items) ≡ r → answered_count (report items) ≡ a → improper_count (report items) ≡ i → HasCounts capture r a i
-counts_of items capture r a i run e er ea ei = record {
+pub counts_of : {profile : Profile} (items : List Item) (capture : List Pair) (r a i : ℕ) → IsRunOf profile items → pairs items ≡ capture → request_count (report items) ≡ r → answered_count (report items) ≡ a → improper_count (report items) ≡ i → HasCountsOf profile capture r a i
+counts_of {profile} items capture r a i run e er ea ei = record {
   requests_are = λ items' run' e'. ap request_count (same items' run' e') ∙ er;
   answered_are = λ items' run' e'. ap answered_count (same items' run' e') ∙ ea;
   improper_are = λ items' run' e'. ap improper_count (same items' run' e') ∙ ei;
 }
   where
-    same : (items' : List Item) → IsRun items' → pairs items' ≡ capture → report items' ≡ report items
-    same items' run' e' = same_reports items' items run' run (e' ∙ sym e)
+    same : (items' : List Item) → IsRunOf profile items' → pairs items' ≡ capture → report items' ≡ report items
+    same items' run' e' = same_reports profile items' items run' run (e' ∙ sym e)
 
 -- a test that a run with these bytes does not pass
-pub failing_is_no : (items : List Item) (capture : List Pair) (order : List Entry) (initial : Start) → IsRun items → pairs items ≡ capture → (Passes (report items) order initial → ⊥) → IsNo capture order initial
-failing_is_no items capture order initial run e no_pass x =
-    no_pass (explained_passes items order initial run (subst (λ c. IsExplained c order initial) (sym e) x))
+pub failing_is_no : {profile : Profile} (items : List Item) (capture : List Pair) (order : List Entry) (initial : Start) → IsRunOf profile items → pairs items ≡ capture → (Passes (report items) order initial → ⊥) → IsNoOf profile capture order initial
+failing_is_no {profile} items capture order initial run e no_pass x =
+    no_pass (explained_passes profile items order initial run (subst (λ c. IsExplainedOf profile c order initial) (sym e) x))

@@ -1,5 +1,5 @@
 -- Where the order has no fault, a run with the same pairs serves in that order.
-use Rattle.std.proofs.Common.{◌≡◌, ℕ, ◌<◌, ◌≤◌, ◌⊎◌, ◌==◌, List, [], ◌∷◌, ◌++◌, length, refl, sym, ◌∙◌, ap, subst, inl, inr, Option, Some, None, append_assoc, append-nil, arith, eq-eqb, le_refl, ne_eqb}
+use Rattle.std.proofs.Common.{◌≡◌, ℕ, ◌<◌, ◌≤◌, ◌⊎◌, ◌==◌, List, [], ◌∷◌, ◌++◌, length, refl, sym, ◌∙◌, ap, subst, inl, inr, Option, Some, None, append_assoc, append-nil, arith, eq-eqb, ne_eqb}
 use Rattle.nbd_wire.specs.declared.entry.Entry.{Entry}
 use Rattle.nbd_wire.specs.declared.message.Side.TheVariants.{Client, Server}
 use Rattle.nbd_wire.specs.declared.message.Message.{Message}
@@ -8,7 +8,7 @@ use Rattle.nbd_wire.specs.protocol.Marks.{Item, Byte, Starts, Completes, Serves,
 use Rattle.nbd_wire.specs.protocol.States.{Core}
 use Rattle.nbd_wire.specs.protocol.Rules.{complete, inside_at, Obeys, request_of_reply}
 use Rattle.nbd_wire.specs.protocol.Reports.{known_from, first_known, known_if}
-use Rattle.nbd_laws.proofs.service.EntryLemmas.{AreFine, AreFine-as, AreFine-left, AreFine-right, IsInTime, IsInTime-right, Names-left, Names-push, Names-push_cases, Names-right, in_time_before, same_number, wholly-without}
+use Rattle.nbd_laws.proofs.service.EntryLemmas.{AreFine, AreFine-as, AreFine-left, AreFine-right, IsInTime, IsInTime-right, Names-push_cases, Names-right, in_time_before, same_number, wholly-without}
 use Rattle.nbd_laws.proofs.service.InsideLemmas.{IsSettled, core_end, entries_grow, inside_end, settled_complete}
 use Rattle.nbd_laws.specs.internal.Machine.{Both}
 use Rattle.nbd_laws.proofs.machine.MachineLemmas.{Open, Walk, ended, serving, opening, middle, final, loose}

@@ -1,11 +1,12 @@
 -- The moments of service of the runs with given bytes are the orders without a fault.
-use Rattle.std.proofs.Common.{◌≡◌, ℕ, List, length, refl, sym, ◌∙◌, ap, subst, Bool, Option, Some, None}
+use Rattle.std.proofs.Common.{◌≡◌, ℕ, List, length, refl, sym, ◌∙◌, ap, subst, Option, Some, None}
 use Rattle.nbd_wire.specs.declared.entry.Entry.{Entry}
+use Rattle.nbd_wire.specs.declared.profile.Profile.{Profile}
 use Rattle.nbd_wire.specs.protocol.Marks.{Item, service_order}
 use Rattle.nbd_wire.specs.protocol.Operations.{Exporting, Operation}
 use Rattle.nbd_wire.specs.protocol.Orders.{HasNoOrderFault}
 use Rattle.nbd_wire.specs.protocol.Reports.{Asked, asked_at, export_of, inside_asked, inside_in, known_in, operations_of, known_count, report}
-use Rattle.nbd_wire.specs.protocol.Rules.{IsRun, ends_at, inside_at, inside_operation}
+use Rattle.nbd_wire.specs.protocol.Rules.{IsRunOf, ends_at, inside_at, inside_operation}
 use Rattle.nbd_wire.specs.protocol.States.{operation, start}
 use Rattle.nbd_wire.specs.protocol.Verdicts.{IsFaultless}
 use Rattle.nbd_laws.proofs.worked.IndexLemmas.{by_entries, by_index}
@@ -34,14 +35,14 @@ inside-report items = λ i k. (
     asked_of_report k = asked_at k (report items).asked
 
 -- an order's faults by the report are those by the run
-of_report : (items : List Item) (order : List Entry) → IsRun items → IsFaultless (report items) order →
+of_report : {profile : Profile} (items : List Item) (order : List Entry) → IsRunOf profile items → IsFaultless (report items) order →
     HasNoOrderFault (length (operations_of items)) (known_count items) (inside_at (ends_at start items).core) order
 of_report items order run h =
     subst (λ n. HasNoOrderFault n (known_count items) (inside_at (ends_at start items).core) order) (length-report items)
     (subst (λ κ. HasNoOrderFault (length (report items).asked) κ (inside_at (ends_at start items).core) order) (known-report items run)
     (subst (λ within. HasNoOrderFault (length (report items).asked) (known_in (report items)) within order) (inside-report items) h))
 
-to_report : (items : List Item) (order : List Entry) → IsRun items →
+to_report : {profile : Profile} (items : List Item) (order : List Entry) → IsRunOf profile items →
     HasNoOrderFault (length (operations_of items)) (known_count items) (inside_at (ends_at start items).core) order → IsFaultless (report items) order
 to_report items order run h =
     subst (λ within. HasNoOrderFault (length (report items).asked) (known_in (report items)) within order) (sym (inside-report items))
@@ -49,10 +50,10 @@ to_report items order run h =
     (subst (λ n. HasNoOrderFault n (known_count items) (inside_at (ends_at start items).core) order) (sym (length-report items)) h))
 
 pub latest_moments : LatestMoments
-latest_moments items order run h =
+latest_moments profile items order run h =
     latest items order run (by_entries (known_count items) (length (operations_of items)) (inside_at (ends_at start items).core) order (of_report items order run h))
 
 pub orders_are_faultless : OrdersAreFaultless
-orders_are_faultless items run =
+orders_are_faultless profile items run =
     to_report items (service_order items) run
     (by_index (known_count items) (length (operations_of items)) (inside_at (ends_at start items).core) (service_order items) (order_of_run items run))

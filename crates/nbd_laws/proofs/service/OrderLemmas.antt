@@ -3,15 +3,19 @@ use Rattle.std.proofs.Common.{◌≡◌, ℕ, ◌<◌, ◌≤◌, ◌==◌, List
 use Rattle.nbd_wire.specs.declared.entry.Entry.{Entry}
 use Rattle.nbd_wire.specs.declared.message.Side.TheVariants.{Client, Server}
 use Rattle.nbd_wire.specs.declared.message.Message.{Message}
+use Rattle.nbd_wire.specs.declared.profile.Profile.{Profile}
+use Rattle.nbd_wire.specs.declared.profile.Profile.TheVariants.{Base}
 use Rattle.nbd_wire.specs.protocol.Entries.{IsWhollyServed, MayServe, Names}
 use Rattle.nbd_wire.specs.protocol.Marks.{Item, Byte, Starts, Completes, Serves, service_order}
-use Rattle.nbd_wire.specs.protocol.States.{Core, start}
-use Rattle.nbd_wire.specs.protocol.Rules.{IsRun, Obeys, complete, ends_at, inside_at, request_of_reply}
+use Rattle.nbd_wire.specs.protocol.States.{Core, start, start_of}
+use Rattle.nbd_wire.specs.protocol.Rules.{IsRunOf, Obeys, complete, ends_at, inside_at, request_of_reply}
 use Rattle.nbd_wire.specs.protocol.Reports.{operations_of, known_count, known_from, known_if, first_known}
 use Rattle.nbd_laws.proofs.service.EntryLemmas.{AreFine, HasNoFault, IsInTime, closed_unnamed, fine_named, same_number, wholly-left}
 use Rattle.nbd_laws.proofs.runs.TraceLemmas.{answered_by-within, length-complete}
 use Rattle.nbd_laws.proofs.service.InsideLemmas.{IsSettled, core_end, entries_grow, inside_end, settled_complete}
+use Rattle.nbd_laws.proofs.runs.ProfileLemmas.{at_base, known_at_base}
 use Rattle.nbd_laws.proofs.runs.RunLemmas.{core_end-ends_at}
+use Rattle.nbd_laws.specs.Profiles.{with_profile}
 
 pub record IsOrdered (core : Core) (js : List Entry) (items : List Item) : Type 0 where
   pub fine : AreFine (length (core_end core items).entries) (inside_at (core_end core items)) js (service_order items)
@@ -89,22 +93,23 @@ ordered (Serves j ∷ items) core js settled ob =
       in_time = λ κ q. ((λ i n a e. (let l : length core.entries ≤ n = h.later i n (sym (q i a) ∙ e) in omega arith)), h.in_time κ (λ k n. q k (inr n)));
     }
 
-start_settled : IsSettled start.core
-start_settled = λ l. absurd (omega arith)
+start_settled : (profile : Profile) → IsSettled (start_of profile).core
+start_settled profile = λ l. absurd (omega arith)
 
 -- what a run serves has no order fault
-pub order_of_run : (items : List Item) → IsRun items → HasNoFault (length (operations_of items)) (known_count items) (inside_at (ends_at start items).core) (service_order items)
-order_of_run items run =
-    let h : IsOrdered start.core [] items = ordered items start.core [] start_settled run.obeys in
-    let same : core_end start.core items ≡ (ends_at start items).core = core_end-ends_at start.core [] items in
+pub order_of_run : {profile : Profile} (items : List Item) → IsRunOf profile items → HasNoFault (length (operations_of items)) (known_count items) (inside_at (ends_at start items).core) (service_order items)
+order_of_run {profile} items run =
+    let h : IsOrdered (start_of profile).core [] items = ordered items (start_of profile).core [] (start_settled profile) run.obeys in
+    let same : with_profile Base (core_end (start_of profile).core items) ≡ (ends_at start items).core =
+    ap (with_profile Base) (core_end-ends_at (start_of profile).core [] items) ∙ at_base profile items in
     record {
       fine = subst (λ (c : Core). AreFine (length c.entries) (inside_at c) [] (service_order items)) same h.fine;
-      in_time = h.in_time (known_count items) (λ k n. refl);
-      served = λ k n p l e. subst (λ (c : Core). IsWhollyServed (inside_at c k) (service_order items) k) same (h.answered k n e);
+      in_time = h.in_time (known_count items) (λ k n. sym (known_at_base profile items k));
+      served = λ k n p l e. subst (λ (c : Core). IsWhollyServed (inside_at c k) (service_order items) k) same (h.answered k n (known_at_base profile items k ∙ e));
     }
 
 -- a request that is answered is one of the run's
-pub known_within : (items : List Item) → IsRun items → (k n : ℕ) → known_count items k ≡ Some n → (0 < k) × (k ≤ length (operations_of items))
-known_within items run k n e =
+pub known_within : {profile : Profile} (items : List Item) → IsRunOf profile items → (k n : ℕ) → known_count items k ≡ Some n → (0 < k) × (k ≤ length (operations_of items))
+known_within {profile} items run k n e =
     let h : HasNoFault (length (operations_of items)) (known_count items) (inside_at (ends_at start items).core) (service_order items) = order_of_run items run in
-    fine_named (length (operations_of items)) (inside_at (ends_at start items).core) [] (service_order items) k h.fine ((ordered items start.core [] start_settled run.obeys).answered k n e).named
+    fine_named (length (operations_of items)) (inside_at (ends_at start items).core) [] (service_order items) k h.fine ((ordered items (start_of profile).core [] (start_settled profile) run.obeys).answered k n (known_at_base profile items k ∙ e)).named

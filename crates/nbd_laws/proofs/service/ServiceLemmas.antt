@@ -4,7 +4,7 @@ use Rattle.nbd_wire.specs.declared.message.Side.TheVariants.{Client, Server}
 use Rattle.nbd_wire.specs.protocol.Reports.{Report, first_known, known_count, known_from, report, asked_list}
 use Rattle.nbd_wire.specs.protocol.Marks.{Item, Byte, Starts, Completes, Serves, without_service}
 use Rattle.nbd_wire.specs.protocol.Rules.{request_of_reply, complete, ends_at}
-use Rattle.nbd_wire.specs.protocol.States.{Core, start, export_in}
+use Rattle.nbd_wire.specs.protocol.States.{Core, start, start_of, export_in}
 use Rattle.nbd_laws.proofs.runs.FollowLemmas.{bare, follows, follows_unserved, pairs_unserved, walk_unserved}
 use Rattle.nbd_laws.proofs.service.InsideLemmas.{core_end}
 use Rattle.nbd_laws.proofs.runs.RunLemmas.{core_end-ends_at, walk_of}
@@ -44,12 +44,12 @@ reports_ignore_service items items' e =
     ap (λ core. report_by core (known_count items)) (core_of_unserved items items' e) ∙ ap (report_by (ends_at start items').core) (known_of_unserved items items' e)
 
 pub same_marks : SameMarks
-same_marks items items' run run' e =
+same_marks profile items items' run run' e =
     let r : AreEqual Idles (without_service items) Idles (without_service items') =
-    twins (walk_unserved (walk_of run)) Idles (without_service items') start.core (walk_unserved (walk_of run'))
-    (follows_unserved items start.core (follows items start run.obeys)) (follows_unserved items' start.core (follows items' start run'.obeys))
+    twins (walk_unserved (walk_of run)) Idles (without_service items') (start_of profile).core (walk_unserved (walk_of run'))
+    (follows_unserved items (start_of profile).core (follows items (start_of profile) run.obeys)) (follows_unserved items' (start_of profile).core (follows items' (start_of profile) run'.obeys))
     (bare items) (bare items') (elim [ Client ↦ tt | Server ↦ tt ]) (pairs_unserved items ∙ e ∙ sym (pairs_unserved items')) in
     r.0
 
 pub same_reports : SameReports
-same_reports items items' run run' e = reports_ignore_service items items' (same_marks items items' run run' e)
+same_reports profile items items' run run' e = reports_ignore_service items items' (same_marks profile items items' run run' e)

@@ -3,7 +3,7 @@ use Rattle.std.proofs.Common.{◌≡◌, List, [], ◌∷◌, ◌++◌, refl, in
 use Rattle.nbd_wire.specs.protocol.Entries.{part, whole}
 use Rattle.nbd_wire.specs.protocol.Encoding.{enc, head, tail}
 use Rattle.nbd_wire.specs.protocol.ExportBytes.{effects}
-use Rattle.nbd_wire.specs.protocol.Explains.{Image, Unknown, Zeroes, start_byte}
+use Rattle.nbd_wire.specs.protocol.Explains.{Zeroes, start_byte}
 use Rattle.nbd_wire.specs.protocol.Marks.{Item, Serves}
 use Rattle.nbd_wire.specs.protocol.Captures.{flat}
 use Rattle.nbd_wire.specs.protocol.Options.{is_proper_option, next_phase}
@@ -19,7 +19,7 @@ use Rattle.nbd_laws.specs.Explaining.{IsNo, IsYes}
 use Rattle.nbd_laws.proofs.worked.DecidingReadLemmas.{none_wrong, wrong}
 use Rattle.nbd_laws.proofs.worked.DecidingRunLemmas.{is_run}
 use Rattle.nbd_laws.proofs.service.ExplainingLemmas.{counts_of, failing_is_no}
-use Rattle.nbd_laws.proofs.worked.SessionLemmas.{disconnect, fails, gives, gone, greeted, read, sends, succeeds, trim, within, write, zero_out}
+use Rattle.nbd_laws.proofs.worked.SessionLemmas.{fails, gives, gone, greeted, read, sends, succeeds, write}
 
 half_written_items : List Item
 half_written_items = sends (greeted ++ gone ++ write 1 0 (171 ∷ 205 ∷ []) ∷ read 2 0 2 ∷ []) ++ Serves (part 1 0 1) ∷ Serves (whole 2) ∷ Serves (part 1 1 1) ∷ sends (gives 2 (171 ∷ 0 ∷ []) ∷ succeeds 1 ∷ [])

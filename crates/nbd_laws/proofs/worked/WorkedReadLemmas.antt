@@ -1,5 +1,5 @@
 -- Explicit runs of reads and writes: each is checked by computing.
-use Rattle.std.proofs.Common.{◌≡◌, ℕ, zero, suc, ◌<◌, List, [], ◌∷◌, ◌++◌, length, slice_index, refl, inl, inr, lit<, lit≤, arith}
+use Rattle.std.proofs.Common.{List, [], ◌∷◌, ◌++◌, refl, inl, inr, lit<, lit≤, arith}
 use Rattle.nbd_wire.specs.protocol.Entries.{Names, whole}
 use Rattle.nbd_wire.specs.protocol.Encoding.{enc, head, tail}
 use Rattle.nbd_wire.specs.protocol.ExportBytes.{effects}

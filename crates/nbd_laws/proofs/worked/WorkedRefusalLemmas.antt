@@ -1,5 +1,5 @@
 -- Refusals that need no search over runs.
-use Rattle.std.proofs.Common.{◌≡◌, ℕ, List, [], ◌∷◌, ◌++◌, length, refl, ◌∙◌, subst, inl, inr, lit<, Some, arith}
+use Rattle.std.proofs.Common.{◌≡◌, ℕ, List, [], ◌∷◌, ◌++◌, length, refl, ◌∙◌, subst, inl, inr, Some, arith}
 use Rattle.nbd_wire.specs.declared.entry.Entry.{Entry}
 use Rattle.nbd_wire.specs.protocol.Entries.{whole}
 use Rattle.nbd_wire.specs.declared.message.Side.TheVariants.{Client, Server}
@@ -9,6 +9,7 @@ use Rattle.nbd_wire.specs.protocol.Marks.{Item, without_service}
 use Rattle.nbd_wire.specs.protocol.Captures.{Pair, flat}
 use Rattle.nbd_wire.specs.protocol.Options.{is_proper_option, next_phase}
 use Rattle.nbd_wire.specs.protocol.Payloads.{content_of, failure_of, info_of, is_go, is_listed}
+use Rattle.nbd_wire.specs.declared.profile.Profile.TheVariants.{Base}
 use Rattle.nbd_wire.specs.protocol.Reports.{report}
 use Rattle.nbd_wire.specs.protocol.Operations.{ends_reply, is_failing, is_proper}
 use Rattle.nbd_wire.specs.protocol.Flags.{has, has_only}
@@ -41,7 +42,7 @@ wrong_image bytes e = failing_is_no opening_items (flat captures.opening) [] (Im
 -- whatever the capture, no run serves a request twice
 pub named_twice : (capture : List Pair) (initial : Start) → IsNo capture (whole 1 ∷ whole 1 ∷ []) initial
 named_twice capture initial x =
-    let o : IsFaultless (report x.items) (whole 1 ∷ whole 1 ∷ []) = subst (IsFaultless (report x.items)) x.has_order (orders_are_faultless x.items x.is_run) in
+    let o : IsFaultless (report x.items) (whole 1 ∷ whole 1 ∷ []) = subst (IsFaultless (report x.items)) x.has_order (orders_are_faultless Base x.items x.is_run) in
     o.none_bad 1 (inr (inl (whole 1, refl, inl refl)))
 
 -- no run begins with a byte of the client

@@ -3,8 +3,10 @@ use Rattle.std.specs.Prelude.{ℕ, List, [], ◌∷◌, ◌++◌, Result, Ok, Er
 use Rattle.nbd_wire.specs.declared.message.Side.{Side}
 use Rattle.nbd_wire.specs.declared.message.Side.TheVariants.{Client, Server}
 use Rattle.nbd_wire.specs.declared.message.Message.{Message}
+use Rattle.nbd_wire.specs.declared.profile.Profile.{Profile}
+use Rattle.nbd_wire.specs.declared.profile.Profile.TheVariants.{Base}
 use Rattle.nbd_wire.specs.protocol.Captures.{Pair}
-use Rattle.nbd_wire.specs.protocol.States.{Core, start}
+use Rattle.nbd_wire.specs.protocol.States.{Core, start_of}
 use Rattle.nbd_wire.specs.protocol.Rules.{complete}
 use Rattle.nbd_wire.specs.declared.fault.WireFault.{WireFault}
 
@@ -75,13 +77,17 @@ abbrev pub reads : Judge → Machine → List Pair → Result Machine WireFault
 reads judge machine [] = Ok machine
 reads judge machine (p ∷ ps) = on_ok (step judge machine p.from p.byte) (λ next. reads judge next ps)
 
--- before the first byte
-abbrev pub fresh : Machine
-fresh = record {
-  core = start.core;
+-- before the first byte of a session that is held to a profile
+abbrev pub fresh_of : Profile → Machine
+fresh_of profile = record {
+  core = (start_of profile).core;
   rests = record {
-    client = record { bytes = []; since = start.core };
-    server = record { bytes = []; since = start.core };
+    client = record { bytes = []; since = (start_of profile).core };
+    server = record { bytes = []; since = (start_of profile).core };
   };
   messages = [];
 }
+
+-- the same, of the profile Base
+abbrev pub fresh : Machine
+fresh = fresh_of Base

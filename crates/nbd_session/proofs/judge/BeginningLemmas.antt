@@ -1,8 +1,9 @@
 -- A session before its first byte, and one that is told of.
 use Rattle.std.proofs.Common.{◌≡◌, ℕ, List, [], ◌∷◌, length, refl, sym, ◌∙◌, ap, subst, append-nil, Option, Some, None}
+use Rattle.nbd_wire.specs.declared.profile.Profile.{Profile}
 use Rattle.nbd_wire.specs.declared.message.Side.{Side}
 use Rattle.nbd_wire.specs.declared.message.Side.TheVariants.{Client, Server}
-use Rattle.nbd_wire.specs.protocol.States.{start}
+use Rattle.nbd_wire.specs.protocol.States.{start_of}
 use Rattle.nbd_state.specs.declared.asked.Exchange.{Exchange}
 use Rattle.nbd_session.specs.declared.fault.SessionFault.{SessionFault}
 use Rattle.nbd_session.specs.declared.held.Held.{Held}
@@ -12,7 +13,7 @@ use Rattle.nbd_session.specs.Incoming.{bytes_come, nothing_come}
 use Rattle.nbd_session.specs.internal.Known.{IsKnown, decided}
 use Rattle.nbd_session.proofs.steps.KnownLemmas.{nothing_known}
 use Rattle.nbd_session.specs.internal.Logging.{log_of_pairs}
-use Rattle.nbd_laws.specs.internal.Machine.{fresh, get}
+use Rattle.nbd_laws.specs.internal.Machine.{fresh_of, get}
 use Rattle.nbd_session.specs.Sessions.{AddsPrefix, IsOfRun, SessionView, pairs_of}
 use Rattle.nbd_state.specs.Shows.{AreKnown, Shows}
 use Rattle.nbd_session.specs.internal.Standing.{Holding, IsReadTo, held_pairs, rest_of}
@@ -20,36 +21,36 @@ use Rattle.nbd_session.specs.internal.Steps.{HoldsRun, IsKept, Stands}
 use Rattle.nbd_session.specs.Views.{session_view, stretches_of}
 use Rattle.nbd_session.proofs.judge.PieceLemmas.{standing_run}
 
-abbrev empty : Holding
-empty = record { messages = []; client = []; server = []; counted = 0; stretches = [] }
+abbrev empty : Profile → Holding
+empty profile = record { profile = profile; messages = []; client = []; server = []; counted = 0; stretches = [] }
 
-rest_empty : (s : Side) → (get fresh.rests s).bytes ≡ rest_of empty s
-rest_empty Client = refl
-rest_empty Server = refl
+rest_empty : (profile : Profile) (s : Side) → (get (fresh_of profile).rests s).bytes ≡ rest_of (empty profile) s
+rest_empty profile Client = refl
+rest_empty profile Server = refl
 
-read_empty : IsReadTo empty fresh
-read_empty = record { are_pairs = tt; reads_it = refl; messages_are = refl; rests_are = rest_empty; count_is = λ f. absurd f; are_stretches = record { of_client = refl; of_server = refl } }
+read_empty : (profile : Profile) → IsReadTo (empty profile) (fresh_of profile)
+read_empty profile = record { are_pairs = tt; reads_it = refl; messages_are = refl; rests_are = rest_empty profile; count_is = λ f. absurd f; are_stretches = record { of_client = refl; of_server = refl } }
 
-none_known : (xs : List Exchange) → xs ≡ [] → AreKnown (log_of_pairs concrete fresh []) xs
-none_known [] e place x at = absurd (cc)
-none_known (y ∷ xs) e place x at = absurd (cc)
+none_known : (profile : Profile) (xs : List Exchange) → xs ≡ [] → AreKnown (log_of_pairs concrete (fresh_of profile) []) xs
+none_known profile [] e place x at = absurd (cc)
+none_known profile (y ∷ xs) e place x at = absurd (cc)
 
-pub begins : (held : Held) → Shows held.state start.core → held.state.exchanges.items ≡ [] → held.client ≡ nothing_come → held.server ≡ nothing_come →
+pub begins : (profile : Profile) (held : Held) → Shows held.state (start_of profile).core → held.state.exchanges.items ≡ [] → held.client ≡ nothing_come → held.server ≡ nothing_come →
     (held.messages.items ≡ []) × (held.stretches.items ≡ []) × (held.counted ≡ 0) × (held.taken ≡ 0) → Stands held
-begins held shows none client server nothing =
-    let holds : holding_of held ≡ empty = (λ i. record { messages = nothing.0 i; client = bytes_come (client i); server = bytes_come (server i); counted = nothing.2 i; stretches = stretches_of (nothing.1 i) }) in
+begins profile held shows none client server nothing =
+    let holds : holding_of held ≡ empty profile = (λ i. record { profile = shows.profile_is i; messages = nothing.0 i; client = bytes_come (client i); server = bytes_come (server i); counted = nothing.2 i; stretches = stretches_of (nothing.1 i) }) in
     record {
-      machine = fresh;
-      read_to = subst (λ h. IsReadTo h fresh) (sym holds) read_empty;
+      machine = fresh_of profile;
+      read_to = subst (λ h. IsReadTo h (fresh_of profile)) (sym holds) (read_empty profile);
       shows = shows;
-      known = subst (λ h. AreKnown (log_of_pairs concrete fresh (held_pairs h)) held.state.exchanges.items) (sym holds) (none_known held.state.exchanges.items none);
+      known = subst (λ h. AreKnown (log_of_pairs concrete (fresh_of h.profile) (held_pairs h)) held.state.exchanges.items) (sym holds) (none_known profile held.state.exchanges.items none);
       taken_is = nothing.3 ∙ sym (ap (λ h. length (held_pairs h)) holds);
       knows = known;
     }
   where
-    known : (s : Side) → IsKnown (decided fresh s) fresh.core (incoming_of held s)
-    known Client = subst (IsKnown (decided fresh Client) fresh.core) (sym client) (nothing_known fresh.core Client fresh.rests.client refl)
-    known Server = subst (IsKnown (decided fresh Server) fresh.core) (sym server) (nothing_known fresh.core Server fresh.rests.server refl)
+    known : (s : Side) → IsKnown (decided (fresh_of profile) s) (fresh_of profile).core (incoming_of held s)
+    known Client = subst (IsKnown (decided (fresh_of profile) Client) (fresh_of profile).core) (sym client) (nothing_known (fresh_of profile).core Client (fresh_of profile).rests.client refl)
+    known Server = subst (IsKnown (decided (fresh_of profile) Server) (fresh_of profile).core) (sym server) (nothing_known (fresh_of profile).core Server (fresh_of profile).rests.server refl)
 
 -- what is held is of a run, whether it stands or is closed
 kept_run : (held : Held) (closed : Option SessionFault) → IsKept held closed → HoldsRun (holding_of held)

@@ -17,7 +17,7 @@ use Rattle.nbd_session.specs.internal.Known.{IsCome, IsKnown, awaited, decided}
 use Rattle.nbd_session.proofs.steps.KnownLemmas.{come_with}
 use Rattle.nbd_session.proofs.steps.HoldingLemmas.{rest_is}
 use Rattle.nbd_session.specs.Views.{stretches_of}
-use Rattle.nbd_laws.specs.internal.Machine.{IsFilled, Machine, fresh, get}
+use Rattle.nbd_laws.specs.internal.Machine.{IsFilled, Machine, fresh_of, get}
 use Rattle.nbd_session.specs.Sessions.{Adds}
 use Rattle.nbd_laws.specs.internal.Concrete.{concrete}
 use Rattle.nbd_session.specs.internal.Logging.{log_of_pairs}
@@ -115,7 +115,7 @@ module _ (held taken : Held) (s : Side) (left : List ℕ) (count : ℕ) (st : St
         up_to = up_to;
         holding_is = counts;
         shows = subst (λ state. Shows state st.machine.core) (sym state_is) st.shows;
-        known = subst (λ state. AreKnown (log_of_pairs concrete fresh (held_pairs (holding_of held))) state.exchanges.items) (sym state_is) st.known;
+        known = subst (λ state. AreKnown (log_of_pairs concrete (fresh_of held.state.profile) (held_pairs (holding_of held))) state.exchanges.items) (sym state_is) st.known;
         taken_is = taken_counts e;
         come = subst (IsCome (decided st.machine s) st.machine.core) (sym here)
             (come_with (held_of (holding_of held) st.machine st.read_to s) (incoming_of held s) (sym (rest_is held s) ∙ sym (st.read_to.rests_are s)) (take count left) up_to (st.knows s));
@@ -188,15 +188,17 @@ refused_memory held new s piece st holding same = record {
     taken_is = same ∙ st.taken_is ∙ sym (ap (λ h. length (held_pairs h)) holding);
     cause = tt;
   };
+  profile_is = ap (λ (h : Holding). h.profile) holding;
 }
 
-pub refused_settling : (held taken new : Held) (s : Side) (piece left : List ℕ) (fault : SessionFault) → AddsHeld held taken s piece left → IsSame taken new → IsShut new fault → IsRefused held new s piece fault
-refused_settling held taken new s piece left fault x same shut = record { left = left; adds = settled_added held taken new s piece left x same; shut = shut }
+pub refused_settling : (held taken new : Held) (s : Side) (piece left : List ℕ) (fault : SessionFault) → taken.state.profile ≡ held.state.profile → AddsHeld held taken s piece left → IsSame taken new → IsShut new fault → IsRefused held new s piece fault
+refused_settling held taken new s piece left fault p x same shut = record { left = left; adds = settled_added held taken new s piece left x same; shut = shut; profile_is = same.profile_is ∙ p }
 
 -- a refusal after a prefix that was taken
-pub refused_then : (held mid new : Held) (s : Side) (piece left : List ℕ) (fault : SessionFault) → AddsHeld held mid s piece left → IsRefused mid new s left fault → IsRefused held new s piece fault
-refused_then held mid new s piece left fault x r = record {
+pub refused_then : (held mid new : Held) (s : Side) (piece left : List ℕ) (fault : SessionFault) → mid.state.profile ≡ held.state.profile → AddsHeld held mid s piece left → IsRefused mid new s left fault → IsRefused held new s piece fault
+refused_then held mid new s piece left fault p x r = record {
   left = r.left;
   adds = added_then (held_pairs (holding_of held)) (held_pairs (holding_of mid)) (held_pairs (holding_of new)) held.messages.items mid.messages.items new.messages.items s piece left r.left x r.adds;
   shut = r.shut;
+  profile_is = r.profile_is ∙ p;
 }

@@ -1,17 +1,18 @@
 -- What a refusal says of the runs with a session's bytes.
 use Rattle.std.proofs.Common.{◌≡◌, ℕ, ◌+◌, ◌<◌, ◌≤◌, List, [], ◌∷◌, ◌++◌, length, refl, sym, ◌∙◌, ap, subst, arith, append_assoc, append-nil, length-append, inl, inr, Option, Some, None, Result, Ok, Err, IfErr}
 use Rattle.std.proofs.lemmas.List.{append_cancel_left}
+use Rattle.nbd_wire.specs.declared.profile.Profile.{Profile}
 use Rattle.nbd_wire.specs.declared.message.Side.TheVariants.{Client, Server}
 use Rattle.nbd_wire.specs.declared.message.Side.{Side}
 use Rattle.nbd_wire.specs.declared.message.Message.{Message}
 use Rattle.nbd_wire.specs.protocol.Marks.{Item, Byte, Starts, Completes, Serves, completed_messages, pairs}
 use Rattle.nbd_wire.specs.protocol.Captures.{Pair, ArePairs, side_pairs}
 use Rattle.nbd_laws.specs.Bytes.{bytes_of}
-use Rattle.nbd_wire.specs.protocol.Within.{CompletesExactly, IsOfNoRun, within}
+use Rattle.nbd_wire.specs.protocol.Within.{CompletesExactlyOf, IsOfNoRunOf, within}
 use Rattle.nbd_wire.specs.declared.fault.WireFault.{WireFault}
 use Rattle.nbd_wire.specs.declared.fault.WireFault.TheVariants.{Unfinished}
 use Rattle.nbd_laws.proofs.machine.MachineLemmas.{AreHeld}
-use Rattle.nbd_laws.specs.internal.Machine.{Bad, IsFilled, Machine, More, Reading, Rest, Whole, fresh, get, rest_with, old_of, on_ok, reads, settle, step}
+use Rattle.nbd_laws.specs.internal.Machine.{Bad, IsFilled, Machine, More, Reading, Rest, Whole, fresh_of, get, rest_with, old_of, on_ok, reads, settle, step}
 use Rattle.nbd_laws.proofs.machine.MarkLemmas.{IsRead}
 use Rattle.nbd_laws.proofs.runs.RunLemmas.{marks_law}
 use Rattle.nbd_session.specs.declared.fault.SessionFault.{SessionFault}
@@ -20,13 +21,13 @@ use Rattle.nbd_session.specs.declared.held.Held.{Held}
 use Rattle.nbd_laws.specs.internal.Concrete.{concrete}
 use Rattle.nbd_session.specs.internal.Holdings.{holding_of}
 use Rattle.nbd_laws.specs.internal.Judge.{awaited_length}
-use Rattle.nbd_wire.specs.protocol.Splits.{IsPlace, IsUnderWay, open_bytes}
+use Rattle.nbd_wire.specs.protocol.Splits.{IsPlaceOf, IsUnderWayOf, open_bytes}
 use Rattle.nbd_laws.proofs.runs.ClearLemmas.{read_under_way}
 use Rattle.nbd_laws.proofs.runs.PlacingLemmas.{place_law}
 use Rattle.nbd_laws.proofs.runs.PlaceLemmas.{read_no_place}
 use Rattle.nbd_laws.proofs.rows.RowJudgeLemmas.{telling}
-use Rattle.nbd_session.specs.Refusals.{EndsIn, HasNoPlace, IsAccepted, IsComplete, IsOpenEnd, IsRefusal, IsWireFault, LeavesOpen, Refuses}
-use Rattle.nbd_session.specs.Sessions.{HasRun, SessionView, fault_at_end, fault_of, pairs_of, bytes_taken, open_end_fault}
+use Rattle.nbd_session.specs.Refusals.{EndsIn, HasNoPlaceOf, IsAcceptedOf, IsComplete, IsOpenEndOf, IsRefusalOf, IsWireFaultOf, LeavesOpen, Refuses}
+use Rattle.nbd_session.specs.Sessions.{HasRunOf, SessionView, fault_at_end, fault_of, pairs_of, bytes_taken, open_end_fault}
 use Rattle.nbd_session.specs.internal.Standing.{Holding, IsReadTo, held_pairs, with_bytes}
 use Rattle.nbd_session.specs.internal.Steps.{IsKept, IsShut, Stands}
 use Rattle.nbd_session.specs.Incoming.{bytes_come}
@@ -79,7 +80,7 @@ step_of (Err other) fault e = e
 module _ (h : Holding) (machine : Machine) (r : IsReadTo h machine) (s : Side) (more : List ℕ) (entries : ℕ) (filled : IsFilled more)
     (are_pairs : ArePairs (held_pairs (with_bytes h s more entries)))
     (up_to : length ((get machine.rests s).bytes ++ more) ≤ awaited_length (old_of machine.core (get machine.rests s)) machine.core s (get machine.rests s).bytes) where
-  pub stopped : (fault : WireFault) → reads concrete fresh (held_pairs (with_bytes h s more entries)) ≡ Err fault → IsStopped (with_bytes h s more entries) fault
+  pub stopped : (fault : WireFault) → reads concrete (fresh_of h.profile) (held_pairs (with_bytes h s more entries)) ≡ Err fault → IsStopped (with_bytes h s more entries) fault
   stopped fault e =
       let l : HasLast more = some_last more filled in
       let last : Pair = record { from = s; byte = l.last } in
@@ -92,12 +93,12 @@ module _ (h : Holding) (machine : Machine) (r : IsReadTo h machine) (s : Side) (
       ∙ ap (λ bs. held_pairs h ++ side_pairs s bs) l.parts
       ∙ ap (λ ps. held_pairs h ++ ps) (sent-append s l.before (l.last ∷ []))
       ∙ sym (append_assoc (held_pairs h) (side_pairs s l.before) (last ∷ [])) in
-      let prefix_is : reads concrete fresh prefix ≡ Ok g.next =
-      reads-append concrete fresh (held_pairs h) (side_pairs s l.before) ∙ ap (λ o. on_ok o (λ next. reads concrete next (side_pairs s l.before))) r.reads_it ∙ g.reads_it in
+      let prefix_is : reads concrete (fresh_of h.profile) prefix ≡ Ok g.next =
+      reads-append concrete (fresh_of h.profile) (held_pairs h) (side_pairs s l.before) ∙ ap (λ o. on_ok o (λ next. reads concrete next (side_pairs s l.before))) r.reads_it ∙ g.reads_it in
       let refused : on_ok (step concrete g.next last.from last.byte) (λ next. Ok next) ≡ Err fault =
       sym (ap (λ o. on_ok o (λ next. reads concrete next (last ∷ []))) prefix_is)
-      ∙ sym (reads-append concrete fresh prefix (last ∷ []))
-      ∙ ap (reads concrete fresh) (sym parts)
+      ∙ sym (reads-append concrete (fresh_of h.profile) prefix (last ∷ []))
+      ∙ ap (reads concrete (fresh_of h.profile)) (sym parts)
       ∙ e in
       record {
         are_pairs = are_pairs;
@@ -111,9 +112,9 @@ module _ (h : Holding) (machine : Machine) (r : IsReadTo h machine) (s : Side) (
       }
 
 -- what was read without a fault holds every message of each run that begins so
-pub completes_exactly : (ps : List Pair) (end : Machine) (messages : List Message) → ArePairs ps → reads concrete fresh ps ≡ Ok end → end.messages ≡ messages → CompletesExactly ps messages
-completes_exactly ps end messages lt e are items run begins =
-    let r : IsRead concrete fresh ps (within (length ps) items) = marks_law concrete exact items run ps begins.0 lt begins.1 in
+pub completes_exactly : {profile : Profile} (ps : List Pair) (end : Machine) (messages : List Message) → ArePairs ps → reads concrete (fresh_of profile) ps ≡ Ok end → end.messages ≡ messages → CompletesExactlyOf profile ps messages
+completes_exactly {profile} ps end messages lt e are items run begins =
+    let r : IsRead concrete (fresh_of profile) ps (within (length ps) items) = marks_law concrete exact items run ps begins.0 lt begins.1 in
     let q : Ok r.end ≡ Ok end = sym r.reads_it ∙ e in
     let same : r.end ≡ end = cc in
     sym r.messages_are ∙ ap (λ (x : Machine). x.messages) same ∙ are
@@ -134,10 +135,10 @@ but_last (x ∷ ps) (y ∷ qs) p q e =
     let rest : ps ++ p ∷ [] ≡ qs ++ q ∷ [] = cc in
     ap (λ z. z ∷ ps) same ∙ ap (λ l. y ∷ l) (but_last ps qs p q rest)
 
-pub stopped_reads : (h : Holding) (fault : WireFault) (st : IsStopped h fault) → reads concrete fresh (held_pairs h) ≡ Err fault
+pub stopped_reads : (h : Holding) (fault : WireFault) (st : IsStopped h fault) → reads concrete (fresh_of h.profile) (held_pairs h) ≡ Err fault
 stopped_reads h fault st =
-    ap (reads concrete fresh) st.parts
-    ∙ reads-append concrete fresh st.prefix (st.last ∷ [])
+    ap (reads concrete (fresh_of h.profile)) st.parts
+    ∙ reads-append concrete (fresh_of h.profile) st.prefix (st.last ∷ [])
     ∙ ap (λ o. on_ok o (λ next. reads concrete next (st.last ∷ []))) st.reads_it
     ∙ ap (λ o. on_ok o (λ next. Ok next)) st.refused
 
@@ -151,26 +152,26 @@ last_byte [] p a = a.0
 last_byte (q ∷ ps) p a = last_byte ps p a.1
 
 -- where a session was stopped is the place
-stopped_place : (h : Holding) (fault : WireFault) → IsStopped h fault → IsPlace (held_pairs h) h.messages fault
+stopped_place : (h : Holding) (fault : WireFault) → IsStopped h fault → IsPlaceOf h.profile (held_pairs h) h.messages fault
 stopped_place h fault st =
     let are : ArePairs (st.prefix ++ st.last ∷ []) = subst ArePairs st.parts st.are_pairs in
-    subst (λ ps. IsPlace ps h.messages fault) (sym st.parts)
-    (subst (λ ms. IsPlace (st.prefix ++ st.last ∷ []) ms fault) st.messages_are
-    (place_law concrete sound telling st.prefix st.machine st.last (are_prefix st.prefix (st.last ∷ []) are) (last_byte st.prefix st.last are) st.reads_it fault
+    subst (λ ps. IsPlaceOf h.profile ps h.messages fault) (sym st.parts)
+    (subst (λ ms. IsPlaceOf h.profile (st.prefix ++ st.last ∷ []) ms fault) st.messages_are
+    (place_law h.profile concrete sound telling st.prefix st.machine st.last (are_prefix st.prefix (st.last ∷ []) are) (last_byte st.prefix st.last are) st.reads_it fault
     (bad_of st.machine st.last.from (rest_with st.machine.core (get st.machine.rests st.last.from) st.last.byte) _ fault st.refused)))
 
 -- no prefix of what was read without a fault has a place
-placeless : (ps : List Pair) (end : Machine) → reads concrete fresh ps ≡ Ok end → HasNoPlace ps
-placeless ps end e prefix rest messages fault parts place = read_no_place concrete sound exact telling prefix rest end (ap (reads concrete fresh) parts ∙ e) messages fault place
+placeless : {profile : Profile} (ps : List Pair) (end : Machine) → reads concrete (fresh_of profile) ps ≡ Ok end → HasNoPlaceOf profile ps
+placeless {profile} ps end e prefix rest messages fault parts place = read_no_place concrete sound exact telling prefix rest end (ap (reads concrete (fresh_of profile)) parts ∙ e) messages fault place
 
 -- a session that was stopped was refused
-pub refusal : (h : Holding) (fault : WireFault) → IsStopped h fault → IsRefusal (held_pairs h) h.messages fault
+pub refusal : (h : Holding) (fault : WireFault) → IsStopped h fault → IsRefusalOf h.profile (held_pairs h) h.messages fault
 refusal h fault st = record {
   place = stopped_place h fault st;
   none = λ items run begins. none_refused items run (held_pairs h) begins.0 st.are_pairs begins.1 fault (stopped_reads h fault st);
   before = λ prefix last parts.
       (let same : st.prefix ≡ prefix = but_last st.prefix prefix st.last last (sym st.parts ∙ parts) in
-      subst (λ ps. CompletesExactly ps h.messages) same
+      subst (λ ps. CompletesExactlyOf h.profile ps h.messages) same
       (completes_exactly st.prefix st.machine h.messages (are_prefix st.prefix (st.last ∷ []) (subst ArePairs st.parts st.are_pairs)) st.reads_it st.messages_are));
 }
 
@@ -180,18 +181,18 @@ refuses held Memory shut = tt
 refuses held (Wire at fault) shut = (shut.cause.0 ∙ shut.taken_is, refusal (holding_of held) fault shut.cause.1)
 
 -- the messages of a session under way are all that complete within its bytes
-pub stands_exactly : (held : Held) (closed : Option SessionFault) → Stands held → CompletesExactly (pairs_of (session_view held closed)) held.messages.items
+pub stands_exactly : (held : Held) (closed : Option SessionFault) → Stands held → CompletesExactlyOf held.state.profile (pairs_of (session_view held closed)) held.messages.items
 stands_exactly held closed st = completes_exactly (held_pairs (holding_of held)) st.machine held.messages.items st.read_to.are_pairs st.read_to.reads_it st.read_to.messages_are
 
-pub stands_placeless : (held : Held) (closed : Option SessionFault) → Stands held → HasNoPlace (pairs_of (session_view held closed))
+pub stands_placeless : (held : Held) (closed : Option SessionFault) → Stands held → HasNoPlaceOf held.state.profile (pairs_of (session_view held closed))
 stands_placeless held closed st = placeless (held_pairs (holding_of held)) st.machine st.read_to.reads_it
 
-pub stands_under_way : (held : Held) (closed : Option SessionFault) → Stands held → IsUnderWay (pairs_of (session_view held closed)) held.messages.items
+pub stands_under_way : (held : Held) (closed : Option SessionFault) → Stands held → IsUnderWayOf held.state.profile (pairs_of (session_view held closed)) held.messages.items
 stands_under_way held closed st =
-    subst (IsUnderWay (held_pairs (holding_of held))) st.read_to.messages_are
+    subst (IsUnderWayOf held.state.profile (held_pairs (holding_of held))) st.read_to.messages_are
     (read_under_way concrete sound exact telling (held_pairs (holding_of held)) st.machine st.read_to.are_pairs st.read_to.reads_it)
 
-stands_accepted : (held : Held) (closed : Option SessionFault) → Stands held → IsAccepted (pairs_of (session_view held closed)) held.messages.items
+stands_accepted : (held : Held) (closed : Option SessionFault) → Stands held → IsAcceptedOf held.state.profile (pairs_of (session_view held closed)) held.messages.items
 stands_accepted held closed st = record { under_way = stands_under_way held closed st; placeless = stands_placeless held closed st; all = stands_exactly held closed st }
 
 within_all : (items : List Item) → within (length (pairs items)) items ≡ completed_messages items
@@ -202,7 +203,7 @@ within_all (Completes s m ∷ items) = ap (λ l. m ∷ l) (within_all items)
 within_all (Serves k ∷ items) = within_all items
 
 -- the open bytes of a session under way are those that a run with its bytes and messages leaves
-opens : (ps : List Pair) (messages : List Message) (client server : List ℕ) → (u : IsUnderWay ps messages) → HasRun ps messages client server → (open_bytes Client u.items ≡ client) × (open_bytes Server u.items ≡ server)
+opens : {profile : Profile} (ps : List Pair) (messages : List Message) (client server : List ℕ) → (u : IsUnderWayOf profile ps messages) → HasRunOf profile ps messages client server → (open_bytes Client u.items ≡ client) × (open_bytes Server u.items ≡ server)
 opens ps messages client server u has =
     let here : AreBytesOf u.items (open_bytes Client u.items) (open_bytes Server u.items) = run_bytes u.items (open_bytes Client u.items) (open_bytes Server u.items) u.split.run in
     let there : AreBytesOf has.items client server = run_bytes has.items client server has.is_run in
@@ -217,16 +218,16 @@ opens ps messages client server u has =
         ∙ there
         ∙ ap (λ ms. bytes_of s ms ++ b) has.has_messages)
 
-some_open : (ps : List Pair) (messages : List Message) (client server : List ℕ) → (u : IsUnderWay ps messages) → HasRun ps messages client server → ((client ≡ []) × (server ≡ []) → ⊥) → LeavesOpen u.items
+some_open : {profile : Profile} (ps : List Pair) (messages : List Message) (client server : List ℕ) → (u : IsUnderWayOf profile ps messages) → HasRunOf profile ps messages client server → ((client ≡ []) × (server ≡ []) → ⊥) → LeavesOpen u.items
 some_open ps messages [] [] u has some = absurd (some (refl, refl))
 some_open ps messages (b ∷ client) server u has some = inl (λ e. (let q : b ∷ client ≡ [] = sym (opens ps messages (b ∷ client) server u has).0 ∙ e in cc))
 some_open ps messages [] (b ∷ server) u has some = inr (λ e. (let q : b ∷ server ≡ [] = sym (opens ps messages [] (b ∷ server) u has).1 ∙ e in cc))
 
 -- where bytes that were taken without a fault stand after the messages of a run, no run has exactly the bytes
-pub open_end_of : (ps : List Pair) (messages : List Message) (client server : List ℕ) → HasRun ps messages client server → IsAccepted ps messages → ((client ≡ []) × (server ≡ []) → ⊥) → IsOpenEnd ps messages
-open_end_of ps messages client server has accepted some = record { accepted = accepted; leaves_open = some_open ps messages client server accepted.under_way has some; none = none }
+pub open_end_of : {profile : Profile} (ps : List Pair) (messages : List Message) (client server : List ℕ) → HasRunOf profile ps messages client server → IsAcceptedOf profile ps messages → ((client ≡ []) × (server ≡ []) → ⊥) → IsOpenEndOf profile ps messages
+open_end_of {profile} ps messages client server has accepted some = record { accepted = accepted; leaves_open = some_open ps messages client server accepted.under_way has some; none = none }
   where
-    none : IsOfNoRun ps
+    none : IsOfNoRunOf profile ps
     none items run is =
         let are : completed_messages items ≡ messages = sym (within_all items) ∙ ap (λ n. within n items) (ap length is) ∙ accepted.all items run ([], is ∙ sym (append-nil ps)) in
         let here : AreBytesOf items [] [] = run_bytes items [] [] run in
@@ -238,7 +239,7 @@ open_end_of ps messages client server has accepted some = record { accepted = ac
             append_cancel_left (bytes_of s messages) rest []
             (ap (λ ms. bytes_of s ms ++ rest) (sym has.has_messages) ∙ sym there ∙ ap (bytes_from s) (has.has_pairs ∙ sym is) ∙ here ∙ ap (λ ms. bytes_of s ms ++ []) are)
 
-held_run : (held : Held) → Stands held → HasRun (held_pairs (holding_of held)) held.messages.items (bytes_come held.client) (bytes_come held.server)
+held_run : (held : Held) → Stands held → HasRunOf held.state.profile (held_pairs (holding_of held)) held.messages.items (bytes_come held.client) (bytes_come held.server)
 held_run held st =
     let r = read_is_run_but (held_pairs (holding_of held)) st.machine held.messages.items (bytes_come held.client) (bytes_come held.server) st.read_to.are_pairs st.read_to.reads_it
     st.read_to.messages_are (st.read_to.rests_are Client) (st.read_to.rests_are Server) in
@@ -305,6 +306,6 @@ is_complete held closed r kept same = subst IsComplete same (go closed kept)
     go (Some fault) shut = refuses held fault shut
 
 -- a capture with a wire fault has no run
-pub no_run_of : (capture : List Pair) (messages : List Message) (at : ℕ) (fault : WireFault) → IsWireFault capture messages at fault → IsOfNoRun capture
+pub no_run_of : {profile : Profile} (capture : List Pair) (messages : List Message) (at : ℕ) (fault : WireFault) → IsWireFaultOf profile capture messages at fault → IsOfNoRunOf profile capture
 no_run_of capture messages at fault (inl r) items run has = r.refusal.none items run (r.rest, has ∙ sym r.parts)
 no_run_of capture messages at fault (inr r) items run has = r.2.none items run has

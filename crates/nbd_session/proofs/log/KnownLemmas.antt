@@ -1,5 +1,7 @@
 -- The first reply to start is the first to complete, with the count of its start.
 use Rattle.std.proofs.Common.{◌≡◌, ℕ, ◌==◌, ◌⊎◌, List, [], ◌∷◌, ◌++◌, length, refl, sym, ◌∙◌, ap, subst, inl, inr, Option, Some, None, Bool, true, false, is_some, IsTrue}
+use Rattle.nbd_wire.specs.declared.profile.Profile.TheVariants.{Base}
+use Rattle.nbd_wire.specs.declared.profile.Profile.{Profile}
 use Rattle.nbd_wire.specs.declared.message.Side.{Side}
 use Rattle.nbd_wire.specs.declared.message.Side.TheVariants.{Client, Server}
 use Rattle.nbd_wire.specs.declared.message.Message.{Message}
@@ -8,15 +10,17 @@ use Rattle.nbd_wire.specs.protocol.Marks.{Item}
 use Rattle.nbd_wire.specs.protocol.Options.{turn}
 use Rattle.nbd_wire.specs.protocol.Reports.{first_known, known_count, known_from, known_if as known_as}
 use Rattle.nbd_wire.specs.protocol.Operations.{Operation, Exporting}
-use Rattle.nbd_wire.specs.protocol.Rules.{IsRun, MayComplete, MayStartIn, request_of_reply, complete, cookie_of, target_of}
+use Rattle.nbd_wire.specs.protocol.Rules.{IsRunOf, MayComplete, MayStartIn, request_of_reply, complete, cookie_of, target_of}
 use Rattle.nbd_wire.specs.protocol.Sides.{side}
-use Rattle.nbd_wire.specs.protocol.States.{Core, Phase, Greet, Flags, Choosing, Naming, Aborting, Answering, Ended, Transmission, start, target}
+use Rattle.nbd_wire.specs.protocol.States.{start, Core, Phase, Greet, Flags, Choosing, Naming, Aborting, Answering, Ended, Transmission, start_of, target}
 use Rattle.nbd_state.specs.Logs.{known_by, known_here, known_if}
 use Rattle.nbd_session.proofs.log.Logs.{log_from, log_of}
 use Rattle.nbd_laws.specs.internal.Machine.{Both, get, put}
 use Rattle.nbd_laws.proofs.machine.MachineLemmas.{Busy, Idle, IsNotBusy, Later, Later-trans, Loose, Open, Walk, at_once, behind, ended, final, get-put_other, get-put_same, loose, middle, opening, same_or_not, serving}
 use Rattle.nbd_laws.proofs.runs.FollowLemmas.{Follows, IsBegun, each_with, follows}
 use Rattle.nbd_laws.proofs.judge.PhaseLemmas.{IsAppended, IsTransmitting, Later-appended, Later-turn, target-append}
+use Rattle.nbd_session.proofs.log.FoldLemmas.{known_by_with}
+use Rattle.nbd_laws.proofs.runs.ProfileLemmas.{known_at_base}
 use Rattle.nbd_laws.proofs.runs.RunLemmas.{walk_of}
 
 -- a side's message begins in its turn, or in transmission
@@ -137,5 +141,8 @@ known_walk {o} (final Server m b {items = items} i w) core f all since k =
 known_walk (loose s b p i w) core f all since k = absurd p
 
 -- what a run knows is what its log knows
-pub known-log : (items : List Item) → IsRun items → (k : ℕ) → known_count items k ≡ known_by start.core k (log_of items)
-known-log items run k = sym (known_walk (walk_of run) start.core (follows items start run.obeys) (elim [ Client ↦ tt | Server ↦ tt ]) (record { client = 0; server = 0 }) k)
+pub known-log : {profile : Profile} (items : List Item) → IsRunOf profile items → (k : ℕ) → known_count items k ≡ known_by start.core k (log_of profile items)
+known-log {profile} items run k =
+    sym (known_at_base profile items k)
+    ∙ sym (known_walk (walk_of run) (start_of profile).core (follows items (start_of profile) run.obeys) (elim [ Client ↦ tt | Server ↦ tt ]) (record { client = 0; server = 0 }) k)
+    ∙ sym (known_by_with Base (start_of profile).core k (log_of profile items))

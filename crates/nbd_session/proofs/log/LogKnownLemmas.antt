@@ -1,34 +1,35 @@
 -- What a log knows is of requests that have completed.
 use Rattle.std.proofs.Common.{◌≡◌, ℕ, ◌≤◌, List, [], ◌∷◌, ◌++◌, length, ◌∙◌, ap, Ok, Some, append-nil}
+use Rattle.nbd_wire.specs.declared.profile.Profile.{Profile}
 use Rattle.nbd_wire.specs.declared.message.Message.{Message}
 use Rattle.nbd_wire.specs.declared.message.Side.{Side}
 use Rattle.nbd_wire.specs.protocol.Captures.{Pair, side_pairs}
 use Rattle.nbd_wire.specs.protocol.Rules.{request_of_reply}
-use Rattle.nbd_wire.specs.protocol.States.{start}
+use Rattle.nbd_wire.specs.protocol.States.{start, start_of}
 use Rattle.nbd_laws.specs.internal.Concrete.{concrete}
 use Rattle.nbd_laws.specs.internal.Judge.{awaited_length}
 use Rattle.nbd_state.specs.Logs.{LogEntry, known_by}
 use Rattle.nbd_session.specs.internal.Logging.{log_with, log_of_pairs}
 use Rattle.nbd_laws.proofs.machine.MachineLemmas.{AreHeld}
-use Rattle.nbd_laws.specs.internal.Machine.{IsFilled, Judge, Machine, More, Whole, fresh, get, old_of, reads}
+use Rattle.nbd_laws.specs.internal.Machine.{IsFilled, Judge, Machine, More, Whole, fresh_of, get, old_of, reads}
 use Rattle.nbd_laws.proofs.judge.BlockLemmas.{extended}
 use Rattle.nbd_session.proofs.log.CountLemmas.{count_of}
 use Rattle.nbd_state.proofs.KnownLemmas.{known_here-other, known_or, or_none}
 use Rattle.nbd_session.proofs.log.LogStepLemmas.{known-next, logged-piece}
 
 -- one that does not changes nothing of it
-pub known-unanswered : (judge : Judge) (ps : List Pair) (machine : Machine) (k : ℕ) (l : LogEntry) → reads judge fresh ps ≡ Ok machine → (request_of_reply machine.core l.message ≡ Some k → ⊥) →
-    known_by start.core k (log_of_pairs judge fresh ps ++ l ∷ []) ≡ known_by start.core k (log_of_pairs judge fresh ps)
-known-unanswered judge ps machine k l e ne =
-    known-next judge ps machine k l e ∙ ap (known_or (known_by start.core k (log_of_pairs judge fresh ps))) (known_here-other (request_of_reply machine.core l.message) l.known k ne) ∙ or_none (known_by start.core k (log_of_pairs judge fresh ps))
+pub known-unanswered : (profile : Profile) (judge : Judge) (ps : List Pair) (machine : Machine) (k : ℕ) (l : LogEntry) → reads judge (fresh_of profile) ps ≡ Ok machine → (request_of_reply machine.core l.message ≡ Some k → ⊥) →
+    known_by start.core k (log_of_pairs judge (fresh_of profile) ps ++ l ∷ []) ≡ known_by start.core k (log_of_pairs judge (fresh_of profile) ps)
+known-unanswered profile judge ps machine k l e ne =
+    known-next profile judge ps machine k l e ∙ ap (known_or (known_by start.core k (log_of_pairs judge (fresh_of profile) ps))) (known_here-other (request_of_reply machine.core l.message) l.known k ne) ∙ or_none (known_by start.core k (log_of_pairs judge (fresh_of profile) ps))
 
-module _ (ps : List Pair) (machine : Machine) (s : Side) (more : List ℕ) (e : reads concrete fresh ps ≡ Ok machine) (held : AreHeld concrete machine) (f : IsFilled more)
+module _ (profile : Profile) (ps : List Pair) (machine : Machine) (s : Side) (more : List ℕ) (e : reads concrete (fresh_of profile) ps ≡ Ok machine) (held : AreHeld concrete machine) (f : IsFilled more)
     (l : length ((get machine.rests s).bytes ++ more) ≤ awaited_length (old_of machine.core (get machine.rests s)) machine.core s (get machine.rests s).bytes) where
   -- a piece that completes a message
   pub logged-whole : (m : Message) → concrete (old_of machine.core (get machine.rests s)) machine.core s ((get machine.rests s).bytes ++ more) ≡ Whole m →
-      log_of_pairs concrete fresh (ps ++ side_pairs s more) ≡ log_of_pairs concrete fresh ps ++ record { message = m; known = count_of machine.core (get machine.rests s) } ∷ []
-  logged-whole m is = logged-piece ps machine s more e held f l ∙ ap (λ r. log_of_pairs concrete fresh ps ++ log_with (extended machine.core (get machine.rests s) more) r) is
+      log_of_pairs concrete (fresh_of profile) (ps ++ side_pairs s more) ≡ log_of_pairs concrete (fresh_of profile) ps ++ record { message = m; known = count_of machine.core (get machine.rests s) } ∷ []
+  logged-whole m is = logged-piece profile ps machine s more e held f l ∙ ap (λ r. log_of_pairs concrete (fresh_of profile) ps ++ log_with (extended machine.core (get machine.rests s) more) r) is
 
   -- a piece that is kept
-  pub logged-kept : concrete (old_of machine.core (get machine.rests s)) machine.core s ((get machine.rests s).bytes ++ more) ≡ More → log_of_pairs concrete fresh (ps ++ side_pairs s more) ≡ log_of_pairs concrete fresh ps
-  logged-kept is = logged-piece ps machine s more e held f l ∙ ap (λ r. log_of_pairs concrete fresh ps ++ log_with (extended machine.core (get machine.rests s) more) r) is ∙ append-nil (log_of_pairs concrete fresh ps)
+  pub logged-kept : concrete (old_of machine.core (get machine.rests s)) machine.core s ((get machine.rests s).bytes ++ more) ≡ More → log_of_pairs concrete (fresh_of profile) (ps ++ side_pairs s more) ≡ log_of_pairs concrete (fresh_of profile) ps
+  logged-kept is = logged-piece profile ps machine s more e held f l ∙ ap (λ r. log_of_pairs concrete (fresh_of profile) ps ++ log_with (extended machine.core (get machine.rests s) more) r) is ∙ append-nil (log_of_pairs concrete (fresh_of profile) ps)

@@ -1,5 +1,7 @@
 -- What completes while a machine reads a run's pairs is what completes in the run, with the same counts.
 use Rattle.std.proofs.Common.{◌≡◌, ℕ, zero, suc, ◌<◌, ◌≤◌, List, [], ◌∷◌, ◌++◌, length, refl, sym, ◌∙◌, ap, subst, inl, inr, Option, Ok, append_assoc, append-nil, arith, eq-or-lt_of_le}
+use Rattle.nbd_wire.specs.declared.profile.Profile.TheVariants.{Base}
+use Rattle.nbd_wire.specs.declared.profile.Profile.{Profile}
 use Rattle.nbd_wire.specs.declared.message.Side.{Side}
 use Rattle.nbd_wire.specs.declared.message.Side.TheVariants.{Client, Server}
 use Rattle.nbd_wire.specs.declared.message.Message.{Message}
@@ -7,8 +9,8 @@ use Rattle.nbd_wire.specs.protocol.Encoding.{enc}
 use Rattle.nbd_wire.specs.protocol.Captures.{ArePairs, Pair}
 use Rattle.nbd_wire.specs.protocol.Marks.{Item, completed_messages, pairs}
 use Rattle.nbd_wire.specs.protocol.Reports.{Report, known_count, report, asked_list}
-use Rattle.nbd_wire.specs.protocol.Rules.{IsRun, MayComplete, complete, ends_at}
-use Rattle.nbd_wire.specs.protocol.States.{Core, start, export_in}
+use Rattle.nbd_wire.specs.protocol.Rules.{IsRunOf, MayComplete, complete, ends_at}
+use Rattle.nbd_wire.specs.protocol.States.{start, Core, start_of, export_in}
 use Rattle.nbd_session.proofs.log.FoldLemmas.{core_of}
 use Rattle.nbd_state.specs.Logs.{LogEntry, known_by}
 use Rattle.nbd_session.specs.internal.Logging.{log_with, log_of_pairs, log_of_rest}
@@ -17,12 +19,14 @@ use Rattle.nbd_wire.specs.declared.entry.Entry.{Entry}
 use Rattle.nbd_wire.specs.protocol.Entries.{Names, NamesWhole, whole}
 use Rattle.nbd_laws.proofs.service.EntryLemmas.{Names-push_cases, NamesWhole-left, NamesWhole-push}
 use Rattle.nbd_laws.proofs.machine.MachineLemmas.{AreHeld, Busy, Idle, IsFilled-snoc, IsSound, IsSoundAt, Loose, Open, Walk, at_once, ended, final, get-put_same, held_more, held_whole, kept_next, loose, middle, old-empty, old-filled, opening, serving, with_byte}
-use Rattle.nbd_laws.specs.internal.Machine.{Bad, Both, IsFilled, Judge, Machine, More, Reading, Rest, Whole, fresh, get, rest_with, old_of, on_ok, put, reads, settle}
+use Rattle.nbd_laws.specs.internal.Machine.{Bad, Both, IsFilled, Judge, Machine, More, Reading, Rest, Whole, fresh_of, get, rest_with, old_of, on_ok, put, reads, settle}
 use Rattle.nbd_session.proofs.log.FoldLemmas.{core_is, ends_folded}
 use Rattle.nbd_laws.proofs.runs.FollowLemmas.{Follows, HasEnd, IsBegun, IsSidedOpen, completes_later, each_with, follows}
 use Rattle.nbd_laws.proofs.runs.PrefixLemmas.{IsSame, same_message}
 use Rattle.nbd_session.proofs.log.KnownLemmas.{known-log}
 use Rattle.nbd_laws.proofs.machine.MarkLemmas.{AreInStep, InStep, in_step_completed, in_step_sided, in_step_with, within_middle, within_opening}
+use Rattle.nbd_laws.specs.Profiles.{with_profile}
+use Rattle.nbd_laws.proofs.runs.ProfileLemmas.{at_base}
 use Rattle.nbd_laws.proofs.runs.RunLemmas.{fresh_held, run_law, walk_of}
 use Rattle.nbd_laws.proofs.runs.TraceLemmas.{Guess, IsCanonical, IsTrace, enc-long, not_empty, trace}
 use Rattle.nbd_laws.proofs.service.ServiceLemmas.{same_reports}
@@ -215,32 +219,33 @@ module _ (judge : Judge) (sd : IsSound judge) (end : Machine) (none : (s : Side)
   logs (loose s b absent i w) machine f st hd lt e = absurd absent
 
 -- the log of any run with the pairs that the machine read to their end
-pub run_log : (judge : Judge) → IsSound judge → (ps : List Pair) (end : Machine) → ArePairs ps → reads judge fresh ps ≡ Ok end → ((s : Side) → (get end.rests s).bytes ≡ []) →
-    (items : List Item) → IsRun items → pairs items ≡ ps → log_of items ≡ log_of_pairs judge fresh ps
-run_log judge sd ps end lt e none items run has =
-    logs judge sd end none (walk_of run) fresh (follows items start run.obeys) (elim [ Client ↦ refl | Server ↦ refl ]) (fresh_held judge) (subst ArePairs (sym has) lt) (subst (λ q. reads judge fresh q ≡ Ok end) (sym has) e)
-    ∙ ap (log_of_pairs judge fresh) has
+pub run_log : {profile : Profile} (judge : Judge) → IsSound judge → (ps : List Pair) (end : Machine) → ArePairs ps → reads judge (fresh_of profile) ps ≡ Ok end → ((s : Side) → (get end.rests s).bytes ≡ []) →
+    (items : List Item) → IsRunOf profile items → pairs items ≡ ps → log_of profile items ≡ log_of_pairs judge (fresh_of profile) ps
+run_log {profile} judge sd ps end lt e none items run has =
+    logs judge sd end none (walk_of run) (fresh_of profile) (follows items (start_of profile) run.obeys) (elim [ Client ↦ refl | Server ↦ refl ]) (fresh_held judge) (subst ArePairs (sym has) lt) (subst (λ q. reads judge (fresh_of profile) q ≡ Ok end) (sym has) e)
+    ∙ ap (log_of_pairs judge (fresh_of profile)) has
 
 -- what such a run knows
-pub run_known : (judge : Judge) → IsSound judge → (ps : List Pair) (end : Machine) → ArePairs ps → reads judge fresh ps ≡ Ok end → ((s : Side) → (get end.rests s).bytes ≡ []) →
-    (items : List Item) → IsRun items → pairs items ≡ ps → (k : ℕ) → known_count items k ≡ known_by start.core k (log_of_pairs judge fresh ps)
+pub run_known : {profile : Profile} (judge : Judge) → IsSound judge → (ps : List Pair) (end : Machine) → ArePairs ps → reads judge (fresh_of profile) ps ≡ Ok end → ((s : Side) → (get end.rests s).bytes ≡ []) →
+    (items : List Item) → IsRunOf profile items → pairs items ≡ ps → (k : ℕ) → known_count items k ≡ known_by start.core k (log_of_pairs judge (fresh_of profile) ps)
 run_known judge sd ps end lt e none items run has k = known-log items run k ∙ ap (known_by start.core k) (run_log judge sd ps end lt e none items run has)
 
 abbrev reported : Core → (ℕ → Option ℕ) → Report
 reported core known_at = record { export = export_in core.phase; asked = asked_list 0 (export_in core.phase) known_at core.entries }
 
-report_of : (judge : Judge) → IsSound judge → (ps : List Pair) (end : Machine) → ArePairs ps → reads judge fresh ps ≡ Ok end → ((s : Side) → (get end.rests s).bytes ≡ []) →
-    (items : List Item) → IsRun items → pairs items ≡ ps → completed_messages items ≡ end.messages → report items ≡ report_by end.core (log_of_pairs judge fresh ps)
+report_of : {profile : Profile} (judge : Judge) → IsSound judge → (ps : List Pair) (end : Machine) → ArePairs ps → reads judge (fresh_of profile) ps ≡ Ok end → ((s : Side) → (get end.rests s).bytes ≡ []) →
+    (items : List Item) → IsRunOf profile items → pairs items ≡ ps → completed_messages items ≡ end.messages → report items ≡ report_by end.core (log_of_pairs judge (fresh_of profile) ps)
 unfolding report
-report_of judge sd ps end lt e none items run has messages =
-    let log : List LogEntry = log_of_pairs judge fresh ps in
-    let core_same : (ends_at start items).core ≡ end.core = ends_folded items start ∙ ap core_of messages ∙ sym (core_is judge ps end e) in
+report_of {profile} judge sd ps end lt e none items run has messages =
+    let log : List LogEntry = log_of_pairs judge (fresh_of profile) ps in
+    let core_same : (ends_at start items).core ≡ with_profile Base end.core =
+    sym (at_base profile items) ∙ ap (with_profile Base) (ends_folded items (start_of profile) ∙ ap (core_of profile) messages ∙ sym (core_is profile judge ps end e)) in
     ap (λ known_at. reported (ends_at start items).core known_at) (λ j k. run_known judge sd ps end lt e none items run has k j)
     ∙ ap (λ core. report_by core log) core_same
 
 -- the report of any run with these pairs
-pub run_report : (judge : Judge) → IsSound judge → (ps : List Pair) (end : Machine) → ArePairs ps → reads judge fresh ps ≡ Ok end → ((s : Side) → (get end.rests s).bytes ≡ []) →
-    (items : List Item) → IsRun items → pairs items ≡ ps → report items ≡ report_by end.core (log_of_pairs judge fresh ps)
-run_report judge sd ps end lt e none items run has =
-    let r : (there : List Item) × IsRun there × (pairs there ≡ ps) × (completed_messages there ≡ end.messages) = run_law judge sd ps end lt e none in
-    same_reports items r.0 run r.1 (has ∙ sym r.2) ∙ report_of judge sd ps end lt e none r.0 r.1 r.2 r.3
+pub run_report : {profile : Profile} (judge : Judge) → IsSound judge → (ps : List Pair) (end : Machine) → ArePairs ps → reads judge (fresh_of profile) ps ≡ Ok end → ((s : Side) → (get end.rests s).bytes ≡ []) →
+    (items : List Item) → IsRunOf profile items → pairs items ≡ ps → report items ≡ report_by end.core (log_of_pairs judge (fresh_of profile) ps)
+run_report {profile} judge sd ps end lt e none items run has =
+    let r : (there : List Item) × IsRunOf profile there × (pairs there ≡ ps) × (completed_messages there ≡ end.messages) = run_law judge sd ps end lt e none in
+    same_reports profile items r.0 run r.1 (has ∙ sym r.2) ∙ report_of judge sd ps end lt e none r.0 r.1 r.2 r.3

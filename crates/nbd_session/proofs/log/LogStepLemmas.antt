@@ -1,11 +1,13 @@
 -- A log, step by step: by one more piece, and by one more message.
 use Rattle.std.proofs.Common.{◌≡◌, ℕ, ◌<◌, ◌≤◌, List, [], ◌∷◌, ◌++◌, length, refl, sym, ◌∙◌, ap, subst, Result, Ok, Err, None, append_assoc, append-nil, arith, length-append}
+use Rattle.nbd_wire.specs.declared.profile.Profile.TheVariants.{Base}
+use Rattle.nbd_wire.specs.declared.profile.Profile.{Profile}
 use Rattle.nbd_wire.specs.declared.message.Side.{Side}
 use Rattle.nbd_wire.specs.protocol.Marks.{Item, pairs}
 use Rattle.nbd_wire.specs.protocol.Captures.{Pair, ArePairs, side_pairs}
 use Rattle.nbd_wire.specs.protocol.Reports.{report}
-use Rattle.nbd_wire.specs.protocol.Rules.{IsRun, request_of_reply, complete}
-use Rattle.nbd_wire.specs.protocol.States.{Core, start}
+use Rattle.nbd_wire.specs.protocol.Rules.{IsRunOf, request_of_reply, complete}
+use Rattle.nbd_wire.specs.protocol.States.{start, Core, start_of}
 use Rattle.nbd_wire.specs.declared.fault.WireFault.{WireFault}
 use Rattle.nbd_laws.specs.internal.Concrete.{concrete}
 use Rattle.nbd_state.specs.Completions.{core_from}
@@ -13,9 +15,10 @@ use Rattle.nbd_laws.specs.internal.Judge.{awaited_length}
 use Rattle.nbd_state.specs.Logs.{LogEntry, known_by, known_here, messages_of}
 use Rattle.nbd_session.specs.internal.Logging.{log_with, log_of_pairs, log_of_rest}
 use Rattle.nbd_session.proofs.log.Logs.{report_by}
-use Rattle.nbd_state.proofs.KnownLemmas.{known_by-snoc, known_or}
+use Rattle.nbd_laws.specs.Profiles.{with_profile}
+use Rattle.nbd_state.proofs.KnownLemmas.{core_from_with, known_by-snoc, known_or}
 use Rattle.nbd_laws.proofs.machine.MachineLemmas.{AreHeld, IsFilled-snoc, get-put_same, old-filled, with_byte}
-use Rattle.nbd_laws.specs.internal.Machine.{Bad, IsFilled, Judge, Machine, More, Reading, Rest, Whole, fresh, get, rest_with, old_of, on_ok, put, reads, settle, step}
+use Rattle.nbd_laws.specs.internal.Machine.{Bad, IsFilled, Judge, Machine, More, Reading, Rest, Whole, fresh_of, get, rest_with, old_of, on_ok, put, reads, settle, step}
 use Rattle.nbd_laws.proofs.judge.AwaitedLemmas.{held_short}
 use Rattle.nbd_laws.proofs.judge.BlockLemmas.{GoesOn, extended}
 use Rattle.nbd_session.proofs.log.FoldLemmas.{core_is}
@@ -97,19 +100,20 @@ logged_up_to machine s more held f l =
     logged_at_once concrete machine s (awaited_length (old_of machine.core (get machine.rests s)) machine.core s (get machine.rests s).bytes) more f l (held_short (held s)).goes
 
 -- the log of the pairs so far and of one more piece
-pub logged-piece : (ps : List Pair) (machine : Machine) (s : Side) (more : List ℕ) → reads concrete fresh ps ≡ Ok machine → AreHeld concrete machine → IsFilled more →
+pub logged-piece : (profile : Profile) (ps : List Pair) (machine : Machine) (s : Side) (more : List ℕ) → reads concrete (fresh_of profile) ps ≡ Ok machine → AreHeld concrete machine → IsFilled more →
     length ((get machine.rests s).bytes ++ more) ≤ awaited_length (old_of machine.core (get machine.rests s)) machine.core s (get machine.rests s).bytes →
-    log_of_pairs concrete fresh (ps ++ side_pairs s more) ≡ log_of_pairs concrete fresh ps ++ log_with (extended machine.core (get machine.rests s) more) (concrete (old_of machine.core (get machine.rests s)) machine.core s ((get machine.rests s).bytes ++ more))
-logged-piece ps machine s more e held f l = logged-append concrete ps (side_pairs s more) fresh machine e ∙ ap (λ l. log_of_pairs concrete fresh ps ++ l) (logged_up_to machine s more held f l)
+    log_of_pairs concrete (fresh_of profile) (ps ++ side_pairs s more) ≡ log_of_pairs concrete (fresh_of profile) ps ++ log_with (extended machine.core (get machine.rests s) more) (concrete (old_of machine.core (get machine.rests s)) machine.core s ((get machine.rests s).bytes ++ more))
+logged-piece profile ps machine s more e held f l = logged-append concrete ps (side_pairs s more) (fresh_of profile) machine e ∙ ap (λ l. log_of_pairs concrete (fresh_of profile) ps ++ l) (logged_up_to machine s more held f l)
 
 -- from the start, where the machine stands
-pub known-next : (judge : Judge) (ps : List Pair) (machine : Machine) (k : ℕ) (l : LogEntry) → reads judge fresh ps ≡ Ok machine →
-    known_by start.core k (log_of_pairs judge fresh ps ++ l ∷ []) ≡ known_or (known_by start.core k (log_of_pairs judge fresh ps)) (known_here (request_of_reply machine.core l.message) l.known k None)
-known-next judge ps machine k l e =
-    known_by-snoc start.core k (log_of_pairs judge fresh ps) l
-    ∙ ap (λ (c : Core). known_or (known_by start.core k (log_of_pairs judge fresh ps)) (known_here (request_of_reply c l.message) l.known k None))
-    (ap (core_from start.core) (logged_messages judge ps fresh machine e) ∙ sym (core_is judge ps machine e))
+pub known-next : (profile : Profile) (judge : Judge) (ps : List Pair) (machine : Machine) (k : ℕ) (l : LogEntry) → reads judge (fresh_of profile) ps ≡ Ok machine →
+    known_by start.core k (log_of_pairs judge (fresh_of profile) ps ++ l ∷ []) ≡ known_or (known_by start.core k (log_of_pairs judge (fresh_of profile) ps)) (known_here (request_of_reply machine.core l.message) l.known k None)
+known-next profile judge ps machine k l e =
+    known_by-snoc start.core k (log_of_pairs judge (fresh_of profile) ps) l
+    ∙ ap (λ (c : Core). known_or (known_by start.core k (log_of_pairs judge (fresh_of profile) ps)) (known_here (request_of_reply c l.message) l.known k None))
+    (core_from_with Base (start_of profile).core (messages_of (log_of_pairs judge (fresh_of profile) ps))
+    ∙ ap (with_profile Base) (ap (core_from (start_of profile).core) (logged_messages judge ps (fresh_of profile) machine e) ∙ sym (core_is profile judge ps machine e)))
 
-pub read_report : (ps : List Pair) (end : Machine) → ArePairs ps → reads concrete fresh ps ≡ Ok end → ((s : Side) → (get end.rests s).bytes ≡ []) →
-    (items : List Item) → IsRun items → pairs items ≡ ps → report items ≡ report_by end.core (log_of_pairs concrete fresh ps)
+pub read_report : {profile : Profile} (ps : List Pair) (end : Machine) → ArePairs ps → reads concrete (fresh_of profile) ps ≡ Ok end → ((s : Side) → (get end.rests s).bytes ≡ []) →
+    (items : List Item) → IsRunOf profile items → pairs items ≡ ps → report items ≡ report_by end.core (log_of_pairs concrete (fresh_of profile) ps)
 read_report = run_report concrete sound

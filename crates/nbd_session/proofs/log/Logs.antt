@@ -1,9 +1,10 @@
 -- The log of a run, and what a log states of each request.
 use Rattle.std.specs.Prelude.{ℕ, List, [], ◌∷◌, length}
+use Rattle.nbd_wire.specs.declared.profile.Profile.{Profile}
 use Rattle.nbd_wire.specs.protocol.Marks.{Item, Byte, Starts, Completes, Serves}
 use Rattle.nbd_wire.specs.protocol.Reports.{Report, asked_list}
 use Rattle.nbd_wire.specs.protocol.Rules.{complete}
-use Rattle.nbd_wire.specs.protocol.States.{Core, start, export_in}
+use Rattle.nbd_wire.specs.protocol.States.{Core, start, start_of, export_in}
 use Rattle.nbd_laws.specs.internal.Machine.{Both, get, put}
 use Rattle.nbd_state.specs.Logs.{LogEntry, known_by}
 
@@ -16,8 +17,8 @@ log_from core since (Completes s m ∷ items) = record { message = m; known = ge
 log_from core since (Serves k ∷ items) = log_from core since items
 
 -- what completes in a run
-abbrev pub log_of : List Item → List LogEntry
-log_of items = log_from start.core (record { client = 0; server = 0 }) items
+abbrev pub log_of : Profile → List Item → List LogEntry
+log_of profile items = log_from (start_of profile).core (record { client = 0; server = 0 }) items
 
 -- what a core and the log before it state
 abbrev pub report_by : Core → List LogEntry → Report

@@ -5,7 +5,7 @@ use Rattle.nbd_wire.specs.declared.message.Side.TheVariants.{Client, Server}
 use Rattle.nbd_wire.specs.protocol.Marks.{Item, pairs}
 use Rattle.nbd_wire.specs.protocol.Reports.{report, asked_of, asked_list}
 use Rattle.nbd_wire.specs.protocol.Operations.{Operation, Exporting}
-use Rattle.nbd_wire.specs.protocol.Rules.{IsRun, IsRunBut}
+use Rattle.nbd_wire.specs.protocol.Rules.{IsRunOf, IsRunBut}
 use Rattle.nbd_wire.specs.protocol.States.{Core, Phase, Greet, Flags, Choosing, Naming, Aborting, Answering, Ended, Transmission, start, export_in}
 use Rattle.nbd_state.specs.declared.asked.Exchange.{Exchange}
 use Rattle.nbd_session.specs.declared.held.Held.{Held}
@@ -15,7 +15,7 @@ use Rattle.nbd_session.specs.internal.Holdings.{holding_of}
 use Rattle.nbd_state.specs.Logs.{LogEntry, known_by}
 use Rattle.nbd_session.specs.internal.Logging.{log_of_pairs}
 use Rattle.nbd_session.proofs.log.Logs.{report_by}
-use Rattle.nbd_laws.specs.internal.Machine.{fresh, get}
+use Rattle.nbd_laws.specs.internal.Machine.{fresh_of, get}
 use Rattle.nbd_session.specs.Sessions.{IsReported}
 use Rattle.nbd_state.specs.Showing.{IsShown, exporting_if}
 use Rattle.nbd_state.specs.Shows.{AreKnown, AreShown, Shows, phase_shown}
@@ -89,18 +89,18 @@ module _ (held : Held) (st : Stands held) (client : (bytes_come held.client) ≡
   none_left Server = st.read_to.rests_are Server ∙ server
 
   -- any run with these bytes has what is told as its report
-  told_of : (items : List Item) → IsRun items → pairs items ≡ held_pairs (holding_of held) → report items ≡ transcript_report (export_of held.state.phase) held.state.exchanges.items
+  told_of : (items : List Item) → IsRunOf held.state.profile items → pairs items ≡ held_pairs (holding_of held) → report items ≡ transcript_report (export_of held.state.phase) held.state.exchanges.items
   told_of items run has =
       read_report (held_pairs (holding_of held)) st.machine st.read_to.are_pairs st.read_to.reads_it none_left items run has
-      ∙ sym (told_by_log held.state st.machine.core (log_of_pairs concrete fresh (held_pairs (holding_of held))) st.shows st.known)
+      ∙ sym (told_by_log held.state st.machine.core (log_of_pairs concrete (fresh_of held.state.profile) (held_pairs (holding_of held))) st.shows st.known)
 
-  whole_run : (run : HoldsRun (holding_of held)) → IsRun run.items
-  whole_run run = subst (λ c. IsRunBut run.items c []) client (subst (λ s. IsRunBut run.items (bytes_come held.client) s) server run.is_run)
+  whole_run : (run : HoldsRun (holding_of held)) → IsRunOf held.state.profile run.items
+  whole_run run = subst (λ c. IsRunBut held.state.profile run.items c []) client (subst (λ s. IsRunBut held.state.profile run.items (bytes_come held.client) s) server run.is_run)
 
   pub sound_told : IsSoundReport (transcript_report (export_of held.state.phase) held.state.exchanges.items)
   sound_told =
       let run = standing_run held st in
-      subst IsSoundReport (told_of run.items (whole_run run) run.has_pairs) (reports_are_sound run.items (whole_run run))
+      subst IsSoundReport (told_of run.items (whole_run run) run.has_pairs) (reports_are_sound held.state.profile run.items (whole_run run))
 
   pub reported : IsReported (session_view held None) (transcript_report (export_of held.state.phase) held.state.exchanges.items)
   reported =

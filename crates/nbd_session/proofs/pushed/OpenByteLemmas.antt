@@ -1,6 +1,7 @@
 -- The bytes that belong to no completed message are the rests, and more of them may come.
 use Rattle.std.proofs.Common.{◌≡◌, ℕ, List, [], ◌∷◌, ◌++◌, map, flat_map, refl, sym, ◌∙◌, ap, subst, Ok, Bool, true, false, if◌then◌else◌, append_assoc, append-nil}
 use Rattle.std.proofs.lemmas.List.{append_cancel_left, map-append}
+use Rattle.nbd_wire.specs.declared.profile.Profile.{Profile}
 use Rattle.nbd_wire.specs.declared.entry.Entry.{Entry}
 use Rattle.nbd_wire.specs.protocol.Entries.{whole}
 use Rattle.nbd_wire.specs.declared.message.Side.{Side}
@@ -12,10 +13,10 @@ use Rattle.nbd_wire.specs.protocol.Captures.{Pair, ArePairs, side_pairs}
 use Rattle.nbd_laws.specs.Bytes.{bytes_of}
 use Rattle.nbd_wire.specs.protocol.Rules.{IsRunBut, Obeys, after, complete}
 use Rattle.nbd_wire.specs.protocol.Sides.{side, same_side}
-use Rattle.nbd_wire.specs.protocol.States.{State, start}
+use Rattle.nbd_wire.specs.protocol.States.{State, start_of}
 use Rattle.nbd_laws.specs.internal.Concrete.{concrete}
 use Rattle.nbd_laws.proofs.machine.MachineLemmas.{AreHeld, IsSound, IsSoundAt, Open, Walk, ended, final, held_more, held_whole, kept_next, loose, middle, opening, serving, with_byte}
-use Rattle.nbd_laws.specs.internal.Machine.{Bad, Both, Judge, Machine, More, Reading, Rest, Whole, fresh, get, rest_with, on_ok, put, reads, settle}
+use Rattle.nbd_laws.specs.internal.Machine.{Bad, Both, Judge, Machine, More, Reading, Rest, Whole, fresh_of, get, rest_with, on_ok, put, reads, settle}
 use Rattle.nbd_laws.proofs.runs.BlockLemmas.{IsCalm, byte_other, byte_same, marked_is_walk}
 use Rattle.nbd_session.specs.internal.Standing.{with_more}
 use Rattle.nbd_laws.specs.Bytes.{bytes_from}
@@ -84,9 +85,9 @@ reads_bytes judge sd s (p ∷ ps) machine end lt held e = go (judge rest.since m
     go (Bad fault) is ih e = absurd (cc)
 
 -- from nothing
-pub fresh_bytes : (judge : Judge) → IsSound judge → (s : Side) (ps : List Pair) (end : Machine) → ArePairs ps → reads judge fresh ps ≡ Ok end → bytes_from s ps ≡ held_bytes s end
-fresh_bytes judge sd Client ps end lt e = reads_bytes judge sd Client ps fresh end lt (fresh_held judge) e
-fresh_bytes judge sd Server ps end lt e = reads_bytes judge sd Server ps fresh end lt (fresh_held judge) e
+pub fresh_bytes : (profile : Profile) (judge : Judge) → IsSound judge → (s : Side) (ps : List Pair) (end : Machine) → ArePairs ps → reads judge (fresh_of profile) ps ≡ Ok end → bytes_from s ps ≡ held_bytes s end
+fresh_bytes profile judge sd Client ps end lt e = reads_bytes judge sd Client ps (fresh_of profile) end lt (fresh_held judge) e
+fresh_bytes profile judge sd Server ps end lt e = reads_bytes judge sd Server ps (fresh_of profile) end lt (fresh_held judge) e
 
 -- the loose bytes of a run with these pairs and messages
 loose_is : (s : Side) (items : List Item) (ps : List Pair) (messages : List Message) (rest bytes : List ℕ) → pairs items ≡ ps → completed_messages items ≡ messages →
@@ -95,22 +96,22 @@ loose_is s items ps messages rest bytes p c e f =
     append_cancel_left (bytes_of s messages) rest bytes (ap (λ ms. bytes_of s ms ++ rest) (sym c) ∙ sym e ∙ ap (bytes_from s) p ∙ f)
 
 -- what a machine read is a run with exactly these pairs and messages, and its rests are the bytes of no message
-pub run_but_of : (judge : Judge) → IsSound judge → (ps : List Pair) (end : Machine) → ArePairs ps → reads judge fresh ps ≡ Ok end →
-    (items : List Item) × IsRunBut items end.rests.client.bytes end.rests.server.bytes × (pairs items ≡ ps) × (completed_messages items ≡ end.messages)
-run_but_of judge sd ps end lt e =
+pub run_but_of : {profile : Profile} (judge : Judge) → IsSound judge → (ps : List Pair) (end : Machine) → ArePairs ps → reads judge (fresh_of profile) ps ≡ Ok end →
+    (items : List Item) × IsRunBut profile items end.rests.client.bytes end.rests.server.bytes × (pairs items ≡ ps) × (completed_messages items ≡ end.messages)
+run_but_of {profile} judge sd ps end lt e =
     let r = run_but_law judge sd ps end lt e in
     let b : AreBytesOf r.0 r.1 r.2 = run_bytes r.0 r.1 r.2 r.3 in
-    let c : r.1 ≡ end.rests.client.bytes = loose_is Client r.0 ps end.messages r.1 end.rests.client.bytes r.4 r.5 b.of_client (fresh_bytes judge sd Client ps end lt e) in
-    let d : r.2 ≡ end.rests.server.bytes = loose_is Server r.0 ps end.messages r.2 end.rests.server.bytes r.4 r.5 b.of_server (fresh_bytes judge sd Server ps end lt e) in
-    (r.0, subst (λ x. IsRunBut r.0 x end.rests.server.bytes) c (subst (λ y. IsRunBut r.0 r.1 y) d r.3), r.4, r.5)
+    let c : r.1 ≡ end.rests.client.bytes = loose_is Client r.0 ps end.messages r.1 end.rests.client.bytes r.4 r.5 b.of_client (fresh_bytes profile judge sd Client ps end lt e) in
+    let d : r.2 ≡ end.rests.server.bytes = loose_is Server r.0 ps end.messages r.2 end.rests.server.bytes r.4 r.5 b.of_server (fresh_bytes profile judge sd Server ps end lt e) in
+    (r.0, subst (λ x. IsRunBut profile r.0 x end.rests.server.bytes) c (subst (λ y. IsRunBut profile r.0 r.1 y) d r.3), r.4, r.5)
 
 -- with the project's own judge, and the rests by other names
-pub read_is_run_but : (ps : List Pair) (end : Machine) (messages : List Message) (client server : List ℕ) → ArePairs ps → reads concrete fresh ps ≡ Ok end →
+pub read_is_run_but : {profile : Profile} (ps : List Pair) (end : Machine) (messages : List Message) (client server : List ℕ) → ArePairs ps → reads concrete (fresh_of profile) ps ≡ Ok end →
     end.messages ≡ messages → end.rests.client.bytes ≡ client → end.rests.server.bytes ≡ server →
-    (items : List Item) × IsRunBut items client server × (pairs items ≡ ps) × (completed_messages items ≡ messages)
-read_is_run_but ps end messages client server lt e m c d =
+    (items : List Item) × IsRunBut profile items client server × (pairs items ≡ ps) × (completed_messages items ≡ messages)
+read_is_run_but {profile} ps end messages client server lt e m c d =
     let r = run_but_of concrete sound ps end lt e in
-    (r.0, subst (λ x. IsRunBut r.0 x server) c (subst (λ y. IsRunBut r.0 end.rests.client.bytes y) d r.1), r.2, r.3 ∙ m)
+    (r.0, subst (λ x. IsRunBut profile r.0 x server) c (subst (λ y. IsRunBut profile r.0 end.rests.client.bytes y) d r.1), r.2, r.3 ∙ m)
 
 abbrev pub bytes_items : Side → List ℕ → List Item
 bytes_items s bs = map (λ b. Byte s b) bs
@@ -234,21 +235,21 @@ completed_more (Completes t m ∷ items) s bs = ap (λ l. m ∷ l) (completed_mo
 completed_more (Serves k ∷ items) s bs = completed_more items s bs
 
 -- bytes of a side may come at the end of a run but for loose bytes: they stand after that side's
-pub run_but_more : (items : List Item) (client server : List ℕ) (s : Side) (more : List ℕ) → IsRunBut items client server →
-    IsRunBut (items ++ bytes_items s more) (with_more s Client more client) (with_more s Server more server)
-run_but_more items client server s more run = record {
+pub run_but_more : {profile : Profile} (items : List Item) (client server : List ℕ) (s : Side) (more : List ℕ) → IsRunBut profile items client server →
+    IsRunBut profile (items ++ bytes_items s more) (with_more s Client more client) (with_more s Server more server)
+run_but_more {profile} items client server s more run = record {
   marked = record {
     client_side = sided_with s Client items client more run.marked.client_side;
     server_side = sided_with s Server items server more run.marked.server_side;
     tight = tight_tail (Serves (whole 0)) (items ++ bytes_items s more) (tight_more (marked_is_walk {P = Unit {0}} items client server (λ f. tt) (λ f. tt) run.marked) (Serves (whole 0)) tt s more);
   };
-  obeys = obeys_more items start s more run.obeys;
+  obeys = obeys_more items (start_of profile) s more run.obeys;
 }
 
 -- what a machine read, and more bytes of a side, is a run but for the rests with these bytes
-pub more_is_run_but : (ps : List Pair) (end : Machine) (messages : List Message) (client server : List ℕ) (s : Side) (more : List ℕ) → ArePairs ps → reads concrete fresh ps ≡ Ok end →
+pub more_is_run_but : {profile : Profile} (ps : List Pair) (end : Machine) (messages : List Message) (client server : List ℕ) (s : Side) (more : List ℕ) → ArePairs ps → reads concrete (fresh_of profile) ps ≡ Ok end →
     end.messages ≡ messages → end.rests.client.bytes ≡ client → end.rests.server.bytes ≡ server →
-    (items : List Item) × IsRunBut items (with_more s Client more client) (with_more s Server more server) × (pairs items ≡ ps ++ side_pairs s more) × (completed_messages items ≡ messages)
+    (items : List Item) × IsRunBut profile items (with_more s Client more client) (with_more s Server more server) × (pairs items ≡ ps ++ side_pairs s more) × (completed_messages items ≡ messages)
 more_is_run_but ps end messages client server s more lt e m c d =
     let r = read_is_run_but ps end messages client server lt e m c d in
     (r.0 ++ bytes_items s more, run_but_more r.0 client server s more r.1, pairs_more r.0 s more ∙ ap (λ l. l ++ side_pairs s more) r.2, completed_more r.0 s more ∙ r.3)

@@ -1,5 +1,6 @@
 -- A whole message is accepted.
 use Rattle.std.proofs.Common.{◌≡◌, ℕ, ◌+◌, List, [], ◌∷◌, ◌++◌, length, refl, sym, ◌∙◌, ap, subst, inl, inr, Ok, Some, None, append-nil}
+use Rattle.nbd_wire.specs.declared.profile.Profile.{Profile}
 use Rattle.nbd_wire.specs.declared.message.Message.{Message}
 use Rattle.nbd_wire.specs.declared.message.Side.{Side}
 use Rattle.nbd_wire.specs.declared.message.Side.TheVariants.{Client, Server}
@@ -7,7 +8,7 @@ use Rattle.nbd_wire.specs.protocol.Captures.{Pair}
 use Rattle.nbd_wire.specs.protocol.Rules.{MayComplete, request_of_reply, complete}
 use Rattle.nbd_wire.specs.protocol.Sendable.{IsSendable}
 use Rattle.nbd_wire.specs.protocol.Sides.{side}
-use Rattle.nbd_wire.specs.protocol.States.{start}
+use Rattle.nbd_wire.specs.protocol.States.{start_of}
 use Rattle.nbd_session.specs.declared.fault.SessionFault.TheVariants.{Memory}
 use Rattle.nbd_session.specs.declared.held.Held.{Held}
 use Rattle.nbd_state.specs.declared.asked.Exchange.{Exchange}
@@ -21,7 +22,7 @@ use Rattle.nbd_session.specs.internal.Known.{IsKnown, decided}
 use Rattle.nbd_session.specs.Views.{stretches_of}
 use Rattle.nbd_state.specs.Logs.{messages_of}
 use Rattle.nbd_session.specs.internal.Logging.{log_of_pairs}
-use Rattle.nbd_laws.specs.internal.Machine.{Machine, Rest, Whole, fresh, get, old_of, put, reads}
+use Rattle.nbd_laws.specs.internal.Machine.{Machine, Rest, Whole, fresh_of, get, old_of, put, reads}
 use Rattle.nbd_laws.specs.Reached.{IsReached}
 use Rattle.nbd_laws.proofs.machine.MachineLemmas.{at_once, behind, get-put_other, get-put_same, reached_of, same_or_not}
 use Rattle.nbd_state.specs.Shows.{AreKnown, Shows}
@@ -36,16 +37,16 @@ use Rattle.nbd_session.proofs.log.LogStepLemmas.{logged_messages}
 use Rattle.nbd_session.proofs.steps.HoldingLemmas.{rest_is}
 use Rattle.nbd_session.proofs.steps.KnownLemmas.{known_stays, nothing_known}
 use Rattle.nbd_session.proofs.steps.SettleLemmas.{IsRead, says_so}
-use Rattle.nbd_session.proofs.steps.StepLemmas.{IsWholeTaken, count_at, held_of, pairs-message, pairs-taken, says, whole_taken, with_message}
+use Rattle.nbd_session.proofs.steps.StepLemmas.{IsWholeTaken, count_at, held_of, pairs-message, pairs-taken, says, whole_taken, with_message, profile_message}
 
 -- the count that is logged for a message of the client does not matter
-known-client : (ps : List Pair) (machine : Machine) (m : Message) (a b : ℕ) (xs : List Exchange) → reads concrete fresh ps ≡ Ok machine → side m ≡ Client →
-    AreKnown (log_of_pairs concrete fresh ps ++ record { message = m; known = a } ∷ []) xs → AreKnown (log_of_pairs concrete fresh ps ++ record { message = m; known = b } ∷ []) xs
-known-client ps machine m a b xs e sd known place x at =
+known-client : (profile : Profile) (ps : List Pair) (machine : Machine) (m : Message) (a b : ℕ) (xs : List Exchange) → reads concrete (fresh_of profile) ps ≡ Ok machine → side m ≡ Client →
+    AreKnown (log_of_pairs concrete (fresh_of profile) ps ++ record { message = m; known = a } ∷ []) xs → AreKnown (log_of_pairs concrete (fresh_of profile) ps ++ record { message = m; known = b } ∷ []) xs
+known-client profile ps machine m a b xs e sd known place x at =
     let none : (k : ℕ) → request_of_reply machine.core m ≡ Some k → ⊥ = λ k q. (let r : None ≡ Some k = sym (asks_only machine.core m sd) ∙ q in (cc)) in
     known place x at
-    ∙ known-unanswered concrete ps machine (place + 1) (record { message = m; known = a }) e (none (place + 1))
-    ∙ sym (known-unanswered concrete ps machine (place + 1) (record { message = m; known = b }) e (none (place + 1)))
+    ∙ known-unanswered profile concrete ps machine (place + 1) (record { message = m; known = a }) e (none (place + 1))
+    ∙ sym (known-unanswered profile concrete ps machine (place + 1) (record { message = m; known = b }) e (none (place + 1)))
 
 module _ (held : Held) (s : Side) (t : IsTaken held s) (m : Message) (whole : IsRead held s t (Whole m)) where
   abbrev after : Holding
@@ -57,26 +58,27 @@ module _ (held : Held) (s : Side) (t : IsTaken held s) (m : Message) (whole : Is
   pub reached : IsReached t.machine.core
   reached = reached_of (held_of t.before t.machine t.read_to s)
 
-  pub folded : t.machine.core ≡ core_from start.core (messages_of (log_of_pairs concrete fresh (held_pairs t.before)))
-  folded = core_is concrete (held_pairs t.before) t.machine t.read_to.reads_it ∙ sym (ap (core_from start.core) (logged_messages concrete (held_pairs t.before) fresh t.machine t.read_to.reads_it))
+  pub folded : t.machine.core ≡ core_from (start_of t.before.profile).core (messages_of (log_of_pairs concrete (fresh_of t.before.profile) (held_pairs t.before)))
+  folded = core_is t.before.profile concrete (held_pairs t.before) t.machine t.read_to.reads_it ∙ sym (ap (core_from (start_of t.before.profile).core) (logged_messages concrete (held_pairs t.before) (fresh_of t.before.profile) t.machine t.read_to.reads_it))
 
   judged_so : concrete (old_of t.machine.core (get t.machine.rests s)) t.machine.core s ((get t.machine.rests s).bytes ++ t.more) ≡ Whole m
   judged_so = says t.before t.machine t.read_to s t.more t.filled t.are_bytes t.up_to (Whole m) (says_so held s t (Whole m) whole)
 
-  log_with_it : log_of_pairs concrete fresh (held_pairs (with_message after s m)) ≡ log_of_pairs concrete fresh (held_pairs t.before) ++ record { message = m; known = count_of t.machine.core (get t.machine.rests s) } ∷ []
+  log_with_it : log_of_pairs concrete (fresh_of (with_message after s m).profile) (held_pairs (with_message after s m)) ≡ log_of_pairs concrete (fresh_of t.before.profile) (held_pairs t.before) ++ record { message = m; known = count_of t.machine.core (get t.machine.rests s) } ∷ []
   log_with_it =
-      ap (log_of_pairs concrete fresh) (pairs-message after s m is_taken.at.encodes is_taken.at.sided)
-      ∙ ap (log_of_pairs concrete fresh) (pairs-taken t.before s t.more (length t.machine.core.entries) t.read_to.are_stretches)
-      ∙ logged-whole (held_pairs t.before) t.machine s t.more t.read_to.reads_it (held_of t.before t.machine t.read_to) t.filled t.up_to m judged_so
+      ap (λ q. log_of_pairs concrete (fresh_of q) (held_pairs (with_message after s m))) (profile_message after s m)
+      ∙ ap (log_of_pairs concrete (fresh_of t.before.profile)) (pairs-message after s m is_taken.at.encodes is_taken.at.sided)
+      ∙ ap (log_of_pairs concrete (fresh_of t.before.profile)) (pairs-taken t.before s t.more (length t.machine.core.entries) t.read_to.are_stretches)
+      ∙ logged-whole t.before.profile (held_pairs t.before) t.machine s t.more t.read_to.reads_it (held_of t.before t.machine t.read_to) t.filled t.up_to m judged_so
 
   -- the count that is logged is the one that is held, where it matters
-  known_as_held : (xs : List Exchange) → AreKnown (log_of_pairs concrete fresh (held_pairs t.before) ++ record { message = m; known = held.counted } ∷ []) xs →
-      AreKnown (log_of_pairs concrete fresh (held_pairs t.before) ++ record { message = m; known = count_of t.machine.core (get t.machine.rests s) } ∷ []) xs
+  known_as_held : (xs : List Exchange) → AreKnown (log_of_pairs concrete (fresh_of t.before.profile) (held_pairs t.before) ++ record { message = m; known = held.counted } ∷ []) xs →
+      AreKnown (log_of_pairs concrete (fresh_of t.before.profile) (held_pairs t.before) ++ record { message = m; known = count_of t.machine.core (get t.machine.rests s) } ∷ []) xs
   known_as_held xs known = go s refl
     where
-      go : (u : Side) → s ≡ u → AreKnown (log_of_pairs concrete fresh (held_pairs t.before) ++ record { message = m; known = count_of t.machine.core (get t.machine.rests s) } ∷ []) xs
-      go Client e = known-client (held_pairs t.before) t.machine m held.counted (count_of t.machine.core (get t.machine.rests s)) xs t.read_to.reads_it (is_taken.at.sided ∙ e) known
-      go Server e = subst (λ n. AreKnown (log_of_pairs concrete fresh (held_pairs t.before) ++ record { message = m; known = n } ∷ []) xs) same known
+      go : (u : Side) → s ≡ u → AreKnown (log_of_pairs concrete (fresh_of t.before.profile) (held_pairs t.before) ++ record { message = m; known = count_of t.machine.core (get t.machine.rests s) } ∷ []) xs
+      go Client e = known-client t.before.profile (held_pairs t.before) t.machine m held.counted (count_of t.machine.core (get t.machine.rests s)) xs t.read_to.reads_it (is_taken.at.sided ∙ e) known
+      go Server e = subst (λ n. AreKnown (log_of_pairs concrete (fresh_of t.before.profile) (held_pairs t.before) ++ record { message = m; known = n } ∷ []) xs) same known
         where
           same : held.counted ≡ count_of t.machine.core (get t.machine.rests s)
           same =
@@ -102,6 +104,7 @@ module _ (held : Held) (s : Side) (t : IsTaken held s) (m : Message) (whole : Is
       has_messages = messages;
     };
     taken_is = same;
+    profile_is = ap (λ (h : Holding). h.profile) holding ∙ profile_message (holding_of held) s m;
   }
 
   -- it is taken where the session stands
@@ -142,8 +145,8 @@ module _ (held : Held) (s : Side) (t : IsTaken held s) (m : Message) (whole : Is
   pub accepted_stands : (new : Held) → holding_of new ≡ with_message (holding_of held) s m → incoming_of new s ≡ nothing_come → ((u : Side) → (s ≡ u → ⊥) → incoming_of new u ≡ incoming_of held u) →
       (IsReached t.machine.core → Shows held.state t.machine.core → IsSendable m → MayComplete t.machine.core t.machine.core.phase m → Shows new.state (complete t.machine.core m)) →
       (IsReached t.machine.core → Shows held.state t.machine.core → MayComplete t.machine.core t.machine.core.phase m →
-      t.machine.core ≡ core_from start.core (messages_of (log_of_pairs concrete fresh (held_pairs t.before))) → AreKnown (log_of_pairs concrete fresh (held_pairs t.before)) held.state.exchanges.items →
-      AreKnown (log_of_pairs concrete fresh (held_pairs t.before) ++ record { message = m; known = held.counted } ∷ []) new.state.exchanges.items) →
+      t.machine.core ≡ core_from (start_of t.before.profile).core (messages_of (log_of_pairs concrete (fresh_of t.before.profile) (held_pairs t.before))) → AreKnown (log_of_pairs concrete (fresh_of t.before.profile) (held_pairs t.before)) held.state.exchanges.items →
+      AreKnown (log_of_pairs concrete (fresh_of t.before.profile) (held_pairs t.before) ++ record { message = m; known = held.counted } ∷ []) new.state.exchanges.items) →
       new.taken ≡ held.taken → Stands new
   accepted_stands new holding empty others shows knows same =
       let holding_is : holding_of new ≡ with_message after s m = holding_after new holding in
@@ -151,7 +154,7 @@ module _ (held : Held) (s : Side) (t : IsTaken held s) (m : Message) (whole : Is
         machine = machine;
         read_to = subst (λ h. IsReadTo h machine) (sym holding_is) is_taken.read_to;
         shows = shows reached t.shows is_taken.at.sendable is_taken.at.completes;
-        known = subst (λ h. AreKnown (log_of_pairs concrete fresh (held_pairs h)) new.state.exchanges.items) (sym holding_is)
+        known = subst (λ h. AreKnown (log_of_pairs concrete (fresh_of h.profile) (held_pairs h)) new.state.exchanges.items) (sym holding_is)
             (subst (λ log. AreKnown log new.state.exchanges.items) (sym log_with_it)
             (known_as_held new.state.exchanges.items (knows reached t.shows is_taken.at.completes folded t.known)));
         taken_is = same ∙ t.taken_is ∙ ap (λ h. length (held_pairs h)) t.holding_is ∙ sym (ap length pairs_after) ∙ sym (ap (λ h. length (held_pairs h)) holding_is);
@@ -159,11 +162,11 @@ module _ (held : Held) (s : Side) (t : IsTaken held s) (m : Message) (whole : Is
       }
 
 -- a message more, and its bytes are no longer a rest
-pub accepted_holding : (held new : Held) (s : Side) (m : Message) → new.messages.items ≡ held.messages.items ++ m ∷ [] → incoming_of new s ≡ nothing_come →
+pub accepted_holding : (held new : Held) (s : Side) (m : Message) → new.state.profile ≡ held.state.profile → new.messages.items ≡ held.messages.items ++ m ∷ [] → incoming_of new s ≡ nothing_come →
     ((u : Side) → (s ≡ u → ⊥) → incoming_of new u ≡ incoming_of held u) → new.counted ≡ held.counted → new.stretches ≡ held.stretches → holding_of new ≡ with_message (holding_of held) s m
-accepted_holding held new Client m ms e o n st =
+accepted_holding held new Client m p ms e o n st =
     let other : new.server ≡ held.server = o Server (λ q. (cc)) in
-    λ i. record { messages = ms i; client = bytes_come (e i); server = bytes_come (other i); counted = n i; stretches = stretches_of (st i).items }
-accepted_holding held new Server m ms e o n st =
+    λ i. record { profile = p i; messages = ms i; client = bytes_come (e i); server = bytes_come (other i); counted = n i; stretches = stretches_of (st i).items }
+accepted_holding held new Server m p ms e o n st =
     let other : new.client ≡ held.client = o Client (λ q. (cc)) in
-    λ i. record { messages = ms i; client = bytes_come (other i); server = bytes_come (e i); counted = n i; stretches = stretches_of (st i).items }
+    λ i. record { profile = p i; messages = ms i; client = bytes_come (other i); server = bytes_come (e i); counted = n i; stretches = stretches_of (st i).items }

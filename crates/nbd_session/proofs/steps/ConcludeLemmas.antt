@@ -14,7 +14,7 @@ use Rattle.nbd_state.specs.declared.state.State.{State}
 use Rattle.nbd_laws.specs.internal.Concrete.{concrete, reading_by_decision}
 use Rattle.nbd_laws.specs.internal.Decisions.{Decision}
 use Rattle.nbd_laws.specs.internal.Judge.{decision_by_count}
-use Rattle.nbd_laws.specs.internal.Machine.{Bad, IsFilled, More, Whole, fresh}
+use Rattle.nbd_laws.specs.internal.Machine.{Bad, IsFilled, More, Whole, fresh_of}
 use Rattle.nbd_session.specs.declared.expected.Expected.{Expected}
 use Rattle.nbd_session.specs.declared.expected.Expected.TheVariants as expectations
 use Rattle.nbd_session.specs.declared.fault.SessionFault.TheVariants.{Wire}
@@ -117,7 +117,7 @@ module _ (held : Held) (s : Side) (e : Option Expected) (t : IsTaken held s) (k 
     up_to = t.up_to;
     holding_is = holding_expected held s e ∙ t.holding_is;
     shows = subst (λ state. Shows state t.machine.core) (sym (state_same s)) t.shows;
-    known = subst (λ (state : State). AreKnown (log_of_pairs concrete fresh (held_pairs t.before)) state.exchanges.items) (sym (state_same s)) t.known;
+    known = subst (λ (state : State). AreKnown (log_of_pairs concrete (fresh_of t.before.profile) (held_pairs t.before)) state.exchanges.items) (sym (state_same s)) t.known;
     taken_is = taken_same s ∙ t.taken_is ∙ sym (ap (λ h. length (held_pairs h)) (holding_expected held s e));
     come = subst (IsCome (decided t.machine s) t.machine.core) (sym here) (come e k);
     knows = λ u ne. subst (IsKnown (decided t.machine u) t.machine.core) (sym (incoming_other held s u (record (incoming_of held s) { expected = e }) ne)) (t.knows u ne);

@@ -59,13 +59,13 @@ module _ (held roomy mid new : Held) (s : Side) (is : mid ≡ with_incoming room
   pub mid_state : mid.state ≡ roomy.state
   mid_state = ap (λ (h : Held). h.state) is ∙ state_same roomy s nothing_come
 
-  pub new_holding : (m : Message) → new.messages.items ≡ held.messages.items ++ m ∷ [] → new.counted ≡ held.counted → new.stretches ≡ held.stretches → holding_of new ≡ with_message (holding_of held) s m
-  new_holding m ms n st = accepted_holding held new s m ms emptied_here kept_other n st
+  pub new_holding : (m : Message) → new.state.profile ≡ held.state.profile → new.messages.items ≡ held.messages.items ++ m ∷ [] → new.counted ≡ held.counted → new.stretches ≡ held.stretches → holding_of new ≡ with_message (holding_of held) s m
+  new_holding m p ms n st = accepted_holding held new s m p ms emptied_here kept_other n st
 
 -- room for messages is no byte
 pub sides_same : (a b : Held) → a.client ≡ b.client → a.server ≡ b.server → (u : Side) → incoming_of a u ≡ incoming_of b u
 sides_same a b c v = same_incoming b a c v
 
-pub same_room : (held roomy : Held) → roomy.messages.items ≡ held.messages.items → roomy.client ≡ held.client → roomy.server ≡ held.server → roomy.counted ≡ held.counted → roomy.stretches ≡ held.stretches →
+pub same_room : (held roomy : Held) → roomy.state ≡ held.state → roomy.messages.items ≡ held.messages.items → roomy.client ≡ held.client → roomy.server ≡ held.server → roomy.counted ≡ held.counted → roomy.stretches ≡ held.stretches →
     holding_of roomy ≡ holding_of held
-same_room held roomy e c v n st = λ i. record { messages = e i; client = bytes_come (c i); server = bytes_come (v i); counted = n i; stretches = stretches_of (st i).items }
+same_room held roomy p e c v n st = λ i. record { profile = (p i).profile; messages = e i; client = bytes_come (c i); server = bytes_come (v i); counted = n i; stretches = stretches_of (st i).items }

@@ -16,7 +16,7 @@ use Rattle.nbd_session.specs.declared.expected.Expected.{Expected}
 use Rattle.nbd_session.specs.Incoming.{bytes_come}
 use Rattle.nbd_session.specs.internal.Known.{IsKnown, decided, is_known_by}
 use Rattle.nbd_session.specs.internal.Logging.{log_of_pairs}
-use Rattle.nbd_laws.specs.internal.Machine.{Bad, IsFilled, Machine, More, Reading, Rest, fresh, get, old_of, put}
+use Rattle.nbd_laws.specs.internal.Machine.{Bad, IsFilled, Machine, More, Reading, Rest, fresh_of, get, old_of, put}
 use Rattle.nbd_laws.proofs.machine.MachineLemmas.{get-put_other, get-put_same, old-filled, same_or_not}
 use Rattle.nbd_state.specs.Shows.{AreKnown}
 use Rattle.nbd_session.specs.internal.Standing.{Holding, IsReadTo, held_pairs, rest_of, with_bytes}
@@ -33,6 +33,7 @@ pub same_held : (held : Held) → IsSame held held
 same_held held = record {
   adds = λ s. record { prefix = []; more = []; parts = refl; has_pairs = sym (append-nil (held_pairs (holding_of held))); has_messages = sym (append-nil held.messages.items) };
   taken_is = refl;
+  profile_is = refl;
 }
 
 -- the judge's word on what was taken
@@ -83,14 +84,14 @@ module _ (held : Held) (s : Side) (t : IsTaken held s) where
       let word = says_so More more in
       let judged_so : concrete (old_of t.machine.core (get t.machine.rests s)) t.machine.core s ((get t.machine.rests s).bytes ++ t.more) ≡ More =
       says t.before t.machine t.read_to s t.more t.filled t.are_bytes t.up_to More word in
-      let log : log_of_pairs concrete fresh (held_pairs after) ≡ log_of_pairs concrete fresh (held_pairs t.before) =
-      ap (log_of_pairs concrete fresh) (pairs-taken t.before s t.more (length t.machine.core.entries) t.read_to.are_stretches)
-      ∙ logged-kept (held_pairs t.before) t.machine s t.more t.read_to.reads_it (held_of t.before t.machine t.read_to) t.filled t.up_to judged_so in
+      let log : log_of_pairs concrete (fresh_of t.before.profile) (held_pairs after) ≡ log_of_pairs concrete (fresh_of t.before.profile) (held_pairs t.before) =
+      ap (log_of_pairs concrete (fresh_of t.before.profile)) (pairs-taken t.before s t.more (length t.machine.core.entries) t.read_to.are_stretches)
+      ∙ logged-kept t.before.profile (held_pairs t.before) t.machine s t.more t.read_to.reads_it (held_of t.before t.machine t.read_to) t.filled t.up_to judged_so in
       record {
         machine = longer;
         read_to = subst (λ h. IsReadTo h longer) (sym t.holding_is) (more_taken t.before t.machine t.read_to s t.more t.filled t.are_bytes t.up_to word);
         shows = t.shows;
-        known = subst (λ h. AreKnown (log_of_pairs concrete fresh (held_pairs h)) held.state.exchanges.items) (sym t.holding_is)
+        known = subst (λ h. AreKnown (log_of_pairs concrete (fresh_of h.profile) (held_pairs h)) held.state.exchanges.items) (sym t.holding_is)
             (subst (λ log. AreKnown log held.state.exchanges.items) (sym log) t.known);
         taken_is = t.taken_is;
         knows = all_known (known_longer e k is);

@@ -14,7 +14,7 @@ use Rattle.nbd_wire.specs.declared.fault.WireFault.{WireFault}
 use Rattle.nbd_laws.specs.internal.Concrete.{concrete}
 use Rattle.nbd_laws.specs.internal.Judge.{decision, decision_by_count, decision_with, awaited_length}
 use Rattle.nbd_laws.specs.internal.JudgeTransmission.{operation_counted}
-use Rattle.nbd_laws.specs.internal.Machine.{Machine, Rest, Reading, More, Whole, Bad, get, put, reads, fresh, old_of, settle, on_ok, IsFilled}
+use Rattle.nbd_laws.specs.internal.Machine.{Machine, Rest, Reading, More, Whole, Bad, get, put, reads, fresh_of, old_of, settle, on_ok, IsFilled}
 use Rattle.nbd_laws.proofs.machine.MachineLemmas.{IsSoundAt, AreHeld, reads_held, old-empty, old-filled}
 use Rattle.nbd_session.specs.internal.Standing.{Holding, IsReadTo, AreStretchesOf, stretches_with, held_pairs, rest_of, with_more, with_bytes, count_at_server}
 use Rattle.nbd_laws.proofs.judge.AwaitedLemmas.{reads_up_to}
@@ -29,6 +29,10 @@ use Rattle.nbd_session.proofs.steps.TakeLemmas.{kept_more}
 abbrev pub with_message : Holding → Side → Message → Holding
 with_message h Client m = record h { messages = h.messages ++ m ∷ []; client = [] }
 with_message h Server m = record h { messages = h.messages ++ m ∷ []; server = [] }
+
+pub profile_message : (h : Holding) (s : Side) (m : Message) → (with_message h s m).profile ≡ h.profile
+profile_message h Client m = refl
+profile_message h Server m = refl
 
 behind : (s u : Side) (more prefix bytes : List ℕ) → prefix ++ with_more s u more bytes ≡ with_more s u more (prefix ++ bytes)
 behind Client Client more prefix bytes = sym (append_assoc prefix bytes more)
@@ -97,7 +101,7 @@ are_pairs-sent s (b ∷ bytes) a = (a.0, are_pairs-sent s bytes a.1)
 
 -- what the machine has read is held as it keeps it
 pub held_of : (h : Holding) (machine : Machine) → IsReadTo h machine → AreHeld concrete machine
-held_of h machine r = reads_held concrete sound (held_pairs h) fresh machine r.are_pairs (fresh_held concrete) r.reads_it
+held_of h machine r = reads_held concrete sound (held_pairs h) (fresh_of h.profile) machine r.are_pairs (fresh_held concrete) r.reads_it
 
 -- the machine's rest of a side, with these bytes after it
 module _ (h : Holding) (machine : Machine) (r : IsReadTo h machine) (s : Side) (more : List ℕ) (filled : IsFilled more) (bytes : AreBytes more)
@@ -108,10 +112,10 @@ module _ (h : Holding) (machine : Machine) (r : IsReadTo h machine) (s : Side) (
   abbrev rest : Rest
   rest = get machine.rests s
 
-  pub reads_taken : reads concrete fresh (held_pairs taken) ≡ judged_at_once concrete machine s more
+  pub reads_taken : reads concrete (fresh_of h.profile) (held_pairs taken) ≡ judged_at_once concrete machine s more
   reads_taken =
-      ap (reads concrete fresh) (pairs-taken h s more (length machine.core.entries) r.are_stretches)
-      ∙ reads-append concrete fresh (held_pairs h) (side_pairs s more)
+      ap (reads concrete (fresh_of h.profile)) (pairs-taken h s more (length machine.core.entries) r.are_stretches)
+      ∙ reads-append concrete (fresh_of h.profile) (held_pairs h) (side_pairs s more)
       ∙ ap (λ o. on_ok o (λ next. reads concrete next (side_pairs s more))) r.reads_it
       ∙ reads_up_to machine s more (held_of h machine r) filled up_to
 
@@ -174,7 +178,7 @@ module _ (h : Holding) (machine : Machine) (r : IsReadTo h machine) (s : Side) (
   says reading e = ap (λ l. concrete (old_of machine.core (get machine.rests s)) machine.core s l) (bytes_taken h machine s more (length machine.core.entries) r) ∙ e
 
   settled : (reading : Reading) → concrete (old_of machine.core (get machine.rests s)) machine.core s (rest_of after s) ≡ reading →
-      reads concrete fresh (held_pairs after) ≡ settle machine s (extended machine.core (get machine.rests s) more) reading
+      reads concrete (fresh_of h.profile) (held_pairs after) ≡ settle machine s (extended machine.core (get machine.rests s) more) reading
   settled reading e = reads_taken h machine r s more filled bytes up_to ∙ ap (settle machine s (extended machine.core (get machine.rests s) more)) (says reading e)
 
   -- more is awaited
@@ -191,7 +195,7 @@ module _ (h : Holding) (machine : Machine) (r : IsReadTo h machine) (s : Side) (
 
   -- the bytes are refused
   pub refused_taken : (fault : WireFault) → concrete (old_of machine.core (get machine.rests s)) machine.core s (rest_of after s) ≡ Bad fault →
-      reads concrete fresh (held_pairs after) ≡ Err fault
+      reads concrete (fresh_of h.profile) (held_pairs after) ≡ Err fault
   refused_taken fault e = settled (Bad fault) e
 
 -- a message's bytes are no longer a rest
@@ -236,7 +240,9 @@ module _ (h : Holding) (machine : Machine) (r : IsReadTo h machine) (s : Side) (
         next_empty = refl;
         read_to = record {
           are_pairs = subst ArePairs (sym same) (pairs_taken h machine r s more filled bytes up_to);
-          reads_it = ap (reads concrete fresh) same ∙ settled h machine r s more filled bytes up_to (Whole m) e;
+          reads_it =
+              ap (λ q. reads concrete (fresh_of q) (held_pairs (with_message held s m))) (profile_message held s m)
+              ∙ ap (reads concrete (fresh_of h.profile)) same ∙ settled h machine r s more filled bytes up_to (Whole m) e;
           messages_are = ap (λ l. l ++ m ∷ []) r.messages_are ∙ sym (messages_message held s m);
           rests_are = λ u. rest_message h machine s u m more (length machine.core.entries) r;
           count_is = count_message h machine s m more (length machine.core.entries) r;

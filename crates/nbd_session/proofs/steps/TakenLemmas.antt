@@ -72,13 +72,13 @@ module _ (held new : Held) (s : Side) (more : List ℕ) (st : Stands held)
       go Client e =
           let here = ap bytes_come (ap (incoming_of new) (sym e) ∙ taken_here) ∙ come_with_more (decided st.machine s) st.machine.core (incoming_of held s) (st.knows s) more ∙ ap (λ t. bytes_come (incoming_of held t) ++ more) e in
           let there = ap bytes_come (taken_other Server (λ q. (let r : Client ≡ Server = sym e ∙ q in cc))) in
-          (λ i. record { messages = (messages_same i).items; client = here i; server = there i; counted = (counted ∙ ap (λ t. count_at_server t held.server.head held.counted n) e) i; stretches = (stretches ∙ ap (λ t. stretches_with (stretches_of held.stretches.items) t (length more)) e) i })
+          (λ i. record { profile = (taken_state i).profile; messages = (messages_same i).items; client = here i; server = there i; counted = (counted ∙ ap (λ t. count_at_server t held.server.head held.counted n) e) i; stretches = (stretches ∙ ap (λ t. stretches_with (stretches_of held.stretches.items) t (length more)) e) i })
           ∙ ap (λ t. with_bytes (holding_of held) t more n) (sym e)
       go Server e =
           let here = ap bytes_come (ap (incoming_of new) (sym e) ∙ taken_here) ∙ come_with_more (decided st.machine s) st.machine.core (incoming_of held s) (st.knows s) more ∙ ap (λ t. bytes_come (incoming_of held t) ++ more) e in
           let there = ap bytes_come (taken_other Client (λ q. (let r : Server ≡ Client = sym e ∙ q in cc))) in
           let count = counted ∙ ap (λ t. count_at_server t held.server.head held.counted n) e ∙ count_same (decided st.machine Server) st.machine.core held.server (st.knows Server) held.counted n in
-          (λ i. record { messages = (messages_same i).items; client = there i; server = here i; counted = count i; stretches = (stretches ∙ ap (λ t. stretches_with (stretches_of held.stretches.items) t (length more)) e) i })
+          (λ i. record { profile = (taken_state i).profile; messages = (messages_same i).items; client = there i; server = here i; counted = count i; stretches = (stretches ∙ ap (λ t. stretches_with (stretches_of held.stretches.items) t (length more)) e) i })
           ∙ ap (λ t. with_bytes (holding_of held) t more n) (sym e)
 
 -- a side of whose head no byte has come

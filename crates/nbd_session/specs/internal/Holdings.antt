@@ -12,6 +12,7 @@ use Rattle.nbd_session.specs.Views.{stretches_of}
 
 abbrev pub holding_of : Held → Holding
 holding_of held = record {
+  profile = held.state.profile;
   messages = held.messages.items;
   client = bytes_come held.client;
   server = bytes_come held.server;

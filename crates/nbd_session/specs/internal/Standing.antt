@@ -1,5 +1,6 @@
 -- What a session under way holds, and what the reading machine has read of it.
 use Rattle.std.specs.Prelude.{◌≡◌, ℕ, ◌+◌, List, [], ◌∷◌, ◌++◌, if◌then◌else◌, length, Ok}
+use Rattle.nbd_wire.specs.declared.profile.Profile.{Profile}
 use Rattle.nbd_wire.specs.declared.message.Side.{Side}
 use Rattle.nbd_wire.specs.declared.message.Side.TheVariants.{Client, Server}
 use Rattle.nbd_wire.specs.declared.message.Message.{Message}
@@ -8,7 +9,7 @@ use Rattle.nbd_laws.specs.Bytes.{bytes_of}
 use Rattle.nbd_session.specs.Pushed.{Stretch, pushed_pairs}
 use Rattle.nbd_wire.specs.protocol.Sides.{same_side}
 use Rattle.nbd_laws.specs.internal.Concrete.{concrete}
-use Rattle.nbd_laws.specs.internal.Machine.{Machine, get, reads, fresh, IsFilled}
+use Rattle.nbd_laws.specs.internal.Machine.{Machine, get, reads, fresh_of, IsFilled}
 
 -- the stretches' bytes of a side
 abbrev pub stretch_total : Side → List Stretch → ℕ
@@ -21,9 +22,10 @@ pub record AreStretchesOf (stretches : List Stretch) (client server : List ℕ) 
   pub of_client : stretch_total Client stretches ≡ length client
   pub of_server : stretch_total Server stretches ≡ length server
 
--- what is held: the accepted messages, each side's bytes after them, how many requests had completed
--- before the first of the server's, and the stretches of all
+-- what is held: the session's profile, the accepted messages, each side's bytes after them, how many requests had
+-- completed before the first of the server's, and the stretches of all
 pub record Holding : Type 0 where
+  pub profile : Profile
   pub messages : List Message
   pub client : List ℕ
   pub server : List ℕ
@@ -40,7 +42,7 @@ held_pairs h = pushed_pairs h.messages h.client h.server h.stretches
 -- the machine has read what is held, without a fault
 pub record IsReadTo (h : Holding) (machine : Machine) : Type 0 where
   pub are_pairs : ArePairs (held_pairs h)
-  pub reads_it : reads concrete fresh (held_pairs h) ≡ Ok machine
+  pub reads_it : reads concrete (fresh_of h.profile) (held_pairs h) ≡ Ok machine
   pub messages_are : machine.messages ≡ h.messages
   pub rests_are : (s : Side) → (get machine.rests s).bytes ≡ rest_of h s
   pub count_is : IsFilled h.server → h.counted ≡ length (get machine.rests Server).since.entries
@@ -70,6 +72,7 @@ count_at_server Server (b ∷ bytes) counted entries = counted
 -- with more bytes of a side, where so many requests have completed
 abbrev pub with_bytes : Holding → Side → List ℕ → (entries : ℕ) → Holding
 with_bytes h s more entries = record {
+  profile = h.profile;
   messages = h.messages;
   client = with_more s Client more h.client;
   server = with_more s Server more h.server;

@@ -14,8 +14,8 @@ use Rattle.nbd_session.specs.internal.Holdings.{holding_of, incoming_of}
 use Rattle.nbd_session.specs.internal.Known.{IsCome, IsExpected, IsKnown, awaited, decided}
 use Rattle.nbd_session.specs.internal.Expecting.{last_fault_by, payload_length_of}
 use Rattle.nbd_session.specs.internal.Logging.{log_of_pairs}
-use Rattle.nbd_laws.specs.internal.Machine.{Bad, IsFilled, Machine, fresh, get}
-use Rattle.nbd_session.specs.Sessions.{Adds, HasRun}
+use Rattle.nbd_laws.specs.internal.Machine.{Bad, IsFilled, Machine, fresh_of, get}
+use Rattle.nbd_session.specs.Sessions.{Adds, HasRunOf}
 use Rattle.nbd_state.specs.Shows.{AreKnown, Shows}
 use Rattle.nbd_session.specs.internal.Standing.{Holding, IsReadTo, held_pairs, with_bytes}
 use Rattle.nbd_session.specs.internal.Stopped.{IsStopped}
@@ -25,13 +25,14 @@ pub record Stands (held : Held) : Type 0 where
   pub machine : Machine
   pub read_to : IsReadTo (holding_of held) machine
   pub shows : Shows held.state machine.core
-  pub known : AreKnown (log_of_pairs concrete fresh (held_pairs (holding_of held))) held.state.exchanges.items
+  pub known : AreKnown (log_of_pairs concrete (fresh_of held.state.profile) (held_pairs (holding_of held)))
+      held.state.exchanges.items
   pub taken_is : held.taken ≡ length (held_pairs (holding_of held))
   pub knows : (s : Side) → IsKnown (decided machine s) machine.core (incoming_of held s)
 
 -- what is held is of a run
 abbrev pub HoldsRun : Holding → Type 0
-HoldsRun h = HasRun (held_pairs h) h.messages h.client h.server
+HoldsRun h = HasRunOf h.profile (held_pairs h) h.messages h.client h.server
 
 -- why it is closed: at a wire fault the machine refuses exactly what was taken, at its last byte
 abbrev pub IsCause : Held → SessionFault → Type 0
@@ -55,7 +56,7 @@ pub record IsTaken (held : Held) (s : Side) : Type 0 where
   pub up_to : length ((get machine.rests s).bytes ++ more) ≤ awaited machine s
   pub holding_is : holding_of held ≡ with_bytes before s more (length machine.core.entries)
   pub shows : Shows held.state machine.core
-  pub known : AreKnown (log_of_pairs concrete fresh (held_pairs before)) held.state.exchanges.items
+  pub known : AreKnown (log_of_pairs concrete (fresh_of before.profile) (held_pairs before)) held.state.exchanges.items
   pub taken_is : held.taken ≡ length (held_pairs (holding_of held))
   pub come : IsCome (decided machine s) machine.core (incoming_of held s)
   pub knows : (u : Side) → (s ≡ u → ⊥) → IsKnown (decided machine u) machine.core (incoming_of held u)
@@ -100,11 +101,13 @@ pub record IsRefused (old new : Held) (s : Side) (piece : List ℕ) (fault : Ses
   pub left : List ℕ
   pub adds : AddsHeld old new s piece left
   pub shut : IsShut new fault
+  pub profile_is : new.state.profile ≡ old.state.profile
 
 -- no byte was added, but messages may have been accepted
 pub record IsSame (old new : Held) : Type 0 where
   pub adds : (s : Side) → AddsHeld old new s [] []
   pub taken_is : new.taken ≡ old.taken
+  pub profile_is : new.state.profile ≡ old.state.profile
 
 -- what is held between two calls: it stands, or it is closed
 abbrev pub IsKept : Held → Option SessionFault → Type 0

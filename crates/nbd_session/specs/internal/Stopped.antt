@@ -2,7 +2,7 @@
 use Rattle.std.specs.Prelude.{◌≡◌, ◌∷◌, ◌++◌, List, [], Ok, Err}
 use Rattle.nbd_wire.specs.protocol.Captures.{Pair, ArePairs}
 use Rattle.nbd_wire.specs.declared.fault.WireFault.{WireFault}
-use Rattle.nbd_laws.specs.internal.Machine.{Machine, fresh, reads, step}
+use Rattle.nbd_laws.specs.internal.Machine.{Machine, fresh_of, reads, step}
 use Rattle.nbd_laws.specs.internal.Concrete.{concrete}
 use Rattle.nbd_session.specs.internal.Standing.{Holding, held_pairs}
 
@@ -12,6 +12,6 @@ pub record IsStopped (h : Holding) (fault : WireFault) : Type 0 where
   pub last : Pair
   pub parts : held_pairs h ≡ prefix ++ last ∷ []
   pub machine : Machine
-  pub reads_it : reads concrete fresh prefix ≡ Ok machine
+  pub reads_it : reads concrete (fresh_of h.profile) prefix ≡ Ok machine
   pub messages_are : machine.messages ≡ h.messages
   pub refused : step concrete machine last.from last.byte ≡ Err fault

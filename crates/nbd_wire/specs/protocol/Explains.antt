@@ -1,12 +1,14 @@
 -- What it means that an order of service explains a capture.
 use Rattle.std.specs.Prelude.{ℕ, List, ◌≡◌, Option, Some, None, length, slice_get}
 use Rattle.nbd_wire.specs.declared.entry.Entry.{Entry}
+use Rattle.nbd_wire.specs.declared.profile.Profile.{Profile}
+use Rattle.nbd_wire.specs.declared.profile.Profile.TheVariants.{Base}
 use Rattle.nbd_wire.specs.protocol.ExportBytes.{IsWrong, effects}
 use Rattle.nbd_wire.specs.protocol.Marks.{Item, pairs, service_order}
 use Rattle.nbd_wire.specs.protocol.Captures.{Pair}
 use Rattle.nbd_wire.specs.protocol.Reports.{Report, report}
 use Rattle.nbd_wire.specs.protocol.Operations.{Exporting}
-use Rattle.nbd_wire.specs.protocol.Rules.{IsRun}
+use Rattle.nbd_wire.specs.protocol.Rules.{IsRunOf}
 
 -- what the export held at first: unknown bytes, zeroes, or these
 pub data Start : Type 0 where
@@ -29,12 +31,17 @@ FitsImage _ _ = Unit {0}
 abbrev pub HasNoWrongByte : Report → List Entry → Start → Type 0
 HasNoWrongByte r order initial = (i x : ℕ) → IsWrong (effects r) order (start_byte initial) i x → ⊥
 
--- some run has these bytes and is served in this order, an image has the export's size, and no byte
+-- some run of the profile has these bytes and is served in this order, an image has the export's size, and no byte
 -- of a READ that is served is wrong (this project's choice)
-pub record IsExplained (capture : List Pair) (order : List Entry) (initial : Start) : Type 0 where
+pub record IsExplainedOf (profile : Profile) (capture : List Pair) (order : List Entry)
+    (initial : Start) : Type 0 where
   pub items : List Item
-  pub is_run : IsRun items
+  pub is_run : IsRunOf profile items
   pub has_pairs : pairs items ≡ capture
   pub has_order : service_order items ≡ order
   pub fits_image : FitsImage (report items).export initial
   pub reads : HasNoWrongByte (report items) order initial
+
+-- the same, of the profile Base
+abbrev pub IsExplained : List Pair → List Entry → Start → Type 0
+IsExplained capture order initial = IsExplainedOf Base capture order initial

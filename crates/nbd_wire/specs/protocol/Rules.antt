@@ -9,6 +9,8 @@ use Rattle.nbd_wire.specs.declared.commands.TheConstants as commands
 use Rattle.nbd_wire.specs.declared.handshake.TheConstants as handshake
 use Rattle.nbd_wire.specs.declared.options.TheConstants as options
 use Rattle.nbd_wire.specs.declared.transmission.TheConstants as transmission
+use Rattle.nbd_wire.specs.declared.profile.Profile.{Profile}
+use Rattle.nbd_wire.specs.declared.profile.Profile.TheVariants.{Base}
 use Rattle.nbd_wire.specs.protocol.Marks.{Item, Byte, Starts, Completes, Serves, IsMarkedBut}
 use Rattle.nbd_wire.specs.protocol.Entries.{IsWhollyServed, MayServe, inside}
 use Rattle.nbd_wire.specs.protocol.Options.{FitsLimit, MayAnswer, is_error, next_phase, turn}
@@ -17,7 +19,7 @@ use Rattle.nbd_wire.specs.protocol.Operations.{Operation, Exporting}
 use Rattle.nbd_wire.specs.protocol.Flags.{has, has_only}
 use Rattle.nbd_wire.specs.protocol.Sendable.{IsSendable}
 use Rattle.nbd_wire.specs.protocol.Sides.{side}
-use Rattle.nbd_wire.specs.protocol.States.{Core, Phase, State, Greet, Flags, Choosing, Naming, Aborting, Answering, Transmission, export_in, with_reply_at, operation, start, target}
+use Rattle.nbd_wire.specs.protocol.States.{Core, Phase, State, Greet, Flags, Choosing, Naming, Aborting, Answering, Transmission, export_in, with_reply_at, operation, start_of, target}
 
 -- the cookie that a reply repeats
 abbrev pub cookie_of : Message → Option ℕ
@@ -188,11 +190,15 @@ abbrev pub ends_at : State → List Item → State
 ends_at state [] = state
 ends_at state (item ∷ items) = ends_at (after state item) items
 
--- a run, but for bytes of each side that belong to no completed message
-pub record IsRunBut (items : List Item) (client server : List ℕ) : Type 0 where
+-- a run of a profile, but for bytes of each side that belong to no completed message
+pub record IsRunBut (profile : Profile) (items : List Item) (client server : List ℕ) : Type 0 where
   pub marked : IsMarkedBut items client server
-  pub obeys : Obeys start items
+  pub obeys : Obeys (start_of profile) items
 
--- a run: a marked capture that obeys the rules from the start
+-- a run of a profile: a marked capture that obeys the profile's rules from the start
+abbrev pub IsRunOf : Profile → List Item → Type 0
+IsRunOf profile items = IsRunBut profile items [] []
+
+-- a run of the profile Base
 abbrev pub IsRun : List Item → Type 0
-IsRun items = IsRunBut items [] []
+IsRun items = IsRunOf Base items

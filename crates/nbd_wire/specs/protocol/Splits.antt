@@ -5,12 +5,14 @@ use Rattle.nbd_wire.specs.declared.fault.WireFault.{WireFault}
 use Rattle.nbd_wire.specs.declared.message.Message.{Message}
 use Rattle.nbd_wire.specs.declared.message.Side.{Side}
 use Rattle.nbd_wire.specs.declared.message.Side.TheVariants.{Client, Server}
+use Rattle.nbd_wire.specs.declared.profile.Profile.{Profile}
+use Rattle.nbd_wire.specs.declared.profile.Profile.TheVariants.{Base}
 use Rattle.nbd_wire.specs.protocol.Marks.{Item, Byte, Starts, Completes, Serves, completed_messages, pairs}
 use Rattle.nbd_wire.specs.protocol.Captures.{Pair, ArePairs}
 use Rattle.nbd_wire.specs.protocol.Rows.{IsWhole, Row, rank}
 use Rattle.nbd_wire.specs.protocol.Rules.{IsRunBut, complete, ends_at}
 use Rattle.nbd_wire.specs.protocol.Sides.{same_side}
-use Rattle.nbd_wire.specs.protocol.States.{Core, start}
+use Rattle.nbd_wire.specs.protocol.States.{Core, start_of}
 
 -- a message of the side completes in these items
 abbrev pub completes_in : Side → List Item → Bool
@@ -46,48 +48,80 @@ last_or last (Starts t m ∷ items) = last_or last items
 last_or last (Completes t m ∷ items) = last_or last items
 last_or last (Serves e ∷ items) = last_or last items
 
--- the row of a fault holds of the open bytes of the side whose byte is the last
-pub record HoldsAt (fault : WireFault) (items : List Item) : Type 0 where
+-- in a session that is held to the profile the row of a fault holds of the open bytes of the side whose byte is the
+-- last
+pub record HoldsAtOf (profile : Profile) (fault : WireFault) (items : List Item) : Type 0 where
   pub s : Side
   pub is_last : last_or None items ≡ Some s
-  pub row : Row fault (since_from s start.core items) (ends_at start items).core s (open_bytes s items)
+  pub row : Row fault (since_from s (start_of profile).core items) (ends_at (start_of profile) items).core s
+      (open_bytes s items)
+
+-- the same, of the profile Base
+abbrev pub HoldsAt : WireFault → List Item → Type 0
+HoldsAt fault items = HoldsAtOf Base fault items
 
 -- the open bytes of the side whose byte is the last are a whole message. Of the other side nothing is said: its open
 -- bytes were looked at when its own last byte came
-pub record IsWholeAt (items : List Item) : Type 0 where
+pub record IsWholeAtOf (profile : Profile) (items : List Item) : Type 0 where
   pub s : Side
   pub is_last : last_or None items ≡ Some s
-  pub whole : IsWhole (since_from s start.core items) (ends_at start items).core s (open_bytes s items)
+  pub whole : IsWhole (since_from s (start_of profile).core items) (ends_at (start_of profile) items).core s
+      (open_bytes s items)
 
--- a run but for open bytes that has these bytes and messages; each byte is below 256
-pub record IsSplit (items : List Item) (ps : List Pair) (messages : List Message) : Type 0 where
-  pub run : IsRunBut items (open_bytes Client items) (open_bytes Server items)
+-- the same, of the profile Base
+abbrev pub IsWholeAt : List Item → Type 0
+IsWholeAt items = IsWholeAtOf Base items
+
+-- a run of the profile but for open bytes that has these bytes and messages; each byte is below 256
+pub record IsSplitOf (profile : Profile) (items : List Item) (ps : List Pair) (messages : List Message) : Type 0 where
+  pub run : IsRunBut profile items (open_bytes Client items) (open_bytes Server items)
   pub are_pairs : ArePairs ps
   pub has_pairs : pairs items ≡ ps
   pub has_messages : completed_messages items ≡ messages
 
+-- the same, of the profile Base
+abbrev pub IsSplit : List Item → List Pair → List Message → Type 0
+IsSplit items ps messages = IsSplitOf Base items ps messages
+
 -- no row of the table holds of the side whose byte is the last, and its open bytes are no whole message
+abbrev pub HasNoneAtOf : Profile → List Item → Type 0
+HasNoneAtOf profile items = ((fault : WireFault) → HoldsAtOf profile fault items → ⊥) × (IsWholeAtOf profile items → ⊥)
+
+-- the same, of the profile Base
 abbrev pub HasNoneAt : List Item → Type 0
-HasNoneAt items = ((fault : WireFault) → HoldsAt fault items → ⊥) × (IsWholeAt items → ⊥)
+HasNoneAt items = HasNoneAtOf Base items
 
 -- before each byte no row holds, and no message is whole that has not completed
+abbrev pub IsClearOf : Profile → List Item → Type 0
+IsClearOf profile items = (before more : List Item) (s : Side) (b : ℕ) → items ≡ before ++ Byte s b ∷ more
+    → HasNoneAtOf profile before
+
+-- the same, of the profile Base
 abbrev pub IsClear : List Item → Type 0
-IsClear items = (before more : List Item) (s : Side) (b : ℕ) → items ≡ before ++ Byte s b ∷ more → HasNoneAt before
+IsClear items = IsClearOf Base items
 
--- a session under way: a split of these bytes with these messages at which no row holds and no message is whole that
--- has not completed, nor before any byte
-pub record IsUnderWay (ps : List Pair) (messages : List Message) : Type 0 where
+-- a session of the profile under way: a split of these bytes with these messages at which no row holds and no message
+-- is whole that has not completed, nor before any byte
+pub record IsUnderWayOf (profile : Profile) (ps : List Pair) (messages : List Message) : Type 0 where
   pub items : List Item
-  pub split : IsSplit items ps messages
-  pub clear : IsClear items
-  pub none_at : HasNoneAt items
+  pub split : IsSplitOf profile items ps messages
+  pub clear : IsClearOf profile items
+  pub none_at : HasNoneAtOf profile items
 
--- the place of these bytes is the last of them, with this fault: of a split of them with these messages the fault's row
--- holds at the last byte, no earlier row of the table holds there (`lowest`, of this one split), and at no byte before
--- any row holds
-pub record IsPlace (ps : List Pair) (messages : List Message) (fault : WireFault) : Type 0 where
+-- the same, of the profile Base
+abbrev pub IsUnderWay : List Pair → List Message → Type 0
+IsUnderWay ps messages = IsUnderWayOf Base ps messages
+
+-- the place of these bytes in the profile is the last of them, with this fault: of a split of them with these messages
+-- the fault's row holds at the last byte, no earlier row of the table holds there (`lowest`, of this one split), and at
+-- no byte before any row holds
+pub record IsPlaceOf (profile : Profile) (ps : List Pair) (messages : List Message) (fault : WireFault) : Type 0 where
   pub items : List Item
-  pub split : IsSplit items ps messages
-  pub holds : HoldsAt fault items
-  pub lowest : (other : WireFault) → rank other < rank fault → HoldsAt other items → ⊥
-  pub first : IsClear items
+  pub split : IsSplitOf profile items ps messages
+  pub holds : HoldsAtOf profile fault items
+  pub lowest : (other : WireFault) → rank other < rank fault → HoldsAtOf profile other items → ⊥
+  pub first : IsClearOf profile items
+
+-- the same, of the profile Base
+abbrev pub IsPlace : List Pair → List Message → WireFault → Type 0
+IsPlace ps messages fault = IsPlaceOf Base ps messages fault

@@ -2,6 +2,8 @@
 use Rattle.std.specs.Prelude.{ℕ, zero, suc, List, [], ◌∷◌, ◌++◌, ◌==◌, ◌&&◌, not, Bool, false, if◌then◌else◌, Option, Some, None}
 use Rattle.nbd_wire.specs.declared.message.Message.{Message}
 use Rattle.nbd_wire.specs.declared.entry.Entry.{Entry}
+use Rattle.nbd_wire.specs.declared.profile.Profile.{Profile}
+use Rattle.nbd_wire.specs.declared.profile.Profile.TheVariants.{Base}
 use Rattle.nbd_wire.specs.protocol.Operations.{Exporting, Operation, is_finished}
 
 -- where the session stands (proto.md, "Newstyle negotiation", "Transmission")
@@ -23,9 +25,10 @@ pub data Phase : Type 0 where
   -- requests and replies
   Transmission : (export : Exporting) → Phase
 
--- the phase, the server's handshake flags, the client's flags, whether structured replies are in force, whether a DISC
--- has completed, and the numbered requests
+-- the profile that the session is held to, the phase, the server's handshake flags, the client's flags, whether
+-- structured replies are in force, whether a DISC has completed, and the numbered requests
 pub record Core : Type 0 where
+  pub profile : Profile
   pub phase : Phase
   pub offered : ℕ
   pub client_flags : ℕ
@@ -38,10 +41,11 @@ pub record State : Type 0 where
   pub core : Core
   pub served : List Entry
 
--- before the first byte
-abbrev pub start : State
-start = record {
+-- before the first byte of a session that is held to a profile
+abbrev pub start_of : Profile → State
+start_of profile = record {
   core = record {
+    profile = profile;
     phase = Greet;
     offered = 0;
     client_flags = 0;
@@ -51,6 +55,10 @@ start = record {
   };
   served = [];
 }
+
+-- the same, of the profile Base
+abbrev pub start : State
+start = start_of Base
 
 -- the export of a phase: in transmission, the one that was entered
 abbrev pub export_in : Phase → Option Exporting

@@ -1,9 +1,11 @@
 -- What completes in a run within the bytes that it begins with.
 use Rattle.std.specs.Prelude.{ℕ, zero, suc, List, [], ◌∷◌, ◌++◌, ◌≡◌, length}
 use Rattle.nbd_wire.specs.declared.message.Message.{Message}
+use Rattle.nbd_wire.specs.declared.profile.Profile.{Profile}
+use Rattle.nbd_wire.specs.declared.profile.Profile.TheVariants.{Base}
 use Rattle.nbd_wire.specs.protocol.Marks.{Item, Byte, Starts, Completes, Serves, pairs}
 use Rattle.nbd_wire.specs.protocol.Captures.{Pair}
-use Rattle.nbd_wire.specs.protocol.Rules.{IsRun}
+use Rattle.nbd_wire.specs.protocol.Rules.{IsRunOf}
 
 -- the messages that complete within the first n bytes, in order
 abbrev pub within : ℕ → List Item → List Message
@@ -18,14 +20,27 @@ within (suc n) (Byte s b ∷ items) = within n items
 abbrev pub Begins : List Item → List Pair → Type 0
 Begins items ps = (more : List Pair) × (pairs items ≡ ps ++ more)
 
--- no run begins with these bytes, whatever the moments of service
+-- no run of the profile begins with these bytes, whatever the moments of service
+abbrev pub BeginsNoRunOf : Profile → List Pair → Type 0
+BeginsNoRunOf profile ps = (items : List Item) → IsRunOf profile items → Begins items ps → ⊥
+
+-- the same, of the profile Base
 abbrev pub BeginsNoRun : List Pair → Type 0
-BeginsNoRun ps = (items : List Item) → IsRun items → Begins items ps → ⊥
+BeginsNoRun ps = BeginsNoRunOf Base ps
 
--- no run has exactly these bytes, whatever the moments of service
+-- no run of the profile has exactly these bytes, whatever the moments of service
+abbrev pub IsOfNoRunOf : Profile → List Pair → Type 0
+IsOfNoRunOf profile ps = (items : List Item) → IsRunOf profile items → pairs items ≡ ps → ⊥
+
+-- the same, of the profile Base
 abbrev pub IsOfNoRun : List Pair → Type 0
-IsOfNoRun ps = (items : List Item) → IsRun items → pairs items ≡ ps → ⊥
+IsOfNoRun ps = IsOfNoRunOf Base ps
 
--- in each run that begins with these bytes exactly these messages complete within them
+-- in each run of the profile that begins with these bytes exactly these messages complete within them
+abbrev pub CompletesExactlyOf : Profile → List Pair → List Message → Type 0
+CompletesExactlyOf profile ps messages = (items : List Item) → IsRunOf profile items → Begins items ps
+    → within (length ps) items ≡ messages
+
+-- the same, of the profile Base
 abbrev pub CompletesExactly : List Pair → List Message → Type 0
-CompletesExactly ps messages = (items : List Item) → IsRun items → Begins items ps → within (length ps) items ≡ messages
+CompletesExactly ps messages = CompletesExactlyOf Base ps messages

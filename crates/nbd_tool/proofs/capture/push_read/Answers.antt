@@ -1,7 +1,7 @@
 use Rattle.std.proofs.Common.{[], Ok, append-nil, ap, refl, sym, arith, length}
 use Rattle.std.proofs.lemmas.Result.{err_from_is_err_and}
 use Rattle.std.proofs.lemmas.Option.{IfSome_then}
-use Rattle.nbd_session.specs.Sessions.{pairs_of}
+use Rattle.nbd_session.specs.Sessions.{SessionView, pairs_of}
 use Rattle.nbd_capture.proofs.ReadToEndLemmas.{names_first_bad, reads_to_end, whole_text}
 use Rattle.nbd_capture.proofs.ReadingStepLemmas.{reads_same}
 use Rattle.nbd_tool.specs.Runs.{flat_of}
@@ -14,7 +14,7 @@ loop-bytes-init g c = (
   [],
   reads_same _ _ c.requires.new,
   ap (λ r. r.state) c.requires.new,
-  over_open [] c.args.session.now (ap (λ r. pairs_of r) c.requires.empty) (ap (λ r. r.closed) c.requires.empty),
+  over_open [] c.args.session.now (ap (λ (r : SessionView). r.profile) c.requires.empty) (ap (λ r. pairs_of r) c.requires.empty) (ap (λ r. r.closed) c.requires.empty),
 )
 
 pub push_shown-requires : goal.push_shown-requires

@@ -4,7 +4,7 @@ use Rattle.nbd_state.specs.Completions.{Answers}
 use Rattle.nbd_state.specs.Shows.{AreKnown, Shows}
 use Rattle.nbd_state.specs.declared.state.State.{State}
 use Rattle.nbd_laws.specs.internal.Concrete.{concrete}
-use Rattle.nbd_laws.specs.internal.Machine.{Whole, fresh}
+use Rattle.nbd_laws.specs.internal.Machine.{Whole, fresh_of}
 use Rattle.nbd_session.specs.declared.held.Held.{Held}
 use Rattle.nbd_session.specs.Incoming.{IncomingView}
 use Rattle.nbd_session.specs.internal.Expecting.{message_of}
@@ -21,7 +21,7 @@ use Rattle.nbd_session.proofs.held.Held.accept.Goals as goal
 pub returns-in_err-reserve-clause-shut : goal.returns-in_err-reserve-clause-shut
 returns-in_err-reserve-clause-shut c =
     let held = c.args.self.now in
-    on_err c.from_residual.result _ (shut_memory held c.args.side c.requires.expecting.taken (record held { messages = c.reserve.new.self }) (same_room held (record held { messages = c.reserve.new.self }) c.reserve.ensures.items refl refl refl refl) refl)
+    on_err c.from_residual.result _ (shut_memory held c.args.side c.requires.expecting.taken (record held { messages = c.reserve.new.self }) (same_room held (record held { messages = c.reserve.new.self }) refl c.reserve.ensures.items refl refl refl refl) refl)
 
 pub complete-completed-requires : goal.complete-completed-requires
 complete-completed-requires c =
@@ -60,17 +60,17 @@ returns-clause-stands c =
     let is_m : m ≡ message_of c.args.expected (incoming_of held s).payload = c.message-message.ensures ∙ ap (message_of c.args.expected) payload in
     let whole : IsRead held s t (Whole m) = subst (λ n. IsRead held s t (Whole n)) (sym is_m) (whole_read held s c.args.expected c.requires) in
     let messages = c.in_ok-push.ensures.items ∙ ap (λ l. l ++ m ∷ []) (ap (λ v. v.items) (mid_messages held roomy mid new s is sides refl refl) ∙ c.reserve.ensures.items) in
-    let holding = new_holding held roomy mid new s is sides refl refl m messages (mid_counted held roomy mid new s is sides refl refl) (mid_stretches held roomy mid new s is sides refl refl) in
+    let holding = new_holding held roomy mid new s is sides refl refl m (c.complete-completed.ensures.profile ∙ ap (λ (z : State). z.profile) (mid_state held roomy mid new s is sides refl refl)) messages (mid_counted held roomy mid new s is sides refl refl) (mid_stretches held roomy mid new s is sides refl refl) in
     let same = mid_taken held roomy mid new s is sides refl refl in
     let state = mid_state held roomy mid new s is sides refl refl in
     let counted = mid_counted held roomy mid new s is sides refl refl in
-    let log = log_of_pairs concrete fresh (held_pairs t.before) in
+    let log = log_of_pairs concrete (fresh_of t.before.profile) (held_pairs t.before) in
     on_ok_both c.complete-completed.result _ _ (Stands new) c.complete-completed.ensures.shown c.complete-completed.ensures.known (λ shown known.
     accepted_stands held s t m whole new holding (emptied_here held roomy mid new s is sides refl refl) (kept_other held roomy mid new s is sides refl refl)
     (λ reached shows sendable completes. shown t.machine.core reached (subst (λ state. Shows state t.machine.core) (sym state) shows) sendable completes)
     (λ reached shows completes folded knew.
     subst (λ n. AreKnown (log ++ record { message = m; known = n } ∷ []) c.complete-completed.new.self.exchanges.items) counted
-    (known t.machine.core log reached (subst (λ state. Shows state t.machine.core) (sym state) shows) completes folded (subst (λ (state : State). AreKnown log state.exchanges.items) (sym state) knew)))
+    (known t.machine.core t.before.profile log reached (subst (λ state. Shows state t.machine.core) (sym state) shows) completes folded (subst (λ (state : State). AreKnown log state.exchanges.items) (sym state) knew)))
     same)
 
 pub returns-clause-same : goal.returns-clause-same
@@ -88,7 +88,7 @@ returns-clause-same c =
     let is_m : m ≡ message_of c.args.expected (incoming_of held s).payload = c.message-message.ensures ∙ ap (message_of c.args.expected) payload in
     let whole : IsRead held s t (Whole m) = subst (λ n. IsRead held s t (Whole n)) (sym is_m) (whole_read held s c.args.expected c.requires) in
     let messages = c.in_ok-push.ensures.items ∙ ap (λ l. l ++ m ∷ []) (ap (λ v. v.items) (mid_messages held roomy mid new s is sides refl refl) ∙ c.reserve.ensures.items) in
-    let holding = new_holding held roomy mid new s is sides refl refl m messages (mid_counted held roomy mid new s is sides refl refl) (mid_stretches held roomy mid new s is sides refl refl) in
+    let holding = new_holding held roomy mid new s is sides refl refl m (c.complete-completed.ensures.profile ∙ ap (λ (z : State). z.profile) (mid_state held roomy mid new s is sides refl refl)) messages (mid_counted held roomy mid new s is sides refl refl) (mid_stretches held roomy mid new s is sides refl refl) in
     let same = mid_taken held roomy mid new s is sides refl refl in
     same_but_message held s t m whole new holding messages same
 
@@ -107,6 +107,6 @@ returns-clause-shut c =
     let is_m : m ≡ message_of c.args.expected (incoming_of held s).payload = c.message-message.ensures ∙ ap (message_of c.args.expected) payload in
     let whole : IsRead held s t (Whole m) = subst (λ n. IsRead held s t (Whole n)) (sym is_m) (whole_read held s c.args.expected c.requires) in
     let messages = c.in_ok-push.ensures.items ∙ ap (λ l. l ++ m ∷ []) (ap (λ v. v.items) (mid_messages held roomy mid new s is sides refl refl) ∙ c.reserve.ensures.items) in
-    let holding = new_holding held roomy mid new s is sides refl refl m messages (mid_counted held roomy mid new s is sides refl refl) (mid_stretches held roomy mid new s is sides refl refl) in
+    let holding = new_holding held roomy mid new s is sides refl refl m (c.complete-completed.ensures.profile ∙ ap (λ (z : State). z.profile) (mid_state held roomy mid new s is sides refl refl)) messages (mid_counted held roomy mid new s is sides refl refl) (mid_stretches held roomy mid new s is sides refl refl) in
     let same = mid_taken held roomy mid new s is sides refl refl in
     on_err c.complete-completed.result _ (accepted_shut held s t m whole new holding same)

@@ -1,4 +1,4 @@
-use Rattle.std.proofs.Common.{arith, refl, subst, sym}
+use Rattle.std.proofs.Common.{◌∙◌, arith, refl, subst, sym}
 use Rattle.nbd_session.specs.internal.Holdings.{holding_of}
 use Rattle.nbd_session.specs.internal.Standing.{held_pairs}
 use Rattle.nbd_session.specs.internal.Steps.{AddsHeld, IsRefused}
@@ -10,7 +10,7 @@ use Rattle.nbd_session.proofs.held.Held.push.Goals as goal
 pub returns-in_err-count-clause-refused : goal.returns-in_err-count-clause-refused
 returns-in_err-count-clause-refused c =
     handed_on _ c.from_residual.result c.in_err-count.field-0.0 (IsRefused c.args.self.now c.step.new.self c.args.side c.args.piece.now) c.from_residual.ensures.1
-    (refused_then c.args.self.now c.loop-left.self c.step.new.self c.args.side c.args.piece.now c.loop-left.left.now c.in_err-count.field-0.0 c.loop-left.invariant.2 c.in_err-count.ensures.refused)
+    (refused_then c.args.self.now c.loop-left.self c.step.new.self c.args.side c.args.piece.now c.loop-left.left.now c.in_err-count.field-0.0 c.loop-left.invariant.4 c.loop-left.invariant.2 c.in_err-count.ensures.refused)
 
 -- src/held.rt:98:9
 pub loop-left-preserved : goal.loop-left-preserved
@@ -27,4 +27,5 @@ loop-left-preserved c =
           c.args.piece.now c.loop-left.left.now c.split_at.result.1.now x.2
           (subst (λ later. AddsHeld c.loop-left.self c.step.new.self c.args.side c.loop-left.left.now later) (sym c.split_at.ensures.back) e.adds),
       refl,
+      e.profile ∙ x.4,
     )

@@ -9,6 +9,7 @@ invariant-loop-left l =
     × (l.self.taken + length l.left < 9223372036854775808)
     × AddsHeld l.fn.self l.self l.fn.side l.fn.piece l.left
     × (l.side ≡ l.fn.side)
+    × (l.self.state.profile ≡ l.fn.self.state.profile)
 
 abbrev pub decreases-loop-left : goal.decreases-loop-left
 decreases-loop-left l = length l.left

@@ -1,5 +1,6 @@
-use Rattle.std.proofs.Common.{◌≤◌, arith, length, drop, take}
+use Rattle.std.proofs.Common.{◌≤◌, ◌∙◌, ap, arith, length, drop, take}
 use Rattle.std.proofs.lemmas.List.{length-take-le}
+use Rattle.nbd_state.specs.declared.state.State.{State}
 use Rattle.nbd_session.specs.internal.Steps.{IsRefused}
 use Rattle.nbd_session.proofs.judge.PieceLemmas.{awaits_some, prefix_added, is_taken, refused_memory, refused_settling, settled_added, total_fits}
 use Rattle.nbd_session.proofs.steps.SettleLemmas.{handed_on, memory_alone}
@@ -48,6 +49,7 @@ returns-in_err-settle-clause-refused c =
     let is = c.in_ok-take.ensures.incoming in
     handed_on _ c.from_residual-in_err-settle.result c.in_err-settle.field-0.0 (IsRefused held c.settle.new.self s c.args.left.now) c.from_residual-in_err-settle.ensures.1
     (refused_settling held taken c.settle.new.self s c.args.left.now (drop c.min-count.result c.args.left.now) c.in_err-settle.field-0.0
+    (ap (λ (z : State). z.profile) (taken_state held taken s more st is))
     (prefix_added held taken s c.args.left.now c.min-count.result st (omega (arith, some, filled, n)) (omega (arith, n))
     (taken_holding held taken s more st is (length held.state.exchanges.items) c.in_ok-take.ensures.counted c.in_ok-take.ensures.stretches))
     c.in_err-settle.ensures.same c.in_err-settle.ensures.shut)
@@ -74,3 +76,8 @@ returns-clause-adds c =
     (prefix_added held taken s c.args.left.now c.min-count.result st (omega (arith, some, filled, n)) (omega (arith, n))
     (taken_holding held taken s more st is (length held.state.exchanges.items) c.in_ok-take.ensures.counted c.in_ok-take.ensures.stretches))
     c.in_ok-settle.ensures.same
+
+pub returns-clause-profile : goal.returns-clause-profile
+returns-clause-profile c =
+    c.in_ok-settle.ensures.same.profile_is
+    ∙ ap (λ (z : State). z.profile) (taken_state c.args.self.now c.take.new.self c.args.side (take c.min-count.result c.args.left.now) c.requires.stands c.in_ok-take.ensures.incoming)

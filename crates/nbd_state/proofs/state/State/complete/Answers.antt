@@ -16,8 +16,8 @@ returns-in-Greeting-clause-shown c = λ core r s sn ok.
     (shows_greeted c.args.self.now _ core s c.in-Greeting.flags (subst (λ m. MayComplete core core.phase m) c.in-Greeting.is ok) refl)
 
 pub returns-in-Greeting-clause-known : goal.returns-in-Greeting-clause-known
-returns-in-Greeting-clause-known c = λ core log r s ok e h.
-    known_kept core log c.args.message.now c.args.known e c.args.self.now.exchanges.items (ap cookie_of c.in-Greeting.is) h
+returns-in-Greeting-clause-known c = λ core profile log r s ok e h.
+    known_kept core profile log c.args.message.now c.args.known e c.args.self.now.exchanges.items (ap cookie_of c.in-Greeting.is) h
 
 pub returns-in-ClientFlags-clause-shown : goal.returns-in-ClientFlags-clause-shown
 returns-in-ClientFlags-clause-shown c = λ core r s sn ok.
@@ -25,8 +25,8 @@ returns-in-ClientFlags-clause-shown c = λ core r s sn ok.
     (shows_flags c.args.self.now _ core s c.in-ClientFlags.flags (subst (λ m. MayComplete core core.phase m) c.in-ClientFlags.is ok) refl)
 
 pub returns-in-ClientFlags-clause-known : goal.returns-in-ClientFlags-clause-known
-returns-in-ClientFlags-clause-known c = λ core log r s ok e h.
-    known_kept core log c.args.message.now c.args.known e c.args.self.now.exchanges.items (ap cookie_of c.in-ClientFlags.is) h
+returns-in-ClientFlags-clause-known c = λ core profile log r s ok e h.
+    known_kept core profile log c.args.message.now c.args.known e c.args.self.now.exchanges.items (ap cookie_of c.in-ClientFlags.is) h
 
 pub returns-in-Choice-clause-shown : goal.returns-in-Choice-clause-shown
 returns-in-Choice-clause-shown c = λ core r s sn ok.
@@ -35,8 +35,8 @@ returns-in-Choice-clause-shown c = λ core r s sn ok.
     (c.chosen-self.ensures ∙ ap (λ p. phase_shown (choice_phase c.in-Choice.id p)) c.as_slice.ensures) refl)
 
 pub returns-in-Choice-clause-known : goal.returns-in-Choice-clause-known
-returns-in-Choice-clause-known c = λ core log r s ok e h.
-    known_kept core log c.args.message.now c.args.known e c.args.self.now.exchanges.items (ap cookie_of c.in-Choice.is) h
+returns-in-Choice-clause-known c = λ core profile log r s ok e h.
+    known_kept core profile log c.args.message.now c.args.known e c.args.self.now.exchanges.items (ap cookie_of c.in-Choice.is) h
 
 pub returns-in-Answer-clause-shown : goal.returns-in-Answer-clause-shown
 returns-in-Answer-clause-shown c = λ core r s sn ok.
@@ -47,8 +47,8 @@ returns-in-Answer-clause-shown c = λ core r s sn ok.
     c.grants_structured.ensures refl)
 
 pub returns-in-Answer-clause-known : goal.returns-in-Answer-clause-known
-returns-in-Answer-clause-known c = λ core log r s ok e h.
-    known_kept core log c.args.message.now c.args.known e c.args.self.now.exchanges.items (ap cookie_of c.in-Answer.is) h
+returns-in-Answer-clause-known c = λ core profile log r s ok e h.
+    known_kept core profile log c.args.message.now c.args.known e c.args.self.now.exchanges.items (ap cookie_of c.in-Answer.is) h
 
 pub returns-in-Exported-clause-shown : goal.returns-in-Exported-clause-shown
 returns-in-Exported-clause-shown c = λ core r s sn ok.
@@ -56,8 +56,8 @@ returns-in-Exported-clause-shown c = λ core r s sn ok.
     (shows_exported c.args.self.now _ core s c.in-Exported.size c.in-Exported.flags c.in-Exported.padded c.phase_after_export-self.result (subst (λ m. MayComplete core core.phase m) c.in-Exported.is ok) c.phase_after_export-self.ensures refl)
 
 pub returns-in-Exported-clause-known : goal.returns-in-Exported-clause-known
-returns-in-Exported-clause-known c = λ core log r s ok e h.
-    known_kept core log c.args.message.now c.args.known e c.args.self.now.exchanges.items (ap cookie_of c.in-Exported.is) h
+returns-in-Exported-clause-known c = λ core profile log r s ok e h.
+    known_kept core profile log c.args.message.now c.args.known e c.args.self.now.exchanges.items (ap cookie_of c.in-Exported.is) h
 
 pub request-requires : goal.request-requires
 request-requires c = transmits c.args.self.now c.in-Request.flags c.in-Request.command c.in-Request.cookie c.in-Request.offset c.in-Request.length c.in-Request.payload (subst (MayTake c.args.self.now) c.in-Request.is c.requires.may)
@@ -84,8 +84,8 @@ returns-in-Request-clause-shown c = on c.request.result (λ f core r s sn ok.
     c.request.ensures.shown
 
 pub returns-in-Request-clause-known : goal.returns-in-Request-clause-known
-returns-in-Request-clause-known c = on c.request.result (λ f core log r s ok e h.
-    known_added core log c.args.message.now c.args.known e c.args.self.now c.request.new.self.exchanges.items s (ap cookie_of c.in-Request.is) f h)
+returns-in-Request-clause-known c = on c.request.result (λ f core profile log r s ok e h.
+    known_added core profile log c.args.message.now c.args.known e c.args.self.now c.request.new.self.exchanges.items s (ap cookie_of c.in-Request.is) f h)
     c.request.ensures.adds
 
 pub returns-in-Simple-clause-shown : goal.returns-in-Simple-clause-shown
@@ -97,8 +97,8 @@ returns-in-Simple-clause-shown c = on c.simple.result (λ f core r s sn ok.
     c.simple.ensures.shown
 
 pub returns-in-Simple-clause-known : goal.returns-in-Simple-clause-known
-returns-in-Simple-clause-known c = on c.simple.result (λ f core log r s ok e h.
-    known_told core log c.args.message.now c.args.known e c.args.self.now c.in-Simple.cookie c.simple.new.self.exchanges.items s (ap cookie_of c.in-Simple.is) f h)
+returns-in-Simple-clause-known c = on c.simple.result (λ f core profile log r s ok e h.
+    known_told core profile log c.args.message.now c.args.known e c.args.self.now c.in-Simple.cookie c.simple.new.self.exchanges.items s (ap cookie_of c.in-Simple.is) f h)
     c.simple.ensures.tells
 
 pub returns-in-Chunk-clause-shown : goal.returns-in-Chunk-clause-shown
@@ -110,6 +110,6 @@ returns-in-Chunk-clause-shown c = on c.chunk.result (λ f core r s sn ok.
     c.chunk.ensures.shown
 
 pub returns-in-Chunk-clause-known : goal.returns-in-Chunk-clause-known
-returns-in-Chunk-clause-known c = on c.chunk.result (λ f core log r s ok e h.
-    known_told core log c.args.message.now c.args.known e c.args.self.now c.in-Chunk.cookie c.chunk.new.self.exchanges.items s (ap cookie_of c.in-Chunk.is) f h)
+returns-in-Chunk-clause-known c = on c.chunk.result (λ f core profile log r s ok e h.
+    known_told core profile log c.args.message.now c.args.known e c.args.self.now c.in-Chunk.cookie c.chunk.new.self.exchanges.items s (ap cookie_of c.in-Chunk.is) f h)
     c.chunk.ensures.tells

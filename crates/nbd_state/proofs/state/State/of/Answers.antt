@@ -1,10 +1,11 @@
 use Rattle.std.proofs.Common.{refl, rules}
 use Rattle.nbd_wire.specs.protocol.States.{target}
-use Rattle.nbd_state.proofs.state.State.new.Goals as goal
+use Rattle.nbd_state.proofs.state.State.of.Goals as goal
 
 pub returns : goal.returns
 unfolding target
 returns c = record {
+  profile_is = refl;
   phase_is = refl;
   offered_is = refl;
   client_flags_are = refl;

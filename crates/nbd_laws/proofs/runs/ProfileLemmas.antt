@@ -1,0 +1,78 @@
+-- What messages lead to does not hang on the profile that a session is held to.
+use Rattle.std.proofs.Common.{◌≡◌, ℕ, ◌==◌, List, [], ◌∷◌, ◌++◌, refl, sym, ◌∙◌, ap, Option, Some, None, Bool, true, false}
+use Rattle.nbd_wire.specs.declared.commands.TheConstants as commands
+use Rattle.nbd_wire.specs.declared.entry.Entry.{Entry}
+use Rattle.nbd_wire.specs.declared.message.Message.{Message}
+use Rattle.nbd_wire.specs.declared.message.Message.TheVariants.{Greeting, ClientFlags, Choice, Answer, Exported, Request, Simple, Chunk}
+use Rattle.nbd_wire.specs.declared.message.Side.TheVariants.{Client, Server}
+use Rattle.nbd_wire.specs.declared.profile.Profile.{Profile}
+use Rattle.nbd_wire.specs.declared.profile.Profile.TheVariants.{Base}
+use Rattle.nbd_wire.specs.protocol.Marks.{Item, Byte, Starts, Completes, Serves}
+use Rattle.nbd_wire.specs.protocol.Operations.{Operation}
+use Rattle.nbd_wire.specs.protocol.Reports.{first_known, known_count, known_from, known_if}
+use Rattle.nbd_wire.specs.protocol.Rules.{complete, core_with_request, ends_at, reply_to, request_of_reply}
+use Rattle.nbd_wire.specs.protocol.States.{Core, start, start_of}
+use Rattle.nbd_laws.specs.Profiles.{EndsAgree, with_profile}
+
+requested_with : (q : Profile) (is_disc : Bool) (core : Core) (e : Operation) → core_with_request is_disc (with_profile q core) e ≡ with_profile q (core_with_request is_disc core e)
+requested_with q true core e = refl
+requested_with q false core e = refl
+
+replied_with : (q : Profile) (o : Option ℕ) (core : Core) (m : Message) → reply_to o (with_profile q core) m ≡ with_profile q (reply_to o core m)
+replied_with q (Some k) core m = refl
+replied_with q None core m = refl
+
+pub complete_with : (q : Profile) (core : Core) (m : Message) → complete (with_profile q core) m ≡ with_profile q (complete core m)
+unfolding complete
+complete_with q core (Greeting flags) = refl
+complete_with q core (ClientFlags flags) = refl
+complete_with q core (Choice id p) = refl
+complete_with q core (Answer option kind p) = refl
+complete_with q core (Exported size flags padded) = refl
+complete_with q core (Request flags command cookie offset len p) = requested_with q (command == commands.DISC) core _
+complete_with q core (Simple error cookie p) = replied_with q (request_of_reply core (Simple error cookie p)) core (Simple error cookie p)
+complete_with q core (Chunk flags kind cookie p) = replied_with q (request_of_reply core (Chunk flags kind cookie p)) core (Chunk flags kind cookie p)
+
+pub ends_with : (q : Profile) (core : Core) (js : List Entry) (items : List Item) →
+    with_profile q (ends_at (record { core = core; served = js }) items).core ≡ (ends_at (record { core = with_profile q core; served = js }) items).core
+ends_with q core js [] = refl
+ends_with q core js (Byte s b ∷ items) = ends_with q core js items
+ends_with q core js (Starts s m ∷ items) = ends_with q core js items
+ends_with q core js (Completes s m ∷ items) =
+    ends_with q (complete core m) js items ∙ ap (λ c. (ends_at (record { core = c; served = js }) items).core) (sym (complete_with q core m))
+ends_with q core js (Serves k ∷ items) = ends_with q core (js ++ k ∷ []) items
+
+pub ends_agree : EndsAgree
+ends_agree p q items = ends_with q (start_of p).core [] items
+
+-- the end of the items by the profile Base
+pub at_base : (p : Profile) (items : List Item) → with_profile Base (ends_at (start_of p) items).core ≡ (ends_at start items).core
+at_base p items = ends_agree p Base items
+
+pub phase_at_base : (p : Profile) (items : List Item) → (ends_at (start_of p) items).core.phase ≡ (ends_at start items).core.phase
+phase_at_base p items = ap (λ (c : Core). c.phase) (at_base p items)
+
+pub reply_at_base : (p : Profile) (items : List Item) (m : Message) → request_of_reply (ends_at (start_of p) items).core m ≡ request_of_reply (ends_at start items).core m
+reply_at_base p items m = ap (λ c. request_of_reply c m) (at_base p items)
+
+first_known_with : (q : Profile) (o : Option ℕ) (core : Core) (k : ℕ) (later : Option ℕ) → first_known o (with_profile q core) k later ≡ first_known o core k later
+first_known_with q None core k later = refl
+first_known_with q (Some j) core k later = go (j == k)
+  where
+    go : (b : Bool) → known_if b (with_profile q core) later ≡ known_if b core later
+    go true = refl
+    go false = refl
+
+known_with : (q : Profile) (core : Core) (k : ℕ) (items : List Item) → known_from (with_profile q core) k items ≡ known_from core k items
+known_with q core k [] = refl
+known_with q core k (Byte s b ∷ items) = known_with q core k items
+known_with q core k (Starts Client m ∷ items) = known_with q core k items
+known_with q core k (Starts Server m ∷ items) =
+    first_known_with q (request_of_reply core m) core k (known_from (with_profile q core) k items)
+    ∙ ap (first_known (request_of_reply core m) core k) (known_with q core k items)
+known_with q core k (Completes s m ∷ items) = ap (λ c. known_from c k items) (complete_with q core m) ∙ known_with q (complete core m) k items
+known_with q core k (Serves j ∷ items) = known_with q core k items
+
+-- the counts of the items by the profile Base
+pub known_at_base : (p : Profile) (items : List Item) (k : ℕ) → known_from (start_of p).core k items ≡ known_count items k
+known_at_base p items k = sym (known_with Base (start_of p).core k items)

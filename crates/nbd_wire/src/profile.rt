@@ -1,0 +1,10 @@
+//! The profiles of the protocol that a session can be held to.
+
+/// A profile of the protocol.
+#[derive(Clone, Copy, Debug, PartialEq, Eq, Drop)]
+pub enum Profile {
+    /// What docs/PROFILE.md says.
+    Base,
+    /// Base, with metadata contexts and block sizes.
+    Wide,
+}
