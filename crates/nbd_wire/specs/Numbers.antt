@@ -88,6 +88,7 @@ CommandsAreLiteral =
     × (commands.TRIM ≡ 4)
     × (commands.CACHE ≡ 5)
     × (commands.WRITE_ZEROES ≡ 6)
+    × (commands.BLOCK_STATUS ≡ 7)
 
 -- command flags, by bits 0, 1, 2 and 4 (proto.md, "Command flags")
 abbrev pub CommandFlagsAreLiteral : Type 0

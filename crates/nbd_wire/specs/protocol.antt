@@ -1,6 +1,7 @@
 pub mod Sides
 pub mod Layouts
 pub mod Encoding
+pub mod Contexts
 pub mod Payloads
 pub mod Forms
 pub mod Sendable

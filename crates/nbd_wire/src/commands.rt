@@ -13,3 +13,5 @@ pub const TRIM: u16 = 4;
 pub const CACHE: u16 = 5;
 
 pub const WRITE_ZEROES: u16 = 6;
+
+pub const BLOCK_STATUS: u16 = 7;

@@ -16,7 +16,7 @@ pub const COMMANDS: &[Name] = &[
     (commands::TRIM as u32, "TRIM"),
     (commands::CACHE as u32, "CACHE"),
     (commands::WRITE_ZEROES as u32, "WRITE_ZEROES"),
-    (7, "BLOCK_STATUS"),
+    (commands::BLOCK_STATUS as u32, "BLOCK_STATUS"),
     (8, "RESIZE"),
 ];
 

@@ -1,5 +1,5 @@
 -- The forms of payloads, from what they state to their bytes. Numbers are big-endian.
-use Rattle.std.specs.Prelude.{◌≡◌, ◌≢◌, ℕ, ◌<◌, ◌*◌, ◌^◌, List, ◌++◌, Option, Some, None, length}
+use Rattle.std.specs.Prelude.{◌≡◌, ◌≢◌, ℕ, ◌<◌, ◌*◌, ◌^◌, List, [], ◌∷◌, ◌++◌, Option, Some, None, All, length}
 use Rattle.byteorder.specs.Endian.{big_bytes}
 use Rattle.nbd_wire.specs.declared.chunks.TheConstants.{OFFSET_DATA, OFFSET_HOLE, ERROR, ERROR_OFFSET}
 use Rattle.nbd_wire.specs.declared.infos.TheConstants.{EXPORT, BLOCK_SIZE}
@@ -8,6 +8,7 @@ use Rattle.nbd_wire.specs.declared.payloads.Info.TheVariants.{Export, BlockSize,
 use Rattle.nbd_wire.specs.declared.payloads.Piece.{Piece}
 use Rattle.nbd_wire.specs.declared.payloads.Piece.TheVariants.{Bytes, Hole}
 use Rattle.nbd_wire.specs.declared.payloads.Failure.{Failure}
+use Rattle.nbd_wire.specs.protocol.Contexts.{Context}
 
 -- INFO: a type and what belongs to it; other types than EXPORT and BLOCK_SIZE may go on as they like (proto.md, "Option
 -- reply types")
@@ -31,6 +32,23 @@ HasGoForm name count bytes =
     (length name < 2 ^ 32) × (count < 2 ^ 16)
     × ((asked : List ℕ) × (length asked ≡ 2 * count)
     × (bytes ≡ big_bytes 4 (length name) ++ name ++ big_bytes 2 count ++ asked))
+
+-- texts, each after its length
+abbrev pub with_lengths : List (List ℕ) → List ℕ
+with_lengths [] = []
+with_lengths (text ∷ texts) = big_bytes 4 (length text) ++ text ++ with_lengths texts
+
+-- LIST_META_CONTEXT and SET_META_CONTEXT data: an export's name after its length, and the queries after their count,
+-- each after its length (proto.md, "Option types", "Metadata querying")
+unfoldable pub HasQueriesForm : List ℕ → ℕ → List ℕ → Type 0
+HasQueriesForm name count bytes =
+    (length name < 2 ^ 32) × (count < 2 ^ 32)
+    × ((queries : List (List ℕ)) × (length queries ≡ count) × All (λ (query : List ℕ). length query < 2 ^ 32) queries
+    × (bytes ≡ big_bytes 4 (length name) ++ name ++ big_bytes 4 count ++ with_lengths queries))
+
+-- META_CONTEXT: an id, and a name to the end (proto.md, "Option reply types")
+unfoldable pub HasContextForm : Context → List ℕ → Type 0
+HasContextForm context bytes = (context.id < 2 ^ 32) × (bytes ≡ big_bytes 4 context.id ++ context.name)
 
 -- OFFSET_DATA and OFFSET_HOLE: an offset, and at least one byte of data or of hole (proto.md, "Structured reply types")
 unfoldable pub HasContentForm : ℕ → Piece → List ℕ → Type 0

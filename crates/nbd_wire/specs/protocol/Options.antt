@@ -1,5 +1,6 @@
 -- The turns of negotiation (proto.md, "Fixed newstyle negotiation", "Option types", "Option reply types").
-use Rattle.std.specs.Prelude.{ℕ, List, [], ◌≡◌, ◌≤◌, ◌⊎◌, ◌==◌, ◌||◌, Bool, true, false, if◌then◌else◌, Option, Some, None, length, IsTrue, is_some}
+use Rattle.std.specs.Prelude.{ℕ, List, [], ◌≡◌, ◌≤◌, ◌⊎◌, ◌∷◌, ◌++◌, ◌==◌, ◌&&◌, ◌||◌, not, Bool, true, false, if◌then◌else◌, Option, Some, None, length, IsTrue, is_some}
+use Rattle.std.specs.Str.{bytes_eq}
 use Rattle.nbd_wire.specs.declared.message.Side.{Side}
 use Rattle.nbd_wire.specs.declared.message.Side.TheVariants.{Client, Server}
 use Rattle.nbd_wire.specs.declared.message.Message.{Message}
@@ -10,7 +11,8 @@ use Rattle.nbd_wire.specs.declared.answers.TheConstants as answers
 use Rattle.nbd_wire.specs.declared.options.TheConstants as options
 use Rattle.nbd_wire.specs.declared.limits.TheConstants.{EXPORT_SIZE}
 use Rattle.nbd_wire.specs.declared.transmission.TheConstants as transmission
-use Rattle.nbd_wire.specs.protocol.Payloads.{info_of, is_listed, is_go}
+use Rattle.nbd_wire.specs.protocol.Contexts.{Context, Selection, has_id}
+use Rattle.nbd_wire.specs.protocol.Payloads.{context_of, info_of, is_listed, is_go, name_in, queries_of}
 use Rattle.nbd_wire.specs.protocol.Operations.{Exporting}
 use Rattle.nbd_wire.specs.protocol.Flags.{has}
 use Rattle.nbd_wire.specs.protocol.States.{Phase, Greet, Flags, Choosing, Naming, Aborting, Answering, Ended, Transmission}
@@ -26,6 +28,7 @@ is_proper_option option payload =
     if (option == options.EXPORT_NAME) || (option == options.ABORT) then true
     else if (option == options.LIST) || (option == options.STRUCTURED_REPLY) then length payload == 0
     else if (option == options.INFO) || (option == options.GO) then is_go payload
+    else if (option == options.LIST_META_CONTEXT) || (option == options.SET_META_CONTEXT) then is_some (queries_of payload)
     else false
 
 -- whose turn it is in a phase of the negotiation
@@ -69,6 +72,68 @@ MayAnswer option payload info kind answer =
     ⊎ IsTrue (is_proper_option option payload) × (kind ≡ answers.INFO)
     × ((option ≡ options.INFO) ⊎ (option ≡ options.GO)) × IsInfo answer
 
+-- SET_META_CONTEXT without queries
+abbrev pub asks_nothing : Option ℕ → Bool
+asks_nothing (Some count) = count == 0
+asks_nothing None = false
+
+-- the option takes META_CONTEXT: LIST_META_CONTEXT, and SET_META_CONTEXT unless its data has the form and no query
+-- (proto.md, "Option types", "Metadata querying")
+abbrev pub takes_contexts : (option : ℕ) (payload : List ℕ) → Bool
+takes_contexts option payload =
+    (option == options.LIST_META_CONTEXT)
+    || ((option == options.SET_META_CONTEXT) && not (asks_nothing (queries_of payload)))
+
+-- a context that answers an option has an id that none has which the option selected before; those of
+-- LIST_META_CONTEXT are not looked at (proto.md, "Option reply types", "Metadata querying")
+abbrev pub IsFreshFor : ℕ → Selection → Context → Type 0
+IsFreshFor option selection context = option ≡ options.SET_META_CONTEXT → has_id selection.contexts context.id ≡ false
+
+-- an option reply of success to a proper LIST_META_CONTEXT or SET_META_CONTEXT, after which this is selected: an empty
+-- ACK or a context (proto.md, "Option types", "Option reply types")
+abbrev pub MayTell : Selection → (option : ℕ) (payload : List ℕ) (kind : ℕ) (answer : List ℕ) → Type 0
+MayTell selection option payload kind answer =
+    ((option ≡ options.LIST_META_CONTEXT) ⊎ (option ≡ options.SET_META_CONTEXT))
+    × IsTrue (is_proper_option option payload)
+    × ((kind ≡ answers.ACK) × (answer ≡ [])
+    ⊎ (kind ≡ answers.META_CONTEXT) × IsTrue (takes_contexts option payload)
+    × ((context : Context) × (context_of answer ≡ Some context) × IsFreshFor option selection context))
+
+-- what is selected once an option is chosen: SET_META_CONTEXT replaces what an earlier one selected, whatever its answer
+-- (proto.md, "Option types")
+abbrev pub selection_at : (id : ℕ) (payload : List ℕ) → Selection → Selection
+selection_at id payload selection =
+    if id == options.SET_META_CONTEXT then
+    record { export_name = name_in payload; contexts = []; granted = false }
+    else selection
+
+-- one more context
+abbrev pub with_context : Option Context → Selection → Selection
+with_context (Some context) selection = record selection { contexts = selection.contexts ++ context ∷ [] }
+with_context None selection = selection
+
+-- what is selected after an answer to SET_META_CONTEXT of this kind
+abbrev pub selection_told : (kind : ℕ) (answer : List ℕ) → Selection → Selection
+selection_told kind answer selection =
+    if kind == answers.META_CONTEXT then with_context (context_of answer) selection
+    else if kind == answers.ACK then record selection { granted = true }
+    else selection
+
+-- the same, by the phase in which an answer comes
+abbrev pub selection_after : Phase → (kind : ℕ) (answer : List ℕ) → Selection → Selection
+selection_after (Answering option payload info) kind answer selection =
+    if option == options.SET_META_CONTEXT then selection_told kind answer selection else selection
+selection_after _ kind answer selection = selection
+
+-- the option is GO or EXPORT_NAME and names, byte for byte, the export of a selection that was granted (proto.md,
+-- "Metadata querying"; that no default name is resolved is this project's choice)
+abbrev pub agrees : (id : ℕ) (payload : List ℕ) → Selection → Bool
+agrees id payload selection =
+    selection.granted
+    && (if id == options.EXPORT_NAME then bytes_eq payload selection.export_name
+    else if id == options.GO then bytes_eq (name_in payload) selection.export_name
+    else false)
+
 -- the last EXPORT info counts (this project's choice)
 abbrev pub last_info : Option Info → Option Exporting → Option Exporting
 last_info (Some (Export size flags)) info = Some (record { size = size; flags = flags })
@@ -88,7 +153,7 @@ ack_phase option None = Choosing
 abbrev pub reply_phase : (option : ℕ) (payload : List ℕ) (info : Option Exporting) (kind : ℕ) (answer : List ℕ) → Phase
 reply_phase option payload info kind answer =
     if is_error kind then Choosing
-    else if kind == answers.SERVER then Answering option payload info
+    else if (kind == answers.SERVER) || (kind == answers.META_CONTEXT) then Answering option payload info
     else if kind == answers.INFO then Answering option payload (last_info (info_of answer) info)
     else ack_phase option info
 

@@ -1,10 +1,11 @@
 -- What the payloads of options, of option replies and of chunks state. Numbers are big-endian.
-use Rattle.std.specs.Prelude.{ℕ, List, Option, Some, None, length, ◌==◌, ◌&&◌, ◌+◌, ◌*◌, not, nat_le, if◌then◌else◌, drop, Bool}
+use Rattle.std.specs.Prelude.{ℕ, zero, suc, List, Option, Some, None, length, ◌==◌, ◌&&◌, ◌+◌, ◌*◌, not, nat_le, if◌then◌else◌, take, drop, Bool}
 use Rattle.nbd_wire.specs.declared.payloads.Info.{Info}
 use Rattle.nbd_wire.specs.declared.payloads.Info.TheVariants.{Export, BlockSize, Other}
 use Rattle.nbd_wire.specs.declared.payloads.Piece.{Piece}
 use Rattle.nbd_wire.specs.declared.payloads.Piece.TheVariants.{Bytes, Hole}
 use Rattle.nbd_wire.specs.declared.payloads.Failure.{Failure}
+use Rattle.nbd_wire.specs.protocol.Contexts.{Context}
 use Rattle.byteorder.specs.Endian.{big_number}
 use Rattle.nbd_wire.specs.declared.chunks.TheConstants as chunks
 use Rattle.nbd_wire.specs.declared.infos.TheConstants as infos
@@ -35,6 +36,31 @@ unfoldable pub is_go : List ℕ → Bool
 is_go bytes =
     let name : ℕ = number_at 0 4 bytes in
     nat_le (6 + name) (length bytes) && (length bytes == 6 + name + 2 * number_at (4 + name) 2 bytes)
+
+-- the name in data that begin with a name's length and the name (proto.md, "Option types")
+abbrev pub name_in : List ℕ → List ℕ
+name_in bytes = take (number_at 0 4 bytes) (drop 4 bytes)
+
+-- so many queries, each its length and its bytes, and no more (proto.md, "Metadata querying")
+abbrev pub are_queries : ℕ → List ℕ → Bool
+are_queries zero bytes = length bytes == 0
+are_queries (suc n) bytes =
+    nat_le 4 (length bytes) && nat_le (number_at 0 4 bytes) (length (drop 4 bytes))
+    && are_queries n (drop (number_at 0 4 bytes) (drop 4 bytes))
+
+-- LIST_META_CONTEXT or SET_META_CONTEXT data: a name's length, the name, how many queries, and these: how many
+-- (proto.md, "Option types", "Metadata querying")
+unfoldable pub queries_of : List ℕ → Option ℕ
+queries_of bytes =
+    let rest : List ℕ = drop (number_at 0 4 bytes) (drop 4 bytes) in
+    if is_listed bytes && nat_le 4 (length rest) && are_queries (number_at 0 4 rest) (drop 4 rest) then Some
+    (number_at 0 4 rest)
+    else None
+
+-- a META_CONTEXT payload: an id, and a name to the end (proto.md, "Option reply types")
+unfoldable pub context_of : List ℕ → Option Context
+context_of bytes =
+    if nat_le 4 (length bytes) then Some (record { id = number_at 0 4 bytes; name = drop 4 bytes }) else None
 
 -- a content chunk: OFFSET_DATA (1) with an offset and at least one byte, or OFFSET_HOLE (2) with an offset
 -- and a size above 0 (proto.md, "Structured reply types")

@@ -21,13 +21,16 @@ use Rattle.nbd_wire.specs.declared.options.TheConstants as options
 use Rattle.nbd_wire.specs.declared.payloads.Failure.{Failure}
 use Rattle.nbd_wire.specs.declared.payloads.Piece.{Piece}
 use Rattle.nbd_wire.specs.declared.transmission.TheConstants as transmission
-use Rattle.nbd_wire.specs.protocol.Options.{FitsLimit, IsInfo, is_error, is_proper_option, turn}
-use Rattle.nbd_wire.specs.protocol.Payloads.{content_of, failure_of, is_listed, number_at}
+use Rattle.nbd_wire.specs.protocol.Options.{FitsLimit, IsFreshFor, IsInfo, is_error, is_proper_option, takes_contexts, turn}
+use Rattle.nbd_wire.specs.declared.profile.Profile.{Profile}
+use Rattle.nbd_wire.specs.declared.profile.Profile.TheVariants.{Wide}
+use Rattle.nbd_wire.specs.protocol.Contexts.{Context, Selection}
+use Rattle.nbd_wire.specs.protocol.Payloads.{content_of, context_of, failure_of, is_listed, number_at}
 use Rattle.nbd_wire.specs.protocol.Replies.{simple_length}
 use Rattle.nbd_wire.specs.protocol.Operations.{Operation, Exporting, has_failed, is_proper, pieces}
 use Rattle.nbd_wire.specs.protocol.Pieces.{byte_at, holds, is_in, piece_offset, piece_size}
 use Rattle.nbd_wire.specs.protocol.Flags.{has, has_only}
-use Rattle.nbd_wire.specs.protocol.States.{Core, Phase, Greet, Flags, Choosing, Naming, Aborting, Answering, Transmission, operation, target, with_reply}
+use Rattle.nbd_wire.specs.protocol.States.{Core, Phase, Greet, Flags, Choosing, Naming, Aborting, Answering, Transmission, in_force, operation, target, with_reply}
 
 -- the number of a fault in the table; Unfinished has no row
 abbrev pub rank : WireFault → ℕ
@@ -218,12 +221,13 @@ IsOutOfTurn (Transmission export) now Client = now.disconnected ≡ true
 IsOutOfTurn (Transmission export) now Server = ⊥
 IsOutOfTurn phase now s = turn phase ≢ Some s
 
--- the option of the phase is one that this project follows
-abbrev pub IsFollowed : Phase → Type 0
-IsFollowed Aborting = Unit {0}
-IsFollowed (Answering option payload info) = (option ≡ options.LIST) ⊎ (option ≡ options.INFO) ⊎ (option ≡ options.GO)
-    ⊎ (option ≡ options.STRUCTURED_REPLY)
-IsFollowed phase = ⊥
+-- the option of the phase is one that the profile follows: in Wide also those on metadata contexts
+abbrev pub IsFollowed : Profile → Phase → Type 0
+IsFollowed profile Aborting = Unit {0}
+IsFollowed profile (Answering option payload info) =
+    (option ≡ options.LIST) ⊎ (option ≡ options.INFO) ⊎ (option ≡ options.GO) ⊎ (option ≡ options.STRUCTURED_REPLY)
+    ⊎ (profile ≡ Wide) × ((option ≡ options.LIST_META_CONTEXT) ⊎ (option ≡ options.SET_META_CONTEXT))
+IsFollowed profile phase = ⊥
 
 -- the kinds that the option of the phase takes, but for errors (proto.md, "Option types", "Option reply types")
 abbrev pub TakesKind : Phase → ℕ → Type 0
@@ -232,16 +236,21 @@ TakesKind (Answering option payload info) kind =
     (kind ≡ answers.ACK)
     ⊎ (option ≡ options.LIST) × (kind ≡ answers.SERVER)
     ⊎ ((option ≡ options.INFO) ⊎ (option ≡ options.GO)) × (kind ≡ answers.INFO)
+    ⊎ IsTrue (takes_contexts option payload) × (kind ≡ answers.META_CONTEXT)
 TakesKind phase kind = ⊥
 
 -- the kind of an answer is no error
 abbrev pub IsNoError : ℕ → Type 0
 IsNoError kind = IsTrue (is_error kind) → ⊥
 
--- a SERVER or INFO payload that does not have its form, or an info on the export without HAS_FLAGS
-abbrev pub IsBadPayload : (kind : ℕ) → List ℕ → Type 0
-IsBadPayload kind payload = (kind ≡ answers.SERVER) × (IsTrue (is_listed payload) → ⊥)
+-- a SERVER, INFO or META_CONTEXT payload that does not have its form, an info on the export without HAS_FLAGS, or a
+-- context to SET_META_CONTEXT with the id of an earlier one
+abbrev pub IsBadPayload : Selection → (option kind : ℕ) → List ℕ → Type 0
+IsBadPayload selection option kind payload =
+    (kind ≡ answers.SERVER) × (IsTrue (is_listed payload) → ⊥)
     ⊎ (kind ≡ answers.INFO) × (IsInfo payload → ⊥)
+    ⊎ (kind ≡ answers.META_CONTEXT)
+    × ((context : Context) → context_of payload ≡ Some context → IsFreshFor option selection context → ⊥)
 
 -- the export that the answer to EXPORT_NAME names, or the ACK to GO, is larger than this project takes
 abbrev pub IsTooLarge : Phase → List ℕ → Type 0
@@ -316,21 +325,25 @@ pub data RowIn (since now : Core) (bytes : List ℕ) : WireFault → Phase → S
   wrong_option : {phase : Phase} (asked : ℕ) → IsAsked phase asked → length bytes ≡ head_lengths.ANSWER
       → answered_option bytes ≢ asked → RowIn since now bytes WrongOption phase Server
   -- at the head of an answer: a kind that the option does not take (proto.md, "Option types")
-  bad_reply_kind : {phase : Phase} → IsFollowed phase → length bytes ≡ head_lengths.ANSWER
+  bad_reply_kind : {phase : Phase} → IsFollowed now.profile phase → length bytes ≡ head_lengths.ANSWER
       → IsNoError (answer_kind bytes) → (TakesKind phase (answer_kind bytes) → ⊥)
       → RowIn since now bytes BadReplyKind phase Server
   -- at the head of an answer: no error, to an option that is not followed (this project's choice)
   out_of_profile : {option : ℕ} {payload : List ℕ} {info : Option Exporting}
-      → (IsFollowed (Answering option payload info) → ⊥) → length bytes ≡ head_lengths.ANSWER
+      → (IsFollowed now.profile (Answering option payload info) → ⊥) → length bytes ≡ head_lengths.ANSWER
       → IsNoError (answer_kind bytes)
       → RowIn since now bytes OutOfProfile (Answering option payload info) Server
+  -- at the head of a request: BLOCK_STATUS where a context is in force (this project's choice)
+  status_in_force : {export : Exporting} → length bytes ≡ head_lengths.REQUEST
+      → request_type bytes ≡ commands.BLOCK_STATUS → in_force now ≢ []
+      → RowIn since now bytes OutOfProfile (Transmission export) Client
   -- at the head of an ACK: it has a payload (proto.md, "Option reply types")
   ack_with_payload : {phase : Phase} (asked : ℕ) → IsAsked phase asked → length bytes ≡ head_lengths.ANSWER
       → answer_kind bytes ≡ answers.ACK → answer_length bytes ≢ 0 → RowIn since now bytes BadReplyPayload phase Server
   -- at the last byte of an answer (proto.md, "Option reply types", "Transmission flags")
   bad_reply_payload : {option : ℕ} {payload : List ℕ} {info : Option Exporting}
       → IsWholeIn since now bytes (Answering option payload info) Server
-      → IsBadPayload (answer_kind bytes) (answer_payload bytes)
+      → IsBadPayload now.selection option (answer_kind bytes) (answer_payload bytes)
       → RowIn since now bytes BadReplyPayload (Answering option payload info) Server
   -- at the head of an ACK to a proper INFO or GO: no info on the export came before it (proto.md, "Option types")
   missing_export_info : {option : ℕ} {payload : List ℕ} → ((option ≡ options.INFO) ⊎ (option ≡ options.GO))

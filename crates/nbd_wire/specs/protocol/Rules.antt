@@ -10,16 +10,16 @@ use Rattle.nbd_wire.specs.declared.handshake.TheConstants as handshake
 use Rattle.nbd_wire.specs.declared.options.TheConstants as options
 use Rattle.nbd_wire.specs.declared.transmission.TheConstants as transmission
 use Rattle.nbd_wire.specs.declared.profile.Profile.{Profile}
-use Rattle.nbd_wire.specs.declared.profile.Profile.TheVariants.{Base}
+use Rattle.nbd_wire.specs.declared.profile.Profile.TheVariants.{Base, Wide}
 use Rattle.nbd_wire.specs.protocol.Marks.{Item, Byte, Starts, Completes, Serves, IsMarkedBut}
 use Rattle.nbd_wire.specs.protocol.Entries.{IsWhollyServed, MayServe, inside}
-use Rattle.nbd_wire.specs.protocol.Options.{FitsLimit, MayAnswer, is_error, next_phase, turn}
+use Rattle.nbd_wire.specs.protocol.Options.{FitsLimit, MayAnswer, MayTell, agrees, is_error, next_phase, selection_after, selection_at, turn}
 use Rattle.nbd_wire.specs.protocol.Replies.{MayReply}
 use Rattle.nbd_wire.specs.protocol.Operations.{Operation, Exporting}
 use Rattle.nbd_wire.specs.protocol.Flags.{has, has_only}
 use Rattle.nbd_wire.specs.protocol.Sendable.{IsSendable}
 use Rattle.nbd_wire.specs.protocol.Sides.{side}
-use Rattle.nbd_wire.specs.protocol.States.{Core, Phase, State, Greet, Flags, Choosing, Naming, Aborting, Answering, Transmission, export_in, with_reply_at, operation, start_of, target}
+use Rattle.nbd_wire.specs.protocol.States.{Core, Phase, State, Greet, Flags, Choosing, Naming, Aborting, Answering, Transmission, export_in, in_force, with_reply_at, operation, start_of, target}
 
 -- the cookie that a reply repeats
 abbrev pub cookie_of : Message → Option ℕ
@@ -79,6 +79,11 @@ abbrev pub MayAsk : (is_disc : Bool) → Core → (cookie offset len : ℕ) → 
 MayAsk true core cookie offset len = (offset ≡ 0) × (len ≡ 0)
 MayAsk false core cookie offset len = target cookie core.entries ≡ None
 
+-- the type of a request is not BLOCK_STATUS where a context is in force, which is not followed yet (this project's
+-- choice)
+abbrev pub IsFollowedIn : Core → (command : ℕ) → Type 0
+IsFollowedIn core command = command ≡ commands.BLOCK_STATUS → in_force core ≡ []
+
 -- a reply answers the outstanding request with its cookie, and may stand in that request's reply
 abbrev pub AnswersOne : Core → Exporting → (cookie : ℕ) → Message → Type 0
 AnswersOne core export cookie m =
@@ -93,9 +98,11 @@ MayComplete core Choosing (Choice id payload) = Unit {0}
 MayComplete core Naming (Exported size flags padded) = MayExport core (record { size = size; flags = flags }) padded
 MayComplete core Aborting (Answer option kind payload) = MayEnd option kind payload
 MayComplete core (Answering asked asked_with info) (Answer option kind payload) =
-    (option ≡ asked) × MayAnswer asked asked_with info kind payload
+    (option ≡ asked)
+    × (MayAnswer asked asked_with info kind payload
+    ⊎ (core.profile ≡ Wide) × MayTell core.selection asked asked_with kind payload)
 MayComplete core (Transmission export) (Request flags command cookie offset len payload) =
-    MayAsk (command == commands.DISC) core cookie offset len
+    IsFollowedIn core command × MayAsk (command == commands.DISC) core cookie offset len
 MayComplete core (Transmission export) (Simple error cookie payload) =
     AnswersOne core export cookie (Simple error cookie payload)
 MayComplete core (Transmission export) (Chunk flags kind cookie payload) =
@@ -127,12 +134,17 @@ complete core (ClientFlags flags) = record core {
   phase = next_phase core.phase (ClientFlags flags);
   client_flags = flags;
 }
-complete core (Choice id payload) = record core { phase = next_phase core.phase (Choice id payload) }
+complete core (Choice id payload) = record core {
+  phase = next_phase core.phase (Choice id payload);
+  selection = selection_at id payload core.selection;
+  agreed = core.structured && agrees id payload core.selection;
+}
 complete core (Answer option kind payload) =
     record core {
       phase = next_phase core.phase (Answer option kind payload);
       structured = core.structured
           || grants_structured option kind;
+      selection = selection_after core.phase kind payload core.selection;
     }
 complete core (Exported size flags padded) = record core { phase = next_phase core.phase (Exported size flags padded) }
 complete core (Request flags command cookie offset len payload) =

@@ -4,6 +4,7 @@ use Rattle.nbd_wire.specs.declared.message.Message.{Message}
 use Rattle.nbd_wire.specs.declared.entry.Entry.{Entry}
 use Rattle.nbd_wire.specs.declared.profile.Profile.{Profile}
 use Rattle.nbd_wire.specs.declared.profile.Profile.TheVariants.{Base}
+use Rattle.nbd_wire.specs.protocol.Contexts.{Context, Selection, no_selection}
 use Rattle.nbd_wire.specs.protocol.Operations.{Exporting, Operation, is_finished}
 
 -- where the session stands (proto.md, "Newstyle negotiation", "Transmission")
@@ -26,13 +27,16 @@ pub data Phase : Type 0 where
   Transmission : (export : Exporting) → Phase
 
 -- the profile that the session is held to, the phase, the server's handshake flags, the client's flags, whether
--- structured replies are in force, whether a DISC has completed, and the numbered requests
+-- structured replies are in force, what the last SET_META_CONTEXT selected, whether the option that was chosen last may
+-- lead into transmission with that selection, whether a DISC has completed, and the numbered requests
 pub record Core : Type 0 where
   pub profile : Profile
   pub phase : Phase
   pub offered : ℕ
   pub client_flags : ℕ
   pub structured : Bool
+  pub selection : Selection
+  pub agreed : Bool
   pub disconnected : Bool
   pub entries : List Operation
 
@@ -50,6 +54,8 @@ start_of profile = record {
     offered = 0;
     client_flags = 0;
     structured = false;
+    selection = no_selection;
+    agreed = false;
     disconnected = false;
     entries = [];
   };
@@ -59,6 +65,10 @@ start_of profile = record {
 -- the same, of the profile Base
 abbrev pub start : State
 start = start_of Base
+
+-- in transmission, the metadata contexts in force (proto.md, "Metadata querying")
+abbrev pub in_force : Core → List Context
+in_force core = if core.agreed then core.selection.contexts else []
 
 -- the export of a phase: in transmission, the one that was entered
 abbrev pub export_in : Phase → Option Exporting
