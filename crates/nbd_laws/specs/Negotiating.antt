@@ -1,5 +1,5 @@
 -- What the messages of negotiation are.
-use Rattle.std.specs.Prelude.{◌≡◌, ◌⊎◌, ◌+◌, ◌==◌, ℕ, List, [], ◌∷◌, ◌++◌, Option, Some, None, if◌then◌else◌, IsTrue, is_some}
+use Rattle.std.specs.Prelude.{◌≡◌, ◌≢◌, false, ◌⊎◌, ◌+◌, ◌==◌, ℕ, List, [], ◌∷◌, ◌++◌, Option, Some, None, if◌then◌else◌, IsTrue, is_some}
 use Rattle.nbd_wire.specs.declared.answers.TheConstants as answers
 use Rattle.nbd_wire.specs.declared.handshake.TheConstants as handshake
 use Rattle.nbd_wire.specs.declared.options.TheConstants as options
@@ -7,9 +7,11 @@ use Rattle.nbd_wire.specs.declared.message.Message.{Message}
 use Rattle.nbd_wire.specs.declared.message.Message.TheVariants.{Greeting, ClientFlags, Choice, Answer}
 use Rattle.nbd_wire.specs.declared.message.Side.TheVariants.{Server}
 use Rattle.nbd_wire.specs.declared.profile.Profile.{Profile}
+use Rattle.nbd_wire.specs.declared.profile.Profile.TheVariants.{Wide}
+use Rattle.nbd_wire.specs.protocol.Contexts.{Context, has_id}
 use Rattle.nbd_wire.specs.protocol.Marks.{Item, Completes, completed_messages}
 use Rattle.nbd_wire.specs.protocol.Options.{is_error, is_proper_option, last_info}
-use Rattle.nbd_wire.specs.protocol.Payloads.{info_of}
+use Rattle.nbd_wire.specs.protocol.Payloads.{context_of, info_of, queries_of}
 use Rattle.nbd_wire.specs.protocol.Operations.{Exporting}
 use Rattle.nbd_wire.specs.protocol.Flags.{has}
 use Rattle.nbd_wire.specs.protocol.Rules.{IsRunOf}
@@ -52,24 +54,51 @@ info_after last (Answer option kind payload ∷ messages) =
     info_after (if kind == answers.INFO then last_info (info_of payload) last else last) messages
 info_after last (m ∷ messages) = info_after last messages
 
+-- one more context
+abbrev pub contexts_with : Option Context → List Context → List Context
+contexts_with (Some context) contexts = contexts ++ context ∷ []
+contexts_with None contexts = contexts
+
+-- the contexts that were told since an option was chosen, at first these
+abbrev pub contexts_after : List Context → List Message → List Context
+contexts_after told [] = told
+contexts_after told (Choice id payload ∷ messages) = contexts_after [] messages
+contexts_after told (Answer option kind payload ∷ messages) =
+    contexts_after (if kind == answers.META_CONTEXT then contexts_with (context_of payload) told else told) messages
+contexts_after told (m ∷ messages) = contexts_after told messages
+
 -- what may be acknowledged: ABORT, LIST and STRUCTURED_REPLY, and after an info on an export INFO and GO
 abbrev pub IsAcknowledged : (option : ℕ) (info : Option Exporting) → Type 0
 IsAcknowledged option info =
     (option ≡ options.ABORT) ⊎ (option ≡ options.LIST) ⊎ (option ≡ options.STRUCTURED_REPLY)
     ⊎ ((option ≡ options.INFO) ⊎ (option ≡ options.GO)) × IsTrue (is_some info)
 
--- an error, or where the option's data has its form an ACK without payload, a name for LIST, an info for INFO and GO
-abbrev pub IsAnswer : Chosen → (info : Option Exporting) (kind : ℕ) (payload : List ℕ) → Type 0
-IsAnswer asked info kind payload =
+-- of an option on contexts of which these were told: an ACK without payload, or a context, which SET_META_CONTEXT asked
+-- for by a query, and with another id than each that it was told
+abbrev pub IsContextAnswer : Chosen → (told : List Context) (kind : ℕ) (payload : List ℕ) → Type 0
+IsContextAnswer asked told kind payload =
+    ((asked.option ≡ options.LIST_META_CONTEXT) ⊎ (asked.option ≡ options.SET_META_CONTEXT))
+    × ((kind ≡ answers.ACK) × (payload ≡ [])
+    ⊎ (kind ≡ answers.META_CONTEXT) × ((context : Context) × (context_of payload ≡ Some context)
+    × (asked.option ≡ options.SET_META_CONTEXT → (queries_of asked.payload ≢ Some 0)
+    × (has_id told context.id ≡ false))))
+
+-- an error, or where the option's data has its form an ACK without payload, a name for LIST, an info for INFO and GO,
+-- and in Wide what answers an option on contexts
+abbrev pub IsAnswer : Profile → Chosen → (info : Option Exporting) (told : List Context) (kind : ℕ) (payload : List ℕ)
+    → Type 0
+IsAnswer profile asked info told kind payload =
     IsTrue (is_error kind)
     ⊎ IsTrue (is_proper_option asked.option asked.payload) × (
     (kind ≡ answers.ACK) × (payload ≡ []) × IsAcknowledged asked.option info
     ⊎ (kind ≡ answers.SERVER) × (asked.option ≡ options.LIST)
-    ⊎ (kind ≡ answers.INFO) × ((asked.option ≡ options.INFO) ⊎ (asked.option ≡ options.GO)))
+    ⊎ (kind ≡ answers.INFO) × ((asked.option ≡ options.INFO) ⊎ (asked.option ≡ options.GO))
+    ⊎ (profile ≡ Wide) × IsContextAnswer asked told kind payload)
 
 -- an answer is one to the option that was chosen last
 abbrev pub AnswersFollowChoices : Type 0
 AnswersFollowChoices = (profile : Profile) (prefix back : List Item) (option kind : ℕ) (payload : List ℕ)
     → IsRunOf profile (prefix ++ Completes Server (Answer option kind payload) ∷ back) →
     (asked : Chosen) × (choice_after None (completed_messages prefix) ≡ Some asked) × (asked.option ≡ option)
-    × IsAnswer asked (info_after None (completed_messages prefix)) kind payload
+    × IsAnswer profile asked (info_after None (completed_messages prefix))
+    (contexts_after [] (completed_messages prefix)) kind payload

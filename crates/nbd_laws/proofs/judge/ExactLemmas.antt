@@ -10,14 +10,14 @@ use Rattle.nbd_wire.specs.declared.message.Message.TheVariants.{Greeting, Client
 use Rattle.nbd_wire.specs.protocol.Encoding.{enc}
 use Rattle.nbd_wire.specs.protocol.Captures.{ArePairs, Pair}
 use Rattle.nbd_wire.specs.protocol.Marks.{Item, pairs}
-use Rattle.nbd_wire.specs.protocol.Options.{is_proper_option, turn}
+use Rattle.nbd_wire.specs.protocol.Options.{is_proper_option, turn, takes_contexts}
 use Rattle.nbd_wire.specs.protocol.Payloads.{number_at}
 use Rattle.nbd_wire.specs.protocol.Operations.{Operation, Exporting}
 use Rattle.nbd_wire.specs.protocol.Flags.{has}
 use Rattle.nbd_wire.specs.protocol.Rules.{IsRunOf, MayComplete, MayStart, MayStartIn, request_of_reply}
 use Rattle.nbd_wire.specs.protocol.Sendable.{IsSendable}
 use Rattle.nbd_wire.specs.protocol.Sides.{side}
-use Rattle.nbd_wire.specs.protocol.States.{Core, Phase, Greet, Flags, Choosing, Naming, Aborting, Answering, Transmission, operation, target}
+use Rattle.nbd_wire.specs.protocol.States.{Core, Phase, Greet, Flags, Choosing, Naming, Aborting, Answering, Transmission, operation, target, in_force}
 use Rattle.nbd_wire.specs.declared.fault.WireFault.{WireFault}
 use Rattle.nbd_laws.specs.internal.Decisions.{Decision}
 use Rattle.nbd_laws.specs.internal.Judge.{decision, request_unless}
@@ -61,9 +61,9 @@ abbrev Began : Phase → Core → Core → Message → Type 0
 Began (Transmission export) old now m = (side m ≡ Server → IsAppended old now × IsTrue (is_some (request_of_reply old m))) × (side m ≡ Client → now.disconnected ≡ false)
 Began phase old now m = Unit {0}
 
-request_taken : (core : Core) (b : Bool) (bytes : List ℕ) (m : Message) → b ≡ false → Accepts (request core bytes) m → IsTaken (request_unless b core bytes) core m
+request_taken : (core : Core) (b : Bool) (bytes : List ℕ) (m : Message) → b ≡ false → Accepts (request (in_force core) core bytes) m → IsTaken (request_unless b core bytes) core m
 request_taken core true bytes m e a = absurd (cc)
-request_taken core false bytes m e a = taken (request core bytes) core m a
+request_taken core false bytes m e a = taken (request (in_force core) core bytes) core m a
 
 taken_in : (phase : Phase) (old now : Core) (m : Message) → IsSendable m → Began phase old now m → MayComplete now phase m → IsTaken (decision phase old now (side m) (enc m)) now m
 unfolding MayComplete IsSendable
@@ -76,9 +76,10 @@ taken_in Naming old now (Exported size flags padded) sn b ok =
     (taken (export_answer no_zeroes (enc (Exported size flags (not no_zeroes)))) now _ (exported_accepts size flags no_zeroes sn.0 sn.1 ok.0 ok.2))
 taken_in Aborting old now (Answer option kind payload) sn b ok = taken (abort_answer (enc (Answer option kind payload))) now _ (abort_accepts option kind payload sn.0 sn.1 sn.2.0 ok)
 taken_in (Answering asked given info) old now (Answer option kind payload) sn b ok =
-    subst (λ o. IsTaken (Some (answer asked (is_proper_option asked given) info (enc (Answer o kind payload)))) now (Answer o kind payload)) (sym ok.0)
-    (taken (answer asked (is_proper_option asked given) info (enc (Answer asked kind payload))) now _
-    (answer_accepts asked given info kind payload (subst (λ o. o < 2 ^ 32) ok.0 sn.0) sn.1 sn.2.0 ok.1))
+    let G : List ℕ → Decision = answer now.profile asked (is_proper_option asked given) (takes_contexts asked given) info now.selection in
+    subst (λ o. IsTaken (Some (G (enc (Answer o kind payload)))) now (Answer o kind payload)) (sym ok.0)
+    (taken (G (enc (Answer asked kind payload))) now _
+    (answer_accepts now.profile asked given info now.selection kind payload (subst (λ o. o < 2 ^ 32) ok.0 sn.0) sn.1 sn.2.0 ok.1))
 taken_in (Transmission export) old now (Request flags command cookie offset len payload) sn b ok =
     request_taken now now.disconnected (enc (Request flags command cookie offset len payload)) _ (b.1 refl) (request_accepts now flags command cookie offset len payload sn ok)
 taken_in (Transmission export) old now (Simple error cookie payload) sn b (k, e, at, is, may) =
@@ -113,7 +114,7 @@ deciding_of Choosing Client old m p st = deciding Choosing Client old [] _ p ref
 deciding_of Naming Server old m p st = deciding Naming Server old [] _ p refl
 deciding_of Aborting Server old m p st = deciding Aborting Server old [] _ p refl
 deciding_of (Answering option given info) Server old m p st = deciding (Answering option given info) Server old [] _ p refl
-deciding_of (Transmission export) Client old m p st = deciding (Transmission export) Client old [] (request old []) p (ap (λ b. request_unless b old []) st.1)
+deciding_of (Transmission export) Client old m p st = deciding (Transmission export) Client old [] (request (in_force old) old []) p (ap (λ b. request_unless b old []) st.1)
 deciding_of (Transmission export) Server old m p st = deciding (Transmission export) Server old [] _ p refl
 deciding_of phase s old m p st = absurd (cc)
 

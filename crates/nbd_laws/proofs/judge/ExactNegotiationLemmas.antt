@@ -1,5 +1,5 @@
 -- The judge takes each message of the negotiation that the rules allow.
-use Rattle.std.proofs.Common.{◌≡◌, ℕ, ◌<◌, ◌≤◌, ◌⊎◌, ◌+◌, ◌^◌, ◌==◌, List, [], length, drop, refl, sym, ◌∙◌, ap, subst, inl, inr, Option, Some, None, Bool, true, false, not, ◌&&◌, ◌||◌, nat_lt, eqb-true, eq-eqb, arith, IsTrue}
+use Rattle.std.proofs.Common.{◌≡◌, ℕ, ◌<◌, ◌≤◌, ◌⊎◌, ◌+◌, ◌^◌, ◌==◌, List, [], length, drop, refl, sym, ◌∙◌, ap, subst, inl, inr, Option, Some, None, Bool, true, false, not, ◌&&◌, ◌||◌, nat_lt, eqb-true, eq-eqb, arith, IsTrue, if◌then◌else◌}
 use Rattle.std.proofs.lemmas.Bool.{le-ltb}
 use Rattle.byteorder.specs.Numbers.{big_number-reads_back}
 use Rattle.nbd_wire.specs.declared.answers.TheConstants as answers
@@ -13,15 +13,18 @@ use Rattle.nbd_wire.specs.declared.payloads.Info.{Info}
 use Rattle.nbd_wire.specs.declared.payloads.Info.TheVariants.{Export, BlockSize, Other}
 use Rattle.nbd_wire.specs.declared.transmission.TheConstants as transmission
 use Rattle.nbd_wire.specs.protocol.Encoding.{enc, head, tail}
-use Rattle.nbd_wire.specs.protocol.Options.{IsInfo, MayAcknowledge, MayAnswer, is_error, is_proper_option}
-use Rattle.nbd_wire.specs.protocol.Payloads.{number_at, info_of, is_listed}
+use Rattle.nbd_wire.specs.protocol.Options.{IsInfo, MayAcknowledge, MayAnswer, is_error, is_proper_option, takes_contexts, MayTell, IsFreshFor}
+use Rattle.nbd_wire.specs.protocol.Payloads.{number_at, info_of, is_listed, context_of}
 use Rattle.nbd_wire.specs.protocol.Operations.{Exporting}
 use Rattle.nbd_wire.specs.protocol.Flags.{has, has_only}
 use Rattle.nbd_wire.specs.protocol.Rules.{AreClientFlags, MayEnd}
 use Rattle.nbd_wire.specs.declared.fault.WireFault.{WireFault}
 use Rattle.nbd_wire.specs.declared.fault.WireFault.TheVariants.{NotFixedNewstyle, BadClientFlags, WrongOption, BadReplyKind, OutOfProfile, BadReplyPayload, BadExport, ExportTooLarge, SuccessOfImproper}
 use Rattle.nbd_laws.specs.internal.Decisions.{Decision, fault_if}
-use Rattle.nbd_laws.specs.internal.JudgeNegotiation.{abort_answer, abort_fault, ack_fault, answer, answer_fault, answers_option, are_zeroes, at_ack, choice, choice_fault, client_flags, client_flags_fault, export_fault, export_answer, greeting, greeting_fault, info_fault, is_bad_payload, is_followed, is_good_info, padding_fault, payload_fault, sets_more, success_fault, unless_error}
+use Rattle.nbd_laws.specs.internal.JudgeNegotiation.{abort_answer, abort_fault, ack_fault, answer, answer_fault, answers_option, are_zeroes, at_ack, choice, choice_fault, client_flags, client_flags_fault, export_fault, export_answer, greeting, greeting_fault, info_fault, is_bad_payload, is_followed, is_good_info, padding_fault, payload_fault, sets_more, success_fault, unless_error, earlier_to, is_good_context}
+use Rattle.nbd_wire.specs.declared.profile.Profile.{Profile}
+use Rattle.nbd_wire.specs.protocol.Contexts.{Selection, Context, has_id}
+use Rattle.nbd_wire.specs.declared.profile.Profile.TheVariants.{Wide}
 
 -- the head of an encoding has no fault and states its length
 pub record HasHead (d : Decision) (m : Message) : Type 0 where
@@ -221,11 +224,11 @@ abort_accepts option kind payload h k l ok =
       at_last = record { clean = refl; is = λ i. Answer (n.option_is i) (n.kind_is i) (n.payload_is i) };
     }
 
-followed : (option : ℕ) (info : Option Exporting) → MayAcknowledge option info → is_followed option ≡ true
-followed option info (inl q) = subst (λ o. is_followed o ≡ true) (sym q) refl
-followed option info (inr (inl q)) = subst (λ o. is_followed o ≡ true) (sym q) refl
-followed option info (inr (inr (inl h))) = subst (λ o. is_followed o ≡ true) (sym h.0) refl
-followed option info (inr (inr (inr h))) = subst (λ o. is_followed o ≡ true) (sym h.0) refl
+followed : (profile : Profile) (option : ℕ) (info : Option Exporting) → MayAcknowledge option info → is_followed profile option ≡ true
+followed profile option info (inl q) = subst (λ o. is_followed profile o ≡ true) (sym q) refl
+followed profile option info (inr (inl q)) = subst (λ o. is_followed profile o ≡ true) (sym q) refl
+followed profile option info (inr (inr (inl h))) = subst (λ o. is_followed profile o ≡ true) (sym h.0) refl
+followed profile option info (inr (inr (inr h))) = subst (λ o. is_followed profile o ≡ true) (sym h.0) refl
 
 info_clean : (option : ℕ) (proper : Bool) (info : Option Exporting) → MayAcknowledge option info → info_fault option proper info ≡ None
 info_clean option proper None (inl q) = subst (λ o. info_fault o proper None ≡ None) (sym q) refl
@@ -241,11 +244,11 @@ info_clean option proper (Some x) (inr (inr (inr (q, (on, is, fits))))) =
     subst (λ o. info_fault o proper (Some x) ≡ None) (sym q) (no_fault_if (nat_lt EXPORT_SIZE x.size) ExportTooLarge None (le-ltb EXPORT_SIZE x.size low) refl)
 
 -- a success of a kind that its option takes
-record IsGood (option : ℕ) (proper : Bool) (info : Option Exporting) (kind : ℕ) (payload : List ℕ) : Type 0 where
-  is_followed_one : is_followed option ≡ true
-  takes : answers_option option kind ≡ true
+record IsGood (profile : Profile) (option : ℕ) (proper takes : Bool) (info : Option Exporting) (earlier : List Context) (kind : ℕ) (payload : List ℕ) : Type 0 where
+  is_followed_one : is_followed profile option ≡ true
+  takes_it : answers_option option takes kind ≡ true
   ack : ack_fault kind (length payload) (at_ack (kind == answers.ACK) (info_fault option proper info)) ≡ None
-  has_form : is_bad_payload kind payload ≡ false
+  has_form : is_bad_payload earlier kind payload ≡ false
   is_proper : proper ≡ true
 
 info_is_good : (payload : List ℕ) → IsInfo payload → is_good_info (info_of payload) ≡ true
@@ -256,67 +259,124 @@ info_is_good payload (info, is, ok) = ap is_good_info is ∙ go info ok
     go (BlockSize a b c) ok = refl
     go (Other k) ok = refl
 
-good_ack : (option : ℕ) (proper : Bool) (info : Option Exporting) (payload : List ℕ) → proper ≡ true → payload ≡ [] → MayAcknowledge option info → IsGood option proper info answers.ACK payload
-good_ack option proper info payload p empty may = record {
-  is_followed_one = followed option info may;
-  takes = refl;
-  ack = ack_clean answers.ACK payload (info_fault option proper info) (λ q. empty) (info_clean option proper info may);
-  has_form = refl;
-  is_proper = p;
-}
+-- of an option with this data, where these contexts came before
+module _ (profile : Profile) (option : ℕ) (proper takes : Bool) (info : Option Exporting) (earlier : List Context) (payload : List ℕ) (p : proper ≡ true) where
+  good_ack : payload ≡ [] → MayAcknowledge option info → IsGood profile option proper takes info earlier answers.ACK payload
+  good_ack empty may = record {
+    is_followed_one = followed profile option info may;
+    takes_it = refl;
+    ack = ack_clean answers.ACK payload (info_fault option proper info) (λ q. empty) (info_clean option proper info may);
+    has_form = refl;
+    is_proper = p;
+  }
 
-good_server : (option : ℕ) (proper : Bool) (info : Option Exporting) (payload : List ℕ) → proper ≡ true → option ≡ options.LIST → IsTrue (is_listed payload) → IsGood option proper info answers.SERVER payload
-good_server option proper info payload p q listed = record {
-  is_followed_one = subst (λ o. is_followed o ≡ true) (sym q) refl;
-  takes = subst (λ o. answers_option o answers.SERVER ≡ true) (sym q) refl;
-  ack = refl;
-  has_form = ap (λ b. not b || false) listed;
-  is_proper = p;
-}
+  good_server : option ≡ options.LIST → IsTrue (is_listed payload) → IsGood profile option proper takes info earlier answers.SERVER payload
+  good_server q listed = record {
+    is_followed_one = subst (λ o. is_followed profile o ≡ true) (sym q) refl;
+    takes_it = subst (λ o. answers_option o takes answers.SERVER ≡ true) (sym q) refl;
+    ack = refl;
+    has_form = ap (λ b. not b || false) listed;
+    is_proper = p;
+  }
 
-good_info : (option : ℕ) (proper : Bool) (info : Option Exporting) (payload : List ℕ) → proper ≡ true → (option ≡ options.INFO) ⊎ (option ≡ options.GO) → IsInfo payload → IsGood option proper info answers.INFO payload
-good_info option proper info payload p o ok = record {
-  is_followed_one = elim o [ inl q ↦ subst (λ o. is_followed o ≡ true) (sym q) refl | inr q ↦ subst (λ o. is_followed o ≡ true) (sym q) refl ];
-  takes = elim o [ inl q ↦ subst (λ o. answers_option o answers.INFO ≡ true) (sym q) refl | inr q ↦ subst (λ o. answers_option o answers.INFO ≡ true) (sym q) refl ];
-  ack = refl;
-  has_form = ap not (info_is_good payload ok);
-  is_proper = p;
-}
+  good_info : (option ≡ options.INFO) ⊎ (option ≡ options.GO) → IsInfo payload → IsGood profile option proper takes info earlier answers.INFO payload
+  good_info o ok = record {
+    is_followed_one = elim o [ inl q ↦ subst (λ o. is_followed profile o ≡ true) (sym q) refl | inr q ↦ subst (λ o. is_followed profile o ≡ true) (sym q) refl ];
+    takes_it = elim o [ inl q ↦ subst (λ o. answers_option o takes answers.INFO ≡ true) (sym q) refl | inr q ↦ subst (λ o. answers_option o takes answers.INFO ≡ true) (sym q) refl ];
+    ack = refl;
+    has_form = ap (λ b. not b || false) (info_is_good payload ok);
+    is_proper = p;
+  }
 
-good : (option : ℕ) (given : List ℕ) (info : Option Exporting) (kind : ℕ) (payload : List ℕ) → is_error kind ≡ false → MayAnswer option given info kind payload → IsGood option (is_proper_option option given) info kind payload
-good option given info kind payload e (inl error) = absurd (let w : true ≡ false = sym error ∙ e in (cc))
-good option given info kind payload e (inr (inl (p, is, empty, may))) = subst (λ k. IsGood option (is_proper_option option given) info k payload) (sym is) (good_ack option _ info payload p empty may)
-good option given info kind payload e (inr (inr (inl (p, is, o, listed)))) = subst (λ k. IsGood option (is_proper_option option given) info k payload) (sym is) (good_server option _ info payload p o listed)
-good option given info kind payload e (inr (inr (inr (p, is, o, ok)))) = subst (λ k. IsGood option (is_proper_option option given) info k payload) (sym is) (good_info option _ info payload p o ok)
+  on_contexts : profile ≡ Wide → (option ≡ options.LIST_META_CONTEXT) ⊎ (option ≡ options.SET_META_CONTEXT) → is_followed profile option ≡ true
+  on_contexts w (inl q) = subst (λ v. is_followed v option ≡ true) (sym w) (subst (λ o. is_followed Wide o ≡ true) (sym q) refl)
+  on_contexts w (inr q) = subst (λ v. is_followed v option ≡ true) (sym w) (subst (λ o. is_followed Wide o ≡ true) (sym q) refl)
 
-success_clean : (option : ℕ) (proper : Bool) (info : Option Exporting) (kind : ℕ) (payload : List ℕ) → IsGood option proper info kind payload → success_fault option proper info kind (length payload) ≡ None
-success_clean option proper info kind payload g =
-    no_fault_if (is_followed option && not (answers_option option kind)) BadReplyKind _ ((λ i. g.is_followed_one i && not (g.takes i)))
-    (no_fault_if (not (is_followed option)) OutOfProfile _ (not_so _ g.is_followed_one) g.ack)
+  no_info : (o : Option Exporting) → (option ≡ options.LIST_META_CONTEXT) ⊎ (option ≡ options.SET_META_CONTEXT) → info_fault option proper o ≡ None
+  no_info (Some export) (inl q) = subst (λ n. info_fault n proper (Some export) ≡ None) (sym q) refl
+  no_info (Some export) (inr q) = subst (λ n. info_fault n proper (Some export) ≡ None) (sym q) refl
+  no_info None (inl q) = subst (λ n. info_fault n proper None ≡ None) (sym q) refl
+  no_info None (inr q) = subst (λ n. info_fault n proper None ≡ None) (sym q) refl
 
-payload_clean : (option : ℕ) (proper : Bool) (info : Option Exporting) (kind : ℕ) (payload : List ℕ) → IsGood option proper info kind payload → payload_fault proper kind payload ≡ None
-payload_clean option proper info kind payload g = no_fault_if (is_bad_payload kind payload) BadReplyPayload _ g.has_form (no_fault_if (not proper) SuccessOfImproper None (not_so _ g.is_proper) refl)
+  good_end : profile ≡ Wide → (option ≡ options.LIST_META_CONTEXT) ⊎ (option ≡ options.SET_META_CONTEXT) → payload ≡ [] → IsGood profile option proper takes info earlier answers.ACK payload
+  good_end w on empty = record {
+    is_followed_one = on_contexts w on;
+    takes_it = refl;
+    ack = ack_clean answers.ACK payload (info_fault option proper info) (λ q. empty) (no_info info on);
+    has_form = refl;
+    is_proper = p;
+  }
+
+  good_told : profile ≡ Wide → (option ≡ options.LIST_META_CONTEXT) ⊎ (option ≡ options.SET_META_CONTEXT) → takes ≡ true → is_good_context earlier (context_of payload) ≡ true
+      → IsGood profile option proper takes info earlier answers.META_CONTEXT payload
+  good_told w on t fresh = record {
+    is_followed_one = on_contexts w on;
+    takes_it = elim on [
+      | inl q ↦ subst (λ o. answers_option o takes answers.META_CONTEXT ≡ true) (sym q) (ap (λ b. b && true) t)
+      | inr q ↦ subst (λ o. answers_option o takes answers.META_CONTEXT ≡ true) (sym q) (ap (λ b. b && true) t)
+    ];
+    ack = refl;
+    has_form = ap not fresh;
+    is_proper = p;
+  }
+
+fresh_is_good : (option : ℕ) (selection : Selection) (payload : List ℕ) (context : Context) → context_of payload ≡ Some context → IsFreshFor option selection context → is_good_context (earlier_to option selection) (context_of payload) ≡ true
+fresh_is_good option selection payload context is fresh = ap (is_good_context (earlier_to option selection)) is ∙ go (option == options.SET_META_CONTEXT) refl
+  where
+    go : (b : Bool) → (option == options.SET_META_CONTEXT) ≡ b → not (has_id (if b then selection.contexts else []) context.id) ≡ true
+    go true q = ap not (fresh (eqb-true option options.SET_META_CONTEXT q))
+    go false q = refl
+
+-- what may complete in answer to this option
+abbrev pub MayFollow : Profile → (option : ℕ) (given : List ℕ) (info : Option Exporting) → Selection → (kind : ℕ) (answer : List ℕ) → Type 0
+MayFollow profile option given info selection kind answer = MayAnswer option given info kind answer ⊎ (profile ≡ Wide) × MayTell selection option given kind answer
+
+module _ (profile : Profile) (option : ℕ) (given : List ℕ) (info : Option Exporting) (selection : Selection) (kind : ℕ) (payload : List ℕ) where
+  abbrev IsGoodOne : ℕ → Type 0
+  IsGoodOne k = IsGood profile option (is_proper_option option given) (takes_contexts option given) info (earlier_to option selection) k payload
+
+  good : is_error kind ≡ false → MayFollow profile option given info selection kind payload → IsGoodOne kind
+  good e (inl (inl error)) = absurd (let w : true ≡ false = sym error ∙ e in (cc))
+  good e (inl (inr (inl (p, is, empty, may)))) = subst IsGoodOne (sym is) (good_ack profile option _ _ info _ payload p empty may)
+  good e (inl (inr (inr (inl (p, is, o, listed))))) = subst IsGoodOne (sym is) (good_server profile option _ _ info _ payload p o listed)
+  good e (inl (inr (inr (inr (p, is, o, ok))))) = subst IsGoodOne (sym is) (good_info profile option _ _ info _ payload p o ok)
+  good e (inr (w, (on, p, inl (is, empty)))) = subst IsGoodOne (sym is) (good_end profile option _ _ info _ payload p w on empty)
+  good e (inr (w, (on, p, inr (is, takes, (context, is_context, fresh))))) =
+      subst IsGoodOne (sym is) (good_told profile option _ _ info _ payload p w on takes (fresh_is_good option selection payload context is_context fresh))
+
+success_clean : (profile : Profile) (option : ℕ) (proper takes : Bool) (info : Option Exporting) (earlier : List Context) (kind : ℕ) (payload : List ℕ) → IsGood profile option proper takes info earlier kind payload →
+    success_fault profile option proper takes info kind (length payload) ≡ None
+success_clean profile option proper takes info earlier kind payload g =
+    no_fault_if (is_followed profile option && not (answers_option option takes kind)) BadReplyKind _ ((λ i. g.is_followed_one i && not (g.takes_it i)))
+    (no_fault_if (not (is_followed profile option)) OutOfProfile _ (not_so _ g.is_followed_one) g.ack)
+
+payload_clean : (profile : Profile) (option : ℕ) (proper takes : Bool) (info : Option Exporting) (earlier : List Context) (kind : ℕ) (payload : List ℕ) → IsGood profile option proper takes info earlier kind payload →
+    payload_fault earlier proper kind payload ≡ None
+payload_clean profile option proper takes info earlier kind payload g = no_fault_if (is_bad_payload earlier kind payload) BadReplyPayload _ g.has_form (no_fault_if (not proper) SuccessOfImproper None (not_so _ g.is_proper) refl)
 
 unless_clean : (b : Bool) (fault : Option WireFault) → (b ≡ false → fault ≡ None) → unless_error b fault ≡ None
 unless_clean true fault h = refl
 unless_clean false fault h = h refl
 
-pub answer_accepts : (option : ℕ) (given : List ℕ) (info : Option Exporting) (kind : ℕ) (payload : List ℕ) → option < 2 ^ 32 → kind < 2 ^ 32 → length payload < 2 ^ 32 → MayAnswer option given info kind payload →
-    Accepts (answer option (is_proper_option option given) info (enc (Answer option kind payload))) (Answer option kind payload)
-answer_accepts option given info kind payload h k l ok =
+pub answer_accepts : (profile : Profile) (option : ℕ) (given : List ℕ) (info : Option Exporting) (selection : Selection) (kind : ℕ) (payload : List ℕ) → option < 2 ^ 32 → kind < 2 ^ 32 → length payload < 2 ^ 32 →
+    MayFollow profile option given info selection kind payload →
+    Accepts (answer profile option (is_proper_option option given) (takes_contexts option given) info selection (enc (Answer option kind payload))) (Answer option kind payload)
+answer_accepts profile option given info selection kind payload h k l ok =
     let proper : Bool = is_proper_option option given in
+    let takes : Bool = takes_contexts option given in
+    let earlier : List Context = earlier_to option selection in
     let n : IsAnswer option kind payload (enc (Answer option kind payload)) = is_answer option kind payload h k l in
-    let at_kind : unless_error (is_error kind) (success_fault option proper info kind (length payload)) ≡ None =
-    unless_clean (is_error kind) _ (λ e. success_clean option proper info kind payload (good option given info kind payload e ok)) in
-    let at_payload : unless_error (is_error kind) (payload_fault proper kind payload) ≡ None =
-    unless_clean (is_error kind) _ (λ e. payload_clean option proper info kind payload (good option given info kind payload e ok)) in
+    let at_kind : unless_error (is_error kind) (success_fault profile option proper takes info kind (length payload)) ≡ None =
+    unless_clean (is_error kind) _ (λ e. success_clean profile option proper takes info earlier kind payload (good profile option given info selection kind payload e ok)) in
+    let at_payload : unless_error (is_error kind) (payload_fault earlier proper kind payload) ≡ None =
+    unless_clean (is_error kind) _ (λ e. payload_clean profile option proper takes info earlier kind payload (good profile option given info selection kind payload e ok)) in
     record {
       at_head = record {
         long = n.long ∙ ap (λ x. 20 + x) (sym n.length_is);
-        clean = (λ i. answer_fault option (n.magic i) (n.option_is i) (unless_error (is_error (n.kind_is i)) (success_fault option proper info (n.kind_is i) (n.length_is i)))) ∙ answer_clean option _ at_kind;
+        clean = (λ i. answer_fault option (n.magic i) (n.option_is i) (unless_error (is_error (n.kind_is i)) (success_fault profile option proper takes info (n.kind_is i) (n.length_is i)))) ∙ answer_clean option _ at_kind;
       };
       at_last = record {
-        clean = (λ i. unless_error (is_error (n.kind_is i)) (payload_fault proper (n.kind_is i) (n.payload_is i))) ∙ at_payload;
+        clean = (λ i. unless_error (is_error (n.kind_is i)) (payload_fault earlier proper (n.kind_is i) (n.payload_is i))) ∙ at_payload;
         is = λ i. Answer (n.option_is i) (n.kind_is i) (n.payload_is i);
       };
     }

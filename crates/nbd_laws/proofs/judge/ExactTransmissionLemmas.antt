@@ -18,14 +18,14 @@ use Rattle.nbd_wire.specs.protocol.Replies.{IsChunk, IsContent, IsFailure, IsSim
 use Rattle.nbd_wire.specs.protocol.Operations.{Operation, Exporting, has_failed, is_proper, pieces, pieces_of}
 use Rattle.nbd_wire.specs.protocol.Pieces.{chunk_piece, is_in, piece_of, piece_offset, piece_size}
 use Rattle.nbd_wire.specs.protocol.Flags.{has}
-use Rattle.nbd_wire.specs.protocol.Rules.{MayAsk}
+use Rattle.nbd_wire.specs.protocol.Rules.{MayAsk, IsFollowedIn}
 use Rattle.nbd_wire.specs.protocol.Sendable.{IsSendable}
-use Rattle.nbd_wire.specs.protocol.States.{Core, target, with_reply}
+use Rattle.nbd_wire.specs.protocol.States.{Core, target, with_reply, in_force}
 use Rattle.nbd_wire.specs.declared.fault.WireFault.{WireFault}
-use Rattle.nbd_wire.specs.declared.fault.WireFault.TheVariants.{BadChunk, BadContent, BadDisconnect, ChunkForbidden, CookieInUse, IncompleteRead, SimpleForbidden, SuccessOfImproper}
+use Rattle.nbd_wire.specs.declared.fault.WireFault.TheVariants.{BadChunk, BadContent, BadDisconnect, ChunkForbidden, CookieInUse, IncompleteRead, SimpleForbidden, SuccessOfImproper, OutOfProfile}
 use Rattle.nbd_laws.specs.internal.Decisions.{Decision, fault_if}
 use Rattle.nbd_laws.specs.internal.Decisions.{is_none_yet}
-use Rattle.nbd_laws.specs.internal.JudgeTransmission.{begins, chunk_fault, chunk_of, chunk_to, content_fault, cookie_fault, done_fault, finish_fault, fits_failure, fits_read, is_no_piece, request, request_fault, request_payload_length, simple_fault, simple_last_fault, simple_to, total}
+use Rattle.nbd_laws.specs.internal.JudgeTransmission.{begins, chunk_fault, chunk_of, chunk_to, content_fault, cookie_fault, done_fault, finish_fault, fits_failure, fits_read, is_no_piece, request, request_fault, request_payload_length, simple_fault, simple_last_fault, simple_to, total, is_none_in}
 use Rattle.nbd_laws.proofs.judge.CoverLemmas.{ArePositive, covered_total, shares-apart_from}
 use Rattle.nbd_laws.proofs.judge.ExactNegotiationLemmas.{Accepts, HasHead, HasLast, no_fault_if, not_so}
 use Rattle.nbd_laws.proofs.judge.TidyLemmas.{IsTidy, failure_kind, no_content, none_content, tidy_reply}
@@ -56,25 +56,35 @@ is_request flags command cookie offset len payload f c k o l =
       long = length-request flags command cookie offset len payload;
     }
 
-request_clean : (core : Core) (command cookie offset len : ℕ) → MayAsk (command == commands.DISC) core cookie offset len →
-    (request_fault REQUEST_MAGIC command offset len ≡ None) × (cookie_fault command (target cookie core.entries) ≡ None)
-request_clean core command cookie offset len may = go (command == commands.DISC) may
+not_stopped : (core : Core) (command : ℕ) → IsFollowedIn core command → ((command == commands.BLOCK_STATUS) && not (is_none_in (in_force core))) ≡ false
+not_stopped core command followed = go (command == commands.BLOCK_STATUS) refl
+  where
+    go : (b : Bool) → (command == commands.BLOCK_STATUS) ≡ b → (b && not (is_none_in (in_force core))) ≡ false
+    go true q = ap (λ contexts. not (is_none_in contexts)) (followed (eqb-true command commands.BLOCK_STATUS q))
+    go false q = refl
+
+request_clean : (core : Core) (command cookie offset len : ℕ) → IsFollowedIn core command → MayAsk (command == commands.DISC) core cookie offset len →
+    (request_fault (in_force core) REQUEST_MAGIC command offset len ≡ None) × (cookie_fault command (target cookie core.entries) ≡ None)
+request_clean core command cookie offset len followed may =
+    let r = go (command == commands.DISC) may in
+    (no_fault_if ((command == commands.BLOCK_STATUS) && not (is_none_in (in_force core))) OutOfProfile _ (not_stopped core command followed) r.0, r.1)
   where
     go : (b : Bool) → MayAsk b core cookie offset len →
         (fault_if (b && not ((offset == 0) && (len == 0))) BadDisconnect None ≡ None) × (fault_if (not b && is_some (target cookie core.entries)) CookieInUse None ≡ None)
     go true h = ((λ i. fault_if (not ((h.0 i == 0) && (h.1 i == 0))) BadDisconnect None), refl)
     go false h = (refl, ap (λ (o : Option ℕ). fault_if (is_some o) CookieInUse None) h)
 
-pub request_accepts : (core : Core) (flags command cookie offset len : ℕ) (payload : List ℕ) → IsSendable (Request flags command cookie offset len payload) → MayAsk (command == commands.DISC) core cookie offset len →
-    Accepts (request core (enc (Request flags command cookie offset len payload))) (Request flags command cookie offset len payload)
+pub request_accepts : (core : Core) (flags command cookie offset len : ℕ) (payload : List ℕ) → IsSendable (Request flags command cookie offset len payload) →
+    IsFollowedIn core command × MayAsk (command == commands.DISC) core cookie offset len →
+    Accepts (request (in_force core) core (enc (Request flags command cookie offset len payload))) (Request flags command cookie offset len payload)
 unfolding IsSendable
 request_accepts core flags command cookie offset len payload sn may =
     let n : IsRequest flags command cookie offset len payload (enc (Request flags command cookie offset len payload)) = is_request flags command cookie offset len payload sn.0 sn.1 sn.2 sn.3 sn.4 in
-    let c : (request_fault REQUEST_MAGIC command offset len ≡ None) × (cookie_fault command (target cookie core.entries) ≡ None) = request_clean core command cookie offset len may in
+    let c : (request_fault (in_force core) REQUEST_MAGIC command offset len ≡ None) × (cookie_fault command (target cookie core.entries) ≡ None) = request_clean core command cookie offset len may.0 may.1 in
     record {
       at_head = record {
         long = n.long ∙ ap (λ x. 28 + x) sn.5 ∙ (λ i. 28 + request_payload_length (sym n.command_is i) (sym n.length_is i));
-        clean = (λ i. request_fault (n.magic i) (n.command_is i) (n.offset_is i) (n.length_is i)) ∙ c.0;
+        clean = (λ i. request_fault (in_force core) (n.magic i) (n.command_is i) (n.offset_is i) (n.length_is i)) ∙ c.0;
       };
       at_last = record {
         clean = (λ i. cookie_fault (n.command_is i) (target (n.cookie_is i) core.entries)) ∙ c.1;

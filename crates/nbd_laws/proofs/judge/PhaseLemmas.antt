@@ -9,7 +9,7 @@ use Rattle.nbd_wire.specs.protocol.Options.{turn}
 use Rattle.nbd_wire.specs.protocol.Operations.{Operation, Exporting, is_finished}
 use Rattle.nbd_wire.specs.protocol.Rules.{MayComplete, complete, core_with_request, reply_to, request_of_reply}
 use Rattle.nbd_wire.specs.protocol.Sides.{side}
-use Rattle.nbd_wire.specs.protocol.States.{Phase, Greet, Flags, Choosing, Naming, Aborting, Answering, Transmission, Core, operation, is_awaiting, target, target_from}
+use Rattle.nbd_wire.specs.protocol.States.{Phase, Greet, Flags, Choosing, Naming, Aborting, Answering, Transmission, Core, in_force, operation, is_awaiting, target, target_from}
 use Rattle.nbd_laws.proofs.machine.MachineLemmas.{Later, at_once, behind}
 
 abbrev pub IsTransmitting : Phase → Type 0
@@ -47,6 +47,28 @@ pub Later-transmission : {s : Side} {old now : Core} → Later s old now → (ex
 Later-transmission at_once export e = e
 Later-transmission (behind {c = c} m ne ok l) export e =
     Later-transmission l export (transmission_stays c export m (subst (λ p. MayComplete c p m) e ok) ∙ e)
+
+in_force-reply_to : (o : Option ℕ) (core : Core) (m : Message) → in_force (reply_to o core m) ≡ in_force core
+in_force-reply_to (Some k) core m = refl
+in_force-reply_to None core m = refl
+
+in_force-requested : (b : Bool) (core : Core) (e : Operation) → in_force (core_with_request b core e) ≡ in_force core
+in_force-requested true core e = refl
+in_force-requested false core e = refl
+
+-- in transmission the contexts in force stay
+pub in_force_stays : (core : Core) (export : Exporting) (m : Message) → MayComplete core (Transmission export) m → in_force (complete core m) ≡ in_force core
+unfolding MayComplete complete
+in_force_stays core export (Request flags command cookie offset len payload) h = in_force-requested _ core _
+in_force_stays core export (Simple error cookie payload) h = in_force-reply_to (request_of_reply core (Simple error cookie payload)) core (Simple error cookie payload)
+in_force_stays core export (Chunk flags kind cookie payload) h = in_force-reply_to (request_of_reply core (Chunk flags kind cookie payload)) core (Chunk flags kind cookie payload)
+in_force_stays core export m h = absurd h
+
+pub Later-in_force : {s : Side} {old now : Core} → Later s old now → (export : Exporting) → old.phase ≡ Transmission export → in_force now ≡ in_force old
+Later-in_force at_once export e = refl
+Later-in_force (behind {c = c} m ne ok l) export e =
+    let may : MayComplete c (Transmission export) m = subst (λ p. MayComplete c p m) e ok in
+    Later-in_force l export (transmission_stays c export m may ∙ e) ∙ in_force_stays c export m may
 
 -- while a side is in a message of the negotiation, nothing completes
 pub Later-turn : {s : Side} {old now : Core} → Later s old now → turn old.phase ≡ Some s → old ≡ now

@@ -1,5 +1,5 @@
 -- What the judge takes for a request is one that the rules allow.
-use Rattle.std.proofs.Common.{◌≡◌, ℕ, ◌≤◌, ◌+◌, ◌==◌, List, length, drop, refl, subst, Option, Some, None, Bool, true, false, not, ◌&&◌, eqb-true, is_some, arith, length-drop}
+use Rattle.std.proofs.Common.{◌≡◌, ℕ, ◌≤◌, ◌+◌, ◌==◌, List, length, drop, refl, subst, Option, Some, None, Bool, true, false, not, ◌&&◌, eqb-true, is_some, arith, length-drop, [], ◌∷◌}
 use Rattle.nbd_wire.specs.declared.commands.TheConstants as commands
 use Rattle.nbd_wire.specs.declared.magics.TheConstants.{REQUEST_MAGIC}
 use Rattle.nbd_wire.specs.declared.message.Side.TheVariants.{Client}
@@ -10,15 +10,17 @@ use Rattle.nbd_wire.specs.protocol.Payloads.{number_at}
 use Rattle.nbd_wire.specs.protocol.Operations.{Exporting}
 use Rattle.nbd_wire.specs.protocol.Rules.{MayComplete, MayAsk}
 use Rattle.nbd_wire.specs.protocol.Sendable.{IsSendable}
-use Rattle.nbd_wire.specs.protocol.States.{Transmission, Core, target}
-use Rattle.nbd_wire.specs.declared.fault.WireFault.TheVariants.{CookieInUse, BadDisconnect}
+use Rattle.nbd_wire.specs.protocol.States.{Transmission, Core, target, in_force}
+use Rattle.nbd_wire.specs.declared.fault.WireFault.TheVariants.{CookieInUse, BadDisconnect, OutOfProfile}
 use Rattle.nbd_laws.specs.internal.Decisions.{fault_if}
 use Rattle.nbd_laws.specs.internal.Judge.{request_unless}
-use Rattle.nbd_laws.specs.internal.JudgeTransmission.{request, request_payload_length, request_of}
-use Rattle.nbd_laws.proofs.judge.BoolLemmas.{not_false, and_true, fault_none}
+use Rattle.nbd_laws.specs.internal.JudgeTransmission.{request, request_payload_length, request_of, is_none_in}
+use Rattle.nbd_laws.proofs.judge.BoolLemmas.{not_false, and_true, fault_none, and_false}
 use Rattle.nbd_laws.specs.internal.Concrete.{reading_by_decision}
 use Rattle.nbd_laws.specs.internal.Machine.{Whole}
 use Rattle.nbd_laws.proofs.judge.SoundNegotiationLemmas.{IsFit, IsWhole, whole, magic_there}
+use Rattle.nbd_wire.specs.protocol.Contexts.{Context}
+use Rattle.std.proofs.lemmas.Bool.{eq-eqb}
 
 request_is : (bytes : List ℕ) → AreBytes bytes → 28 ≤ length bytes → number_at 0 4 bytes ≡ REQUEST_MAGIC → bytes ≡ enc (request_of bytes)
 unfolding enc head tail
@@ -43,6 +45,10 @@ may_ask : (c : Bool) (now : Core) (cookie offset len : ℕ) → (c && not ((offs
 may_ask true now cookie offset len e f = let h : ((offset == 0) ≡ true) × ((len == 0) ≡ true) = and_true _ _ (not_false _ e) in (eqb-true offset 0 h.0, eqb-true len 0 h.1)
 may_ask false now cookie offset len e f = no_some (target cookie now.entries) f
 
+none_in_force : (contexts : List Context) → is_none_in contexts ≡ true → contexts ≡ []
+none_in_force [] e = refl
+none_in_force (c ∷ contexts) e = absurd (cc)
+
 pub record IsAsked (now : Core) (export : Exporting) (bytes : List ℕ) (m : Message) : Type 0 where
   pub fit : IsFit now (Transmission export) Client bytes m
   pub is : request_of bytes ≡ m
@@ -55,17 +61,20 @@ request_sound now export false bytes m is_d a e =
     let command : ℕ = number_at 6 2 bytes in
     let offset : ℕ = number_at 16 8 bytes in
     let len : ℕ = number_at 24 4 bytes in
-    let w : IsWhole (request now bytes) bytes m = whole (request now bytes) bytes m e in
+    let w : IsWhole (request (in_force now) now bytes) bytes m = whole (request (in_force now) now bytes) bytes m e in
     let long : length bytes ≡ 28 + request_payload_length command len = w.long in
-    let mg : (number_at 0 4 bytes ≡ REQUEST_MAGIC) × (fault_if ((command == commands.DISC) && not ((offset == 0) && (len == 0))) BadDisconnect None ≡ None) = magic_there _ _ _ w.at_head in
+    let bad : Bool = (command == commands.DISC) && not ((offset == 0) && (len == 0)) in
+    let stopped : Bool = (command == commands.BLOCK_STATUS) && not (is_none_in (in_force now)) in
+    let mg : (number_at 0 4 bytes ≡ REQUEST_MAGIC) × (fault_if stopped OutOfProfile (fault_if bad BadDisconnect None) ≡ None) = magic_there _ _ _ w.at_head in
+    let st : (stopped ≡ false) × (fault_if bad BadDisconnect None ≡ None) = fault_none _ OutOfProfile _ mg.1 in
     let k : ((not (command == commands.DISC) && is_some (target (number_at 8 8 bytes) now.entries)) ≡ false) × (None ≡ None) = fault_none _ CookieInUse None w.at_last in
-    let j : (((command == commands.DISC) && not ((offset == 0) && (len == 0))) ≡ false) × (None ≡ None) = fault_none _ BadDisconnect None mg.1 in
+    let j : (bad ≡ false) × (None ≡ None) = fault_none _ BadDisconnect None st.1 in
     record {
       fit = subst (IsFit now (Transmission export) Client bytes) w.is (record {
         encodes = request_is bytes a (omega (arith, long)) mg.0;
         sided = refl;
         sendable = request_sendable bytes a long;
-        completes = may_ask (command == commands.DISC) now (number_at 8 8 bytes) offset len j.0 k.0;
+        completes = (λ q. none_in_force (in_force now) (not_false _ (and_false _ _ st.0 (eq-eqb command commands.BLOCK_STATUS q))), may_ask (command == commands.DISC) now (number_at 8 8 bytes) offset len j.0 k.0);
       });
       is = w.is;
       open_still = is_d;

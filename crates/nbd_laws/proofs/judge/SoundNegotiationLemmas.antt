@@ -1,6 +1,6 @@
 -- What the judge takes for a message of the negotiation is one that the rules allow.
-use Rattle.std.proofs.Common.{◌≡◌, ℕ, ◌<◌, ◌≤◌, ◌⊎◌, ◌+◌, ◌^◌, ◌==◌, List, [], ◌∷◌, length, drop, refl, sym, ◌∙◌, ap, subst, inl, inr, Option, Some, None, Bool, true, false, not, ◌&&◌, ◌||◌, nat_lt, eqb-true, is_some, arith, length-drop, IsTrue}
-use Rattle.std.proofs.lemmas.Bool.{ltb-false}
+use Rattle.std.proofs.Common.{◌≡◌, ℕ, ◌<◌, ◌≤◌, ◌⊎◌, ◌+◌, ◌^◌, ◌==◌, List, [], ◌∷◌, length, drop, refl, sym, ◌∙◌, ap, subst, inl, inr, Option, Some, None, Bool, true, false, not, ◌&&◌, ◌||◌, nat_lt, eqb-true, is_some, arith, length-drop, IsTrue, if◌then◌else◌}
+use Rattle.std.proofs.lemmas.Bool.{ltb-false, eq-eqb}
 use Rattle.nbd_wire.specs.declared.answers.TheConstants as answers
 use Rattle.nbd_wire.specs.declared.handshake.TheConstants as handshake
 use Rattle.nbd_wire.specs.declared.limits.TheConstants.{EXPORT_SIZE}
@@ -14,9 +14,9 @@ use Rattle.nbd_wire.specs.declared.payloads.Info.{Info}
 use Rattle.nbd_wire.specs.declared.payloads.Info.TheVariants.{Export, BlockSize, Other}
 use Rattle.nbd_wire.specs.declared.transmission.TheConstants as transmission
 use Rattle.nbd_wire.specs.protocol.Encoding.{enc, head, tail, AreBytes}
-use Rattle.nbd_wire.specs.protocol.Options.{FitsLimit, IsInfo, MayAcknowledge, MayAnswer, is_error, is_proper_option, turn}
+use Rattle.nbd_wire.specs.protocol.Options.{FitsLimit, IsInfo, MayAcknowledge, MayAnswer, is_error, is_proper_option, turn, takes_contexts, MayTell, IsFreshFor}
 use Rattle.nbd_wire.proofs.NumberLemmas.{with_number, number_at-lt, AreBytes-drop}
-use Rattle.nbd_wire.specs.protocol.Payloads.{number_at, info_of, is_listed}
+use Rattle.nbd_wire.specs.protocol.Payloads.{number_at, info_of, is_listed, context_of}
 use Rattle.nbd_wire.specs.protocol.Operations.{Exporting}
 use Rattle.nbd_wire.specs.protocol.Flags.{has, has_only}
 use Rattle.nbd_wire.specs.protocol.Rules.{MayComplete}
@@ -26,10 +26,13 @@ use Rattle.nbd_wire.specs.protocol.States.{Phase, Greet, Flags, Choosing, Naming
 use Rattle.nbd_wire.specs.declared.fault.WireFault.{WireFault}
 use Rattle.nbd_wire.specs.declared.fault.WireFault.TheVariants.{BadMagic, NotFixedNewstyle, BadClientFlags, WrongOption, OutOfProfile, BadReplyPayload, BadExport, ExportTooLarge, SuccessOfImproper}
 use Rattle.nbd_laws.specs.internal.Decisions.{Decision, fault_if}
-use Rattle.nbd_laws.specs.internal.JudgeNegotiation.{greeting, sets_more, client_flags, choice, are_zeroes, export_fault, export_answer, answer_of, ack_fault, abort_fault, abort_answer, answers_option, is_followed, info_fault, at_ack, unless_error, success_fault, is_good_info, is_bad_payload, payload_fault, answer}
-use Rattle.nbd_laws.proofs.judge.BoolLemmas.{not_false, or_false, or_true, and_true, and_false, whole_at, fault_none, ended_whole, are_zeroes-replicate}
+use Rattle.nbd_laws.specs.internal.JudgeNegotiation.{greeting, sets_more, client_flags, choice, are_zeroes, export_fault, export_answer, answer_of, ack_fault, abort_fault, abort_answer, answers_option, is_followed, info_fault, at_ack, unless_error, success_fault, is_good_info, is_bad_payload, payload_fault, answer, is_on_contexts, earlier_to, is_good_context, is_wide}
+use Rattle.nbd_laws.proofs.judge.BoolLemmas.{not_false, or_false, or_true, and_true, and_false, whole_at, fault_none, ended_whole, are_zeroes-replicate, not_true}
 use Rattle.nbd_laws.specs.internal.Concrete.{read_by, last_reading, judge_in}
 use Rattle.nbd_laws.specs.internal.Machine.{Whole}
+use Rattle.nbd_wire.specs.declared.profile.Profile.{Profile}
+use Rattle.nbd_wire.specs.protocol.Contexts.{Selection, Context, has_id}
+use Rattle.nbd_wire.specs.declared.profile.Profile.TheVariants.{Wide, Base}
 
 pub record IsFit (now : Core) (phase : Phase) (s : Side) (bytes : List ℕ) (m : Message) : Type 0 where
   pub encodes : bytes ≡ enc m
@@ -197,32 +200,38 @@ abort_sound now bytes m a e =
     by_kind false is l h f = let one : (number_at 12 4 bytes == answers.ACK) ≡ true = not_false _ h in inr (eqb-true _ _ one, (ack_empty bytes None l one f).0)
 
 -- what a success must be
-record IsSuccess (option : ℕ) (proper : Bool) (info : Option Exporting) (bytes : List ℕ) : Type 0 where
-  followed : is_followed option ≡ true
-  listed : answers_option option (number_at 12 4 bytes) ≡ true
+record IsSuccess (profile : Profile) (option : ℕ) (proper takes : Bool) (info : Option Exporting) (earlier : List Context) (bytes : List ℕ) : Type 0 where
+  followed : is_followed profile option ≡ true
+  listed : answers_option option takes (number_at 12 4 bytes) ≡ true
   acked : (number_at 12 4 bytes == answers.ACK) ≡ true → (drop 20 bytes ≡ []) × (info_fault option proper info ≡ None)
   is_proper : proper ≡ true
   servers : (number_at 12 4 bytes == answers.SERVER) ≡ true → is_listed (drop 20 bytes) ≡ true
   infos : (number_at 12 4 bytes == answers.INFO) ≡ true → is_good_info (info_of (drop 20 bytes)) ≡ true
+  tells : (number_at 12 4 bytes == answers.META_CONTEXT) ≡ true → is_good_context earlier (context_of (drop 20 bytes)) ≡ true
 
-success_of : (option : ℕ) (proper : Bool) (info : Option Exporting) (bytes : List ℕ) → length bytes ≡ 20 + number_at 16 4 bytes →
-    success_fault option proper info (number_at 12 4 bytes) (number_at 16 4 bytes) ≡ None → payload_fault proper (number_at 12 4 bytes) (drop 20 bytes) ≡ None → IsSuccess option proper info bytes
-success_of option proper info bytes l e f =
+success_of : (profile : Profile) (option : ℕ) (proper takes : Bool) (info : Option Exporting) (earlier : List Context) (bytes : List ℕ) → length bytes ≡ 20 + number_at 16 4 bytes →
+    success_fault profile option proper takes info (number_at 12 4 bytes) (number_at 16 4 bytes) ≡ None → payload_fault earlier proper (number_at 12 4 bytes) (drop 20 bytes) ≡ None →
+    IsSuccess profile option proper takes info earlier bytes
+success_of profile option proper takes info earlier bytes l e f =
     let kind : ℕ = number_at 12 4 bytes in
     let len : ℕ = number_at 16 4 bytes in
     let payload : List ℕ = drop 20 bytes in
-    let a : ((is_followed option && not (answers_option option kind)) ≡ false) × (fault_if (not (is_followed option)) OutOfProfile (ack_fault kind len (at_ack (kind == answers.ACK) (info_fault option proper info))) ≡ None) = fault_none _ _ _ e in
-    let b : (not (is_followed option) ≡ false) × (ack_fault kind len (at_ack (kind == answers.ACK) (info_fault option proper info)) ≡ None) = fault_none _ _ _ a.1 in
-    let c : (is_bad_payload kind payload ≡ false) × (fault_if (not proper) SuccessOfImproper None ≡ None) = fault_none _ _ _ f in
+    let on : Bool = is_followed profile option in
+    let a : ((on && not (answers_option option takes kind)) ≡ false) × (fault_if (not on) OutOfProfile (ack_fault kind len (at_ack (kind == answers.ACK) (info_fault option proper info))) ≡ None) = fault_none _ _ _ e in
+    let b : (not on ≡ false) × (ack_fault kind len (at_ack (kind == answers.ACK) (info_fault option proper info)) ≡ None) = fault_none _ _ _ a.1 in
+    let c : (is_bad_payload earlier kind payload ≡ false) × (fault_if (not proper) SuccessOfImproper None ≡ None) = fault_none _ _ _ f in
     let d : (not proper ≡ false) × (None ≡ None) = fault_none _ SuccessOfImproper None c.1 in
-    let g : (((kind == answers.SERVER) && not (is_listed payload)) ≡ false) × (((kind == answers.INFO) && not (is_good_info (info_of payload))) ≡ false) = or_false _ _ c.0 in
+    let g : (((kind == answers.SERVER) && not (is_listed payload)) ≡ false) × ((((kind == answers.INFO) && not (is_good_info (info_of payload))) || ((kind == answers.META_CONTEXT) && not (is_good_context earlier (context_of payload)))) ≡ false) =
+    or_false _ _ c.0 in
+    let h : (((kind == answers.INFO) && not (is_good_info (info_of payload))) ≡ false) × (((kind == answers.META_CONTEXT) && not (is_good_context earlier (context_of payload))) ≡ false) = or_false _ _ g.1 in
     record {
       followed = not_false _ b.0;
       listed = not_false _ (and_false _ _ a.0 (not_false _ b.0));
       acked = λ one. (let q : (payload ≡ []) × (at_ack (kind == answers.ACK) (info_fault option proper info) ≡ None) = ack_empty bytes _ l one b.1 in (q.0, ap (λ x. at_ack x (info_fault option proper info)) (sym one) ∙ q.1));
       is_proper = not_false _ d.0;
       servers = λ two. not_false _ (and_false _ _ g.0 two);
-      infos = λ three. not_false _ (and_false _ _ g.1 three);
+      infos = λ three. not_false _ (and_false _ _ h.0 three);
+      tells = λ four. not_false _ (and_false _ _ h.1 four);
     }
 
 abbrev HasInfo : ℕ → Option Exporting → Type 0
@@ -245,12 +254,34 @@ good_info payload (Some (Export size flags)) is e = (Export size flags, is, λ s
 good_info payload (Some (BlockSize x y z)) is e = (BlockSize x y z, is, λ s f q. absurd (cc))
 good_info payload (Some (Other k)) is e = (Other k, is, λ s f q. absurd (cc))
 
-followed_cases : (option : ℕ) → is_followed option ≡ true → (option ≡ options.LIST) ⊎ (option ≡ options.STRUCTURED_REPLY) ⊎ (option ≡ options.INFO) ⊎ (option ≡ options.GO)
-followed_cases option e = elim (or_true _ _ e) [
-  | inl h ↦ inl (eqb-true option options.LIST h)
+on_contexts : (option : ℕ) → is_on_contexts option ≡ true → (option ≡ options.LIST_META_CONTEXT) ⊎ (option ≡ options.SET_META_CONTEXT)
+on_contexts option e = elim (or_true (option == options.LIST_META_CONTEXT) (option == options.SET_META_CONTEXT) e) [
+  | inl h ↦ inl (eqb-true option options.LIST_META_CONTEXT h)
+  | inr h ↦ inr (eqb-true option options.SET_META_CONTEXT h)
+]
+
+is_wide_one : (profile : Profile) → is_wide profile ≡ true → profile ≡ Wide
+is_wide_one Base e = absurd (cc)
+is_wide_one Wide e = refl
+
+-- the options that a profile follows
+abbrev IsOneOf : Profile → ℕ → Type 0
+IsOneOf profile option =
+    ((option ≡ options.LIST) ⊎ (option ≡ options.STRUCTURED_REPLY) ⊎ (option ≡ options.INFO) ⊎ (option ≡ options.GO))
+    ⊎ (profile ≡ Wide) × ((option ≡ options.LIST_META_CONTEXT) ⊎ (option ≡ options.SET_META_CONTEXT))
+
+followed_cases : (profile : Profile) (option : ℕ) → is_followed profile option ≡ true → IsOneOf profile option
+followed_cases profile option e = elim (or_true _ _ e) [
+  | inl h ↦ inl (inl (eqb-true option options.LIST h))
   | inr h ↦ elim (or_true (option == options.INFO) _ h) [
-    | inl h ↦ inr (inr (inl (eqb-true option options.INFO h)))
-    | inr h ↦ elim (or_true (option == options.GO) _ h) [ inl h ↦ inr (inr (inr (eqb-true option options.GO h))) | inr h ↦ inr (inl (eqb-true option options.STRUCTURED_REPLY h)) ]
+    | inl h ↦ inl (inr (inr (inl (eqb-true option options.INFO h))))
+    | inr h ↦ elim (or_true (option == options.GO) _ h) [
+      | inl h ↦ inl (inr (inr (inr (eqb-true option options.GO h))))
+      | inr h ↦ elim (or_true (option == options.STRUCTURED_REPLY) _ h) [
+        | inl h ↦ inl (inr (inl (eqb-true option options.STRUCTURED_REPLY h)))
+        | inr h ↦ (let q : (is_wide profile ≡ true) × (is_on_contexts option ≡ true) = and_true _ _ h in inr (is_wide_one profile q.0, on_contexts option q.1))
+      ]
+    ]
   ]
 ]
 
@@ -260,23 +291,72 @@ may_acknowledge option info e (inl o) = inl o
 may_acknowledge option info e (inr (inl o)) = inr (inl o)
 may_acknowledge option info e (inr (inr o)) = inr (inr (info_at option info o e))
 
-success_may : (option : ℕ) (given : List ℕ) (info : Option Exporting) (bytes : List ℕ) → IsSuccess option (is_proper_option option given) info bytes → MayAnswer option given info (number_at 12 4 bytes) (drop 20 bytes)
-success_may option given info bytes s = elim (or_true (number_at 12 4 bytes == answers.ACK) _ s.listed) [
+-- an option that takes contexts is on contexts, and no other
+takes_on_contexts : (option : ℕ) (given : List ℕ) → takes_contexts option given ≡ true → (option ≡ options.LIST_META_CONTEXT) ⊎ (option ≡ options.SET_META_CONTEXT)
+takes_on_contexts option given e = elim (or_true (option == options.LIST_META_CONTEXT) _ e) [
+  | inl h ↦ inl (eqb-true option options.LIST_META_CONTEXT h)
+  | inr h ↦ inr (eqb-true option options.SET_META_CONTEXT (and_true (option == options.SET_META_CONTEXT) _ h).0)
+]
+
+no_others : (option : ℕ) → (option ≡ options.LIST_META_CONTEXT) ⊎ (option ≡ options.SET_META_CONTEXT) →
+    (option ≡ options.LIST) ⊎ (option ≡ options.STRUCTURED_REPLY) ⊎ (option ≡ options.INFO) ⊎ (option ≡ options.GO) → ⊥
+no_others option (inl a) (inl b) = absurd (omega arith)
+no_others option (inl a) (inr (inl b)) = absurd (omega arith)
+no_others option (inl a) (inr (inr (inl b))) = absurd (omega arith)
+no_others option (inl a) (inr (inr (inr b))) = absurd (omega arith)
+no_others option (inr a) (inl b) = absurd (omega arith)
+no_others option (inr a) (inr (inl b)) = absurd (omega arith)
+no_others option (inr a) (inr (inr (inl b))) = absurd (omega arith)
+no_others option (inr a) (inr (inr (inr b))) = absurd (omega arith)
+
+good_context : (option : ℕ) (selection : Selection) (answer : List ℕ) → is_good_context (earlier_to option selection) (context_of answer) ≡ true →
+    (context : Context) × (context_of answer ≡ Some context) × IsFreshFor option selection context
+good_context option selection answer e = go (context_of answer) refl e
+  where
+    go : (o : Option Context) → context_of answer ≡ o → is_good_context (earlier_to option selection) o ≡ true → (context : Context) × (context_of answer ≡ Some context) × IsFreshFor option selection context
+    go None is e = absurd (cc)
+    go (Some context) is e = (
+      context,
+      is,
+      λ q. ap (λ b. has_id (if b then selection.contexts else []) context.id) (sym (eq-eqb option options.SET_META_CONTEXT q)) ∙ not_true _ e,
+    )
+
+-- what may complete in answer to this option
+abbrev MayFollow : Profile → (option : ℕ) (given : List ℕ) (info : Option Exporting) → Selection → (kind : ℕ) (answer : List ℕ) → Type 0
+MayFollow profile option given info selection kind answer = MayAnswer option given info kind answer ⊎ (profile ≡ Wide) × MayTell selection option given kind answer
+
+success_may : (profile : Profile) (option : ℕ) (given : List ℕ) (info : Option Exporting) (selection : Selection) (bytes : List ℕ) →
+    IsSuccess profile option (is_proper_option option given) (takes_contexts option given) info (earlier_to option selection) bytes →
+    MayFollow profile option given info selection (number_at 12 4 bytes) (drop 20 bytes)
+success_may profile option given info selection bytes s = elim (or_true (number_at 12 4 bytes == answers.ACK) _ s.listed) [
   | inl one ↦ (let q : (drop 20 bytes ≡ []) × (info_fault option (is_proper_option option given) info ≡ None) = s.acked one in
-      inr (inl (s.is_proper, eqb-true _ _ one, q.0, may_acknowledge option info (ap (λ p. info_fault option p info) (sym s.is_proper) ∙ q.1) (followed_cases option s.followed))))
+      elim (followed_cases profile option s.followed) [
+        | inl o ↦ inl (inr (inl (s.is_proper, eqb-true _ _ one, q.0, may_acknowledge option info (ap (λ p. info_fault option p info) (sym s.is_proper) ∙ q.1) o)))
+        | inr o ↦ inr (o.0, (o.1, s.is_proper, inl (eqb-true _ _ one, q.0)))
+      ])
   | inr h ↦ elim (or_true ((option == options.LIST) && (number_at 12 4 bytes == answers.SERVER)) _ h) [
-    | inl g ↦ (let q : ((option == options.LIST) ≡ true) × ((number_at 12 4 bytes == answers.SERVER) ≡ true) = and_true _ _ g in inr (inr (inl (s.is_proper, eqb-true _ _ q.1, eqb-true _ _ q.0, s.servers q.1))))
-    | inr g ↦ (let q : (((option == options.INFO) || (option == options.GO)) ≡ true) × ((number_at 12 4 bytes == answers.INFO) ≡ true) = and_true _ _ g in
-        inr (inr (inr (s.is_proper, eqb-true _ _ q.1, info_or_go option q.0, good_info (drop 20 bytes) (info_of (drop 20 bytes)) refl (s.infos q.1)))))
+    | inl g ↦ (let q : ((option == options.LIST) ≡ true) × ((number_at 12 4 bytes == answers.SERVER) ≡ true) = and_true _ _ g in inl (inr (inr (inl (s.is_proper, eqb-true _ _ q.1, eqb-true _ _ q.0, s.servers q.1)))))
+    | inr h ↦ elim (or_true (((option == options.INFO) || (option == options.GO)) && (number_at 12 4 bytes == answers.INFO)) _ h) [
+      | inl g ↦ (let q : (((option == options.INFO) || (option == options.GO)) ≡ true) × ((number_at 12 4 bytes == answers.INFO) ≡ true) = and_true _ _ g in
+          inl (inr (inr (inr (s.is_proper, eqb-true _ _ q.1, info_or_go option q.0, good_info (drop 20 bytes) (info_of (drop 20 bytes)) refl (s.infos q.1))))))
+      | inr g ↦ (let q : (takes_contexts option given ≡ true) × ((number_at 12 4 bytes == answers.META_CONTEXT) ≡ true) = and_true _ _ g in
+          let on = takes_on_contexts option given q.0 in
+          elim (followed_cases profile option s.followed) [
+            | inl o ↦ absurd (no_others option on o)
+            | inr o ↦ inr (o.0, (on, s.is_proper, inr (eqb-true _ _ q.1, q.0, good_context option selection (drop 20 bytes) (s.tells q.1))))
+          ])
+    ]
   ]
 ]
 
-answer_sound : (now : Core) (option : ℕ) (given : List ℕ) (info : Option Exporting) (bytes : List ℕ) (m : Message) → AreBytes bytes → read_by (answer option (is_proper_option option given) info bytes) bytes ≡ Whole m → IsFit now (Answering option given info) Server bytes m
+answer_sound : (now : Core) (option : ℕ) (given : List ℕ) (info : Option Exporting) (bytes : List ℕ) (m : Message) → AreBytes bytes → read_by (answer now.profile option (is_proper_option option given) (takes_contexts option given) info now.selection bytes) bytes ≡ Whole m → IsFit now (Answering option given info) Server bytes m
 unfolding MayComplete
 answer_sound now option given info bytes m a e =
     let kind : ℕ = number_at 12 4 bytes in
-    let d : Decision = answer option (is_proper_option option given) info bytes in
-    let f : Option WireFault = unless_error (is_error kind) (success_fault option (is_proper_option option given) info kind (number_at 16 4 bytes)) in
+    let proper : Bool = is_proper_option option given in
+    let takes : Bool = takes_contexts option given in
+    let d : Decision = answer now.profile option proper takes info now.selection bytes in
+    let f : Option WireFault = unless_error (is_error kind) (success_fault now.profile option proper takes info kind (number_at 16 4 bytes)) in
     let w : IsWhole d bytes m = whole d bytes m e in
     let mg : (number_at 0 8 bytes ≡ ANSWER_MAGIC) × (fault_if (not (number_at 8 4 bytes == option)) WrongOption f ≡ None) = magic_there _ _ _ w.at_head in
     let o : (not (number_at 8 4 bytes == option) ≡ false) × (f ≡ None) = fault_none _ _ _ mg.1 in
@@ -287,10 +367,12 @@ answer_sound now option given info bytes m a e =
       completes = (eqb-true _ _ (not_false _ o.0), by_kind (is_error kind) refl w.long o.1 w.at_last);
     })
   where
-    by_kind : (b : Bool) → is_error (number_at 12 4 bytes) ≡ b → length bytes ≡ 20 + number_at 16 4 bytes → unless_error b (success_fault option (is_proper_option option given) info (number_at 12 4 bytes) (number_at 16 4 bytes)) ≡ None →
-        unless_error b (payload_fault (is_proper_option option given) (number_at 12 4 bytes) (drop 20 bytes)) ≡ None → MayAnswer option given info (number_at 12 4 bytes) (drop 20 bytes)
-    by_kind true is l h f = inl is
-    by_kind false is l h f = success_may option given info bytes (success_of option (is_proper_option option given) info bytes l h f)
+    by_kind : (b : Bool) → is_error (number_at 12 4 bytes) ≡ b → length bytes ≡ 20 + number_at 16 4 bytes →
+        unless_error b (success_fault now.profile option (is_proper_option option given) (takes_contexts option given) info (number_at 12 4 bytes) (number_at 16 4 bytes)) ≡ None →
+        unless_error b (payload_fault (earlier_to option now.selection) (is_proper_option option given) (number_at 12 4 bytes) (drop 20 bytes)) ≡ None → MayFollow now.profile option given info now.selection (number_at 12 4 bytes) (drop 20 bytes)
+    by_kind true is l h f = inl (inl is)
+    by_kind false is l h f =
+        success_may now.profile option given info now.selection bytes (success_of now.profile option (is_proper_option option given) (takes_contexts option given) info (earlier_to option now.selection) bytes l h f)
 
 -- in its turn a side's whole message is one that the phase allows
 pub negotiation_sound : (phase : Phase) (now : Core) (s : Side) (bytes : List ℕ) (m : Message) → AreBytes bytes → turn phase ≡ Some s → judge_in phase now now s bytes ≡ Whole m → IsFit now phase s bytes m

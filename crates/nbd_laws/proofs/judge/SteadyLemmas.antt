@@ -7,11 +7,11 @@ use Rattle.nbd_wire.specs.declared.magics.TheConstants.{SIMPLE_MAGIC, CHUNK_MAGI
 use Rattle.nbd_wire.specs.declared.message.Side.{Side}
 use Rattle.nbd_wire.specs.declared.message.Side.TheVariants.{Client, Server}
 use Rattle.nbd_wire.proofs.FieldLemmas.{number_at-append}
-use Rattle.nbd_wire.specs.protocol.Options.{is_error, is_proper_option, turn}
+use Rattle.nbd_wire.specs.protocol.Options.{is_error, is_proper_option, turn, takes_contexts}
 use Rattle.nbd_wire.specs.protocol.Payloads.{number_at}
 use Rattle.nbd_wire.specs.protocol.Operations.{Operation, Exporting}
 use Rattle.nbd_wire.specs.protocol.Flags.{has}
-use Rattle.nbd_wire.specs.protocol.States.{Phase, Greet, Flags, Choosing, Naming, Aborting, Answering, Transmission, Core, operation, target}
+use Rattle.nbd_wire.specs.protocol.States.{Phase, Greet, Flags, Choosing, Naming, Aborting, Answering, Transmission, Core, operation, target, in_force}
 use Rattle.nbd_wire.specs.declared.fault.WireFault.TheVariants.{BadMagic, UnknownCookie}
 use Rattle.nbd_laws.specs.internal.Decisions.{Decision}
 use Rattle.nbd_laws.specs.internal.Judge.{decision, request_unless}
@@ -19,7 +19,9 @@ use Rattle.nbd_laws.specs.internal.JudgeNegotiation.{abort_answer, abort_fault, 
 use Rattle.nbd_laws.specs.internal.JudgeTransmission.{begins, chunk_to, operation_if, operation_of, no_reply, reply, reply_by, request, request_fault, request_payload_length, simple_payload_length, simple_to, simple_fault, chunk_head_fault}
 use Rattle.nbd_laws.proofs.machine.MachineLemmas.{Later}
 use Rattle.nbd_laws.proofs.judge.SoundServerLemmas.{magic_of}
-use Rattle.nbd_laws.proofs.judge.PhaseLemmas.{IsAppended, Later-appended, Later-disconnected, Later-transmission, Later-turn, target_entry}
+use Rattle.nbd_laws.proofs.judge.PhaseLemmas.{IsAppended, Later-appended, Later-disconnected, Later-in_force, Later-transmission, Later-turn, target_entry}
+use Rattle.nbd_wire.specs.protocol.Contexts.{Context, Selection}
+use Rattle.nbd_wire.specs.declared.profile.Profile.{Profile}
 
 -- the same of a message's head and length
 pub record IsSameHead (c d : Decision) : Type 0 where
@@ -132,32 +134,33 @@ abort_fixed = record {
   };
 }
 
-answer_fixed : (option : ℕ) (proper : Bool) (info : Option Exporting) → IsFixed 20 (answer option proper info)
-answer_fixed option proper info = record {
+answer_fixed : (profile : Profile) (option : ℕ) (proper takes : Bool) (info : Option Exporting) (selection : Selection) → IsFixed 20 (answer profile option proper takes info selection)
+answer_fixed profile option proper takes info selection = record {
   two = omega arith;
   is = λ bytes. refl;
   same = λ bytes more l. record {
     head_length_is = refl;
     head_fault_is = λ i. answer_fault option (at 0 8 20 bytes more l (omega arith) i) (at 8 4 20 bytes more l (omega arith) i)
-        (unless_error (is_error (at 12 4 20 bytes more l (omega arith) i)) (success_fault option proper info (at 12 4 20 bytes more l (omega arith) i) (at 16 4 20 bytes more l (omega arith) i)));
+        (unless_error (is_error (at 12 4 20 bytes more l (omega arith) i)) (success_fault profile option proper takes info (at 12 4 20 bytes more l (omega arith) i) (at 16 4 20 bytes more l (omega arith) i)));
     payload_length_is = at 16 4 20 bytes more l (omega arith);
   };
 }
 
-request_same : (c d : Core) (bytes more : List ℕ) → 28 ≤ length bytes → IsSameHead (request c bytes) (request d (bytes ++ more))
-request_same c d bytes more l = record {
+request_same : (contexts : List Context) (c d : Core) (bytes more : List ℕ) → 28 ≤ length bytes → IsSameHead (request contexts c bytes) (request contexts d (bytes ++ more))
+request_same contexts c d bytes more l = record {
   head_length_is = refl;
-  head_fault_is = λ i. request_fault (at 0 4 28 bytes more l (omega arith) i) (at 6 2 28 bytes more l (omega arith) i) (at 16 8 28 bytes more l (omega arith) i) (at 24 4 28 bytes more l (omega arith) i);
+  head_fault_is = λ i. request_fault contexts (at 0 4 28 bytes more l (omega arith) i) (at 6 2 28 bytes more l (omega arith) i) (at 16 8 28 bytes more l (omega arith) i) (at 24 4 28 bytes more l (omega arith) i);
   payload_length_is = λ i. request_payload_length (at 6 2 28 bytes more l (omega arith) i) (at 24 4 28 bytes more l (omega arith) i);
 }
 
 in_requests : (old : Core) (export : Exporting) → old.phase ≡ Transmission export → old.disconnected ≡ false → IsDeciding Client old
 in_requests old export t d = record {
-  F = request;
+  F = request (in_force old);
   decides = λ now l bytes. (
       ap (λ p. decision p old now Client bytes) (Later-transmission l export t)
-      ∙ ap (λ b. request_unless b now bytes) (Later-disconnected l ∙ d));
-  steady = λ now l. fixed_steady Client now 28 request (omega arith) (λ c bytes. refl) request_same;
+      ∙ ap (λ b. request_unless b now bytes) (Later-disconnected l ∙ d)
+      ∙ ap (λ contexts. Some (request contexts now bytes)) (Later-in_force l export t));
+  steady = λ now l. fixed_steady Client now 28 (request (in_force old)) (omega arith) (λ c bytes. refl) (request_same (in_force old));
 }
 
 pub entry-append : (k : ℕ) (es more : List Operation) (e : Operation) → operation k es ≡ Some e → operation k (es ++ more) ≡ Some e
@@ -367,7 +370,8 @@ deciding Naming Server old bytes d p h =
     in_negotiation Server old 10 (export_answer (has old.client_flags handshake.C_NO_ZEROES)) (ap turn p) (λ bytes. ap (λ p. decision p old old Server bytes) p) (exported_fixed (has old.client_flags handshake.C_NO_ZEROES))
 deciding Aborting Server old bytes d p h = in_negotiation Server old 20 abort_answer (ap turn p) (λ bytes. ap (λ p. decision p old old Server bytes) p) abort_fixed
 deciding (Answering option given info) Server old bytes d p h =
-    in_negotiation Server old 20 (answer option (is_proper_option option given) info) (ap turn p) (λ bytes. ap (λ p. decision p old old Server bytes) p) (answer_fixed option (is_proper_option option given) info)
+    in_negotiation Server old 20 (answer old.profile option (is_proper_option option given) (takes_contexts option given) info old.selection) (ap turn p) (λ bytes. ap (λ p. decision p old old Server bytes) p)
+    (answer_fixed old.profile option (is_proper_option option given) (takes_contexts option given) info old.selection)
 deciding (Transmission export) Client old bytes d p h = by_disconnected old export old.disconnected bytes d p refl h
 deciding (Transmission export) Server old bytes d p h = in_replies old export p
 deciding phase s old bytes d p h = absurd (cc)

@@ -1,5 +1,5 @@
 -- What holds of each request of a core that completed messages lead to, and of every report.
-use Rattle.std.proofs.Common.{◌≡◌, ℕ, ◌<◌, ◌≤◌, ◌+◌, ◌==◌, List, [], ◌∷◌, length, refl, sym, ◌∙◌, ap, subst, inl, inr, Option, Some, None, Bool, true, false, not, ◌&&◌, ◌||◌, if◌then◌else◌, eqb-true, arith, IsTrue, nat_le}
+use Rattle.std.proofs.Common.{◌≡◌, ℕ, ◌<◌, ◌≤◌, ◌+◌, ◌==◌, List, [], ◌∷◌, length, refl, sym, ◌∙◌, ap, subst, inl, inr, Option, Some, None, Bool, true, false, not, ◌&&◌, ◌||◌, if◌then◌else◌, eqb-true, arith, IsTrue, nat_le, ◌⊎◌}
 use Rattle.std.proofs.lemmas.Bool.{leb-true}
 use Rattle.nbd_wire.specs.declared.answers.TheConstants as answers
 use Rattle.nbd_wire.specs.declared.commands.TheConstants as commands
@@ -12,7 +12,7 @@ use Rattle.nbd_wire.specs.declared.message.Message.TheVariants.{Greeting, Client
 use Rattle.nbd_wire.specs.declared.payloads.Info.{Info}
 use Rattle.nbd_wire.specs.declared.payloads.Info.TheVariants.{Export, BlockSize, Other}
 use Rattle.nbd_wire.specs.protocol.Marks.{Item, Byte, Starts, Completes, Serves}
-use Rattle.nbd_wire.specs.protocol.Options.{IsInfo, MayAcknowledge, MayAnswer, ack_phase, reply_phase, choice_phase, last_info, next_phase}
+use Rattle.nbd_wire.specs.protocol.Options.{IsInfo, MayAcknowledge, MayAnswer, ack_phase, reply_phase, choice_phase, last_info, next_phase, MayTell}
 use Rattle.nbd_wire.specs.protocol.Payloads.{info_of}
 use Rattle.nbd_wire.specs.protocol.Reports.{Asked, operations_of, export_of, known_count, known_from, known_if, first_known, report, asked_of, asked_list}
 use Rattle.nbd_wire.specs.protocol.Operations.{Covers, Operation, Exporting, Outcome, Success, Pending, any, ends_reply, has_failed, has_range, is_failing, is_finished, is_proper, outcome, pieces, pieces_of}
@@ -34,6 +34,7 @@ use Rattle.nbd_laws.proofs.runs.RunLemmas.{core_end-ends_at}
 use Rattle.nbd_laws.proofs.requests.ReportLemmas.{asked-report, length-report, told_if}
 use Rattle.nbd_laws.proofs.runs.TraceLemmas.{answered_by-within}
 use Rattle.nbd_laws.proofs.requests.GoodLemmas.{AreGood, IsGood, good_answered, good_chunk, good_entry, good_new, good_simple, good_snoc}
+use Rattle.nbd_wire.specs.protocol.Contexts.{Selection}
 
 -- what a phase says of its requests
 abbrev pub InPhase : Phase → List Operation → Type 0
@@ -103,7 +104,7 @@ module _ (asked : ℕ) (asked_with : List ℕ) (info : Option Exporting) (es : L
   phase_by kind p = InPhase (reply_phase asked asked_with info kind p) es
 
   abbrev rest_of : ℕ → List ℕ → Phase
-  rest_of kind p = if kind == answers.SERVER then Answering asked asked_with info else if kind == answers.INFO then Answering asked asked_with (last_info (info_of p) info) else ack_phase asked info
+  rest_of kind p = if (kind == answers.SERVER) || (kind == answers.META_CONTEXT) then Answering asked asked_with info else if kind == answers.INFO then Answering asked asked_with (last_info (info_of p) info) else ack_phase asked info
 
   answered_in : (kind : ℕ) (p : List ℕ) → MayAnswer asked asked_with info kind p → phase_by kind p
   unfolding has
@@ -116,6 +117,28 @@ module _ (asked : ℕ) (asked_with : List ℕ) (info : Option Exporting) (es : L
         | inr a ↦ subst (λ k. phase_by k p) (sym a.1) (g.0, informed (info_of p) (told_info p a.3))
       ]
     ]
+  ]
+
+  -- an ACK to an option on contexts does not lead into transmission
+  ended_in : (asked ≡ options.LIST_META_CONTEXT) ⊎ (asked ≡ options.SET_META_CONTEXT) → InPhase (ack_phase asked info) es
+  ended_in on = go info
+    where
+      no_go : (asked == options.GO) ≡ true → ⊥
+      no_go e = let q : asked ≡ options.GO = eqb-true asked options.GO e in elim on [ inl o ↦ absurd (omega arith) | inr o ↦ absurd (omega arith) ]
+
+      go : (o : Option Exporting) → InPhase (ack_phase asked o) es
+      go None = g.0
+      go (Some export) = by_go (asked == options.GO) refl
+        where
+          by_go : (b : Bool) → (asked == options.GO) ≡ b → InPhase (if b then Transmission export else Choosing) es
+          by_go true r = absurd (no_go r)
+          by_go false r = g.0
+
+  told_in : (selection : Selection) (kind : ℕ) (p : List ℕ) → MayTell selection asked asked_with kind p → phase_by kind p
+  unfolding has
+  told_in selection kind p ok = elim ok.2 [
+    | inl a ↦ subst (λ k. phase_by k p) (sym a.0) (ended_in ok.0)
+    | inr a ↦ subst (λ k. phase_by k p) (sym a.0) g
   ]
 
 -- the phase after a chosen option
@@ -136,7 +159,7 @@ sound_complete core Naming (Exported size flags padded) q ok sn g =
     subst (λ phase. InPhase (next_phase phase (Exported size flags padded)) core.entries) (sym q) (ok.2, ok.0, subst (AreGood (record { size = size; flags = flags })) (sym g) tt)
 sound_complete core Aborting (Answer option kind p) q ok sn g = subst (λ phase. InPhase (next_phase phase (Answer option kind p)) core.entries) (sym q) g
 sound_complete core (Answering asked asked_with info) (Answer option kind p) q ok sn g =
-    subst (λ phase. InPhase (next_phase phase (Answer option kind p)) core.entries) (sym q) (answered_in asked asked_with info core.entries g kind p ok.1)
+    subst (λ phase. InPhase (next_phase phase (Answer option kind p)) core.entries) (sym q) (elim ok.1 [ inl a ↦ answered_in asked asked_with info core.entries g kind p a | inr a ↦ told_in asked asked_with info core.entries g core.selection kind p a.1 ])
 sound_complete core (Transmission export) m q ok sn g =
     let i : InTransmission core export m = transmission_row core export m ok in
     subst (λ phase. InPhase phase (complete core m).entries) (sym (phase-complete core export m i ∙ q)) (g.0, g.1, good_transmitted core export m i sn g.2)

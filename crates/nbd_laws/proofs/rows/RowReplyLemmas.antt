@@ -1,5 +1,5 @@
 -- What is decided of an answer, in the words of the table of faults.
-use Rattle.std.proofs.Common.{◌≡◌, ℕ, ◌+◌, ◌<◌, ◌≤◌, ◌≢◌, ◌⊎◌, ◌==◌, List, length, drop, refl, sym, ◌∙◌, ap, subst, inl, inr, Option, Some, None, Bool, true, false, not, ◌&&◌, IsTrue, arith, nat_lt}
+use Rattle.std.proofs.Common.{◌≡◌, ℕ, ◌+◌, ◌<◌, ◌≤◌, ◌≢◌, ◌⊎◌, ◌==◌, List, length, drop, refl, sym, ◌∙◌, ap, subst, inl, inr, Option, Some, None, Bool, true, false, not, ◌&&◌, IsTrue, arith, nat_lt, if◌then◌else◌, [], eqb-true}
 use Rattle.nbd_wire.specs.declared.answers.TheConstants as answers
 use Rattle.nbd_wire.specs.declared.fault.WireFault.{WireFault}
 use Rattle.nbd_wire.specs.declared.fault.WireFault.TheVariants.{BadMagic, WrongOption, BadReplyKind, OutOfProfile, BadReplyPayload, MissingExportInfo, ExportTooLarge, SuccessOfImproper}
@@ -10,16 +10,21 @@ use Rattle.nbd_wire.specs.declared.options.TheConstants as options
 use Rattle.nbd_wire.specs.declared.payloads.Info.{Info}
 use Rattle.nbd_wire.specs.declared.payloads.Info.TheVariants.{Export, BlockSize, Other}
 use Rattle.nbd_wire.specs.declared.transmission.TheConstants as transmission
-use Rattle.nbd_wire.specs.protocol.Options.{FitsLimit, IsInfo, is_error, is_proper_option}
-use Rattle.nbd_wire.specs.protocol.Payloads.{info_of, is_listed, number_at}
+use Rattle.nbd_wire.specs.protocol.Options.{FitsLimit, IsInfo, is_error, is_proper_option, takes_contexts, IsFreshFor}
+use Rattle.nbd_wire.specs.protocol.Payloads.{info_of, is_listed, number_at, context_of}
 use Rattle.nbd_wire.specs.protocol.Operations.{Exporting}
 use Rattle.nbd_wire.specs.protocol.Flags.{has}
 use Rattle.nbd_wire.specs.protocol.Rows.{IsBadPayload, IsFollowed, IsNoError, IsTooLarge, IsWholeIn, RowIn, TakesKind, rank}
 use Rattle.nbd_wire.specs.protocol.Rows.IsWholeIn.{whole_abort_answer, whole_answer}
 use Rattle.nbd_wire.specs.protocol.Rows.RowIn.{wrong_magic, not_fixed_newstyle, out_of_turn, wrong_option, bad_reply_kind, out_of_profile, ack_with_payload, bad_reply_payload, missing_export_info, export_too_large, success_of_improper}
 use Rattle.nbd_wire.specs.protocol.States.{Core, Aborting, Answering}
-use Rattle.nbd_laws.specs.internal.JudgeNegotiation.{abort_answer, answer, info_fault, is_good_info, success_fault}
+use Rattle.nbd_laws.specs.internal.JudgeNegotiation.{abort_answer, answer, info_fault, is_good_info, success_fault, is_wide, is_good_context, earlier_to, is_followed}
 use Rattle.nbd_laws.proofs.rows.RowLemmas.{Above, IsLeast, IsTied, Link, above_if, above_none, above_with, least_at_ack, least_if, least_none, least_unless, link_and, link_eq, link_lt, link_neg, link_or, link_true}
+use Rattle.nbd_wire.specs.declared.profile.Profile.{Profile}
+use Rattle.nbd_wire.specs.protocol.Contexts.{Selection, Context, has_id}
+use Rattle.nbd_wire.specs.declared.profile.Profile.TheVariants.{Wide, Base}
+use Rattle.nbd_laws.proofs.judge.BoolLemmas.{not_false, not_true}
+use Rattle.std.proofs.lemmas.Bool.{eqb-false}
 
 -- no kind of success is an error
 ack_succeeds : (kind : ℕ) → kind ≡ answers.ACK → IsNoError kind
@@ -49,6 +54,38 @@ info_link payload = go (info_of payload) refl
     }
     go (Some (BlockSize a b c)) e = record { yes = λ q. (BlockSize a b c, e, λ size flags is. absurd (cc)); no = λ q. absurd (cc) }
     go (Some (Other kind)) e = record { yes = λ q. (Other kind, e, λ size flags is. absurd (cc)); no = λ q. absurd (cc) }
+
+context_succeeds : (kind : ℕ) → kind ≡ answers.META_CONTEXT → IsNoError kind
+unfolding has
+context_succeeds kind e h = let q : is_error 4 ≡ true = sym (ap is_error e) ∙ h in (cc)
+
+link_wide : (profile : Profile) → Link (profile ≡ Wide) (is_wide profile)
+link_wide Base = record { yes = λ e. absurd (cc); no = λ e h. (cc) }
+link_wide Wide = record { yes = λ e. refl; no = λ e. absurd (cc) }
+
+-- a context is one that the option takes
+context_link : (option : ℕ) (selection : Selection) (payload : List ℕ) →
+    Link ((context : Context) → context_of payload ≡ Some context → IsFreshFor option selection context → ⊥) (not (is_good_context (earlier_to option selection) (context_of payload)))
+context_link option selection payload = go (context_of payload)
+  where
+    Bad : Option Context → Type 0
+    Bad o = (context : Context) → o ≡ Some context → IsFreshFor option selection context → ⊥
+
+    by_option : (context : Context) (b : Bool) → (option == options.SET_META_CONTEXT) ≡ b → Link (Bad (Some context)) (not (not (has_id (if b then selection.contexts else []) context.id)))
+    by_option context true e = record {
+      yes = λ h c q fresh. (let same : context ≡ c = cc in
+          let used : has_id selection.contexts context.id ≡ true = not_false _ (not_true _ h) in
+          let w : true ≡ false = sym used ∙ ap (λ (x : Context). has_id selection.contexts x.id) same ∙ fresh (eqb-true option options.SET_META_CONTEXT e) in (cc));
+      no = λ h bad. bad context refl (λ q. not_true _ (not_false _ h));
+    }
+    by_option context false e = record {
+      yes = λ h. absurd (cc);
+      no = λ h bad. bad context refl (λ q. absurd (eqb-false option options.SET_META_CONTEXT e q));
+    }
+
+    go : (o : Option Context) → Link (Bad o) (not (is_good_context (earlier_to option selection) o))
+    go None = record { yes = λ h c q fresh. absurd (cc); no = λ h. absurd (cc) }
+    go (Some context) = by_option context (option == options.SET_META_CONTEXT) refl
 
 module _ (since now : Core) (bytes : List ℕ) where
   abbrev kind : ℕ
@@ -110,8 +147,8 @@ module _ (since now : Core) (bytes : List ℕ) where
 
     abbrev pub KindHead : Option Exporting → WireFault → Type 0
     KindHead info f =
-        (f ≡ BadReplyKind) × (IsFollowed (Answering asked payload info) × (TakesKind (Answering asked payload info) kind → ⊥))
-        ⊎ ((f ≡ OutOfProfile) × (IsFollowed (Answering asked payload info) → ⊥)
+        (f ≡ BadReplyKind) × (IsFollowed now.profile (Answering asked payload info) × (TakesKind (Answering asked payload info) kind → ⊥))
+        ⊎ ((f ≡ OutOfProfile) × (IsFollowed now.profile (Answering asked payload info) → ⊥)
         ⊎ ((f ≡ BadReplyPayload) × ((kind ≡ answers.ACK) × (number_at 16 4 bytes ≢ 0))
         ⊎ (kind ≡ answers.ACK) × InfoHead info f))
 
@@ -124,11 +161,12 @@ module _ (since now : Core) (bytes : List ℕ) where
     abbrev pub AnswerLast : WireFault → Type 0
     AnswerLast f =
         (IsTrue (is_error kind) → ⊥)
-        × ((f ≡ BadReplyPayload) × IsBadPayload kind (drop 20 bytes) ⊎ ((f ≡ SuccessOfImproper) × (IsTrue (is_proper_option asked payload) → ⊥) ⊎ ⊥))
+        × ((f ≡ BadReplyPayload) × IsBadPayload now.selection asked kind (drop 20 bytes) ⊎ ((f ≡ SuccessOfImproper) × (IsTrue (is_proper_option asked payload) → ⊥) ⊎ ⊥))
 
-    bad_succeeds : IsBadPayload kind (drop 20 bytes) → IsNoError kind
+    bad_succeeds : IsBadPayload now.selection asked kind (drop 20 bytes) → IsNoError kind
     bad_succeeds (inl h) = server_succeeds kind h.0
-    bad_succeeds (inr h) = info_succeeds kind h.0
+    bad_succeeds (inr (inl h)) = info_succeeds kind h.0
+    bad_succeeds (inr (inr h)) = context_succeeds kind h.0
 
     beyond : (export : Exporting) → (FitsLimit export → ⊥) → EXPORT_SIZE < export.size
     beyond export h = go (nat_lt EXPORT_SIZE export.size) refl
@@ -185,12 +223,20 @@ module _ (since now : Core) (bytes : List ℕ) where
     info_above n l None = above_if n MissingExportInfo _ _ (omega (arith, l)) (above_none n)
     info_above n l (Some export) = above_if n ExportTooLarge _ _ (omega (arith, l)) (above_none n)
 
-    kind_least : (info : Option Exporting) → IsLeast (success_fault asked (is_proper_option asked payload) info kind (number_at 16 4 bytes)) (KindHead info)
+    followed_link : Link ((asked ≡ options.LIST) ⊎ (asked ≡ options.INFO) ⊎ (asked ≡ options.GO) ⊎ (asked ≡ options.STRUCTURED_REPLY) ⊎ (now.profile ≡ Wide) × ((asked ≡ options.LIST_META_CONTEXT) ⊎ (asked ≡ options.SET_META_CONTEXT)))
+        (is_followed now.profile asked)
+    followed_link =
+        link_or (link_eq asked options.LIST) (link_or (link_eq asked options.INFO) (link_or (link_eq asked options.GO) (link_or (link_eq asked options.STRUCTURED_REPLY)
+        (link_and (link_wide now.profile) (link_or (link_eq asked options.LIST_META_CONTEXT) (link_eq asked options.SET_META_CONTEXT))))))
+
+    kind_least : (info : Option Exporting) → IsLeast (success_fault now.profile asked (is_proper_option asked payload) (takes_contexts asked payload) info kind (number_at 16 4 bytes)) (KindHead info)
     kind_least info =
         least_if BadReplyKind
-        (link_and (link_or (link_eq asked options.LIST) (link_or (link_eq asked options.INFO) (link_or (link_eq asked options.GO) (link_eq asked options.STRUCTURED_REPLY))))
-        (link_neg (link_or (link_eq kind answers.ACK) (link_or (link_and (link_eq asked options.LIST) (link_eq kind answers.SERVER)) (link_and (link_or (link_eq asked options.INFO) (link_eq asked options.GO)) (link_eq kind answers.INFO))))))
-        (least_if OutOfProfile (link_neg (link_or (link_eq asked options.LIST) (link_or (link_eq asked options.INFO) (link_or (link_eq asked options.GO) (link_eq asked options.STRUCTURED_REPLY)))))
+        (link_and followed_link
+        (link_neg
+        (link_or (link_eq kind answers.ACK) (link_or (link_and (link_eq asked options.LIST) (link_eq kind answers.SERVER))
+        (link_or (link_and (link_or (link_eq asked options.INFO) (link_eq asked options.GO)) (link_eq kind answers.INFO)) (link_and (link_true (takes_contexts asked payload)) (link_eq kind answers.META_CONTEXT)))))))
+        (least_if OutOfProfile (link_neg followed_link)
         (least_if BadReplyPayload ack_link (least_at_ack (link_eq kind answers.ACK) (info_least info)) (above_with 8 _ _ (info_above 8 (omega arith) info)))
         (above_if 7 BadReplyPayload _ _ (omega arith) (above_with 7 _ _ (info_above 7 (omega arith) info))))
         (above_if 6 OutOfProfile _ _ (omega arith) (above_if 6 BadReplyPayload _ _ (omega arith) (above_with 6 _ _ (info_above 6 (omega arith) info))))
@@ -213,12 +259,13 @@ module _ (since now : Core) (bytes : List ℕ) where
     answer_before f g (inl l) less (su, inl h) = let r = ap rank h.0 in omega (arith, l, less, r)
     answer_before f g (inl l) less (su, inr (inl h)) = let r = ap rank h.0 in omega (arith, l, less, r)
     answer_before f g (inr (k, l)) less (su, inl (e, inl b)) = let q : answers.ACK ≡ answers.SERVER = sym k ∙ b.0 in omega (arith, q)
-    answer_before f g (inr (k, l)) less (su, inl (e, inr b)) = let q : answers.ACK ≡ answers.INFO = sym k ∙ b.0 in omega (arith, q)
+    answer_before f g (inr (k, l)) less (su, inl (e, inr (inl b))) = let q : answers.ACK ≡ answers.INFO = sym k ∙ b.0 in omega (arith, q)
+    answer_before f g (inr (k, l)) less (su, inl (e, inr (inr b))) = let q : answers.ACK ≡ answers.META_CONTEXT = sym k ∙ b.0 in omega (arith, q)
     answer_before f g (inr (k, l)) less (su, inr (inl h)) = let r = ap rank h.0 in omega (arith, l, less, r)
     answer_before f g o less (su, inr (inr h)) = absurd h
 
     pub answer_tied : (info : Option Exporting) → IsTied (λ f. RowIn since now bytes f (Answering asked payload info) Server) (IsWholeIn since now bytes (Answering asked payload info) Server) (length bytes)
-        (answer asked (is_proper_option asked payload) info bytes) (AnswerHead info) AnswerLast
+        (answer now.profile asked (is_proper_option asked payload) (takes_contexts asked payload) info now.selection bytes) (AnswerHead info) AnswerLast
     answer_tied info = record {
       rows = answer_rows info;
       whole_is = whole_length info;
@@ -228,7 +275,8 @@ module _ (since now : Core) (bytes : List ℕ) where
           (above_if 1 WrongOption _ _ (omega arith) (above_with 1 _ _ (kind_above 1 (omega arith) info)));
       last = λ c l. least_unless (link_true (is_error kind))
           (least_if BadReplyPayload
-          (link_or (link_and (link_eq kind answers.SERVER) (link_neg (link_true (is_listed (drop 20 bytes))))) (link_and (link_eq kind answers.INFO) (link_neg (info_link (drop 20 bytes)))))
+          (link_or (link_and (link_eq kind answers.SERVER) (link_neg (link_true (is_listed (drop 20 bytes)))))
+          (link_or (link_and (link_eq kind answers.INFO) (link_neg (info_link (drop 20 bytes)))) (link_and (link_eq kind answers.META_CONTEXT) (context_link asked now.selection (drop 20 bytes)))))
           (least_if SuccessOfImproper (link_neg (link_true (is_proper_option asked payload))) least_none (above_none 19))
           (above_if 8 SuccessOfImproper _ _ (omega arith) (above_none 8)));
       head_is = answer_is info;

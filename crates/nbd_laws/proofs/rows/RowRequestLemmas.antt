@@ -2,7 +2,7 @@
 use Rattle.std.proofs.Common.{◌≡◌, ℕ, zero, suc, ◌+◌, ◌<◌, ◌≢◌, ◌⊎◌, ◌==◌, List, [], ◌∷◌, ◌++◌, length, refl, sym, ◌∙◌, ap, subst, inl, inr, Option, Some, None, Bool, true, false, not, IsTrue, is_some, arith, eqb-true, if◌then◌else◌}
 use Rattle.nbd_wire.specs.declared.commands.TheConstants as commands
 use Rattle.nbd_wire.specs.declared.fault.WireFault.{WireFault}
-use Rattle.nbd_wire.specs.declared.fault.WireFault.TheVariants.{BadMagic, CookieInUse, UnknownCookie, SimpleForbidden, SuccessOfImproper, BadDisconnect}
+use Rattle.nbd_wire.specs.declared.fault.WireFault.TheVariants.{BadMagic, CookieInUse, UnknownCookie, SimpleForbidden, SuccessOfImproper, BadDisconnect, OutOfProfile}
 use Rattle.nbd_wire.specs.declared.magics.TheConstants as magics
 use Rattle.nbd_wire.specs.declared.message.Message.{Message}
 use Rattle.nbd_wire.specs.declared.message.Side.TheVariants.{Client, Server}
@@ -10,12 +10,13 @@ use Rattle.nbd_wire.specs.protocol.Payloads.{number_at}
 use Rattle.nbd_wire.specs.protocol.Operations.{Operation, Exporting, is_proper}
 use Rattle.nbd_wire.specs.protocol.Rows.{BeginsChunk, BeginsSimple, IsAnswered, IsWholeIn, RowIn, rank}
 use Rattle.nbd_wire.specs.protocol.Rows.IsWholeIn.{whole_request, whole_simple, whole_chunk}
-use Rattle.nbd_wire.specs.protocol.Rows.RowIn.{wrong_magic, neither_magic, not_fixed_newstyle, out_of_turn, wrong_option, bad_reply_kind, ack_with_payload, export_too_large, cookie_in_use, unknown_cookie, simple_forbidden, chunk_forbidden, bad_chunk, bad_content, incomplete_read, success_of_improper, bad_disconnect}
-use Rattle.nbd_wire.specs.protocol.States.{Core, Transmission, operation, target}
+use Rattle.nbd_wire.specs.protocol.Rows.RowIn.{wrong_magic, neither_magic, not_fixed_newstyle, out_of_turn, wrong_option, bad_reply_kind, ack_with_payload, export_too_large, cookie_in_use, unknown_cookie, simple_forbidden, chunk_forbidden, bad_chunk, bad_content, incomplete_read, success_of_improper, bad_disconnect, status_in_force}
+use Rattle.nbd_wire.specs.protocol.States.{Core, Transmission, operation, target, in_force}
 use Rattle.nbd_laws.specs.internal.Decisions.{is_none_yet}
-use Rattle.nbd_laws.specs.internal.JudgeTransmission.{operation_if, operation_of, request, simple_fault, simple_last_fault, simple_payload_length, simple_to}
+use Rattle.nbd_laws.specs.internal.JudgeTransmission.{operation_if, operation_of, request, simple_fault, simple_last_fault, simple_payload_length, simple_to, is_none_in}
 use Rattle.nbd_laws.proofs.judge.PhaseLemmas.{IsAppended, target_entry}
 use Rattle.nbd_laws.proofs.rows.RowLemmas.{IsLeast, IsTied, Link, above_if, above_none, least_if, least_none, link_and, link_eq, link_neg, link_or, link_true}
+use Rattle.nbd_wire.specs.protocol.Contexts.{Context}
 
 -- one of two facts does not hold
 either : (x y : ℕ) → ((x ≡ 0) × (y ≡ 0) → ⊥) → (x ≢ 0) ⊎ (y ≢ 0)
@@ -32,6 +33,10 @@ some_is None h = absurd (cc)
 is_one : (o : Option ℕ) (k : ℕ) → o ≡ Some k → IsTrue (is_some o)
 is_one o k e = ap is_some e
 
+contexts_link : (contexts : List Context) → Link (contexts ≢ []) (not (is_none_in contexts))
+contexts_link [] = record { yes = λ e. absurd (cc); no = λ e h. h refl }
+contexts_link (c ∷ contexts) = record { yes = λ e h. (cc); no = λ e. absurd (cc) }
+
 module _ (since now : Core) (export : Exporting) (bytes : List ℕ) where
   abbrev command : ℕ
   command = number_at 6 2 bytes
@@ -42,7 +47,8 @@ module _ (since now : Core) (export : Exporting) (bytes : List ℕ) where
   abbrev pub RequestHead : WireFault → Type 0
   RequestHead f =
       (f ≡ BadMagic) × (number_at 0 4 bytes ≢ magics.REQUEST_MAGIC)
-      ⊎ ((f ≡ BadDisconnect) × ((command ≡ commands.DISC) × ((number_at 16 8 bytes ≡ 0) × (number_at 24 4 bytes ≡ 0) → ⊥)) ⊎ ⊥)
+      ⊎ ((f ≡ OutOfProfile) × ((command ≡ commands.BLOCK_STATUS) × (in_force now ≢ []))
+      ⊎ ((f ≡ BadDisconnect) × ((command ≡ commands.DISC) × ((number_at 16 8 bytes ≡ 0) × (number_at 24 4 bytes ≡ 0) → ⊥)) ⊎ ⊥))
 
   abbrev pub RequestLast : WireFault → Type 0
   RequestLast f = (f ≡ CookieInUse) × ((command ≢ commands.DISC) × IsTrue (is_some (target cookie now.entries))) ⊎ ⊥
@@ -56,12 +62,14 @@ module _ (since now : Core) (export : Exporting) (bytes : List ℕ) where
   request_rows d f (not_fixed_newstyle l n) = absurd n
   request_rows d f (out_of_turn l o) = absurd (let q : false ≡ true = sym d ∙ o in cc)
   request_rows d f (cookie_in_use k w n t) = inr (request_whole w, inl (refl, (n, is_one (target cookie now.entries) k t)))
-  request_rows d f (bad_disconnect l c o) = inl (l, inr (inl (refl, (c, λ h. elim o [ inl n ↦ n h.0 | inr n ↦ n h.1 ]))))
+  request_rows d f (status_in_force l c n) = inl (l, inr (inl (refl, (c, n))))
+  request_rows d f (bad_disconnect l c o) = inl (l, inr (inr (inl (refl, (c, λ h. elim o [ inl n ↦ n h.0 | inr n ↦ n h.1 ])))))
 
   request_is : (f : WireFault) → RequestHead f → length bytes ≡ 28 → RowIn since now bytes f (Transmission export) Client
   request_is f (inl h) l = subst (λ x. RowIn since now bytes x (Transmission export) Client) (sym h.0) (wrong_magic l h.1)
-  request_is f (inr (inl h)) l = subst (λ x. RowIn since now bytes x (Transmission export) Client) (sym h.0) (bad_disconnect l h.1.0 (either (number_at 16 8 bytes) (number_at 24 4 bytes) h.1.1))
-  request_is f (inr (inr h)) l = absurd h
+  request_is f (inr (inl h)) l = subst (λ x. RowIn since now bytes x (Transmission export) Client) (sym h.0) (status_in_force l h.1.0 h.1.1)
+  request_is f (inr (inr (inl h))) l = subst (λ x. RowIn since now bytes x (Transmission export) Client) (sym h.0) (bad_disconnect l h.1.0 (either (number_at 16 8 bytes) (number_at 24 4 bytes) h.1.1))
+  request_is f (inr (inr (inr h))) l = absurd h
 
   request_last_is : (f : WireFault) → RequestLast f → length bytes ≡ 28 + (if command == commands.WRITE then number_at 24 4 bytes else 0) → RowIn since now bytes f (Transmission export) Client
   request_last_is f (inl h) l =
@@ -71,18 +79,21 @@ module _ (since now : Core) (export : Exporting) (bytes : List ℕ) where
 
   request_before : (f : WireFault) → RequestHead f → (g : WireFault) → rank g < rank f → RequestLast g → ⊥
   request_before f (inl h) g less (inl k) = let r = ap rank h.0 in let q = ap rank k.0 in omega (arith, r, q, less)
-  request_before f (inr (inl h)) g less (inl k) = k.1.0 h.1.0
-  request_before f (inr (inr h)) g less (inl k) = h
+  request_before f (inr (inl h)) g less (inl k) = let r = ap rank h.0 in let q = ap rank k.0 in omega (arith, r, q, less)
+  request_before f (inr (inr (inl h))) g less (inl k) = k.1.0 h.1.0
+  request_before f (inr (inr (inr h))) g less (inl k) = h
   request_before f h g less (inr k) = k
 
-  pub request_tied : now.disconnected ≡ false → IsTied (λ f. RowIn since now bytes f (Transmission export) Client) (IsWholeIn since now bytes (Transmission export) Client) (length bytes) (request now bytes) RequestHead RequestLast
+  pub request_tied : now.disconnected ≡ false → IsTied (λ f. RowIn since now bytes f (Transmission export) Client) (IsWholeIn since now bytes (Transmission export) Client) (length bytes) (request (in_force now) now bytes) RequestHead RequestLast
   request_tied d = record {
     rows = request_rows d;
     whole_is = request_whole;
     is_whole = λ c l. whole_request l;
     head = least_if BadMagic (link_neg (link_eq (number_at 0 4 bytes) magics.REQUEST_MAGIC))
+        (least_if OutOfProfile (link_and (link_eq command commands.BLOCK_STATUS) (contexts_link (in_force now)))
         (least_if BadDisconnect (link_and (link_eq command commands.DISC) (link_neg (link_and (link_eq (number_at 16 8 bytes) 0) (link_eq (number_at 24 4 bytes) 0)))) least_none (above_none 20))
-        (above_if 1 BadDisconnect _ _ (omega arith) (above_none 1));
+        (above_if 7 BadDisconnect _ _ (omega arith) (above_none 7)))
+        (above_if 1 OutOfProfile _ _ (omega arith) (above_if 1 BadDisconnect _ _ (omega arith) (above_none 1)));
     last = λ c l. least_if CookieInUse (link_and (link_neg (link_eq command commands.DISC)) (link_true (is_some (target cookie now.entries)))) least_none (above_none 12);
     head_is = request_is;
     last_is = λ c. request_last_is;

@@ -227,7 +227,7 @@ pub data InTransmission (core : Core) (export : Exporting) : Message → Type 0 
 
 pub transmission_row : (core : Core) (export : Exporting) (m : Message) → MayComplete core (Transmission export) m → InTransmission core export m
 unfolding MayComplete
-transmission_row core export (Request flags command cookie offset len p) ok = asks flags command cookie offset len p ok
+transmission_row core export (Request flags command cookie offset len p) ok = asks flags command cookie offset len p ok.1
 transmission_row core export (Simple error cookie p) ok = replies error cookie p ok
 transmission_row core export (Chunk flags kind cookie p) ok = gives flags kind cookie p ok
 transmission_row core export m ok = absurd ok

@@ -33,6 +33,10 @@ complete_with q core (Request flags command cookie offset len p) = requested_wit
 complete_with q core (Simple error cookie p) = replied_with q (request_of_reply core (Simple error cookie p)) core (Simple error cookie p)
 complete_with q core (Chunk flags kind cookie p) = replied_with q (request_of_reply core (Chunk flags kind cookie p)) core (Chunk flags kind cookie p)
 
+-- a message leaves the profile
+pub profile_stays : (core : Core) (m : Message) → (complete core m).profile ≡ core.profile
+profile_stays core m = ap (λ (c : Core). c.profile) (complete_with core.profile core m)
+
 pub ends_with : (q : Profile) (core : Core) (js : List Entry) (items : List Item) →
     with_profile q (ends_at (record { core = core; served = js }) items).core ≡ (ends_at (record { core = with_profile q core; served = js }) items).core
 ends_with q core js [] = refl

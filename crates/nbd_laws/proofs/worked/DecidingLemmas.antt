@@ -16,8 +16,9 @@ use Rattle.nbd_wire.specs.declared.message.Message.TheVariants.{Greeting, Client
 use Rattle.nbd_wire.specs.declared.payloads.Info.{Info}
 use Rattle.nbd_wire.specs.declared.payloads.Info.TheVariants.{Export, BlockSize, Other}
 use Rattle.nbd_wire.specs.protocol.Encoding.{AreBytes}
-use Rattle.nbd_wire.specs.protocol.Options.{IsInfo, MayAcknowledge, MayAnswer, is_error, is_proper_option, turn}
-use Rattle.nbd_wire.specs.protocol.Payloads.{info_of, is_listed}
+use Rattle.nbd_wire.specs.protocol.Contexts.{Context, Selection, has_id}
+use Rattle.nbd_wire.specs.protocol.Options.{IsFreshFor, IsInfo, MayAcknowledge, MayAnswer, MayTell, is_error, is_proper_option, takes_contexts, turn}
+use Rattle.nbd_wire.specs.protocol.Payloads.{info_of, is_listed, context_of}
 use Rattle.nbd_wire.specs.protocol.Operations.{Exporting, Operation, has_range}
 use Rattle.nbd_wire.specs.protocol.Flags.{has}
 use Rattle.nbd_wire.specs.protocol.Pieces.{is_in}
@@ -307,6 +308,46 @@ acknowledges option info e = elim (one (option == options.LIST) _ e) [
     fit : (o : Option Exporting) → IsTrue (fits_limit o) → (export : Exporting) × (o ≡ Some export) × (export.size ≤ EXPORT_SIZE)
     fit (Some export) e = (export, refl, leb-true export.size EXPORT_SIZE e)
     fit None e = absurd (cc)
+
+abbrev pub is_fresh_for : ℕ → Selection → Option Context → Bool
+is_fresh_for option selection (Some context) = not (option == options.SET_META_CONTEXT) || not (has_id selection.contexts context.id)
+is_fresh_for option selection None = false
+
+fresh_for : (option : ℕ) (selection : Selection) (answer : List ℕ) → IsTrue (is_fresh_for option selection (context_of answer))
+    → (context : Context) × (context_of answer ≡ Some context) × IsFreshFor option selection context
+fresh_for option selection answer e = go (context_of answer) refl e
+  where
+    go : (o : Option Context) → context_of answer ≡ o → IsTrue (is_fresh_for option selection o) → (context : Context) × (context_of answer ≡ Some context) × IsFreshFor option selection context
+    go (Some context) q e = (
+      context,
+      q,
+      λ h. was_false (has_id selection.contexts context.id)
+          (then_too (option == options.SET_META_CONTEXT) (not (has_id selection.contexts context.id)) e (eq-eqb option options.SET_META_CONTEXT h)),
+    )
+    go None q e = absurd (cc)
+
+abbrev pub may_tell : Selection → (option : ℕ) (payload : List ℕ) (kind : ℕ) (answer : List ℕ) → Bool
+may_tell selection option payload kind answer =
+    ((option == options.LIST_META_CONTEXT) || (option == options.SET_META_CONTEXT))
+    && (is_proper_option option payload
+    && (((kind == answers.ACK) && is_empty answer)
+    || ((kind == answers.META_CONTEXT) && (takes_contexts option payload && is_fresh_for option selection (context_of answer)))))
+
+pub tells_it : (selection : Selection) (option : ℕ) (payload : List ℕ) (kind : ℕ) (answer : List ℕ) → IsTrue (may_tell selection option payload kind answer) → MayTell selection option payload kind answer
+tells_it selection option payload kind answer e =
+    let a = both ((option == options.LIST_META_CONTEXT) || (option == options.SET_META_CONTEXT)) _ e in
+    let b = both (is_proper_option option payload) _ a.1 in (
+      elim (one (option == options.LIST_META_CONTEXT) (option == options.SET_META_CONTEXT) a.0) [
+        | inl q ↦ inl (eqb-true option options.LIST_META_CONTEXT q)
+        | inr q ↦ inr (eqb-true option options.SET_META_CONTEXT q)
+      ],
+      b.0,
+      elim (one ((kind == answers.ACK) && is_empty answer) _ b.1) [
+        | inl h ↦ (let c = both (kind == answers.ACK) (is_empty answer) h in inl (eqb-true kind answers.ACK c.0, empty answer c.1))
+        | inr h ↦ (let c = both (kind == answers.META_CONTEXT) _ h in let d = both (takes_contexts option payload) _ c.1 in
+            inr (eqb-true kind answers.META_CONTEXT c.0, d.0, fresh_for option selection answer d.1))
+      ],
+    )
 
 abbrev pub may_answer : (option : ℕ) (payload : List ℕ) (info : Option Exporting) (kind : ℕ) (answer : List ℕ) → Bool
 may_answer option payload info kind answer =

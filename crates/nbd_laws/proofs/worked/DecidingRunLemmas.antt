@@ -1,5 +1,5 @@
 -- Tests that decide by computing whether items are a run.
-use Rattle.std.proofs.Common.{◌≡◌, ℕ, ◌+◌, ◌==◌, ◌&&◌, ◌||◌, not, nat_le, nat_lt, List, [], ◌∷◌, ◌++◌, length, inl, inr, Bool, true, false, IsTrue, is_none, eqb-true, flat_map}
+use Rattle.std.proofs.Common.{◌≡◌, ℕ, ◌+◌, ◌==◌, ◌&&◌, ◌||◌, not, nat_le, nat_lt, List, [], ◌∷◌, ◌++◌, length, inl, inr, Bool, true, false, IsTrue, is_none, eqb-true, eq-eqb, flat_map, refl}
 use Rattle.std.proofs.lemmas.Bool.{leb-true, ltb-true}
 use Rattle.nbd_wire.specs.declared.answers.TheConstants as answers
 use Rattle.nbd_wire.specs.declared.commands.TheConstants as commands
@@ -16,9 +16,14 @@ use Rattle.nbd_wire.specs.protocol.Options.{is_error}
 use Rattle.nbd_wire.specs.protocol.Flags.{has, has_only}
 use Rattle.nbd_wire.specs.protocol.Rules.{Allows, IsRun, MayAsk, MayComplete, Obeys, after, inside_at}
 use Rattle.nbd_wire.specs.protocol.Sides.{same_side, side}
+use Rattle.nbd_wire.specs.declared.profile.Profile.{Profile}
+use Rattle.nbd_wire.specs.declared.profile.Profile.TheVariants.{Base, Wide}
+use Rattle.nbd_wire.specs.protocol.Contexts.{Context}
+use Rattle.nbd_laws.specs.internal.JudgeNegotiation.{is_wide}
+use Rattle.nbd_laws.specs.internal.JudgeTransmission.{is_none_in}
 use Rattle.nbd_laws.specs.Prefixes.{ended_messages}
-use Rattle.nbd_wire.specs.protocol.States.{Core, Phase, State, Greet, Flags, Choosing, Naming, Aborting, Answering, Transmission, start, target}
-use Rattle.nbd_laws.proofs.worked.DecidingLemmas.{answers_it, are_equal, both, empty, equal_bools, is_empty, is_sendable, is_served_for, is_fresh, may_answer, may_start_in, one, same_sides, sendable, serves, starts_in, then_too, true_is_fresh}
+use Rattle.nbd_wire.specs.protocol.States.{Core, Phase, State, Greet, Flags, Choosing, Naming, Aborting, Answering, Transmission, in_force, start, target}
+use Rattle.nbd_laws.proofs.worked.DecidingLemmas.{answers_it, are_equal, both, empty, equal_bools, is_empty, is_sendable, is_served_for, is_fresh, may_answer, may_start_in, may_tell, one, same_sides, sendable, serves, starts_in, tells_it, then_too, true_is_fresh}
 use Rattle.nbd_laws.proofs.worked.DecidingReplyLemmas.{answers_one, answers_target, none_is}
 
 abbrev pub may_ask : Bool → Core → (cookie offset len : ℕ) → Bool
@@ -39,11 +44,21 @@ may_complete core Naming (Exported size flags padded) =
     has flags transmission.HAS_FLAGS && (equal_bools padded (not (has core.client_flags handshake.C_NO_ZEROES)) && nat_le size EXPORT_SIZE)
 may_complete core Aborting (Answer option kind payload) =
     (option == options.ABORT) && (is_error kind || ((kind == answers.ACK) && is_empty payload))
-may_complete core (Answering asked asked_with info) (Answer option kind payload) = (option == asked) && may_answer asked asked_with info kind payload
-may_complete core (Transmission export) (Request flags command cookie offset len payload) = may_ask (command == commands.DISC) core cookie offset len
+may_complete core (Answering asked asked_with info) (Answer option kind payload) =
+    (option == asked) && (may_answer asked asked_with info kind payload || (is_wide core.profile && may_tell core.selection asked asked_with kind payload))
+may_complete core (Transmission export) (Request flags command cookie offset len payload) =
+    (not (command == commands.BLOCK_STATUS) || is_none_in (in_force core)) && may_ask (command == commands.DISC) core cookie offset len
 may_complete core (Transmission export) (Simple error cookie payload) = answers_target core export (Simple error cookie payload) (target cookie core.entries)
 may_complete core (Transmission export) (Chunk flags kind cookie payload) = answers_target core export (Chunk flags kind cookie payload) (target cookie core.entries)
 may_complete core phase m = false
+
+pub wide_is : (profile : Profile) → IsTrue (is_wide profile) → profile ≡ Wide
+wide_is Base h = absurd (let q : false ≡ true = h in cc)
+wide_is Wide h = refl
+
+pub none_in : (contexts : List Context) → IsTrue (is_none_in contexts) → contexts ≡ []
+none_in [] h = refl
+none_in (c ∷ contexts) h = absurd (let q : false ≡ true = h in cc)
 
 pub completes : (core : Core) (phase : Phase) (m : Message) → IsTrue (may_complete core phase m) → MayComplete core phase m
 unfolding MayComplete
@@ -67,8 +82,18 @@ completes core Aborting (Answer option kind payload) h =
     )
 completes core (Answering asked asked_with info) (Answer option kind payload) h =
     let a = both (option == asked) _ h in
-    (eqb-true option asked a.0, answers_it asked asked_with info kind payload a.1)
-completes core (Transmission export) (Request flags command cookie offset len payload) h = asks (command == commands.DISC) core cookie offset len h
+    (
+      eqb-true option asked a.0,
+      elim (one (may_answer asked asked_with info kind payload) _ a.1) [
+        | inl q ↦ inl (answers_it asked asked_with info kind payload q)
+        | inr q ↦ (let b = both (is_wide core.profile) _ q in inr (wide_is core.profile b.0, tells_it core.selection asked asked_with kind payload b.1))
+      ],
+    )
+completes core (Transmission export) (Request flags command cookie offset len payload) h =
+    let a = both (not (command == commands.BLOCK_STATUS) || is_none_in (in_force core)) _ h in (
+      λ q. none_in (in_force core) (then_too (command == commands.BLOCK_STATUS) (is_none_in (in_force core)) a.0 (eq-eqb command commands.BLOCK_STATUS q)),
+      asks (command == commands.DISC) core cookie offset len a.1,
+    )
 completes core (Transmission export) (Simple error cookie payload) h = answers_one core export cookie (Simple error cookie payload) h
 completes core (Transmission export) (Chunk flags kind cookie payload) h = answers_one core export cookie (Chunk flags kind cookie payload) h
 completes core phase m h = absurd (cc)

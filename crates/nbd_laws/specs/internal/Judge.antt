@@ -4,17 +4,17 @@ use Rattle.std.specs.Prelude.{ℕ, List, Option, Some, None, Bool, true, false}
 use Rattle.nbd_wire.specs.declared.handshake.TheConstants as handshake
 use Rattle.nbd_wire.specs.declared.message.Side.{Side}
 use Rattle.nbd_wire.specs.declared.message.Side.TheVariants.{Client, Server}
-use Rattle.nbd_wire.specs.protocol.Options.{is_proper_option}
+use Rattle.nbd_wire.specs.protocol.Options.{is_proper_option, takes_contexts}
 use Rattle.nbd_wire.specs.protocol.Operations.{Operation}
 use Rattle.nbd_wire.specs.protocol.Flags.{has}
-use Rattle.nbd_wire.specs.protocol.States.{Phase, Greet, Flags, Choosing, Naming, Aborting, Answering, Transmission, Core}
+use Rattle.nbd_wire.specs.protocol.States.{Phase, Greet, Flags, Choosing, Naming, Aborting, Answering, Transmission, Core, in_force}
 use Rattle.nbd_laws.specs.internal.Decisions.{Decision, awaited_length_by}
 use Rattle.nbd_laws.specs.internal.JudgeNegotiation.{greeting, client_flags, choice, export_answer, abort_answer, answer}
 use Rattle.nbd_laws.specs.internal.JudgeTransmission.{operation_counted, operation_of, reply_with, request}
 
 abbrev pub request_unless : (disconnected : Bool) → Core → List ℕ → Option Decision
 request_unless true now bytes = None
-request_unless false now bytes = Some (request now bytes)
+request_unless false now bytes = Some (request (in_force now) now bytes)
 
 -- by phase and side; none where the side may not send
 abbrev pub decision_with : Phase → (to : ℕ → Option Operation) → (now : Core) → Side → List ℕ → Option Decision
@@ -24,7 +24,8 @@ decision_with Choosing to now Client bytes = Some (choice bytes)
 decision_with Naming to now Server bytes = Some (export_answer (has now.client_flags handshake.C_NO_ZEROES) bytes)
 decision_with Aborting to now Server bytes = Some (abort_answer bytes)
 decision_with (Answering option given info) to now Server bytes =
-    Some (answer option (is_proper_option option given) info bytes)
+    Some
+    (answer now.profile option (is_proper_option option given) (takes_contexts option given) info now.selection bytes)
 decision_with (Transmission export) to now Client bytes = request_unless now.disconnected now bytes
 decision_with (Transmission export) to now Server bytes = Some (reply_with export to now bytes)
 decision_with phase to now s bytes = None

@@ -1,6 +1,6 @@
 -- What is decided of the bytes of a message of the negotiation (proto.md, "Newstyle negotiation",
 -- "Fixed newstyle negotiation"). Where two faults hold at one byte, the one named first counts.
-use Rattle.std.specs.Prelude.{ℕ, List, [], ◌∷◌, ◌+◌, Bool, true, false, not, ◌&&◌, ◌||◌, ◌==◌, nat_lt, Option, Some, None, drop}
+use Rattle.std.specs.Prelude.{ℕ, List, [], ◌∷◌, ◌+◌, Bool, true, false, not, ◌&&◌, ◌||◌, ◌==◌, if◌then◌else◌, nat_lt, Option, Some, None, drop}
 use Rattle.nbd_wire.specs.declared.answers.TheConstants as answers
 use Rattle.nbd_wire.specs.declared.handshake.TheConstants as handshake
 use Rattle.nbd_wire.specs.declared.limits.TheConstants.{EXPORT_SIZE}
@@ -12,7 +12,10 @@ use Rattle.nbd_wire.specs.declared.payloads.Info.{Info}
 use Rattle.nbd_wire.specs.declared.payloads.Info.TheVariants.{Export, BlockSize, Other}
 use Rattle.nbd_wire.specs.declared.transmission.TheConstants as transmission
 use Rattle.nbd_wire.specs.protocol.Options.{is_error}
-use Rattle.nbd_wire.specs.protocol.Payloads.{number_at, info_of, is_listed}
+use Rattle.nbd_wire.specs.declared.profile.Profile.{Profile}
+use Rattle.nbd_wire.specs.declared.profile.Profile.TheVariants.{Base, Wide}
+use Rattle.nbd_wire.specs.protocol.Contexts.{Context, Selection, has_id}
+use Rattle.nbd_wire.specs.protocol.Payloads.{context_of, number_at, info_of, is_listed}
 use Rattle.nbd_wire.specs.protocol.Operations.{Exporting}
 use Rattle.nbd_wire.specs.protocol.Flags.{has, has_only}
 use Rattle.nbd_wire.specs.declared.fault.WireFault.{WireFault}
@@ -127,17 +130,27 @@ abort_answer bytes = record {
   message = answer_of bytes;
 }
 
--- this project follows the option
-abbrev pub is_followed : ℕ → Bool
-is_followed option = (option == options.LIST)
-    || ((option == options.INFO) || ((option == options.GO) || (option == options.STRUCTURED_REPLY)))
+-- the option is on metadata contexts
+abbrev pub is_on_contexts : ℕ → Bool
+is_on_contexts option = (option == options.LIST_META_CONTEXT) || (option == options.SET_META_CONTEXT)
 
--- a kind of success that an option takes
-abbrev pub answers_option : (option kind : ℕ) → Bool
-answers_option option kind =
+abbrev pub is_wide : Profile → Bool
+is_wide Base = false
+is_wide Wide = true
+
+-- the profile follows the option
+abbrev pub is_followed : Profile → ℕ → Bool
+is_followed profile option = (option == options.LIST)
+    || ((option == options.INFO) || ((option == options.GO) || ((option == options.STRUCTURED_REPLY)
+    || (is_wide profile && is_on_contexts option))))
+
+-- a kind of success that an option takes; `takes` is whether it takes contexts
+abbrev pub answers_option : (option : ℕ) (takes : Bool) (kind : ℕ) → Bool
+answers_option option takes kind =
     (kind == answers.ACK)
     || (((option == options.LIST) && (kind == answers.SERVER))
-    || (((option == options.INFO) || (option == options.GO)) && (kind == answers.INFO)))
+    || ((((option == options.INFO) || (option == options.GO)) && (kind == answers.INFO))
+    || (takes && (kind == answers.META_CONTEXT))))
 
 -- at an ACK, by the last EXPORT info before it
 abbrev pub info_fault : (option : ℕ) (proper : Bool) → Option Exporting → Option WireFault
@@ -156,10 +169,11 @@ unless_error true fault = None
 unless_error false fault = fault
 
 -- at the head of an answer that is no error, by its kind
-abbrev pub success_fault : (option : ℕ) (proper : Bool) (info : Option Exporting) (kind len : ℕ) → Option WireFault
-success_fault option proper info kind len =
-    fault_if (is_followed option && not (answers_option option kind)) BadReplyKind
-    (fault_if (not (is_followed option)) OutOfProfile
+abbrev pub success_fault : Profile → (option : ℕ) (proper takes : Bool) (info : Option Exporting) (kind len : ℕ)
+    → Option WireFault
+success_fault profile option proper takes info kind len =
+    fault_if (is_followed profile option && not (answers_option option takes kind)) BadReplyKind
+    (fault_if (not (is_followed profile option)) OutOfProfile
     (ack_fault kind len (at_ack (kind == answers.ACK) (info_fault option proper info))))
 
 -- an info on the export has HAS_FLAGS
@@ -169,26 +183,37 @@ is_good_info (Some (Export size flags)) = has flags transmission.HAS_FLAGS
 is_good_info (Some (BlockSize least preferred most)) = true
 is_good_info (Some (Other kind)) = true
 
-abbrev pub is_bad_payload : (kind : ℕ) → List ℕ → Bool
-is_bad_payload kind payload =
+-- a context that has not the id of an earlier one of these
+abbrev pub is_good_context : List Context → Option Context → Bool
+is_good_context earlier None = false
+is_good_context earlier (Some context) = not (has_id earlier context.id)
+
+abbrev pub is_bad_payload : List Context → (kind : ℕ) → List ℕ → Bool
+is_bad_payload earlier kind payload =
     ((kind == answers.SERVER) && not (is_listed payload))
-    || ((kind == answers.INFO) && not (is_good_info (info_of payload)))
+    || (((kind == answers.INFO) && not (is_good_info (info_of payload)))
+    || ((kind == answers.META_CONTEXT) && not (is_good_context earlier (context_of payload))))
+
+-- the contexts whose ids an answer to the option may not have again
+abbrev pub earlier_to : (option : ℕ) → Selection → List Context
+earlier_to option selection = if option == options.SET_META_CONTEXT then selection.contexts else []
 
 -- at the last byte of an answer that is no error
-abbrev pub payload_fault : (proper : Bool) (kind : ℕ) → List ℕ → Option WireFault
-payload_fault proper kind payload =
-    fault_if (is_bad_payload kind payload) BadReplyPayload
+abbrev pub payload_fault : List Context → (proper : Bool) (kind : ℕ) → List ℕ → Option WireFault
+payload_fault earlier proper kind payload =
+    fault_if (is_bad_payload earlier kind payload) BadReplyPayload
     (fault_if (not proper) SuccessOfImproper None)
 
--- the answer to this option: whether its data was proper, and the last EXPORT info since
-abbrev pub answer : (option : ℕ) (proper : Bool) (info : Option Exporting) → List ℕ → Decision
-answer option proper info bytes = record {
+-- the answer to this option: whether its data was proper and takes contexts, the last EXPORT info since, and what is
+-- selected
+abbrev pub answer : Profile → (option : ℕ) (proper takes : Bool) (info : Option Exporting) → Selection → List ℕ → Decision
+answer profile option proper takes info selection bytes = record {
   head_length = 20;
   head_fault = answer_fault option (number_at 0 8 bytes) (number_at 8 4 bytes)
       (unless_error (is_error (number_at 12 4 bytes))
-      (success_fault option proper info (number_at 12 4 bytes) (number_at 16 4 bytes)));
+      (success_fault profile option proper takes info (number_at 12 4 bytes) (number_at 16 4 bytes)));
   payload_length = number_at 16 4 bytes;
   last_fault = unless_error (is_error (number_at 12 4 bytes))
-      (payload_fault proper (number_at 12 4 bytes) (drop 20 bytes));
+      (payload_fault (earlier_to option selection) proper (number_at 12 4 bytes) (drop 20 bytes));
   message = answer_of bytes;
 }

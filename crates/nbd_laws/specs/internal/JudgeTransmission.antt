@@ -14,17 +14,23 @@ use Rattle.nbd_wire.specs.protocol.Replies.{simple_length}
 use Rattle.nbd_wire.specs.protocol.Operations.{Exporting, Operation, has_failed, is_proper, pieces}
 use Rattle.nbd_wire.specs.protocol.Flags.{has}
 use Rattle.nbd_wire.specs.protocol.Pieces.{is_in, piece_offset, piece_size}
+use Rattle.nbd_wire.specs.protocol.Contexts.{Context}
 use Rattle.nbd_wire.specs.protocol.States.{Core, target, operation, with_reply}
 use Rattle.nbd_wire.specs.declared.fault.WireFault.{WireFault}
-use Rattle.nbd_wire.specs.declared.fault.WireFault.TheVariants.{BadMagic, CookieInUse, UnknownCookie, SimpleForbidden, ChunkForbidden, BadChunk, BadContent, IncompleteRead, SuccessOfImproper, BadDisconnect}
+use Rattle.nbd_wire.specs.declared.fault.WireFault.TheVariants.{BadMagic, OutOfProfile, CookieInUse, UnknownCookie, SimpleForbidden, ChunkForbidden, BadChunk, BadContent, IncompleteRead, SuccessOfImproper, BadDisconnect}
 use Rattle.nbd_laws.specs.internal.Decisions.{is_none_yet}
 use Rattle.nbd_laws.specs.internal.Decisions.{Decision, fault_if}
 
--- at the head of a request
-abbrev pub request_fault : (magic command offset len : ℕ) → Option WireFault
-request_fault magic command offset len =
+abbrev pub is_none_in : List Context → Bool
+is_none_in [] = true
+is_none_in (c ∷ contexts) = false
+
+-- at the head of a request, where these contexts are in force
+abbrev pub request_fault : List Context → (magic command offset len : ℕ) → Option WireFault
+request_fault contexts magic command offset len =
     fault_if (not (magic == REQUEST_MAGIC)) BadMagic
-    (fault_if ((command == commands.DISC) && not ((offset == 0) && (len == 0))) BadDisconnect None)
+    (fault_if ((command == commands.BLOCK_STATUS) && not (is_none_in contexts)) OutOfProfile
+    (fault_if ((command == commands.DISC) && not ((offset == 0) && (len == 0))) BadDisconnect None))
 
 -- how many bytes follow the head of a request
 abbrev pub request_payload_length : (command len : ℕ) → ℕ
@@ -38,10 +44,11 @@ abbrev pub request_of : List ℕ → Message
 request_of bytes = Request (number_at 4 2 bytes) (number_at 6 2 bytes) (number_at 8 8 bytes) (number_at 16 8 bytes)
     (number_at 24 4 bytes) (drop 28 bytes)
 
-abbrev pub request : Core → List ℕ → Decision
-request now bytes = record {
+-- a request where these contexts are in force
+abbrev pub request : List Context → Core → List ℕ → Decision
+request contexts now bytes = record {
   head_length = 28;
-  head_fault = request_fault (number_at 0 4 bytes) (number_at 6 2 bytes) (number_at 16 8 bytes) (number_at 24 4 bytes);
+  head_fault = request_fault contexts (number_at 0 4 bytes) (number_at 6 2 bytes) (number_at 16 8 bytes) (number_at 24 4 bytes);
   payload_length = request_payload_length (number_at 6 2 bytes) (number_at 24 4 bytes);
   last_fault = cookie_fault (number_at 6 2 bytes) (target (number_at 8 8 bytes) now.entries);
   message = request_of bytes;
