@@ -9,5 +9,6 @@ pub mod InfoReadLemmas
 pub mod ListedFormLemmas
 pub mod ListedReadLemmas
 pub mod NumberLemmas
+pub mod QueryLemmas
 pub mod ReadLemmas
 pub mod RoundTripLemmas

@@ -4,9 +4,11 @@
 //! A reader is given the whole data. It returns `Some` exactly where they have the form, and takes
 //! no memory.
 
-ghost use Rattle.std.specs.Prelude.{◌≡◌, ℕ, List, is_some};
-ghost use Rattle.nbd_wire.specs.protocol.Forms.{HasGoForm, HasInfoForm, HasListedForm};
-ghost use Rattle.nbd_wire.specs.protocol.Payloads.{info_of, is_go, is_listed};
+ghost use Rattle.std.specs.Prelude.{◌≡◌, ℕ, List, IfSome, is_some};
+ghost use Rattle.std.specs.Option.{option_map};
+ghost use Rattle.nbd_wire.specs.protocol.Contexts.{Context};
+ghost use Rattle.nbd_wire.specs.protocol.Forms.{HasContextForm, HasGoForm, HasInfoForm, HasListedForm, HasQueriesForm};
+ghost use Rattle.nbd_wire.specs.protocol.Payloads.{are_queries, context_of, info_of, is_go, is_listed, name_in, queries_of};
 ghost use Rattle.nbd_wire.specs.codec.Reads.{Reads, ReadsAs};
 
 use crate::numbers::{u16_at, u32_at, u64_at};
@@ -69,4 +71,50 @@ pub fn go_of(bytes: &[u8]) -> Option<(&[u8], u16)>
         return None;
     }
     Some((name, count))
+}
+
+/// The name of the export in the data of LIST_META_CONTEXT or SET_META_CONTEXT, and how many queries stand behind it.
+pub fn queries_of(bytes: &[u8]) -> Option<(&[u8], u32)>
+    ensures form { ReadsAs {B = List ℕ × ℕ} (λ v. (v.0.now, v.1)) result
+        (λ v. HasQueriesForm v.0 v.1 bytes.now) }
+    ensures count { option_map (λ v. v.1) result ≡ queries_of bytes.now }
+    ensures name { IfSome result (λ v. v.0.now ≡ name_in bytes.now) }
+{
+    let (name, rest) = listed_of(bytes)?;
+    if rest.len() < 4 {
+        return None;
+    }
+    let count = u32_at(rest, 0);
+    if !are_queries(count, &rest[4..]) {
+        return None;
+    }
+    Some((name, count))
+}
+
+// Whether these are so many queries, each after its length, and no more.
+fn are_queries(count: u32, bytes: &[u8]) -> bool
+    ensures { result ≡ are_queries count bytes.now }
+{
+    let mut rest = bytes;
+    let mut left = count;
+    while left > 0 {
+        let Some((_, behind)) = listed_of(rest) else {
+            return false;
+        };
+        rest = behind;
+        left -= 1;
+    }
+    rest.is_empty()
+}
+
+/// The id and the name in a META_CONTEXT answer.
+pub fn context_of(bytes: &[u8]) -> Option<(u32, &[u8])>
+    ensures form { ReadsAs {B = Context} (λ v. record { id = v.0; name = v.1.now }) result
+        (λ context. HasContextForm context bytes.now) }
+    ensures same { option_map (λ v. record { id = v.0; name = v.1.now }) result ≡ context_of bytes.now }
+{
+    if bytes.len() < 4 {
+        return None;
+    }
+    Some((u32_at(bytes, 0), &bytes[4..]))
 }

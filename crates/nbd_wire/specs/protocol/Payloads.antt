@@ -41,18 +41,20 @@ is_go bytes =
 abbrev pub name_in : List ℕ → List ℕ
 name_in bytes = take (number_at 0 4 bytes) (drop 4 bytes)
 
--- so many queries, each its length and its bytes, and no more (proto.md, "Metadata querying")
+-- what stands behind it
+abbrev pub behind_name : List ℕ → List ℕ
+behind_name bytes = drop (number_at 0 4 bytes) (drop 4 bytes)
+
+-- so many queries, each its length and its bytes, and no more (proto.md, "Option types")
 abbrev pub are_queries : ℕ → List ℕ → Bool
 are_queries zero bytes = length bytes == 0
-are_queries (suc n) bytes =
-    nat_le 4 (length bytes) && nat_le (number_at 0 4 bytes) (length (drop 4 bytes))
-    && are_queries n (drop (number_at 0 4 bytes) (drop 4 bytes))
+are_queries (suc n) bytes = is_listed bytes && are_queries n (behind_name bytes)
 
 -- LIST_META_CONTEXT or SET_META_CONTEXT data: a name's length, the name, how many queries, and these: how many
 -- (proto.md, "Option types", "Metadata querying")
 unfoldable pub queries_of : List ℕ → Option ℕ
 queries_of bytes =
-    let rest : List ℕ = drop (number_at 0 4 bytes) (drop 4 bytes) in
+    let rest : List ℕ = behind_name bytes in
     if is_listed bytes && nat_le 4 (length rest) && are_queries (number_at 0 4 rest) (drop 4 rest) then Some
     (number_at 0 4 rest)
     else None
