@@ -16,7 +16,7 @@ use Rattle.nbd_state.specs.internal.Completing.{AddsUnanswered}
 use Rattle.nbd_laws.specs.internal.Decisions.{is_none_yet}
 use Rattle.nbd_state.specs.Showing.{IsShown, exporting}
 use Rattle.nbd_laws.specs.Reached.{IsReached}
-use Rattle.nbd_state.specs.Shows.{AreShown, Shows, export_shown, phase_shown, place_of}
+use Rattle.nbd_state.specs.Shows.{AreShown, HasSelection, Shows, export_shown, phase_shown, place_of}
 use Rattle.nbd_state.proofs.PlacedLemmas.{IsPlaced, are_shown_in, place_shows_operation, shown_length}
 use Rattle.nbd_laws.proofs.requests.SoundnessLemmas.{open_target}
 use Rattle.nbd_state.proofs.TargetLemmas.{distinct_reached, target_replied, target_requested}
@@ -52,13 +52,16 @@ place_if_last false n j t e = refl
 
 -- a message of the negotiation changes the phase and what it says of the handshake
 pub negotiation_is_shown : (old new : State) (core next : Core) → Shows old core → export_in core.phase ≡ None → next.entries ≡ core.entries → new.exchanges ≡ old.exchanges → new.outstanding ≡ old.outstanding →
-    new.profile ≡ next.profile → new.phase ≡ phase_shown next.phase → new.offered ≡ next.offered → new.client_flags ≡ next.client_flags → new.structured ≡ next.structured → new.disconnected ≡ next.disconnected → Shows new next
-negotiation_is_shown old new core next s n entries exchanges outstanding profile phase offered client_flags structured disconnected = record {
+    new.profile ≡ next.profile → new.phase ≡ phase_shown next.phase → new.offered ≡ next.offered → new.client_flags ≡ next.client_flags → new.structured ≡ next.structured → new.disconnected ≡ next.disconnected →
+    HasSelection new.selection next.selection → new.agreed ≡ next.agreed → Shows new next
+negotiation_is_shown old new core next s n entries exchanges outstanding profile phase offered client_flags structured disconnected selection agreed = record {
   profile_is = profile;
   phase_is = phase;
   offered_is = offered;
   client_flags_are = client_flags;
   structured_is = structured;
+  selection_is = selection;
+  agreed_is = agreed;
   disconnected_is = disconnected;
   are_shown = subst (λ es. AreShown (export_in next.phase) es new.exchanges.items) (sym entries)
       (subst (λ v. AreShown (export_in next.phase) core.entries v.items) (sym exchanges) (none_shown (export_in core.phase) (export_in next.phase) core.entries old.exchanges.items n s.are_shown));
@@ -75,6 +78,8 @@ requested_shows old new core export e x s p r t h items places kept = record {
   offered_is = ap (λ (z : State). z.offered) kept ∙ s.offered_is;
   client_flags_are = ap (λ (z : State). z.client_flags) kept ∙ s.client_flags_are;
   structured_is = ap (λ (z : State). z.structured) kept ∙ s.structured_is;
+  selection_is = subst (λ z. HasSelection z core.selection) (sym (ap (λ (z : State). z.selection) kept)) s.selection_is;
+  agreed_is = ap (λ (z : State). z.agreed) kept ∙ s.agreed_is;
   disconnected_is = ap (λ (z : State). z.disconnected) kept ∙ s.disconnected_is;
   are_shown = subst (λ (q : definitions.Phase). AreShown (export_in q) (core.entries ++ e ∷ []) new.exchanges.items) (sym p)
       (subst (λ xs. AreShown (Some export) (core.entries ++ e ∷ []) xs) (sym items) (shown_snoc export core.entries old.exchanges.items e x (are_shown_in old core export s p) h));
@@ -109,6 +114,8 @@ replied_shows old mid new core export cookie place m x y r s p c g i step kept l
       offered_is = ap (λ (z : State). z.offered) made ∙ ap (λ (z : State). z.offered) kept ∙ s.offered_is;
       client_flags_are = ap (λ (z : State). z.client_flags) made ∙ ap (λ (z : State). z.client_flags) kept ∙ s.client_flags_are;
       structured_is = ap (λ (z : State). z.structured) made ∙ ap (λ (z : State). z.structured) kept ∙ s.structured_is;
+      selection_is = subst (λ z. HasSelection z core.selection) (sym (ap (λ (z : State). z.selection) made ∙ ap (λ (z : State). z.selection) kept)) s.selection_is;
+      agreed_is = ap (λ (z : State). z.agreed) made ∙ ap (λ (z : State). z.agreed) kept ∙ s.agreed_is;
       disconnected_is = ap (λ (z : State). z.disconnected) made ∙ ap (λ (z : State). z.disconnected) kept ∙ s.disconnected_is;
       are_shown = subst (λ (q : definitions.Phase). AreShown (export_in q) (with_reply_at (suc place) m core.entries) new.exchanges.items) (sym p)
           (subst (λ xs. AreShown (Some export) (with_reply_at (suc place) m core.entries) xs) (sym items)

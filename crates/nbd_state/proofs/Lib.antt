@@ -4,6 +4,7 @@ pub mod KnownLemmas
 pub mod PhaseLemmas
 pub mod PlacedLemmas
 pub mod RecordingLemmas
+pub mod SelectionLemmas
 pub mod ReplyLemmas
 pub mod TargetLemmas
 pub mod TellingLemmas

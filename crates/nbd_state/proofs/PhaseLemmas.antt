@@ -1,12 +1,12 @@
 -- What a state shows once a message of the negotiation has completed.
-use Rattle.std.proofs.Common.{◌≡◌, ℕ, ◌<◌, ◌||◌, ◌==◌, List, length, refl, sym, ◌∙◌, ap, subst, Option, Some, None, Bool}
+use Rattle.std.proofs.Common.{◌≡◌, ℕ, ◌<◌, ◌||◌, ◌&&◌, ◌==◌, List, length, refl, sym, ◌∙◌, ap, subst, Option, Some, None, Bool}
 use Rattle.std.proofs.lemmas.Option.{slice_get_within}
 use Rattle.std.specs.BTreeMap.{get}
 use Rattle.std.specs.Ordering.{nat_cmp}
 use Rattle.nbd_wire.specs.declared.commands.TheConstants as commands
 use Rattle.nbd_wire.specs.declared.message.Message.{Message}
 use Rattle.nbd_wire.specs.declared.message.Message.TheVariants.{Greeting, ClientFlags, Choice, Answer, Exported, Request, Simple, Chunk}
-use Rattle.nbd_wire.specs.protocol.Options.{reply_phase, choice_phase, is_proper_option, next_phase}
+use Rattle.nbd_wire.specs.protocol.Options.{agrees, reply_phase, choice_phase, is_proper_option, next_phase, selection_after, selection_at, takes_contexts}
 use Rattle.nbd_wire.specs.protocol.Operations.{Exporting}
 use Rattle.nbd_wire.specs.protocol.Rules.{AnswersOne, MayAsk, MayComplete, complete, grants_structured}
 use Rattle.nbd_wire.specs.protocol.States.{Core, Phase, Greet, Flags, Choosing, Naming, Aborting, Answering, Ended, Transmission, export_in}
@@ -16,7 +16,8 @@ use Rattle.nbd_state.specs.declared.state.Phase.TheVariants as shown
 use Rattle.nbd_state.specs.declared.state.State.{State}
 use Rattle.nbd_state.specs.Completions.{MayTake}
 use Rattle.nbd_state.specs.internal.Completing.{IsTransmitting}
-use Rattle.nbd_state.specs.Shows.{Shows, export_shown, export_shown_if, phase_shown}
+use Rattle.nbd_state.specs.declared.selection.Selection.{Selection}
+use Rattle.nbd_state.specs.Shows.{HasSelection, Shows, export_shown, export_shown_if, phase_shown}
 use Rattle.nbd_state.proofs.PlacedLemmas.{place_shows_operation}
 use Rattle.nbd_state.proofs.CompletionLemmas.{negotiation_is_shown}
 
@@ -33,7 +34,7 @@ behind_abort Ended option kind payload e = absurd (cc)
 behind_abort (Transmission export) option kind payload e = absurd (cc)
 
 pub behind_option : (c : Chosen) (p : Phase) (option kind : ℕ) (payload : List ℕ) (r : states.Phase) → shown.Answering c ≡ phase_shown p →
-    ((given : List ℕ) (info : Option Exporting) → c.proper ≡ is_proper_option c.option given → c.info ≡ export_shown_if info → r ≡ phase_shown (reply_phase c.option given info kind payload)) →
+    ((given : List ℕ) (info : Option Exporting) → c.proper ≡ is_proper_option c.option given → c.takes ≡ takes_contexts c.option given → c.info ≡ export_shown_if info → r ≡ phase_shown (reply_phase c.option given info kind payload)) →
     r ≡ phase_shown (next_phase p (Answer option kind payload))
 unfolding next_phase
 behind_option c Greet option kind payload r e f = absurd (cc)
@@ -42,8 +43,9 @@ behind_option c Choosing option kind payload r e f = absurd (cc)
 behind_option c Naming option kind payload r e f = absurd (cc)
 behind_option c Aborting option kind payload r e f = absurd (cc)
 behind_option c (Answering asked given info) option kind payload r e f =
-    let s : c ≡ record { option = asked; proper = is_proper_option asked given; info = export_shown_if info } = cc in
-    f given info (ap (λ (x : Chosen). x.proper) s ∙ ap (λ o. is_proper_option o given) (sym (ap (λ (x : Chosen). x.option) s))) (ap (λ (x : Chosen). x.info) s)
+    let s : c ≡ record { option = asked; proper = is_proper_option asked given; takes = takes_contexts asked given; info = export_shown_if info } = cc in
+    f given info (ap (λ (x : Chosen). x.proper) s ∙ ap (λ o. is_proper_option o given) (sym (ap (λ (x : Chosen). x.option) s)))
+    (ap (λ (x : Chosen). x.takes) s ∙ ap (λ o. takes_contexts o given) (sym (ap (λ (x : Chosen). x.option) s))) (ap (λ (x : Chosen). x.info) s)
     ∙ ap (λ o. phase_shown (reply_phase o given info kind payload)) (ap (λ (x : Chosen). x.option) s)
 behind_option c Ended option kind payload r e f = absurd (cc)
 behind_option c (Transmission export) option kind payload r e f = absurd (cc)
@@ -126,7 +128,7 @@ asked_in core Naming flags command cookie offset len payload ok = absurd ok
 asked_in core Aborting flags command cookie offset len payload ok = absurd ok
 asked_in core (Answering asked given info) flags command cookie offset len payload ok = absurd ok
 asked_in core Ended flags command cookie offset len payload ok = absurd ok
-asked_in core (Transmission export) flags command cookie offset len payload ok = (export, refl, ok)
+asked_in core (Transmission export) flags command cookie offset len payload ok = (export, refl, ok.1)
 
 pub simple_in : (core : Core) (p : Phase) (error cookie : ℕ) (payload : List ℕ) → MayComplete core p (Simple error cookie payload) →
     (export : Exporting) × (p ≡ Transmission export) × AnswersOne core export cookie (Simple error cookie payload)
@@ -161,6 +163,7 @@ module _ (old new : State) (core : Core) (s : Shows old core) where
       (ap (λ (z : State). z.profile) made ∙ s.profile_is)
       (ap (λ (z : State). z.phase) made ∙ r.1) (ap (λ (z : State). z.offered) made) (ap (λ (z : State). z.client_flags) made ∙ s.client_flags_are)
       (ap (λ (z : State). z.structured) made ∙ s.structured_is) (ap (λ (z : State). z.disconnected) made ∙ s.disconnected_is)
+      (subst (λ z. HasSelection z core.selection) (sym (ap (λ (z : State). z.selection) made)) s.selection_is) (ap (λ (z : State). z.agreed) made ∙ s.agreed_is)
 
   pub shows_flags : (flags : ℕ) → MayComplete core core.phase (ClientFlags flags) → new ≡ record old { phase = shown.Choosing; client_flags = flags } → Shows new (complete core (ClientFlags flags))
   unfolding complete
@@ -170,24 +173,29 @@ module _ (old new : State) (core : Core) (s : Shows old core) where
       (ap (λ (z : State). z.profile) made ∙ s.profile_is)
       (ap (λ (z : State). z.phase) made ∙ r.1) (ap (λ (z : State). z.offered) made ∙ s.offered_is) (ap (λ (z : State). z.client_flags) made)
       (ap (λ (z : State). z.structured) made ∙ s.structured_is) (ap (λ (z : State). z.disconnected) made ∙ s.disconnected_is)
+      (subst (λ z. HasSelection z core.selection) (sym (ap (λ (z : State). z.selection) made)) s.selection_is) (ap (λ (z : State). z.agreed) made ∙ s.agreed_is)
 
-  pub shows_chosen : (id : ℕ) (payload : List ℕ) (phase : states.Phase) → MayComplete core core.phase (Choice id payload) → phase ≡ phase_shown (choice_phase id payload) → new ≡ record old { phase = phase } → Shows new (complete core (Choice id payload))
+  pub shows_chosen : (id : ℕ) (payload : List ℕ) (phase : states.Phase) (selection : Selection) (agreed : Bool) → MayComplete core core.phase (Choice id payload) → phase ≡ phase_shown (choice_phase id payload) →
+      agreed ≡ (core.structured && agrees id payload core.selection) → HasSelection selection (selection_at id payload core.selection) → new ≡ record old { phase = phase; selection = selection; agreed = agreed } → Shows new (complete core (Choice id payload))
   unfolding complete
-  shows_chosen id payload phase ok is made =
+  shows_chosen id payload phase selection agreed ok is agreed_is selected made =
       let r = chooses core core.phase id payload ok in
       negotiation_is_shown old new core (complete core (Choice id payload)) s r.0 refl (ap (λ (z : State). z.exchanges) made) (ap (λ (z : State). z.outstanding) made)
       (ap (λ (z : State). z.profile) made ∙ s.profile_is)
       (ap (λ (z : State). z.phase) made ∙ is ∙ r.1) (ap (λ (z : State). z.offered) made ∙ s.offered_is) (ap (λ (z : State). z.client_flags) made ∙ s.client_flags_are)
       (ap (λ (z : State). z.structured) made ∙ s.structured_is) (ap (λ (z : State). z.disconnected) made ∙ s.disconnected_is)
+      (subst (λ z. HasSelection z (selection_at id payload core.selection)) (sym (ap (λ (z : State). z.selection) made)) selected) (ap (λ (z : State). z.agreed) made ∙ agreed_is)
 
-  pub shows_answered : (option kind : ℕ) (payload : List ℕ) (phase : states.Phase) (grants : Bool) → MayComplete core core.phase (Answer option kind payload) →
-      phase ≡ phase_shown (next_phase core.phase (Answer option kind payload)) → grants ≡ grants_structured option kind → new ≡ record old { phase = phase; structured = old.structured || grants } → Shows new (complete core (Answer option kind payload))
+  pub shows_answered : (option kind : ℕ) (payload : List ℕ) (phase : states.Phase) (grants : Bool) (selection : Selection) → MayComplete core core.phase (Answer option kind payload) →
+      phase ≡ phase_shown (next_phase core.phase (Answer option kind payload)) → grants ≡ grants_structured option kind → HasSelection selection (selection_after core.phase kind payload core.selection) →
+      new ≡ record old { phase = phase; structured = old.structured || grants; selection = selection } → Shows new (complete core (Answer option kind payload))
   unfolding complete
-  shows_answered option kind payload phase grants ok is granted made =
+  shows_answered option kind payload phase grants selection ok is granted selected made =
       negotiation_is_shown old new core (complete core (Answer option kind payload)) s (answers core core.phase option kind payload ok) refl (ap (λ (z : State). z.exchanges) made) (ap (λ (z : State). z.outstanding) made)
       (ap (λ (z : State). z.profile) made ∙ s.profile_is)
       (ap (λ (z : State). z.phase) made ∙ is) (ap (λ (z : State). z.offered) made ∙ s.offered_is) (ap (λ (z : State). z.client_flags) made ∙ s.client_flags_are)
       (ap (λ (z : State). z.structured) made ∙ ap (λ b. b || grants) s.structured_is ∙ ap (λ b. core.structured || b) granted) (ap (λ (z : State). z.disconnected) made ∙ s.disconnected_is)
+      (subst (λ z. HasSelection z (selection_after core.phase kind payload core.selection)) (sym (ap (λ (z : State). z.selection) made)) selected) (ap (λ (z : State). z.agreed) made ∙ s.agreed_is)
 
   pub shows_exported : (size flags : ℕ) (padded : Bool) (phase : states.Phase) → MayComplete core core.phase (Exported size flags padded) → phase ≡ shown.Transmission (record { size = size; flags = flags }) → new ≡ record old { phase = phase } → Shows new (complete core (Exported size flags padded))
   unfolding complete
@@ -197,6 +205,7 @@ module _ (old new : State) (core : Core) (s : Shows old core) where
       (ap (λ (z : State). z.profile) made ∙ s.profile_is)
       (ap (λ (z : State). z.phase) made ∙ is ∙ r.1) (ap (λ (z : State). z.offered) made ∙ s.offered_is) (ap (λ (z : State). z.client_flags) made ∙ s.client_flags_are)
       (ap (λ (z : State). z.structured) made ∙ s.structured_is) (ap (λ (z : State). z.disconnected) made ∙ s.disconnected_is)
+      (subst (λ z. HasSelection z core.selection) (sym (ap (λ (z : State). z.selection) made)) s.selection_is) (ap (λ (z : State). z.agreed) made ∙ s.agreed_is)
 
 -- what is said of the message that was matched
 pub shows_same : {new : State} (core : Core) (m n : Message) → m ≡ n → Shows new (complete core n) → Shows new (complete core m)

@@ -1,12 +1,16 @@
 -- How the program's state shows what the completed messages have led to.
 use Rattle.std.specs.Prelude.{◌≡◌, ℕ, ◌+◌, ◌-◌, List, [], ◌∷◌, Option, Some, None, slice_get}
 use Rattle.std.specs.BTreeMap.{get}
+use Rattle.std.specs.BTreeSet.{contains}
 use Rattle.std.specs.Ordering.{nat_cmp}
-use Rattle.nbd_wire.specs.protocol.Options.{is_proper_option}
+use Rattle.nbd_wire.specs.protocol.Options.{is_proper_option, takes_contexts}
+use Rattle.nbd_wire.specs.protocol.Contexts as contexts
+use Rattle.nbd_wire.specs.protocol.Contexts.{has_id}
 use Rattle.nbd_wire.specs.protocol.Operations.{Operation, Exporting}
 use Rattle.nbd_wire.specs.protocol.States as definitions
 use Rattle.nbd_wire.specs.protocol.States.{Core, start, target, export_in}
 use Rattle.nbd_state.specs.declared.asked.Exchange.{Exchange}
+use Rattle.nbd_state.specs.declared.selection.Selection.{Selection}
 use Rattle.nbd_state.specs.declared.state.Export.{Export}
 use Rattle.nbd_state.specs.declared.state.Phase.{Phase}
 use Rattle.nbd_state.specs.declared.state.Phase.TheVariants.{Greet, Flags, Choosing, Naming, Aborting, Answering, Ended, Transmission}
@@ -22,7 +26,7 @@ abbrev pub export_shown_if : Option Exporting → Option Export
 export_shown_if (Some export) = Some (export_shown export)
 export_shown_if None = None
 
--- a phase keeps of an option's data only whether it was proper
+-- a phase keeps of an option's data only whether it was proper, and whether the option takes contexts
 abbrev pub phase_shown : definitions.Phase → Phase
 phase_shown definitions.Greet = Greet
 phase_shown definitions.Flags = Flags
@@ -30,7 +34,13 @@ phase_shown definitions.Choosing = Choosing
 phase_shown definitions.Naming = Naming
 phase_shown definitions.Aborting = Aborting
 phase_shown (definitions.Answering option payload info) =
-    Answering (record { option = option; proper = is_proper_option option payload; info = export_shown_if info })
+    Answering
+    (record {
+      option = option;
+      proper = is_proper_option option payload;
+      takes = takes_contexts option payload;
+      info = export_shown_if info;
+    })
 phase_shown definitions.Ended = Ended
 phase_shown (definitions.Transmission export) = Transmission (export_shown export)
 
@@ -45,6 +55,12 @@ abbrev pub place_of : Option ℕ → Option ℕ
 place_of (Some k) = Some (k - 1)
 place_of None = None
 
+-- a selection as the program has it, of whose contexts it keeps the ids
+pub record HasSelection (shown : Selection) (selection : contexts.Selection) : Type 0 where
+  pub export_name_is : shown.export_name.items ≡ selection.export_name
+  pub ids_are : (id : ℕ) → contains nat_cmp shown.ids id ≡ has_id selection.contexts id
+  pub granted_is : shown.granted ≡ selection.granted
+
 -- the state shows the core
 pub record Shows (state : State) (core : Core) : Type 0 where
   pub profile_is : state.profile ≡ core.profile
@@ -52,6 +68,8 @@ pub record Shows (state : State) (core : Core) : Type 0 where
   pub offered_is : state.offered ≡ core.offered
   pub client_flags_are : state.client_flags ≡ core.client_flags
   pub structured_is : state.structured ≡ core.structured
+  pub selection_is : HasSelection state.selection core.selection
+  pub agreed_is : state.agreed ≡ core.agreed
   pub disconnected_is : state.disconnected ≡ core.disconnected
   pub are_shown : AreShown (export_in core.phase) core.entries state.exchanges.items
   pub places : (cookie : ℕ) → get nat_cmp state.outstanding cookie ≡ place_of (target cookie core.entries)

@@ -7,7 +7,7 @@ ghost use Rattle.nbd_wire.specs.declared.commands.TheConstants as commands;
 ghost use Rattle.nbd_wire.specs.declared.message.Message.TheVariants.{Answer, Chunk, Simple};
 ghost use Rattle.nbd_wire.specs.declared.profile.Profile.{Profile};
 ghost use Rattle.nbd_wire.specs.protocol.Options as options;
-ghost use Rattle.nbd_wire.specs.protocol.Options.{ack_phase, reply_phase, is_proper_option, next_phase};
+ghost use Rattle.nbd_wire.specs.protocol.Options.{ack_phase, agrees, reply_phase, is_proper_option, next_phase, takes_contexts};
 ghost use Rattle.nbd_wire.specs.protocol.Operations.{Exporting};
 ghost use Rattle.nbd_wire.specs.protocol.Rules.{MayComplete, complete, grants_structured, core_with_reply, core_with_request};
 ghost use Rattle.nbd_wire.specs.protocol.Sendable.{IsSendable};
@@ -21,7 +21,7 @@ ghost use Rattle.nbd_laws.specs.Reached.{IsReached};
 ghost use Rattle.nbd_state.specs.Shows.{AreKnown, Shows, export_shown_if, phase_shown};
 
 use crate::asked::Exchange;
-use crate::options::{is_proper_option, last_info};
+use crate::options::{is_proper_option, last_info, takes_contexts};
 use crate::state::{Chosen, Export, Phase, State};
 use nbd_wire::answers::is_error;
 use nbd_wire::flags::has;
@@ -66,8 +66,10 @@ impl State {
                 Ok(())
             }
             Message::Choice { id, payload } => {
-                self.phase = chosen(*id, payload.as_slice());
-                Ok(())
+                let with = payload.as_slice();
+                self.agreed = self.may_agree(*id, with);
+                self.phase = chosen(*id, with);
+                self.selection.choose(alloc, *id, with)
             }
             Message::Answer {
                 option,
@@ -75,8 +77,10 @@ impl State {
                 payload,
             } => {
                 self.structured |= grants_structured(*option, *kind);
-                self.phase = phase_after_reply(self.phase, *kind, payload.as_slice());
-                Ok(())
+                let phase = self.phase;
+                let answer = payload.as_slice();
+                self.phase = phase_after_reply(phase, *kind, answer);
+                self.selection.answered(phase, *kind, answer)
             }
             Message::Exported { size, flags, .. } => {
                 self.phase = phase_after_export(*size, *flags);
@@ -119,6 +123,14 @@ impl State {
                 known,
             ),
         }
+    }
+
+    // Whether an option that is chosen leads, if it is granted, into transmission with what is selected.
+    fn may_agree(&self, option: u32, data: &[u8]) -> bool
+        ensures { (core : Core) → Shows self.now core →
+            result ≡ (core.structured && agrees option data.now core.selection) }
+    {
+        self.structured && self.selection.agrees(option, data)
     }
 
     // A request has completed.
@@ -238,6 +250,7 @@ fn chosen(option: u32, payload: &[u8]) -> Phase
         _ => Phase::Answering(Chosen {
             option,
             proper: is_proper_option(option, payload),
+            takes: takes_contexts(option, payload),
             info: None,
         }),
     }
@@ -272,14 +285,15 @@ fn phase_after_reply(phase: Phase, kind: u32, payload: &[u8]) -> Phase
 /// Where an answer to an option leads.
 fn after_reply(chosen: Chosen, kind: u32, payload: &[u8]) -> Phase
     ensures { (given : List ℕ) (info : Option Exporting) →
-        chosen.proper ≡ is_proper_option chosen.option given → chosen.info ≡ export_shown_if info →
+        chosen.proper ≡ is_proper_option chosen.option given → chosen.takes ≡ takes_contexts chosen.option given →
+        chosen.info ≡ export_shown_if info →
         result ≡ phase_shown (reply_phase chosen.option given info kind payload.now) }
 {
     if is_error(kind) {
         return Phase::Choosing;
     }
     match kind {
-        answers::SERVER => Phase::Answering(chosen),
+        answers::SERVER | answers::META_CONTEXT => Phase::Answering(chosen),
         answers::INFO => Phase::Answering(Chosen {
             info: last_info(payload, chosen.info),
             ..chosen

@@ -1,6 +1,7 @@
 //! What the completed messages of a session have led to.
 
 use crate::asked::Exchange;
+use crate::selection::Selection;
 use crate::transcript::Transcript;
 use nbd_wire::Profile;
 use std::alloc::Global;
@@ -13,12 +14,13 @@ pub struct Export {
     pub flags: u16,
 }
 
-/// An option that the client chose, whether its data had its form, and the last EXPORT info that came
-/// since.
+/// An option that the client chose, whether its data had its form, whether it takes META_CONTEXT answers, and the
+/// last EXPORT info that came since.
 #[derive(Clone, Copy, PartialEq, Eq, Drop)]
 pub struct Chosen {
     pub option: u32,
     pub proper: bool,
+    pub takes: bool,
     pub info: Option<Export>,
 }
 
@@ -54,6 +56,11 @@ pub struct State {
     pub client_flags: u32,
     /// Structured replies are in force.
     pub structured: bool,
+    /// What the last SET_META_CONTEXT selected.
+    pub selection: Selection,
+    /// In transmission: the contexts of the selection are in force. Before it: they are if the option that was chosen
+    /// last leads there.
+    pub agreed: bool,
     /// The client has sent DISC.
     pub disconnected: bool,
     /// The numbered requests, in their order.
@@ -87,6 +94,8 @@ impl State {
             offered: 0,
             client_flags: 0,
             structured: false,
+            selection: Selection::none(alloc),
+            agreed: false,
             disconnected: false,
             exchanges: Vec::new(alloc),
             outstanding: BTreeMap::new(alloc),

@@ -22,11 +22,16 @@ use Rattle.nbd_wire.proofs.ReadLemmas.{Reads-found, Reads-none}
 pub behind : (name rest bytes : List ℕ) → HasListedForm name rest bytes → behind_name bytes ≡ rest
 behind name rest bytes h = let c : Counted name rest bytes = listed-only name rest bytes h in ap (λ n. drop n (drop 4 bytes)) c.count ∙ c.rest_is
 
-pub name_is : (name rest bytes : List ℕ) → HasListedForm name rest bytes → name_in bytes ≡ name
-name_is name rest bytes h = let c : Counted name rest bytes = listed-only name rest bytes h in ap (λ n. take n (drop 4 bytes)) c.count ∙ c.name_is
-
 pub is_listed_one : (name rest bytes : List ℕ) → AreBytes bytes → HasListedForm name rest bytes → is_listed bytes ≡ true
 is_listed_one name rest bytes b h = (is_listed-exact bytes b).1 (name, rest, h)
+
+pub name_is : (name rest bytes : List ℕ) → AreBytes bytes → HasListedForm name rest bytes → name_in bytes ≡ name
+name_is name rest bytes b h =
+    let c : Counted name rest bytes = listed-only name rest bytes h in
+    ap (λ l. if l then take (number_at 0 4 bytes) (drop 4 bytes) else []) (is_listed_one name rest bytes b h) ∙ ap (λ n. take n (drop 4 bytes)) c.count ∙ c.name_is
+
+pub no_name : (bytes : List ℕ) → is_listed bytes ≡ false → name_in bytes ≡ []
+no_name bytes e = ap (λ l. if l then take (number_at 0 4 bytes) (drop 4 bytes) else []) e
 
 bytes_behind : (bytes : List ℕ) → AreBytes bytes → AreBytes (behind_name bytes)
 bytes_behind bytes b = AreBytes-drop (number_at 0 4 bytes) (drop 4 bytes) (AreBytes-drop 4 bytes b)
@@ -106,7 +111,7 @@ queries_of-form name count bytes b h =
     let is : number_at 0 4 rest ≡ count = big_number-reads_back 4 count (with_lengths queries) (omega (arith, h.1)) in
     let all : are_queries (number_at 0 4 rest) (drop 4 rest) ≡ true =
     ap (λ n. are_queries n (drop 4 rest)) (is ∙ sym h.2.1) ∙ queries-only queries (drop 4 rest) (AreBytes-drop 4 rest of_rest) h.2.2 refl in
-    (queries-long name rest bytes true b form long all ∙ ap Some is, name_is name rest bytes form)
+    (queries-long name rest bytes true b form long all ∙ ap Some is, name_is name rest bytes b form)
 
 -- what is read has the form
 pub queries_of-found : (bytes : List ℕ) (count : ℕ) → AreBytes bytes → queries_of bytes ≡ Some count → HasQueriesForm (name_in bytes) count bytes
@@ -130,7 +135,7 @@ queries_of-found bytes count b e = go (is_listed bytes) refl
             let is : number_at 0 4 rest ≡ count = same_Some (number_at 0 4 rest) count (sym (queries-long name rest bytes true b h long p) ∙ e) in
             let q : Queries (number_at 0 4 rest) (drop 4 rest) = queries-found (number_at 0 4 rest) (drop 4 rest) (AreBytes-drop 4 rest of_rest) p in
             let tail : rest ≡ big_bytes 4 count ++ with_lengths q.queries = with_next 0 4 rest (with_lengths q.queries) of_rest (omega (arith, long)) q.is ∙ ap (λ n. big_bytes 4 n ++ with_lengths q.queries) is in
-            subst (λ n. HasQueriesForm n count bytes) (sym (name_is name rest bytes h)) (
+            subst (λ n. HasQueriesForm n count bytes) (sym (name_is name rest bytes b h)) (
               h.0,
               omega (arith, number_at-lt 0 4 rest of_rest, is),
               (

@@ -44,7 +44,7 @@ pub use heads::transmission::{
     ChunkHead, RequestHead, SimpleHead, chunk_head, request_head, simple_head,
 };
 pub use message::{Message, Side};
-pub use option_payloads::{context_of, go_of, info_of, listed_of, queries_of};
+pub use option_payloads::{context_of, go_of, info_of, listed_of, name_in, queries_of};
 pub use payloads::{Content, Failure, Info, Piece};
 pub use profile::Profile;
 pub use sides::{fits, side_of};

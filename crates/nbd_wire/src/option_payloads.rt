@@ -55,6 +55,16 @@ pub fn listed_of(bytes: &[u8]) -> Option<(&[u8], &[u8])>
     bytes[4..].split_at_checked(length)
 }
 
+/// The name in data that begin with a name's length and the name, and none where they are too short.
+pub fn name_in(bytes: &[u8]) -> &[u8]
+    ensures { result.now ≡ name_in bytes.now }
+{
+    match listed_of(bytes) {
+        Some((name, _)) => name,
+        None => &[],
+    }
+}
+
 /// The name in the data of INFO or GO, and of how many kinds of information the client asks, two
 /// bytes each.
 pub fn go_of(bytes: &[u8]) -> Option<(&[u8], u16)>

@@ -1,5 +1,5 @@
 -- What the payloads of options, of option replies and of chunks state. Numbers are big-endian.
-use Rattle.std.specs.Prelude.{ℕ, zero, suc, List, Option, Some, None, length, ◌==◌, ◌&&◌, ◌+◌, ◌*◌, not, nat_le, if◌then◌else◌, take, drop, Bool}
+use Rattle.std.specs.Prelude.{ℕ, zero, suc, List, [], Option, Some, None, length, ◌==◌, ◌&&◌, ◌+◌, ◌*◌, not, nat_le, if◌then◌else◌, take, drop, Bool}
 use Rattle.nbd_wire.specs.declared.payloads.Info.{Info}
 use Rattle.nbd_wire.specs.declared.payloads.Info.TheVariants.{Export, BlockSize, Other}
 use Rattle.nbd_wire.specs.declared.payloads.Piece.{Piece}
@@ -31,17 +31,18 @@ info_of bytes =
 unfoldable pub is_listed : List ℕ → Bool
 is_listed bytes = nat_le 4 (length bytes) && nat_le (4 + number_at 0 4 bytes) (length bytes)
 
+-- the name in data that begin with a name's length and the name; none where they are too short (proto.md, "Option
+-- types")
+abbrev pub name_in : List ℕ → List ℕ
+name_in bytes = if is_listed bytes then take (number_at 0 4 bytes) (drop 4 bytes) else []
+
 -- INFO or GO data: a name's length, the name, a count, two bytes for each (proto.md, "Option types")
 unfoldable pub is_go : List ℕ → Bool
 is_go bytes =
     let name : ℕ = number_at 0 4 bytes in
     nat_le (6 + name) (length bytes) && (length bytes == 6 + name + 2 * number_at (4 + name) 2 bytes)
 
--- the name in data that begin with a name's length and the name (proto.md, "Option types")
-abbrev pub name_in : List ℕ → List ℕ
-name_in bytes = take (number_at 0 4 bytes) (drop 4 bytes)
-
--- what stands behind it
+-- what stands behind the name in such data
 abbrev pub behind_name : List ℕ → List ℕ
 behind_name bytes = drop (number_at 0 4 bytes) (drop 4 bytes)
 

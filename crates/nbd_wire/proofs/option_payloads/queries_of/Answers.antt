@@ -54,7 +54,8 @@ pub returns-clause-name : goal.returns-clause-name
 returns-clause-name c =
     let name = c.in_ok-name.name.now in
     let rest = c.in_ok-name.rest.now in
-    sym (name_is name rest c.args.bytes.now ((c.in_ok-name.ensures.form (name, rest)).0 refl))
+    let bytes = c.args.bytes.now in
+    sym (name_is name rest bytes (AreBytes-from_places bytes (λ i. omega (arith, c.type_inv.bytes i))) ((c.in_ok-name.ensures.form (name, rest)).0 refl))
 
 pub returns-clause-form : goal.returns-clause-form
 returns-clause-form c =

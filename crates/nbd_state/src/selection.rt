@@ -1,0 +1,135 @@
+//! What SET_META_CONTEXT selects (proto.md, "Option types", "Metadata querying").
+
+ghost use Rattle.std.specs.Prelude.{◌≡◌, [], List, false, OnOk};
+ghost use Rattle.std.specs.BTreeSet.{contains};
+ghost use Rattle.std.specs.Ordering.{nat_cmp};
+ghost use Rattle.nbd_wire.specs.protocol.Contexts as contexts;
+ghost use Rattle.nbd_wire.specs.protocol.Contexts.{has_id, no_selection};
+ghost use Rattle.nbd_wire.specs.protocol.Options.{agrees, selection_after, selection_at, selection_told, with_context};
+ghost use Rattle.nbd_wire.specs.protocol.Payloads.{context_of};
+ghost use Rattle.nbd_wire.specs.protocol.States as definitions;
+ghost use Rattle.nbd_laws.specs.internal.JudgeTransmission.{is_none_in};
+ghost use Rattle.nbd_state.specs.Shows.{HasSelection, phase_shown};
+
+use crate::state::{Chosen, Phase};
+use nbd_wire::{answers, context_of, name_in, options};
+use std::alloc::{AllocError, Global};
+use std::collections::BTreeSet;
+
+/// What the last SET_META_CONTEXT asked and was answered.
+#[derive(Drop)]
+pub struct Selection {
+    /// The name of the export that it is for.
+    pub export_name: Vec<u8>,
+    /// The ids of the contexts that came.
+    pub ids: BTreeSet<u32>,
+    /// An ACK ended the answer.
+    pub granted: bool,
+}
+
+impl Selection {
+    /// Before the first SET_META_CONTEXT; takes no memory.
+    pub(crate) fn none(alloc: Global) -> Selection
+        ensures { HasSelection result no_selection }
+    {
+        Selection {
+            export_name: Vec::new(alloc),
+            ids: BTreeSet::new(alloc),
+            granted: false,
+        }
+    }
+
+    /// Whether one of the contexts has this id.
+    pub fn has_id(&self, id: u32) -> bool
+        ensures { (selection : contexts.Selection) → HasSelection self.now selection →
+            result ≡ has_id selection.contexts id }
+    {
+        self.ids.contains(&id)
+    }
+
+    /// Whether no context was selected.
+    pub fn is_empty(&self) -> bool
+        ensures { (selection : contexts.Selection) → HasSelection self.now selection →
+            result ≡ is_none_in selection.contexts }
+    {
+        self.ids.is_empty()
+    }
+
+    /// Whether an option that is chosen leads, if it is granted, into transmission with this selection.
+    pub(crate) fn agrees(&self, option: u32, data: &[u8]) -> bool
+        ensures { (selection : contexts.Selection) → HasSelection self.now selection →
+            result ≡ agrees option data.now selection }
+    {
+        self.granted
+            && match option {
+                options::EXPORT_NAME => data == self.export_name.as_slice(),
+                options::GO => name_in(data) == self.export_name.as_slice(),
+                _ => false,
+            }
+    }
+
+    /// An option was chosen. After an `Err`, that memory ran out, nothing is known of the selection.
+    pub(crate) fn choose(
+        &mut self,
+        alloc: Global,
+        option: u32,
+        data: &[u8],
+    ) -> Result<(), AllocError>
+        ensures { OnOk result ((selection : contexts.Selection) → HasSelection self.old selection →
+            HasSelection self.new (selection_at option data.now selection)) }
+    {
+        if option != options::SET_META_CONTEXT {
+            return Ok(());
+        }
+        self.export_name.clear();
+        self.export_name.extend_from_slice(name_in(data))?;
+        self.ids = BTreeSet::new(alloc);
+        self.granted = false;
+        Ok(())
+    }
+
+    /// An answer came in this phase. After an `Err`, that memory ran out, the selection is as it was.
+    pub(crate) fn answered(
+        &mut self,
+        phase: Phase,
+        kind: u32,
+        answer: &[u8],
+    ) -> Result<(), AllocError>
+        ensures { OnOk result ((selection : contexts.Selection) (p : definitions.Phase) →
+            HasSelection self.old selection → phase ≡ phase_shown p →
+            HasSelection self.new (selection_after p kind answer.now selection)) }
+    {
+        match phase {
+            Phase::Answering(chosen) if chosen.option == options::SET_META_CONTEXT => {
+                self.told(kind, answer)
+            }
+            _ => Ok(()),
+        }
+    }
+
+    // An answer to SET_META_CONTEXT came.
+    fn told(&mut self, kind: u32, answer: &[u8]) -> Result<(), AllocError>
+        ensures { OnOk result ((selection : contexts.Selection) → HasSelection self.old selection →
+            HasSelection self.new (selection_told kind answer.now selection)) }
+    {
+        match kind {
+            answers::META_CONTEXT => self.add(answer),
+            answers::ACK => {
+                self.granted = true;
+                Ok(())
+            }
+            _ => Ok(()),
+        }
+    }
+
+    // One more context, where the answer has the form of one.
+    fn add(&mut self, answer: &[u8]) -> Result<(), AllocError>
+        ensures { OnOk result ((selection : contexts.Selection) → HasSelection self.old selection →
+            HasSelection self.new (with_context (context_of answer.now) selection)) }
+    {
+        if let Some((id, _)) = context_of(answer) {
+            self.ids.insert(id)?;
+        }
+        Ok(())
+    }
+}
