@@ -115,7 +115,7 @@ fn decide_client(state: &State, head: &[u8]) -> Result<Expected, WireFault>
     match state.phase {
         Phase::Flags => client_flags(head, state.offered),
         Phase::Choosing => choice(head),
-        Phase::Transmission(_) => request(head),
+        Phase::Transmission(_) => request(head, state.has_contexts()),
         _ => unreachable!(),
     }
 }
@@ -133,7 +133,7 @@ fn decide_server(state: &State, head: &[u8], counted: u64) -> Result<Expected, W
         Phase::Greet => greeting(head),
         Phase::Naming => exported(head, state.client_flags),
         Phase::Aborting => abort_answer(head),
-        Phase::Answering(chosen) => answer(head, chosen),
+        Phase::Answering(chosen) => answer(state.profile, head, chosen),
         Phase::Transmission(_) => reply(state, head, counted),
         _ => unreachable!(),
     }

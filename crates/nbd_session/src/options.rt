@@ -3,20 +3,22 @@
 
 ghost use Rattle.std.specs.Prelude.{◌≡◌, ◌++◌, ℕ, List, IfErr, IfOk, Some, length};
 ghost use Rattle.nbd_wire.specs.protocol.Options.{is_error};
-ghost use Rattle.nbd_wire.specs.protocol.Payloads.{info_of, number_at};
-ghost use Rattle.nbd_laws.specs.internal.JudgeNegotiation.{abort_answer, abort_fault, ack_fault, answer, answer_fault, answers_option, choice, info_fault, is_bad_payload, is_followed, is_good_info, payload_fault, success_fault};
+ghost use Rattle.nbd_wire.specs.protocol.Contexts as contexts;
+ghost use Rattle.nbd_wire.specs.protocol.Payloads.{context_of, info_of, number_at};
+ghost use Rattle.nbd_laws.specs.internal.JudgeNegotiation.{abort_answer, abort_fault, ack_fault, answer, answer_fault, answers_option, choice, info_fault, earlier_to, is_bad_payload, is_followed, is_good_context, is_good_info, payload_fault, success_fault};
 ghost use Rattle.nbd_session.specs.internal.Leading.{answer_fields_of, unless_fault};
 ghost use Rattle.nbd_session.specs.internal.Expecting.{IsPlaced, expected_decision};
 ghost use Rattle.nbd_wire.specs.protocol.States.{Core};
 ghost use Rattle.nbd_state.specs.Showing.{exporting_if};
+ghost use Rattle.nbd_state.specs.Shows.{HasSelection};
 
 use crate::expected::Expected;
-use nbd_state::Chosen;
+use nbd_state::{Chosen, Selection};
 use nbd_wire::answers::is_error;
 use nbd_wire::flags::has;
 use nbd_wire::{
-    AnswerHead, Info, WireFault, answer_head, answers, choice_head, info_of, limits, listed_of,
-    options, transmission,
+    AnswerHead, Info, Profile, WireFault, answer_head, answers, choice_head, context_of, info_of,
+    limits, listed_of, options, transmission,
 };
 
 /// The client's option, by its head.
@@ -46,32 +48,39 @@ pub(crate) fn abort_answer(head: &[u8]) -> Result<Expected, WireFault>
     Ok(Expected::Answer { head, proper: None })
 }
 
-/// An answer to another option, by its head.
-pub(crate) fn answer(head: &[u8], chosen: Chosen) -> Result<Expected, WireFault>
+/// An answer to another option, by its head, in a session that is held to this profile.
+pub(crate) fn answer(profile: Profile, head: &[u8], chosen: Chosen) -> Result<Expected, WireFault>
     requires { length head.now ≡ 20 }
     ensures expected { IfOk result (λ expected. (now : Core) (payload : List ℕ) →
-        answer chosen.option chosen.proper (exporting_if chosen.info) (head.now ++ payload)
-        ≡ expected_decision now expected 20 payload) }
+        answer profile chosen.option chosen.proper chosen.takes (exporting_if chosen.info) now.selection
+        (head.now ++ payload) ≡ expected_decision now expected 20 payload) }
     ensures placed { IfOk result (λ expected. (core : Core) → IsPlaced core expected) }
-    ensures refused { IfErr result (λ fault.
-        (answer chosen.option chosen.proper (exporting_if chosen.info) head.now).head_fault ≡ Some fault) }
+    ensures refused { IfErr result (λ fault. (selection : contexts.Selection) →
+        (answer profile chosen.option chosen.proper chosen.takes (exporting_if chosen.info) selection
+        head.now).head_fault ≡ Some fault) }
 {
     let head = answer_to(chosen.option, head)?;
     if is_error(head.kind) {
         return Ok(Expected::Answer { head, proper: None });
     }
-    may_succeed(head, chosen)?;
+    may_succeed(profile, head, chosen)?;
     Ok(Expected::Answer {
         head,
         proper: Some(chosen.proper),
     })
 }
 
-/// The fault at the last byte of an answer of success, by its payload.
-pub(crate) fn payload_fault(kind: u32, proper: bool, payload: &[u8]) -> Option<WireFault>
-    ensures { result ≡ payload_fault proper kind payload.now }
+/// The fault at the last byte of an answer of success, by its payload and what is selected.
+pub(crate) fn payload_fault(
+    selection: &Selection,
+    head: &AnswerHead,
+    proper: bool,
+    payload: &[u8],
+) -> Option<WireFault>
+    ensures { (selected : contexts.Selection) → HasSelection selection.now selected →
+        result ≡ payload_fault (earlier_to head.now.option selected) proper head.now.kind payload.now }
 {
-    if is_bad_payload(kind, payload) {
+    if is_bad_payload(selection, head, payload) {
         return Some(WireFault::BadReplyPayload);
     }
     if !proper {
@@ -116,14 +125,14 @@ fn is_empty_ack(head: AnswerHead) -> Result<(), WireFault>
 }
 
 /// The head of an answer of success may answer the option that was chosen.
-fn may_succeed(head: AnswerHead, chosen: Chosen) -> Result<(), WireFault>
-    ensures { result ≡ unless_fault (success_fault chosen.option chosen.proper (exporting_if chosen.info)
-        head.kind head.length) tt }
+fn may_succeed(profile: Profile, head: AnswerHead, chosen: Chosen) -> Result<(), WireFault>
+    ensures { result ≡ unless_fault (success_fault profile chosen.option chosen.proper chosen.takes
+        (exporting_if chosen.info) head.kind head.length) tt }
 {
-    if !is_followed(chosen.option) {
+    if !is_followed(profile, chosen.option) {
         return Err(WireFault::OutOfProfile);
     }
-    if !answers_option(chosen.option, head.kind) {
+    if !answers_option(chosen, head.kind) {
         return Err(WireFault::BadReplyKind);
     }
     is_empty_ack(head)?;
@@ -134,24 +143,26 @@ fn may_succeed(head: AnswerHead, chosen: Chosen) -> Result<(), WireFault>
     }
 }
 
-/// Whether this project follows an option.
-fn is_followed(option: u32) -> bool
-    ensures { result ≡ is_followed option }
+/// Whether the profile follows an option.
+fn is_followed(profile: Profile, option: u32) -> bool
+    ensures { result ≡ is_followed profile option }
 {
-    matches!(
-        option,
-        options::LIST | options::INFO | options::GO | options::STRUCTURED_REPLY
-    )
+    match option {
+        options::LIST | options::INFO | options::GO | options::STRUCTURED_REPLY => true,
+        options::LIST_META_CONTEXT | options::SET_META_CONTEXT => profile == Profile::Wide,
+        _ => false,
+    }
 }
 
 /// Whether an option takes a kind of success.
-fn answers_option(option: u32, kind: u32) -> bool
-    ensures { result ≡ answers_option option kind }
+fn answers_option(chosen: Chosen, kind: u32) -> bool
+    ensures { result ≡ answers_option chosen.option chosen.takes kind }
 {
     match kind {
         answers::ACK => true,
-        answers::SERVER => option == options::LIST,
-        answers::INFO => matches!(option, options::INFO | options::GO),
+        answers::SERVER => chosen.option == options::LIST,
+        answers::INFO => matches!(chosen.option, options::INFO | options::GO),
+        answers::META_CONTEXT => chosen.takes,
         _ => false,
     }
 }
@@ -172,14 +183,27 @@ fn may_acknowledge(chosen: Chosen) -> Result<(), WireFault>
     }
 }
 
-/// Whether the payload of a SERVER or INFO answer lacks its form.
-fn is_bad_payload(kind: u32, payload: &[u8]) -> bool
-    ensures { result ≡ is_bad_payload kind payload.now }
+/// Whether the payload of a SERVER, INFO or META_CONTEXT answer is not one that may be told.
+fn is_bad_payload(selection: &Selection, head: &AnswerHead, payload: &[u8]) -> bool
+    ensures { (selected : contexts.Selection) → HasSelection selection.now selected →
+        result ≡ is_bad_payload (earlier_to head.now.option selected) head.now.kind payload.now }
 {
-    match kind {
+    match head.kind {
         answers::SERVER => listed_of(payload).is_none(),
         answers::INFO => !is_good_info(info_of(payload)),
+        answers::META_CONTEXT => !is_good_context(selection, head.option, payload),
         _ => false,
+    }
+}
+
+/// Whether a context has its form, and to SET_META_CONTEXT another id than each before it.
+fn is_good_context(selection: &Selection, option: u32, payload: &[u8]) -> bool
+    ensures { (selected : contexts.Selection) → HasSelection selection.now selected →
+        result ≡ is_good_context (earlier_to option selected) (context_of payload.now) }
+{
+    match context_of(payload) {
+        None => false,
+        Some((id, _)) => option != options::SET_META_CONTEXT || !selection.has_id(id),
     }
 }
 

@@ -70,8 +70,9 @@ pub struct State {
 }
 
 impl State {
-    ghost use Rattle.nbd_wire.specs.protocol.States.{start, start_of};
-    ghost use Rattle.std.specs.Prelude.{◌≡◌};
+    ghost use Rattle.nbd_wire.specs.protocol.States.{Core, in_force, start, start_of};
+    ghost use Rattle.nbd_laws.specs.internal.JudgeTransmission.{is_none_in};
+    ghost use Rattle.std.specs.Prelude.{◌≡◌, not};
     ghost use Rattle.nbd_state.specs.Shows.{Shows};
     ghost use Rattle.nbd_laws.specs.Soundness.{IsSoundReport};
     ghost use Rattle.nbd_state.specs.Transcripts.{export_of, transcript_report};
@@ -100,6 +101,13 @@ impl State {
             exchanges: Vec::new(alloc),
             outstanding: BTreeMap::new(alloc),
         }
+    }
+
+    /// Whether a metadata context is in force (proto.md, "Metadata querying").
+    pub fn has_contexts(&self) -> bool
+        ensures { (core : Core) → Shows self.now core → result ≡ not (is_none_in (in_force core)) }
+    {
+        self.agreed && !self.selection.is_empty()
     }
 
     /// What a session that ends here states: its export, if it reached transmission, and its numbered

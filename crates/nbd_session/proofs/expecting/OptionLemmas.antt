@@ -1,5 +1,5 @@
 -- An option, or an option reply, whose head has come.
-use Rattle.std.proofs.Common.{◌≡◌, ℕ, ◌==◌, not, List, ◌++◌, length, drop, refl, sym, ◌∙◌, ap, Option, Some, None, Ok, Err, Bool, true, false, eq-eqb, arith}
+use Rattle.std.proofs.Common.{◌≡◌, ℕ, ◌==◌, not, List, ◌++◌, length, drop, refl, sym, ◌∙◌, ap, Option, Some, None, Ok, Err, Bool, true, false, eq-eqb, eqb-true, arith}
 use Rattle.std.proofs.lemmas.Bool.{ne_eqb}
 use Rattle.nbd_wire.specs.declared.fault.WireFault.{WireFault}
 use Rattle.nbd_wire.specs.declared.fault.WireFault.TheVariants.{BadMagic, WrongOption}
@@ -8,12 +8,14 @@ use Rattle.nbd_wire.specs.declared.heads.negotiation.ChoiceHead.{ChoiceHead}
 use Rattle.nbd_wire.specs.declared.magics.TheConstants.{ANSWER_MAGIC, OPTION_MAGIC}
 use Rattle.nbd_wire.specs.declared.message.Message.TheVariants as messages
 use Rattle.nbd_wire.specs.declared.options.TheConstants as options
+use Rattle.nbd_wire.specs.declared.profile.Profile.{Profile}
+use Rattle.nbd_wire.specs.protocol.Contexts.{Selection}
 use Rattle.nbd_wire.specs.protocol.Operations.{Exporting}
 use Rattle.nbd_wire.specs.protocol.Options.{is_error}
 use Rattle.nbd_wire.specs.protocol.Payloads.{number_at}
 use Rattle.nbd_wire.specs.protocol.States.{Core}
 use Rattle.nbd_laws.specs.internal.Decisions.{fault_if}
-use Rattle.nbd_laws.specs.internal.JudgeNegotiation.{abort_answer, abort_fault, answer, answer_fault, choice, payload_fault, success_fault, unless_error}
+use Rattle.nbd_laws.specs.internal.JudgeNegotiation.{abort_answer, abort_fault, answer, answer_fault, choice, earlier_to, payload_fault, success_fault, unless_error}
 use Rattle.nbd_session.specs.declared.expected.Expected.TheVariants.{Answer, Choice}
 use Rattle.nbd_session.specs.internal.Expecting.{expected_decision}
 use Rattle.nbd_session.specs.internal.Leading.{answer_fields_of, answer_head_of, choice_head_of, unless_fault}
@@ -77,34 +79,43 @@ good_abort head payload h now len none is fits =
     (λ i. record { head_length = 20; head_fault = fault i; payload_length = (same i).length; last_fault = None; message = messages.Answer (same i).option (same i).kind (after_head 20 head payload len i) })
 
 -- an error
-pub good_error : (asked : ℕ) (proper : Bool) (info : Option Exporting) (head payload : List ℕ) (h : AnswerHead) (now : Core) → length head ≡ 20 → answer_fault asked (number_at 0 8 head) (number_at 8 4 head) None ≡ None → h ≡ answer_fields_of head →
-    is_error h.kind ≡ true → answer asked proper info (head ++ payload) ≡ expected_decision now (Answer h None) 20 payload
-good_error asked proper info head payload h now len none is error =
+pub good_error : (profile : Profile) (asked : ℕ) (proper takes : Bool) (info : Option Exporting) (head payload : List ℕ) (h : AnswerHead) (now : Core) → length head ≡ 20 → answer_fault asked (number_at 0 8 head) (number_at 8 4 head) None ≡ None → h ≡ answer_fields_of head →
+    is_error h.kind ≡ true → answer profile asked proper takes info now.selection (head ++ payload) ≡ expected_decision now (Answer h None) 20 payload
+good_error profile asked proper takes info head payload h now len none is error =
     let same : answer_fields_of (head ++ payload) ≡ h = fields_same head payload len ∙ sym is in
     let kind : is_error (number_at 12 4 (head ++ payload)) ≡ true = ap (λ f. is_error f.kind) same ∙ error in
-    let success = success_fault asked proper info (number_at 12 4 (head ++ payload)) (number_at 16 4 (head ++ payload)) in
-    let fault : (answer asked proper info (head ++ payload)).head_fault ≡ None =
+    let success = success_fault profile asked proper takes info (number_at 12 4 (head ++ payload)) (number_at 16 4 (head ++ payload)) in
+    let fault : (answer profile asked proper takes info now.selection (head ++ payload)).head_fault ≡ None =
     right_answer asked (head ++ payload) (unless_error (is_error (number_at 12 4 (head ++ payload))) success) (fault_same asked head payload len ∙ none) ∙ ap (λ b. unless_error b success) kind in
     (λ i. record {
       head_length = 20;
       head_fault = fault i;
       payload_length = (same i).length;
-      last_fault = ap (λ b. unless_error b (payload_fault proper (number_at 12 4 (head ++ payload)) (drop 20 (head ++ payload)))) kind i;
+      last_fault = ap (λ b. unless_error b (payload_fault (earlier_to asked now.selection) proper (number_at 12 4 (head ++ payload)) (drop 20 (head ++ payload)))) kind i;
       message = messages.Answer (same i).option (same i).kind (after_head 20 head payload len i);
     })
 
+-- an answer whose head has no fault has the option's number
+pub right_option : (asked : ℕ) (head : List ℕ) (h : AnswerHead) → answer_fault asked (number_at 0 8 head) (number_at 8 4 head) None ≡ None → h ≡ answer_fields_of head → h.option ≡ asked
+right_option asked head h none is = ap (λ (f : AnswerHead). f.option) is ∙ go (number_at 0 8 head == ANSWER_MAGIC) (number_at 8 4 head == asked) refl none
+  where
+    go : (m o : Bool) → (number_at 8 4 head == asked) ≡ o → fault_if (not m) BadMagic (fault_if (not o) WrongOption None) ≡ None → number_at 8 4 head ≡ asked
+    go m true q e = eqb-true (number_at 8 4 head) asked q
+    go true false q e = absurd (let w : Some WrongOption ≡ None = e in cc)
+    go false false q e = absurd (let w : Some BadMagic ≡ None = e in cc)
+
 -- a success
-pub good_success : (asked : ℕ) (proper : Bool) (info : Option Exporting) (head payload : List ℕ) (h : AnswerHead) (now : Core) → length head ≡ 20 → answer_fault asked (number_at 0 8 head) (number_at 8 4 head) None ≡ None → h ≡ answer_fields_of head →
-    is_error h.kind ≡ false → success_fault asked proper info h.kind h.length ≡ None → answer asked proper info (head ++ payload) ≡ expected_decision now (Answer h (Some proper)) 20 payload
-good_success asked proper info head payload h now len none is error fits =
+pub good_success : (profile : Profile) (asked : ℕ) (proper takes : Bool) (info : Option Exporting) (head payload : List ℕ) (h : AnswerHead) (now : Core) → length head ≡ 20 → h.option ≡ asked → answer_fault asked (number_at 0 8 head) (number_at 8 4 head) None ≡ None → h ≡ answer_fields_of head →
+    is_error h.kind ≡ false → success_fault profile asked proper takes info h.kind h.length ≡ None → answer profile asked proper takes info now.selection (head ++ payload) ≡ expected_decision now (Answer h (Some proper)) 20 payload
+good_success profile asked proper takes info head payload h now len option none is error fits =
     let same : answer_fields_of (head ++ payload) ≡ h = fields_same head payload len ∙ sym is in
     let kind : is_error (number_at 12 4 (head ++ payload)) ≡ false = ap (λ f. is_error f.kind) same ∙ error in
-    let success = success_fault asked proper info (number_at 12 4 (head ++ payload)) (number_at 16 4 (head ++ payload)) in
-    let fault : (answer asked proper info (head ++ payload)).head_fault ≡ None =
+    let success = success_fault profile asked proper takes info (number_at 12 4 (head ++ payload)) (number_at 16 4 (head ++ payload)) in
+    let fault : (answer profile asked proper takes info now.selection (head ++ payload)).head_fault ≡ None =
     right_answer asked (head ++ payload) (unless_error (is_error (number_at 12 4 (head ++ payload))) success) (fault_same asked head payload len ∙ none)
-    ∙ ap (λ b. unless_error b success) kind ∙ (λ i. success_fault asked proper info (same i).kind (same i).length) ∙ fits in
-    let last : (answer asked proper info (head ++ payload)).last_fault ≡ payload_fault proper h.kind payload =
-    ap (λ b. unless_error b (payload_fault proper (number_at 12 4 (head ++ payload)) (drop 20 (head ++ payload)))) kind ∙ (λ i. payload_fault proper (same i).kind (after_head 20 head payload len i)) in
+    ∙ ap (λ b. unless_error b success) kind ∙ (λ i. success_fault profile asked proper takes info (same i).kind (same i).length) ∙ fits in
+    let last : (answer profile asked proper takes info now.selection (head ++ payload)).last_fault ≡ payload_fault (earlier_to h.option now.selection) proper h.kind payload =
+    ap (λ b. unless_error b (payload_fault (earlier_to asked now.selection) proper (number_at 12 4 (head ++ payload)) (drop 20 (head ++ payload)))) kind ∙ (λ i. payload_fault (earlier_to (sym option i) now.selection) proper (same i).kind (after_head 20 head payload len i)) in
     (λ i. record { head_length = 20; head_fault = fault i; payload_length = (same i).length; last_fault = last i; message = messages.Answer (same i).option (same i).kind (after_head 20 head payload len i) })
 
 module _ (asked : ℕ) (head : List ℕ) where
@@ -123,11 +134,11 @@ module _ (asked : ℕ) (head : List ℕ) where
       let same : (number_at 8 4 head == asked) ≡ true = eq-eqb _ _ (sym (ap (λ (f : AnswerHead). f.option) r.1) ∙ is) in
       ((λ i. fault_if (not (r.0 i)) BadMagic (fault_if (not (same i)) WrongOption None)), r.1)
 
-pub bad_success : (asked : ℕ) (proper : Bool) (info : Option Exporting) (head : List ℕ) (h : AnswerHead) (f : WireFault) → answer_fault asked (number_at 0 8 head) (number_at 8 4 head) None ≡ None → h ≡ answer_fields_of head →
-    is_error h.kind ≡ false → success_fault asked proper info h.kind h.length ≡ Some f → (answer asked proper info head).head_fault ≡ Some f
-bad_success asked proper info head h f none is error bad =
-    let success = success_fault asked proper info (number_at 12 4 head) (number_at 16 4 head) in
+pub bad_success : (profile : Profile) (asked : ℕ) (proper takes : Bool) (info : Option Exporting) (selection : Selection) (head : List ℕ) (h : AnswerHead) (f : WireFault) → answer_fault asked (number_at 0 8 head) (number_at 8 4 head) None ≡ None → h ≡ answer_fields_of head →
+    is_error h.kind ≡ false → success_fault profile asked proper takes info h.kind h.length ≡ Some f → (answer profile asked proper takes info selection head).head_fault ≡ Some f
+bad_success profile asked proper takes info selection head h f none is error bad =
+    let success = success_fault profile asked proper takes info (number_at 12 4 head) (number_at 16 4 head) in
     right_answer asked head (unless_error (is_error (number_at 12 4 head)) success) none
     ∙ ap (λ b. unless_error b success) (sym (ap (λ (f : AnswerHead). is_error f.kind) is) ∙ error)
-    ∙ sym (ap (λ (f : AnswerHead). success_fault asked proper info f.kind f.length) is)
+    ∙ sym (ap (λ (f : AnswerHead). success_fault profile asked proper takes info f.kind f.length) is)
     ∙ bad

@@ -7,7 +7,7 @@ use Rattle.nbd_wire.specs.protocol.States.{Core, Phase, Greet, Flags, Choosing, 
 use Rattle.nbd_laws.specs.internal.Decisions.{Decision}
 use Rattle.nbd_laws.specs.internal.Judge.{decision_by_count, decision_with}
 use Rattle.nbd_laws.specs.internal.JudgeTransmission.{operation_counted}
-use Rattle.nbd_wire.specs.protocol.Options.{is_proper_option}
+use Rattle.nbd_wire.specs.protocol.Options.{is_proper_option, takes_contexts}
 use Rattle.nbd_state.specs.Showing.{exporting_if}
 use Rattle.nbd_laws.specs.internal.JudgeNegotiation.{export_answer}
 use Rattle.nbd_state.specs.Shows.{Shows, export_shown_if, phase_shown}
@@ -69,7 +69,7 @@ transmission_of Ended x e = absurd (cc)
 transmission_of (Transmission export) x e = (export, refl)
 
 pub answering_of : (p : Phase) (c : Chosen) → program.Answering c ≡ phase_shown p →
-    (option : ℕ) × (given : List ℕ) × (info : Option Exporting) × (p ≡ Answering option given info) × (c ≡ record { option = option; proper = is_proper_option option given; info = export_shown_if info })
+    (option : ℕ) × (given : List ℕ) × (info : Option Exporting) × (p ≡ Answering option given info) × (c ≡ record { option = option; proper = is_proper_option option given; takes = takes_contexts option given; info = export_shown_if info })
 answering_of Greet c e = absurd (cc)
 answering_of Flags c e = absurd (cc)
 answering_of Choosing c e = absurd (cc)

@@ -9,13 +9,13 @@ use Rattle.nbd_wire.specs.declared.message.Side.TheVariants.{Client, Server}
 use Rattle.nbd_wire.specs.declared.fault.WireFault.TheVariants.{BadMagic, UnknownCookie}
 use Rattle.nbd_wire.specs.protocol.Operations.{Exporting, Operation}
 use Rattle.nbd_wire.specs.protocol.Payloads.{number_at}
-use Rattle.nbd_wire.specs.protocol.States.{Core, Transmission, operation, target}
+use Rattle.nbd_wire.specs.protocol.States.{Core, Transmission, operation, target, in_force}
 use Rattle.nbd_laws.specs.internal.Concrete.{concrete}
 use Rattle.nbd_laws.specs.internal.Decisions.{Decision, awaited_length_by}
 use Rattle.nbd_laws.specs.internal.Judge.{awaited_length, decision, request_unless}
 use Rattle.nbd_laws.specs.internal.JudgeTransmission.{begins, chunk_head_fault, chunk_last_fault, chunk_of, cookie_fault, operation_if, operation_of, reply, reply_by, request, request_of, simple_fault, simple_last_fault, simple_of, simple_payload_length}
 use Rattle.nbd_laws.proofs.judge.AwaitedLemmas.{decision_of}
-use Rattle.nbd_laws.proofs.judge.PhaseLemmas.{IsAppended, Later-appended, Later-disconnected, Later-transmission, Later-turn, target-append}
+use Rattle.nbd_laws.proofs.judge.PhaseLemmas.{IsAppended, Later-appended, Later-disconnected, Later-in_force, Later-transmission, Later-turn, target-append}
 use Rattle.nbd_laws.proofs.judge.SoundLemmas.{kept_later, turn_of_reading}
 use Rattle.nbd_laws.proofs.judge.SteadyLemmas.{IsBegun, IsDeciding, as_chunk, as_neither, as_simple, bytes_are_begun, deciding, entry-append, is_chunk_reply, is_no_reply, is_simple_reply}
 use Rattle.nbd_laws.proofs.machine.MachineLemmas.{Held, Later, Later-trans, at_once, none_held, old-empty, old-filled, some_held}
@@ -28,6 +28,8 @@ use Rattle.nbd_session.specs.Incoming.{IncomingView, bytes_come, incoming_with, 
 use Rattle.nbd_session.specs.internal.Known.{IsCome, IsExpected, IsKnown, IsShort, is_known_by}
 use Rattle.nbd_session.proofs.expecting.KnownLemmas.{expected_awaited}
 use Rattle.nbd_session.proofs.expecting.ReplyLemmas.{placed_within}
+use Rattle.nbd_wire.specs.declared.heads.negotiation.AnswerHead.{AnswerHead}
+use Rattle.nbd_wire.specs.protocol.Contexts.{Context}
 
 -- where something is decided of a rest, it goes on as it began
 pub deciding_rest : {core : Core} {s : Side} {rest : Rest} → Held concrete core s rest → (bytes : List ℕ) (d : Decision) → decision core.phase (old_of core rest) core s bytes ≡ Some d →
@@ -91,19 +93,19 @@ placed_stays core next a (expectations.Exported size flags padded) l = tt
 placed_stays core next a (expectations.Request head) l = tt
 
 -- a request looks at what is outstanding at its last byte alone
-request_stays : (core next : Core) (bytes payload : List ℕ) (h : ℕ) (x : Expected) → request core bytes ≡ expected_decision core x h payload → request next bytes ≡ expected_decision next x h payload
-request_stays core next bytes payload h (expectations.Request r) e =
+request_stays : (contexts : List Context) (core next : Core) (bytes payload : List ℕ) (h : ℕ) (x : Expected) → request contexts core bytes ≡ expected_decision core x h payload → request contexts next bytes ≡ expected_decision next x h payload
+request_stays contexts core next bytes payload h (expectations.Request r) e =
     let m : request_of bytes ≡ messages.Request r.flags r.command r.cookie r.offset r.length payload = ap (λ (d : Decision). d.message) e in
     let c : number_at 6 2 bytes ≡ r.command = cc in
     let k : number_at 8 8 bytes ≡ r.cookie = cc in
     λ i. record { head_length = (e i).head_length; head_fault = (e i).head_fault; payload_length = (e i).payload_length; last_fault = cookie_fault (c i) (target (k i) next.entries); message = (e i).message }
-request_stays core next bytes payload h (expectations.Greeting flags) e = absurd (let m : request_of bytes ≡ messages.Greeting flags = ap (λ (d : Decision). d.message) e in cc)
-request_stays core next bytes payload h (expectations.ClientFlags flags) e = absurd (let m : request_of bytes ≡ messages.ClientFlags flags = ap (λ (d : Decision). d.message) e in cc)
-request_stays core next bytes payload h (expectations.Choice head) e = absurd (let m : request_of bytes ≡ messages.Choice head.id payload = ap (λ (d : Decision). d.message) e in cc)
-request_stays core next bytes payload h (expectations.Answer head proper) e = absurd (let m : request_of bytes ≡ messages.Answer head.option head.kind payload = ap (λ (d : Decision). d.message) e in cc)
-request_stays core next bytes payload h (expectations.Exported size flags padded) e = absurd (let m : request_of bytes ≡ messages.Exported size flags padded = ap (λ (d : Decision). d.message) e in cc)
-request_stays core next bytes payload h (expectations.Simple head place len) e = absurd (let m : request_of bytes ≡ messages.Simple head.error head.cookie payload = ap (λ (d : Decision). d.message) e in cc)
-request_stays core next bytes payload h (expectations.Chunk head place) e = absurd (let m : request_of bytes ≡ messages.Chunk head.flags head.kind head.cookie payload = ap (λ (d : Decision). d.message) e in cc)
+request_stays contexts core next bytes payload h (expectations.Greeting flags) e = absurd (let m : request_of bytes ≡ messages.Greeting flags = ap (λ (d : Decision). d.message) e in cc)
+request_stays contexts core next bytes payload h (expectations.ClientFlags flags) e = absurd (let m : request_of bytes ≡ messages.ClientFlags flags = ap (λ (d : Decision). d.message) e in cc)
+request_stays contexts core next bytes payload h (expectations.Choice head) e = absurd (let m : request_of bytes ≡ messages.Choice head.id payload = ap (λ (d : Decision). d.message) e in cc)
+request_stays contexts core next bytes payload h (expectations.Answer head proper) e = absurd (let m : request_of bytes ≡ messages.Answer head.option head.kind payload = ap (λ (d : Decision). d.message) e in cc)
+request_stays contexts core next bytes payload h (expectations.Exported size flags padded) e = absurd (let m : request_of bytes ≡ messages.Exported size flags padded = ap (λ (d : Decision). d.message) e in cc)
+request_stays contexts core next bytes payload h (expectations.Simple head place len) e = absurd (let m : request_of bytes ≡ messages.Simple head.error head.cookie payload = ap (λ (d : Decision). d.message) e in cc)
+request_stays contexts core next bytes payload h (expectations.Chunk head place) e = absurd (let m : request_of bytes ≡ messages.Chunk head.flags head.kind head.cookie payload = ap (λ (d : Decision). d.message) e in cc)
 
 module _ (export : Exporting) (old core next : Core) (bytes : List ℕ) (a : IsAppended core next) where
   abbrev cookie : ℕ
@@ -148,18 +150,23 @@ no_request true simple export core o bytes flags command cookie offset len paylo
 no_request false true export core o bytes flags command cookie offset len payload e = (cc)
 no_request false false export core o bytes flags command cookie offset len payload e = (cc)
 
+no_answer : (chunk simple : Bool) (export : Exporting) (core : Core) (o : Option Operation) (bytes : List ℕ) (option kind : ℕ) (payload : List ℕ) → (reply_by chunk simple export core o bytes).message ≡ messages.Answer option kind payload → ⊥
+no_answer true simple export core o bytes option kind payload e = (cc)
+no_answer false true export core o bytes option kind payload e = (cc)
+no_answer false false export core o bytes option kind payload e = (cc)
+
 -- the fault at a reply's last byte
 last_stays : (core next : Core) (export : Exporting) → IsAppended core next → (x : Expected) (payload : List ℕ) → IsPlaced core x →
-    ((head : RequestHead) → x ≡ expectations.Request head → ⊥) →
+    ((head : RequestHead) → x ≡ expectations.Request head → ⊥) → ((head : AnswerHead) (proper : Option Bool) → x ≡ expectations.Answer head proper → ⊥) →
     last_fault_by (Transmission export) core x payload ≡ last_fault_by (Transmission export) next x payload
-last_stays core next export a (expectations.Simple head place len) payload l other = ap (λ o. simple_last_fault export o head.error) (sym (operation_stays core next a place (placed_within core.entries head.cookie place l)))
-last_stays core next export a (expectations.Chunk head place) payload l other = ap (λ o. chunk_fault_to export o head.flags head.kind head.cookie payload) (sym (operation_stays core next a place (placed_within core.entries head.cookie place l)))
-last_stays core next export a (expectations.Request head) payload l other = absurd (other head refl)
-last_stays core next export a (expectations.Greeting flags) payload l other = refl
-last_stays core next export a (expectations.ClientFlags flags) payload l other = refl
-last_stays core next export a (expectations.Choice head) payload l other = refl
-last_stays core next export a (expectations.Answer head proper) payload l other = refl
-last_stays core next export a (expectations.Exported size flags padded) payload l other = refl
+last_stays core next export a (expectations.Simple head place len) payload l other answer = ap (λ o. simple_last_fault export o head.error) (sym (operation_stays core next a place (placed_within core.entries head.cookie place l)))
+last_stays core next export a (expectations.Chunk head place) payload l other answer = ap (λ o. chunk_fault_to export o head.flags head.kind head.cookie payload) (sym (operation_stays core next a place (placed_within core.entries head.cookie place l)))
+last_stays core next export a (expectations.Request head) payload l other answer = absurd (other head refl)
+last_stays core next export a (expectations.Greeting flags) payload l other answer = refl
+last_stays core next export a (expectations.ClientFlags flags) payload l other answer = refl
+last_stays core next export a (expectations.Choice head) payload l other answer = refl
+last_stays core next export a (expectations.Answer head proper) payload l other answer = absurd (answer head proper refl)
+last_stays core next export a (expectations.Exported size flags padded) payload l other answer = refl
 
 module _ (old core next : Core) (export : Exporting) (before : core.phase ≡ Transmission export) (after : next.phase ≡ Transmission export) (head : List ℕ) (x : Expected) where
   expected_reply : IsAppended core next → IsExpected (decision core.phase old core Server) core head x → IsExpected (decision next.phase old next Server) next head x
@@ -173,18 +180,21 @@ module _ (old core next : Core) (export : Exporting) (before : core.phase ≡ Tr
           let no : (r : RequestHead) → x ≡ expectations.Request r → ⊥ = λ r q.
           no_request (begins CHUNK_MAGIC b) (begins SIMPLE_MAGIC b) export core (operation_of old core (number_at 8 8 b)) b r.flags r.command r.cookie r.offset r.length payload
           (ap (λ (d : Decision). d.message) e ∙ ap (λ y. message_of y payload) q) in
+          let none : (r : AnswerHead) (proper : Option Bool) → x ≡ expectations.Answer r proper → ⊥ = λ r proper q.
+          no_answer (begins CHUNK_MAGIC b) (begins SIMPLE_MAGIC b) export core (operation_of old core (number_at 8 8 b)) b r.option r.kind payload (ap (λ (d : Decision). d.message) e ∙ ap (λ y. message_of y payload) q) in
           let last : last_fault_by core.phase core x payload ≡ last_fault_by next.phase next x payload =
-          ap (λ p. last_fault_by p core x payload) before ∙ last_stays core next export a x payload known.placed no ∙ sym (ap (λ p. last_fault_by p next x payload) after) in
+          ap (λ p. last_fault_by p core x payload) before ∙ last_stays core next export a x payload known.placed no none ∙ sym (ap (λ p. last_fault_by p next x payload) after) in
           ap (λ p. decision p old next Server b) after
           ∙ ap Some (reply_stays export old core next b a (bytes_are_begun b) (ap (λ (d : Decision). d.head_fault) e) ∙ e
           ∙ (λ i. record { head_length = length head; head_fault = None; payload_length = payload_length_of x; last_fault = last i; message = message_of x payload }))
 
-  expected_request : next.disconnected ≡ core.disconnected → IsPlaced next x → IsExpected (decision core.phase old core Client) core head x → IsExpected (decision next.phase old next Client) next head x
-  expected_request disconnected placed known = record { filled = known.filled; placed = placed; is = is }
+  expected_request : next.disconnected ≡ core.disconnected → in_force next ≡ in_force core → IsPlaced next x → IsExpected (decision core.phase old core Client) core head x → IsExpected (decision next.phase old next Client) next head x
+  expected_request disconnected contexts placed known = record { filled = known.filled; placed = placed; is = is }
     where
       by : (b : Bool) (payload : List ℕ) → request_unless b core (head ++ payload) ≡ Some (expected_decision core x (length head) payload) → request_unless b next (head ++ payload) ≡ Some (expected_decision next x (length head) payload)
       by true payload e = absurd (cc)
-      by false payload e = ap Some (request_stays core next (head ++ payload) payload (length head) x (same_Some _ _ e))
+      by false payload e =
+          ap (λ cs. Some (request cs next (head ++ payload))) contexts ∙ ap Some (request_stays (in_force core) core next (head ++ payload) payload (length head) x (same_Some _ _ e))
 
       is : (payload : List ℕ) → decision next.phase old next Client (head ++ payload) ≡ Some (expected_decision next x (length head) payload)
       is payload =
@@ -193,25 +203,25 @@ module _ (old core next : Core) (export : Exporting) (before : core.phase ≡ Tr
           ∙ by core.disconnected payload (sym (ap (λ p. decision p old core Client (head ++ payload)) before) ∙ known.is payload)
 
 -- a request answers no request
-placed_request : (core next : Core) (bytes payload : List ℕ) (h : ℕ) (x : Expected) → request core bytes ≡ expected_decision core x h payload → IsPlaced next x
-placed_request core next bytes payload h (expectations.Simple head place len) e = absurd (let m : request_of bytes ≡ messages.Simple head.error head.cookie payload = ap (λ (d : Decision). d.message) e in cc)
-placed_request core next bytes payload h (expectations.Chunk head place) e = absurd (let m : request_of bytes ≡ messages.Chunk head.flags head.kind head.cookie payload = ap (λ (d : Decision). d.message) e in cc)
-placed_request core next bytes payload h (expectations.Greeting flags) e = tt
-placed_request core next bytes payload h (expectations.ClientFlags flags) e = tt
-placed_request core next bytes payload h (expectations.Choice head) e = tt
-placed_request core next bytes payload h (expectations.Answer head proper) e = tt
-placed_request core next bytes payload h (expectations.Exported size flags padded) e = tt
-placed_request core next bytes payload h (expectations.Request head) e = tt
+placed_request : (contexts : List Context) (core next : Core) (bytes payload : List ℕ) (h : ℕ) (x : Expected) → request contexts core bytes ≡ expected_decision core x h payload → IsPlaced next x
+placed_request contexts core next bytes payload h (expectations.Simple head place len) e = absurd (let m : request_of bytes ≡ messages.Simple head.error head.cookie payload = ap (λ (d : Decision). d.message) e in cc)
+placed_request contexts core next bytes payload h (expectations.Chunk head place) e = absurd (let m : request_of bytes ≡ messages.Chunk head.flags head.kind head.cookie payload = ap (λ (d : Decision). d.message) e in cc)
+placed_request contexts core next bytes payload h (expectations.Greeting flags) e = tt
+placed_request contexts core next bytes payload h (expectations.ClientFlags flags) e = tt
+placed_request contexts core next bytes payload h (expectations.Choice head) e = tt
+placed_request contexts core next bytes payload h (expectations.Answer head proper) e = tt
+placed_request contexts core next bytes payload h (expectations.Exported size flags padded) e = tt
+placed_request contexts core next bytes payload h (expectations.Request head) e = tt
 
 by_side : (s : Side) (old core next : Core) (export : Exporting) (head : List ℕ) (x : Expected) → Later s core next → core.phase ≡ Transmission export → next.phase ≡ Transmission export →
     IsExpected (decision core.phase old core s) core head x → IsExpected (decision next.phase old next s) next head x
 by_side Server old core next export head x l before after known = expected_reply old core next export before after head x (Later-appended l export before) known
 by_side Client old core next export head x l before after known =
-    expected_request old core next export before after head x (Later-disconnected l) (go core.disconnected (sym (ap (λ p. decision p old core Client (head ++ [])) before) ∙ known.is [])) known
+    expected_request old core next export before after head x (Later-disconnected l) (Later-in_force l export before) (go core.disconnected (sym (ap (λ p. decision p old core Client (head ++ [])) before) ∙ known.is [])) known
   where
     go : (b : Bool) → request_unless b core (head ++ []) ≡ Some (expected_decision core x (length head) []) → IsPlaced next x
     go true e = absurd (cc)
-    go false e = placed_request core next (head ++ []) [] (length head) x (same_Some _ _ e)
+    go false e = placed_request (in_force core) core next (head ++ []) [] (length head) x (same_Some _ _ e)
 
 -- what a whole head says stays
 pub expected_stays : {core : Core} {s : Side} {rest : Rest} → Held concrete core s rest → IsFilled rest.bytes → (next : Core) → Later s core next → (head : List ℕ) (x : Expected) →

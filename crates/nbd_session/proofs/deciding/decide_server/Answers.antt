@@ -28,8 +28,8 @@ returns-in-Answering-clause-refused c =
     if_err c.answer.result _ _ c.answer.ensures.refused
     (λ fault bad core s. let a = answering_of core.phase c.in-Answering.chosen (sym c.in-Answering.is ∙ s.phase_is) in
     refused_in c.args.counted core Server c.args.head.now fault (definitions.Answering a.0 a.1 a.2) _ a.3 refl (sym len)
-    ((λ i. (answer (sym a.4 i).option (sym a.4 i).proper (sym (exporting-shown a.2) i) c.args.head.now).head_fault)
-    ∙ (λ i. (answer c.in-Answering.chosen.option c.in-Answering.chosen.proper (exporting_if (sym a.4 i).info) c.args.head.now).head_fault) ∙ bad))
+    ((λ i. (answer (sym s.profile_is i) (sym a.4 i).option (sym a.4 i).proper (sym a.4 i).takes (sym (exporting-shown a.2) i) core.selection c.args.head.now).head_fault)
+    ∙ (λ i. (answer c.args.state.now.profile c.in-Answering.chosen.option c.in-Answering.chosen.proper c.in-Answering.chosen.takes (exporting_if (sym a.4 i).info) core.selection c.args.head.now).head_fault) ∙ bad core.selection))
 
 pub returns-in-Transmission-clause-refused : goal.returns-in-Transmission-clause-refused
 returns-in-Transmission-clause-refused c =
