@@ -5,14 +5,15 @@ use Rattle.std.specs.declared.vec.Vec.{Vec}
 use Rattle.nbd_wire.specs.declared.entry.Entry.{Entry}
 use Rattle.nbd_wire.specs.declared.message.Message.{Message}
 use Rattle.nbd_wire.specs.declared.message.Side.{Side}
-use Rattle.nbd_wire.specs.protocol.Explains.{IsExplained, Start}
+use Rattle.nbd_wire.specs.declared.profile.Profile.{Profile}
+use Rattle.nbd_wire.specs.protocol.Explains.{IsExplainedOf, Start}
 use Rattle.nbd_wire.specs.protocol.Marks.{Item, pairs}
 use Rattle.nbd_wire.specs.protocol.Captures.{Pair}
 use Rattle.nbd_wire.specs.protocol.Reports.{report}
-use Rattle.nbd_wire.specs.protocol.Rules.{IsRun}
+use Rattle.nbd_wire.specs.protocol.Rules.{IsRunOf}
 use Rattle.nbd_session.specs.declared.fault.SessionFault.{SessionFault}
 use Rattle.nbd_session.specs.declared.fault.SessionFault.TheVariants as session
-use Rattle.nbd_session.specs.Refusals.{IsWireFault}
+use Rattle.nbd_session.specs.Refusals.{IsWireFaultOf}
 use Rattle.nbd_judge.specs.declared.verdict.Verdict.{Verdict}
 use Rattle.nbd_judge.specs.declared.verdict.Verdict.TheVariants.{Yes, Wire, Image, Order, Content}
 use Rattle.nbd_judge.specs.Conclusions.{Answers}
@@ -26,34 +27,38 @@ record_of chunk = (chunk.0, chunk.1.items)
 abbrev pub records_of : List (Side × Vec ℕ Global) → List (Side × List ℕ)
 records_of chunks = map record_of chunks
 
--- a session over the capture ends in this fault; of out of memory nothing is said
-abbrev pub IsFaultOf : List Pair → SessionFault → Type 0
-IsFaultOf capture (session.Wire at fault) = (messages : List Message) × IsWireFault capture messages at fault
-IsFaultOf capture session.Memory = Unit {0}
+-- a session of the profile over the capture ends in this fault; of out of memory nothing is said
+abbrev pub IsFaultOf : Profile → List Pair → SessionFault → Type 0
+IsFaultOf profile capture (session.Wire at fault) =
+    (messages : List Message) × IsWireFaultOf profile capture messages at fault
+IsFaultOf profile capture session.Memory = Unit {0}
 
--- some run has these bytes, and the verdict is that on the report of each such run
-pub record HasVerdict (capture : List Pair) (order : List Entry) (initial : Start) (v : Verdict) : Type 0 where
+-- some run of the profile has these bytes, and the verdict is that on the report of each such run
+pub record HasVerdict (profile : Profile) (capture : List Pair) (order : List Entry) (initial : Start)
+    (v : Verdict) : Type 0 where
   pub items : List Item
-  pub is_run : IsRun items
+  pub is_run : IsRunOf profile items
   pub has_pairs : pairs items ≡ capture
-  pub is_verdict : (others : List Item) → IsRun others → pairs others ≡ capture
+  pub is_verdict : (others : List Item) → IsRunOf profile others → pairs others ≡ capture
       → IsVerdict (report others) order initial v
-  pub answers : Answers capture order initial v
+  pub answers : Answers profile capture order initial v
 
--- the verdict on a capture: that on its run, or where no run has its bytes its wire fault
-abbrev pub IsChecked : List Pair → List Entry → Start → Verdict → Type 0
-IsChecked capture order initial (Wire at fault) = IsFaultOf capture (session.Wire at fault)
-IsChecked capture order initial (Yes of_requests of_answered of_improper) =
-    HasVerdict capture order initial (Yes of_requests of_answered of_improper)
-IsChecked capture order initial (Image image size) = HasVerdict capture order initial (Image image size)
-IsChecked capture order initial (Order entry fault) = HasVerdict capture order initial (Order entry fault)
-IsChecked capture order initial (Content request offset) = HasVerdict capture order initial (Content request offset)
+-- the verdict on a capture: that on its run of the profile, or where no such run has its bytes its wire fault
+abbrev pub IsChecked : Profile → List Pair → List Entry → Start → Verdict → Type 0
+IsChecked profile capture order initial (Wire at fault) = IsFaultOf profile capture (session.Wire at fault)
+IsChecked profile capture order initial (Yes of_requests of_answered of_improper) =
+    HasVerdict profile capture order initial (Yes of_requests of_answered of_improper)
+IsChecked profile capture order initial (Image image size) = HasVerdict profile capture order initial (Image image size)
+IsChecked profile capture order initial (Order entry fault) =
+    HasVerdict profile capture order initial (Order entry fault)
+IsChecked profile capture order initial (Content request offset) =
+    HasVerdict profile capture order initial (Content request offset)
 
 -- the verdict is a yes
 abbrev pub SaysYes : Verdict → Type 0
 SaysYes (Yes of_requests of_answered of_improper) = Unit {0}
 SaysYes _ = ⊥
 
--- the verdict is a yes exactly where the order explains the capture
-abbrev pub AnswersExactly : List Pair → List Entry → Start → Verdict → Type 0
-AnswersExactly capture order initial v = SaysYes v ↔ IsExplained capture order initial
+-- the verdict is a yes exactly where the order explains the capture, in the profile
+abbrev pub AnswersExactly : Profile → List Pair → List Entry → Start → Verdict → Type 0
+AnswersExactly profile capture order initial v = SaysYes v ↔ IsExplainedOf profile capture order initial

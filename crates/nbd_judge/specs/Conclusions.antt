@@ -1,12 +1,13 @@
 -- What a verdict concludes from a session, and what it says of the runs with that session's report.
 use Rattle.std.specs.Prelude.{List, ◌≡◌, Result, Ok, Err}
 use Rattle.nbd_wire.specs.declared.entry.Entry.{Entry}
+use Rattle.nbd_wire.specs.declared.profile.Profile.{Profile}
 use Rattle.nbd_wire.specs.protocol.Explains.{Start}
 use Rattle.nbd_wire.specs.protocol.Marks.{Item, pairs, service_order}
 use Rattle.nbd_wire.specs.protocol.Captures.{Pair}
 use Rattle.nbd_wire.specs.protocol.Reports.{Report, report}
-use Rattle.nbd_wire.specs.protocol.Rules.{IsRun}
-use Rattle.nbd_laws.specs.Explaining.{IsNo, IsYes}
+use Rattle.nbd_wire.specs.protocol.Rules.{IsRunOf}
+use Rattle.nbd_laws.specs.Explaining.{IsNoOf, IsYesOf}
 use Rattle.nbd_session.specs.declared.fault.SessionFault.{SessionFault}
 use Rattle.nbd_session.specs.declared.fault.SessionFault.TheVariants as session
 use Rattle.nbd_judge.specs.declared.verdict.Verdict.{Verdict}
@@ -24,26 +25,28 @@ abbrev pub IsReportOf : List Item → Result Report SessionFault → Type 0
 IsReportOf items (Ok r) = report items ≡ r
 IsReportOf items (Err fault) = ⊥
 
--- no run with these bytes is served in this order
-abbrev pub IsUnserved : List Pair → List Entry → Type 0
-IsUnserved capture order = (items : List Item) → IsRun items → pairs items ≡ capture → service_order items ≡ order → ⊥
+-- no run of the profile with these bytes is served in this order
+abbrev pub IsUnserved : Profile → List Pair → List Entry → Type 0
+IsUnserved profile capture order =
+    (items : List Item) → IsRunOf profile items → pairs items ≡ capture → service_order items ≡ order → ⊥
 
--- of an Order verdict: no run with these bytes is served in this order
-abbrev pub LeavesUnserved : List Pair → List Entry → Verdict → Type 0
-LeavesUnserved capture order (Order entry fault) = IsUnserved capture order
-LeavesUnserved capture order _ = Unit {0}
+-- of an Order verdict: no run of the profile with these bytes is served in this order
+abbrev pub LeavesUnserved : Profile → List Pair → List Entry → Verdict → Type 0
+LeavesUnserved profile capture order (Order entry fault) = IsUnserved profile capture order
+LeavesUnserved profile capture order _ = Unit {0}
 
--- what a verdict says of a capture that is the bytes of a run: Yes that the order explains it, with its counts, every
--- other that it does not; Order that no run with these bytes is served so
-abbrev pub Answers : List Pair → List Entry → Start → Verdict → Type 0
-Answers capture order initial (Yes of_requests of_answered of_improper) =
-    IsYes capture order initial of_requests of_answered of_improper
-Answers capture order initial (Order entry fault) = IsNo capture order initial × IsUnserved capture order
-Answers capture order initial (Content request offset) = IsNo capture order initial
-Answers capture order initial (Image image size) = IsNo capture order initial
-Answers capture order initial (Wire at fault) = ⊥
+-- what a verdict says of a capture that is the bytes of a run of the profile: Yes that the order explains it, with its
+-- counts, every other that it does not; Order that no such run with these bytes is served so
+abbrev pub Answers : Profile → List Pair → List Entry → Start → Verdict → Type 0
+Answers profile capture order initial (Yes of_requests of_answered of_improper) =
+    IsYesOf profile capture order initial of_requests of_answered of_improper
+Answers profile capture order initial (Order entry fault) =
+    IsNoOf profile capture order initial × IsUnserved profile capture order
+Answers profile capture order initial (Content request offset) = IsNoOf profile capture order initial
+Answers profile capture order initial (Image image size) = IsNoOf profile capture order initial
+Answers profile capture order initial (Wire at fault) = ⊥
 
--- the verdict on the report of a run says what holds of its bytes
+-- the verdict on the report of a run of any profile says what holds of its bytes
 abbrev pub VerdictsAnswerRuns : Type 0
-VerdictsAnswerRuns = (items : List Item) (order : List Entry) (initial : Start) (v : Verdict) → IsRun items
-    → IsVerdict (report items) order initial v → Answers (pairs items) order initial v
+VerdictsAnswerRuns = (profile : Profile) (items : List Item) (order : List Entry) (initial : Start) (v : Verdict)
+    → IsRunOf profile items → IsVerdict (report items) order initial v → Answers profile (pairs items) order initial v

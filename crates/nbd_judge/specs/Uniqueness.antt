@@ -3,10 +3,11 @@ use Rattle.std.specs.Prelude.{ℕ, List, ◌≡◌, Option}
 use Rattle.nbd_wire.specs.declared.entry.Entry.{Entry}
 use Rattle.nbd_wire.specs.declared.fault.WireFault.{WireFault}
 use Rattle.nbd_wire.specs.declared.message.Message.{Message}
+use Rattle.nbd_wire.specs.declared.profile.Profile.{Profile}
 use Rattle.nbd_wire.specs.protocol.Captures.{Pair}
 use Rattle.nbd_wire.specs.protocol.Explains.{Start}
 use Rattle.nbd_wire.specs.protocol.Reports.{Report}
-use Rattle.nbd_session.specs.Refusals.{IsWireFault}
+use Rattle.nbd_session.specs.Refusals.{IsWireFaultOf}
 use Rattle.nbd_judge.specs.Captures.{IsChecked}
 use Rattle.nbd_judge.specs.Verdicts.{IsJudged, IsVerdict}
 use Rattle.nbd_judge.specs.declared.verdict.Verdict.{Verdict}
@@ -21,14 +22,15 @@ abbrev pub OneVerdict : Type 0
 OneVerdict = (r : Report) (order : List Entry) (initial : Start) (v w : Verdict) → IsVerdict r order initial v
     → IsVerdict r order initial w → v ≡ w
 
--- a capture is refused in one way at most: at one byte, with one fault, after the same messages
+-- in a profile a capture is refused in one way at most: at one byte, with one fault, after the same messages
 abbrev pub OneWireFault : Type 0
-OneWireFault = (capture : List Pair) (messages more : List Message) (at place : ℕ) (fault other : WireFault) →
-    IsWireFault capture messages at fault → IsWireFault capture more place other →
+OneWireFault = (profile : Profile) (capture : List Pair) (messages more : List Message) (at place : ℕ)
+    (fault other : WireFault) → IsWireFaultOf profile capture messages at fault
+    → IsWireFaultOf profile capture more place other →
     (at ≡ place) × (fault ≡ other) × (messages ≡ more)
 
--- a capture, an order and a start have one answer at most; so two lists of records with one flat capture get equal
--- answers
+-- in a profile a capture, an order and a start have one answer at most; so two lists of records with one flat capture
+-- get equal answers
 abbrev pub OneAnswer : Type 0
-OneAnswer = (capture : List Pair) (order : List Entry) (initial : Start) (v w : Verdict) →
-    IsChecked capture order initial v → IsChecked capture order initial w → v ≡ w
+OneAnswer = (profile : Profile) (capture : List Pair) (order : List Entry) (initial : Start) (v w : Verdict) →
+    IsChecked profile capture order initial v → IsChecked profile capture order initial w → v ≡ w

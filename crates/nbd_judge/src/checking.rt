@@ -1,6 +1,7 @@
 //! The verdict on a capture.
 
 ghost use Rattle.std.specs.Prelude.{◌<◌, ◌^◌, IfErr, IfOk, length};
+ghost use Rattle.nbd_wire.specs.declared.profile.Profile.TheVariants.{Base};
 ghost use Rattle.nbd_wire.specs.protocol.Captures.{flat};
 ghost use Rattle.nbd_judge.specs.Beginnings.{initial_of};
 ghost use Rattle.nbd_judge.specs.Captures.{AnswersExactly, IsChecked, IsFaultOf, records_of};
@@ -9,13 +10,12 @@ ghost use Rattle.nbd_judge.specs.internal.Captures.{HasReport};
 use crate::{Verdict, conclude};
 use nbd_export::Start;
 use nbd_session::{Session, SessionFault, Transcript};
-use nbd_wire::{Entry, Side};
+use nbd_wire::{Entry, Profile, Side};
 use std::alloc::{AllocError, Global};
 
-/// Checks a capture, given in chunks of any size, against an order of service and what the export held
-/// at first. The chunks must have fewer than 2^63 bytes together. Only the
-/// sequence of bytes with their senders counts, not where chunks are cut. An `Err` says that memory
-/// ran out.
+/// Checks a capture in the profile `Base`, given in chunks of any size, against an order of service and what the
+/// export held at first. The chunks must have fewer than 2^63 bytes together. Only the sequence of bytes with
+/// their senders counts, not where chunks are cut. An `Err` says that memory ran out.
 pub fn check(
     alloc: Global,
     chunks: &[(Side, Vec<u8>)],
@@ -23,21 +23,43 @@ pub fn check(
     start: Start,
 ) -> Result<Verdict, AllocError>
     requires { length (flat (records_of chunks.now)) < 2 ^ 63 }
-    ensures verdict { IfOk result (IsChecked (flat (records_of chunks.now)) order.now (initial_of start)) }
+    ensures verdict { IfOk result (IsChecked Base (flat (records_of chunks.now)) order.now (initial_of start)) }
     // Yes is said of exactly the captures that the order explains.
-    ensures exactly { IfOk result (AnswersExactly (flat (records_of chunks.now)) order.now (initial_of start)) }
+    ensures exactly { IfOk result (AnswersExactly Base (flat (records_of chunks.now)) order.now (initial_of start)) }
 {
-    let finished = session_over(alloc, chunks);
+    check_of(alloc, Profile::Base, chunks, order, start)
+}
+
+/// Checks a capture as `check` does, in this profile: its session is held to the rules of the profile, and its verdict
+/// is said of the profile's runs. The chunks must have fewer than 2^63 bytes together. An `Err` says that memory ran
+/// out.
+pub fn check_of(
+    alloc: Global,
+    profile: Profile,
+    chunks: &[(Side, Vec<u8>)],
+    order: &[Entry],
+    start: Start,
+) -> Result<Verdict, AllocError>
+    requires { length (flat (records_of chunks.now)) < 2 ^ 63 }
+    ensures verdict { IfOk result (IsChecked profile (flat (records_of chunks.now)) order.now (initial_of start)) }
+    // Yes is said of exactly the captures that the order explains, in this profile.
+    ensures exactly { IfOk result (AnswersExactly profile (flat (records_of chunks.now)) order.now (initial_of start)) }
+{
+    let finished = session_over(alloc, profile, chunks);
     conclude(alloc, finished, order, start)
 }
 
-// What a session over these chunks finishes with.
-fn session_over(alloc: Global, chunks: &[(Side, Vec<u8>)]) -> Result<Transcript, SessionFault>
+// What a session of this profile over these chunks finishes with.
+fn session_over(
+    alloc: Global,
+    profile: Profile,
+    chunks: &[(Side, Vec<u8>)],
+) -> Result<Transcript, SessionFault>
     requires { length (flat (records_of chunks.now)) < 2 ^ 63 }
-    ensures report { IfOk result (HasReport (flat (records_of chunks.now))) }
-    ensures wire { IfErr result (IsFaultOf (flat (records_of chunks.now))) }
+    ensures report { IfOk result (HasReport profile (flat (records_of chunks.now))) }
+    ensures wire { IfErr result (IsFaultOf profile (flat (records_of chunks.now))) }
 {
-    let mut session = Session::new(alloc);
+    let mut session = Session::of(alloc, profile);
     for (side, bytes) in chunks {
         session.push(*side, bytes)?;
     }

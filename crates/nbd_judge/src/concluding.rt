@@ -2,7 +2,8 @@
 
 ghost use Rattle.std.specs.Prelude.{◌≡◌, ℕ, List, IfOk, Ok, Err};
 ghost use Rattle.nbd_wire.specs.protocol.Marks.{Item, pairs};
-ghost use Rattle.nbd_wire.specs.protocol.Rules.{IsRun};
+ghost use Rattle.nbd_wire.specs.declared.profile.Profile.{Profile};
+ghost use Rattle.nbd_wire.specs.protocol.Rules.{IsRunOf};
 ghost use Rattle.nbd_wire.specs.declared.fault.WireFault.{WireFault};
 ghost use Rattle.nbd_session.specs.declared.fault.SessionFault.TheVariants as session;
 ghost use Rattle.nbd_judge.specs.declared.verdict.Verdict.TheVariants as verdict;
@@ -28,9 +29,9 @@ pub fn conclude(
     ensures verdict { IfOk result (IsConclusion finished order.now (initial_of start)) }
     ensures wire { (at : ℕ) (fault : WireFault) → finished ≡ Err (session.Wire at fault) →
         result ≡ Ok (verdict.Wire at fault) }
-    // Yes is said of exactly the runs with this report that the order explains, no of the others.
-    ensures answers { IfOk result (λ v. (items : List Item) → IsRun items → IsReportOf items finished →
-        Answers (pairs items) order.now (initial_of start) v) }
+    // Of the runs with this report, of any profile, yes is said of exactly those that the order explains, no of the others.
+    ensures answers { IfOk result (λ v. (profile : Profile) (items : List Item) → IsRunOf profile items →
+        IsReportOf items finished → Answers profile (pairs items) order.now (initial_of start) v) }
 {
     laws::verdicts_answer_runs();
     match finished {

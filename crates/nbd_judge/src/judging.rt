@@ -1,9 +1,10 @@
 //! The verdict on the report of a session.
 
 ghost use Rattle.std.specs.Prelude.{◌≡◌, ℕ, List, IfOk};
+ghost use Rattle.nbd_wire.specs.declared.profile.Profile.{Profile};
 ghost use Rattle.nbd_wire.specs.protocol.Marks.{Item, pairs};
 ghost use Rattle.nbd_wire.specs.protocol.Reports.{report};
-ghost use Rattle.nbd_wire.specs.protocol.Rules.{IsRun};
+ghost use Rattle.nbd_wire.specs.protocol.Rules.{IsRunOf};
 ghost use Rattle.nbd_judge.specs.Conclusions.{LeavesUnserved};
 ghost use Rattle.nbd_judge.specs.Servable.{size_of};
 ghost use Rattle.nbd_judge.specs.Verdicts.{IsJudged};
@@ -29,9 +30,9 @@ pub fn judge<C: Contents>(
     // The contents have the export's size, or none where transmission was not reached.
     requires { C.size contents.old ≡ size_of transcript.now.export }
     ensures judged { IfOk result (IsJudged transcript.now order.now (C.byte contents.old)) }
-    // Order is said only where no run with the bytes of this session is served in that order.
-    ensures unserved { IfOk result (λ v. (items : List Item) → IsRun items → report items ≡ transcript.now →
-        LeavesUnserved (pairs items) order.now v) }
+    // Order is said only where no run with the bytes of this session, of any profile, is served in that order.
+    ensures unserved { IfOk result (λ v. (profile : Profile) (items : List Item) → IsRunOf profile items →
+        report items ≡ transcript.now → LeavesUnserved profile (pairs items) order.now v) }
 {
     if let Some((entry, fault)) = order_fault(alloc, transcript, order)? {
         return Ok(Verdict::Order { entry, fault });

@@ -22,20 +22,20 @@ pub fn one_verdict()
     ensures { OneVerdict }
 {}
 
-/// A capture is refused in one way at most.
+/// In a profile a capture is refused in one way at most.
 pub fn one_wire_fault()
     ensures { OneWireFault }
 {}
 
-/// A capture, an order and a start have one answer at most. So where a capture was cut into records does
-/// not count: two lists of records with one flat capture get equal answers from `check` where both are Ok.
+/// In a profile a capture, an order and a start have one answer at most. So where a capture was cut into records
+/// does not count: two lists of records with one flat capture get equal answers from `check_of` where both are Ok.
 pub fn one_answer()
     ensures { OneAnswer }
 {}
 
-/// The verdict on the report of a run says what holds of its bytes: Yes exactly where the order explains
-/// them, with the counts that each run with these bytes has, and Order only where no run with these bytes
-/// is served in that order.
+/// The verdict on the report of a run of a profile says what holds of its bytes in that profile: Yes exactly where
+/// the order explains them, with the counts that each run with these bytes has, and Order only where no run with
+/// these bytes is served in that order.
 pub fn verdicts_answer_runs()
     ensures { VerdictsAnswerRuns }
 {

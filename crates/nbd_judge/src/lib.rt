@@ -19,7 +19,7 @@ mod tally;
 mod tests;
 pub mod verdict;
 
-pub use checking::check;
+pub use checking::{check, check_of};
 pub use concluding::{conclude, verdict_on};
 pub use judging::judge;
 pub use rules::{Breaker, CONTENT_RULE, IMAGE_RULE, Rule, order_rule, wire_rule};

@@ -1,14 +1,14 @@
 -- What is found of a report, and of the runs with that report.
 use Rattle.std.proofs.Common.{◌≡◌, ℕ, zero, suc, List, [], ◌∷◌, refl, sym, subst, Option, Some, None}
 use Rattle.std.proofs.lemmas.List.Elements.{All-append, All-cons, All-nil}
-use Rattle.nbd_wire.specs.declared.profile.Profile.TheVariants.{Base}
+use Rattle.nbd_wire.specs.declared.profile.Profile.{Profile}
 use Rattle.nbd_wire.specs.declared.entry.Entry.{Entry}
 use Rattle.nbd_wire.specs.protocol.Entries.{whole}
 use Rattle.nbd_wire.specs.protocol.Explains.{FitsImage, Image, Start, Unknown, Zeroes}
 use Rattle.nbd_wire.specs.protocol.Marks.{Item}
 use Rattle.nbd_wire.specs.protocol.Operations.{Exporting}
 use Rattle.nbd_wire.specs.protocol.Reports.{Report, report}
-use Rattle.nbd_wire.specs.protocol.Rules.{IsRun}
+use Rattle.nbd_wire.specs.protocol.Rules.{IsRunOf}
 use Rattle.nbd_wire.specs.protocol.Verdicts.{Passes, answered_count, improper_count, request_count}
 use Rattle.nbd_laws.specs.Explaining.{ExplainedPasses, PassingIsExplained}
 use Rattle.nbd_judge.specs.Images.{IsOtherSize}
@@ -31,14 +31,14 @@ other_size_fits (Some export) Zeroes image size o f = o
 other_size_fits None initial image size o f = o
 
 pub found_is_so : PassingIsExplained → ExplainedPasses → RefutedIsUnexplained → FoundIsSo
-found_is_so passing only refuted items initial (Order order) is_run found = passing Base items order.items initial is_run found
-found_is_so passing only refuted items initial (Unexplained refutation) is_run found = refuted items initial refutation.offset refutation.reads.items is_run found
-found_is_so passing only refuted items initial (FoundImage image size) is_run found = λ order explained.
-    other_size_fits (report items).export initial image size found (only Base items order initial is_run explained).fits_image
-found_is_so passing only refuted items initial NoneWhole is_run found = λ explained.
-    found (only Base items (arrival (request_count (report items))) initial is_run explained)
-found_is_so passing only refuted items initial (GaveUp request offset reason) is_run found = λ explained.
-    found (only Base items (arrival (request_count (report items))) initial is_run explained)
+found_is_so passing only refuted profile items initial (Order order) is_run found = passing profile items order.items initial is_run found
+found_is_so passing only refuted profile items initial (Unexplained refutation) is_run found = refuted profile items initial refutation.offset refutation.reads.items is_run found
+found_is_so passing only refuted profile items initial (FoundImage image size) is_run found = λ order explained.
+    other_size_fits (report items).export initial image size found (only profile items order initial is_run explained).fits_image
+found_is_so passing only refuted profile items initial NoneWhole is_run found = λ explained.
+    found (only profile items (arrival (request_count (report items))) initial is_run explained)
+found_is_so passing only refuted profile items initial (GaveUp request offset reason) is_run found = λ explained.
+    found (only profile items (arrival (request_count (report items))) initial is_run explained)
 
 pub passes : (r : Report) (order : List Entry) (initial : Start) (a b c : ℕ) → IsVerdict r order initial (Yes a b c) → Passes r order initial
 passes r order initial a b c v = record { faultless = v.1.0; fits_image = v.0; reads = v.1.1 }
@@ -52,8 +52,9 @@ does_not_pass one r order initial v h other p =
     (one r order initial v (Yes (request_count r) (answered_count r) (improper_count r)) h (judged_yes r order initial p))
 
 -- what is found of a report is so of the bytes of each run with it
-pub says_of : FoundIsSo → (r : Report) (initial : Start) (found : Found) → IsFound r initial found → (items : List Item) → IsRun items → report items ≡ r → Says items initial found
-says_of law r initial found f items is_run same = law items initial found is_run (subst (λ q. IsFound q initial found) (sym same) f)
+pub says_of : FoundIsSo → (r : Report) (initial : Start) (found : Found) → IsFound r initial found → (profile : Profile) (items : List Item) → IsRunOf profile items → report items ≡ r
+    → Says profile items initial found
+says_of law r initial found f profile items is_run same = law profile items initial found is_run (subst (λ q. IsFound q initial found) (sym same) f)
 
 -- an answer that is not proved may be given where the order of arrival does not explain the report, whatever is wanted
 pub open_found : (r : Report) (initial : Start) (f : Found) → IsOpen f → FailsArrival r initial → IsFound r initial f

@@ -3,7 +3,6 @@ use Rattle.std.proofs.Common.{◌≡◌, ℕ, zero, suc, ◌<◌, ◌≤◌, inl
 use Rattle.std.proofs.Math.Seq.{take-length}
 use Rattle.std.proofs.lemmas.Bool.{and_from, and_parts, both_ways, cases_Bool, eqb-true, false_from_ne_true, or_cases, or_from, or_left, or_right}
 use Rattle.std.proofs.lemmas.Option.{slice_get_cases}
-use Rattle.nbd_wire.specs.declared.profile.Profile.TheVariants.{Base}
 use Rattle.nbd_wire.specs.declared.entry.Entry.{Entry}
 use Rattle.nbd_wire.specs.declared.entry.Part.{Part}
 use Rattle.nbd_wire.specs.protocol.Entries.{in_part, is_served}
@@ -292,6 +291,6 @@ pub refuted : (r : Report) (initial : ℕ → Option ℕ) (x : ℕ) (reads chang
 refuted r initial x reads changes states s order whole right = contradiction r initial x reads changes states s order whole right
 
 pub refuted_is_unexplained : ExplainedPasses → RefutedIsUnexplained
-refuted_is_unexplained only items initial x reads is_run refuted order explained =
-    let passes = only Base items order initial is_run explained in
+refuted_is_unexplained only profile items initial x reads is_run refuted order explained =
+    let passes = only profile items order initial is_run explained in
     refuted order passes.faultless (λ i e at named. passes.reads i x)

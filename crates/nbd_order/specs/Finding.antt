@@ -1,11 +1,12 @@
 -- What is answered where an order is looked for.
 use Rattle.std.specs.Prelude.{◌≡◌, ℕ, zero, suc, List, [], ◌∷◌, ◌++◌, All, None}
 use Rattle.nbd_wire.specs.declared.entry.Entry.{Entry}
+use Rattle.nbd_wire.specs.declared.profile.Profile.{Profile}
 use Rattle.nbd_wire.specs.protocol.Entries.{whole}
-use Rattle.nbd_wire.specs.protocol.Explains.{IsExplained, Start, start_byte}
+use Rattle.nbd_wire.specs.protocol.Explains.{IsExplainedOf, Start, start_byte}
 use Rattle.nbd_wire.specs.protocol.Marks.{Item, pairs}
 use Rattle.nbd_wire.specs.protocol.Reports.{Report, report}
-use Rattle.nbd_wire.specs.protocol.Rules.{IsRun}
+use Rattle.nbd_wire.specs.protocol.Rules.{IsRunOf}
 use Rattle.nbd_wire.specs.protocol.Verdicts.{Passes, request_count}
 use Rattle.nbd_judge.specs.Images.{IsOtherSize}
 use Rattle.nbd_order.specs.declared.finding.Found.{Found}
@@ -50,20 +51,21 @@ IsFound r initial (Image image size) = IsOtherSize r.export initial image size
 IsFound r initial NoneWhole = FailsArrival r initial
 IsFound r initial (GaveUp request offset reason) = FailsArrival r initial
 
--- the order of arrival does not explain the bytes of a run
-abbrev pub IsUnexplainedByArrival : List Item → Start → Type 0
-IsUnexplainedByArrival items initial = IsExplained (pairs items) (arrival (request_count (report items))) initial → ⊥
+-- the order of arrival does not explain the bytes of a run of the profile
+abbrev pub IsUnexplainedByArrival : Profile → List Item → Start → Type 0
+IsUnexplainedByArrival profile items initial =
+    IsExplainedOf profile (pairs items) (arrival (request_count (report items))) initial → ⊥
 
--- what that says of the bytes of a run with this report: the order explains them, or no order does, or at least that of
--- arrival does not
-abbrev pub Says : List Item → Start → Found → Type 0
-Says items initial (Order order) = IsExplained (pairs items) order.items initial
-Says items initial (Unexplained refutation) = IsUnexplained (pairs items) initial
-Says items initial (Image image size) = IsUnexplained (pairs items) initial
-Says items initial NoneWhole = IsUnexplainedByArrival items initial
-Says items initial (GaveUp request offset reason) = IsUnexplainedByArrival items initial
+-- what that says of the bytes of a run of the profile with this report: the order explains them, or no order does, or
+-- at least that of arrival does not
+abbrev pub Says : Profile → List Item → Start → Found → Type 0
+Says profile items initial (Order order) = IsExplainedOf profile (pairs items) order.items initial
+Says profile items initial (Unexplained refutation) = IsUnexplained profile (pairs items) initial
+Says profile items initial (Image image size) = IsUnexplained profile (pairs items) initial
+Says profile items initial NoneWhole = IsUnexplainedByArrival profile items initial
+Says profile items initial (GaveUp request offset reason) = IsUnexplainedByArrival profile items initial
 
--- what is found of the report of a run is so of its bytes
+-- what is found of the report of a run of any profile is so of its bytes
 abbrev pub FoundIsSo : Type 0
-FoundIsSo = (items : List Item) (initial : Start) (found : Found) → IsRun items → IsFound (report items) initial found
-    → Says items initial found
+FoundIsSo = (profile : Profile) (items : List Item) (initial : Start) (found : Found) → IsRunOf profile items
+    → IsFound (report items) initial found → Says profile items initial found

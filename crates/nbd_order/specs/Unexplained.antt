@@ -2,21 +2,22 @@
 use Rattle.std.specs.Prelude.{ℕ, List, ◌≡◌, ◌==◌, Bool, true, Option, Some, slice_get}
 use Rattle.std.specs.List.{list_any}
 use Rattle.nbd_wire.specs.declared.entry.Entry.{Entry}
+use Rattle.nbd_wire.specs.declared.profile.Profile.{Profile}
 use Rattle.nbd_wire.specs.protocol.Captures.{Pair}
-use Rattle.nbd_wire.specs.protocol.Explains.{IsExplained, Start, start_byte}
+use Rattle.nbd_wire.specs.protocol.Explains.{IsExplainedOf, Start, start_byte}
 use Rattle.nbd_wire.specs.protocol.ExportBytes.{IsWrong, effects}
 use Rattle.nbd_wire.specs.protocol.Marks.{Item, pairs}
 use Rattle.nbd_wire.specs.protocol.Reports.{Report, report}
-use Rattle.nbd_wire.specs.protocol.Rules.{IsRun}
+use Rattle.nbd_wire.specs.protocol.Rules.{IsRunOf}
 use Rattle.nbd_wire.specs.protocol.Verdicts.{IsFaultless}
 
 -- k is one of these numbers
 abbrev pub has : List ℕ → ℕ → Bool
 has numbers k = list_any (λ n. n == k) numbers
 
--- no order explains the capture from this start, in parts or whole
-abbrev pub IsUnexplained : List Pair → Start → Type 0
-IsUnexplained capture initial = (order : List Entry) → IsExplained capture order initial → ⊥
+-- in the profile no order explains the capture from this start, in parts or whole
+abbrev pub IsUnexplained : Profile → List Pair → Start → Type 0
+IsUnexplained profile capture initial = (order : List Entry) → IsExplainedOf profile capture order initial → ⊥
 
 -- each order without a fault has, against these bytes at the start, a wrong byte at x of one of these READs
 abbrev pub IsRefutedBy : Report → (ℕ → Option ℕ) → (x : ℕ) → List ℕ → Type 0
@@ -24,7 +25,8 @@ IsRefutedBy r initial x reads = (order : List Entry) → IsFaultless r order
     → ((i : ℕ) (e : Entry) → slice_get order i ≡ Some e → has reads e.request ≡ true
     → IsWrong (effects r) order initial i x → ⊥) → ⊥
 
--- where the report of a run is refuted by some READs, no order explains its bytes
+-- where the report of a run of any profile is refuted by some READs, no order explains its bytes
 abbrev pub RefutedIsUnexplained : Type 0
-RefutedIsUnexplained = (items : List Item) (initial : Start) (x : ℕ) (reads : List ℕ) →
-    IsRun items → IsRefutedBy (report items) (start_byte initial) x reads → IsUnexplained (pairs items) initial
+RefutedIsUnexplained = (profile : Profile) (items : List Item) (initial : Start) (x : ℕ) (reads : List ℕ)
+    → IsRunOf profile items → IsRefutedBy (report items) (start_byte initial) x reads
+    → IsUnexplained profile (pairs items) initial

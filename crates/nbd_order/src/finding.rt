@@ -2,9 +2,10 @@
 
 ghost use Rattle.std.specs.Prelude.{◌≡◌, List, IfOk};
 ghost use Rattle.nbd_judge.specs.Beginnings.{initial_of};
+ghost use Rattle.nbd_wire.specs.declared.profile.Profile.{Profile};
 ghost use Rattle.nbd_wire.specs.protocol.Marks.{Item};
 ghost use Rattle.nbd_wire.specs.protocol.Reports.{report};
-ghost use Rattle.nbd_wire.specs.protocol.Rules.{IsRun};
+ghost use Rattle.nbd_wire.specs.protocol.Rules.{IsRunOf};
 ghost use Rattle.nbd_wire.specs.protocol.Verdicts.{Passes, request_count};
 ghost use Rattle.nbd_order.specs.Finding.{IsFound, IsWanted, Says, arrival};
 ghost use Rattle.nbd_order.specs.declared.finding.Wanted.{Wanted};
@@ -78,9 +79,9 @@ pub fn find(
 ) -> Result<Found, AllocError>
     ensures found { IfOk result (IsFound transcript.now (initial_of start.now)) }
     ensures wanted { IfOk result (IsWanted scope.wanted) }
-    // What is found is so of each run with this report.
-    ensures says { IfOk result (λ f. (items : List Item) → IsRun items → report items ≡ transcript.now →
-        Says items (initial_of start.now) f) }
+    // What is found is so of each run with this report, of any profile.
+    ensures says { IfOk result (λ f. (profile : Profile) (items : List Item) → IsRunOf profile items →
+        report items ≡ transcript.now → Says profile items (initial_of start.now) f) }
 {
     laws::found_is_so();
     let arrival = by_arrival(alloc, transcript.count())?;

@@ -5,14 +5,15 @@ ghost use Rattle.nbd_order.specs.Unexplained.{RefutedIsUnexplained};
 
 use nbd_laws::laws::explained_exactly;
 
-/// Where the report of a session is refuted by some of its READs, no order explains the session, in parts or whole.
+/// Where the report of a session of a profile is refuted by some of its READs, no order explains the session in that
+/// profile, in parts or whole.
 pub fn refuted_is_unexplained()
     ensures { RefutedIsUnexplained }
 {
     explained_exactly();
 }
 
-/// What is found of the report of a run is so of its bytes.
+/// What is found of the report of a run of a profile is so of its bytes.
 pub fn found_is_so()
     ensures { FoundIsSo }
 {

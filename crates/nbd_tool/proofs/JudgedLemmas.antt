@@ -2,6 +2,7 @@
 use Rattle.std.proofs.Common.{◌≡◌, ℕ, List, ◌↔◌, ◌⊎◌, inl, inr, Bool, sym, subst, Option, Some, None, Result, Ok, Err, IfErr, IfOk, IfSome, IsTrue, OnOk}
 use Rattle.std.specs.Io.KnownBytes.{Appends, Keeps}
 use Rattle.nbd_wire.specs.declared.entry.Entry.{Entry}
+use Rattle.nbd_wire.specs.declared.profile.Profile.{Profile}
 use Rattle.nbd_wire.specs.protocol.Explains.{Start}
 use Rattle.nbd_capture.specs.Capture.{Chunk, IsCaptureText}
 use Rattle.nbd_capture.specs.Order.{IsOrderText}
@@ -20,13 +21,13 @@ use Rattle.nbd_tool.specs.declared.fault.RunFault.TheVariants.{Write, Memory}
 use Rattle.nbd_tool.specs.Runs.{IsVerdictOn, LeavesWritten, Tells, flat_of}
 use Rattle.nbd_tool.specs.Verdicts.{IsYes, line}
 
-pub verdict_on : (capture order : Option (List ℕ)) (known : Option Start) (chunks : List Chunk) (entries : List Entry) (initial : Start) (v : Verdict) →
+pub verdict_on : (profile : Profile) (capture order : Option (List ℕ)) (known : Option Start) (chunks : List Chunk) (entries : List Entry) (initial : Start) (v : Verdict) →
     IfSome capture (λ text. IsCaptureText text chunks) → IfSome order (λ text. IsOrderText text entries) → IfSome known (λ start. initial ≡ start) →
-    IsChecked (flat_of chunks) entries initial v → IsVerdictOn capture order known v
-verdict_on (Some text) (Some order) (Some start) chunks entries initial v c o s checked = (chunks, entries, c, o, subst (λ i. IsChecked (flat_of chunks) entries i v) s checked)
-verdict_on None order known chunks entries initial v c o s checked = tt
-verdict_on (Some text) None known chunks entries initial v c o s checked = tt
-verdict_on (Some text) (Some order) None chunks entries initial v c o s checked = tt
+    IsChecked profile (flat_of chunks) entries initial v → IsVerdictOn profile capture order known v
+verdict_on profile (Some text) (Some order) (Some start) chunks entries initial v c o s checked = (chunks, entries, c, o, subst (λ i. IsChecked profile (flat_of chunks) entries i v) s checked)
+verdict_on profile None order known chunks entries initial v c o s checked = tt
+verdict_on profile (Some text) None known chunks entries initial v c o s checked = tt
+verdict_on profile (Some text) (Some order) None chunks entries initial v c o s checked = tt
 
 -- the order's entries are those of its text
 pub with_entries : (order : Option (List ℕ)) (known : Option Start) (finished : Result Report SessionFault) (entries slice : List Entry) (o : Result Verdict RunFault) → slice ≡ entries →
@@ -36,22 +37,22 @@ with_entries order known finished entries slice (Ok v) same is_text concluded = 
 with_entries order known finished entries slice (Err fault) same is_text concluded = tt
 
 -- the conclusion from a session over a capture text is the verdict on its texts
-pub concluded : (capture order : Option (List ℕ)) (known : Option Start) (r : SessionView) (finished : Result Report SessionFault) (entries : List Entry) (v : Verdict) → IsOverText capture r →
+pub concluded : {profile : Profile} (capture order : Option (List ℕ)) (known : Option Start) (r : SessionView) (finished : Result Report SessionFault) (entries : List Entry) (v : Verdict) → IsOverText profile capture r →
     fault_of finished ≡ fault_at_end r → IfOk finished (IsReported r) → IfErr finished (EndsIn r) → IfSome order (λ text. IsOrderText text entries) → IsConcluded known finished entries v →
-    IsVerdictOn capture order known v
-concluded capture order known r finished entries v over same reported ends is_text c =
-    verdict_on capture order known over.chunks entries c.initial v over.is_text is_text c.is_known
-    (checked_over (flat_of over.chunks) r entries c.initial finished v over.over same reported ends c.is_conclusion c.answers)
+    IsVerdictOn profile capture order known v
+concluded {profile} capture order known r finished entries v over same reported ends is_text c =
+    verdict_on profile capture order known over.chunks entries c.initial v over.is_text is_text c.is_known
+    (checked_over (flat_of over.chunks) r entries c.initial finished v over.over same reported ends c.is_conclusion (c.answers profile))
 
 -- its line was written
-pub tells : (capture order : Option (List ℕ)) (known : Option Start) (old new : Option (List ℕ)) (v : Verdict) (o : Result Bool RunFault) → IsVerdictOn capture order known v →
-    IfOk o (λ said. IsTrue said ↔ IsYes v) → OnOk o (Appends old new (line v)) → IfOk o (λ said. Tells capture order known said old new)
-tells capture order known old new v (Ok answered) is answer written = record { verdict = v; is_verdict = is; answer = answer; appended = written }
-tells capture order known old new v (Err fault) is answer written = tt
+pub tells : (profile : Profile) (capture order : Option (List ℕ)) (known : Option Start) (old new : Option (List ℕ)) (v : Verdict) (o : Result Bool RunFault) → IsVerdictOn profile capture order known v →
+    IfOk o (λ said. IsTrue said ↔ IsYes v) → OnOk o (Appends old new (line v)) → IfOk o (λ said. Tells profile capture order known said old new)
+tells profile capture order known old new v (Ok answered) is answer written = record { verdict = v; is_verdict = is; answer = answer; appended = written }
+tells profile capture order known old new v (Err fault) is answer written = tt
 
 -- it was not, or not all of it
-pub leaves : (capture order : Option (List ℕ)) (known : Option Start) (old new : Option (List ℕ)) (v : Verdict) (o : Result Bool RunFault) → IsVerdictOn capture order known v →
-    IfErr o (λ fault. (fault ≡ Write) × AppendsPrefix old new (line v) ⊎ (fault ≡ Memory) × Keeps old new) → IfErr o (LeavesWritten capture order known old new)
-leaves capture order known old new v (Ok answered) is left = tt
-leaves capture order known old new v (Err fault) is (inl e) = subst (LeavesWritten capture order known old new) (sym e.0) (record { verdict = v; is_verdict = is; appended = e.1 })
-leaves capture order known old new v (Err fault) is (inr e) = subst (LeavesWritten capture order known old new) (sym e.0) e.1
+pub leaves : (profile : Profile) (capture order : Option (List ℕ)) (known : Option Start) (old new : Option (List ℕ)) (v : Verdict) (o : Result Bool RunFault) → IsVerdictOn profile capture order known v →
+    IfErr o (λ fault. (fault ≡ Write) × AppendsPrefix old new (line v) ⊎ (fault ≡ Memory) × Keeps old new) → IfErr o (LeavesWritten profile capture order known old new)
+leaves profile capture order known old new v (Ok answered) is left = tt
+leaves profile capture order known old new v (Err fault) is (inl e) = subst (LeavesWritten profile capture order known old new) (sym e.0) (record { verdict = v; is_verdict = is; appended = e.1 })
+leaves profile capture order known old new v (Err fault) is (inr e) = subst (LeavesWritten profile capture order known old new) (sym e.0) e.1

@@ -2,6 +2,7 @@
 use Rattle.std.proofs.Common.{◌≡◌, inl, inr, ℕ, List, [], ◌∷◌, ◌++◌, length, Bool, refl, sym, ◌∙◌, ap, subst, append-nil, Option, Some, None, IfSome, Result, Ok, Err, IfOk, IfErr, IsErrAnd, OnOk}
 use Rattle.std.specs.Io.KnownBytes.{Appends, Keeps}
 use Rattle.std.proofs.KnownBytes.{Appends-trans}
+use Rattle.nbd_wire.specs.declared.profile.Profile.{Profile}
 use Rattle.nbd_wire.specs.protocol.Captures.{Pair}
 use Rattle.nbd_capture.specs.Writing.{AppendsPrefix}
 use Rattle.nbd_capture.proofs.WriterLemmas.{prefix_then, then_prefix}
@@ -9,9 +10,9 @@ use Rattle.nbd_wire.specs.declared.fault.WireFault.{WireFault}
 use Rattle.nbd_wire.specs.declared.fault.WireFault.TheVariants.{Unfinished}
 use Rattle.nbd_session.specs.declared.fault.SessionFault.{SessionFault}
 use Rattle.nbd_session.specs.declared.fault.SessionFault.TheVariants as session
-use Rattle.nbd_session.specs.Refusals.{IsAccepted, IsAcceptedOf, IsRefusalOf, IsComplete, IsCompleteBy, IsOpenEnd, IsWireFault}
+use Rattle.nbd_session.specs.Refusals.{IsAcceptedOf, IsRefusalOf, IsComplete, IsCompleteBy, IsOpenEndOf, IsWireFaultOf}
 use Rattle.nbd_session.proofs.judge.RefusalLemmas.{no_run_of, open_end_of}
-use Rattle.nbd_session.specs.Sessions.{HasRun, HasRunOf, IsOfRun, SessionView, end_by, fault_at_end, pairs_of, bytes_taken, open_end_fault}
+use Rattle.nbd_session.specs.Sessions.{HasRunOf, IsOfRun, SessionView, end_by, fault_at_end, pairs_of, bytes_taken, open_end_fault}
 use Rattle.nbd_lines.specs.Script.{message_lines}
 use Rattle.nbd_tool.specs.declared.fault.RunFault.{RunFault}
 use Rattle.nbd_tool.specs.declared.fault.RunFault.TheVariants as faults
@@ -25,34 +26,34 @@ use Rattle.nbd_tool.specs.Shown.IsOutput.{accepted, refused}
 use Rattle.nbd_tool.proofs.OverLemmas.{took_all}
 
 -- the messages of a session that is over are those of a prefix of the capture
-pub leads : (capture : List Pair) (r : SessionView) → IsOver capture r → IsOfRun r → Leads capture (pairs_of r) r.messages
+pub leads : {profile : Profile} (capture : List Pair) (r : SessionView) → IsOver profile capture r → IsOfRun r → Leads profile capture (pairs_of r) r.messages
 leads capture r over run = record { rest = over.left; client = r.client; server = r.server; parts = over.parts; run = subst (λ q. HasRunOf q (pairs_of r) r.messages r.client r.server) over.profile_is run }
 
 -- what a session shows that ends in this way
-abbrev EndsAs : List Pair → SessionView → Option SessionFault → Type 0
-EndsAs capture r ended = IsOutput capture (is_accepted ended) (message_lines r.messages ++ last_line ended)
+abbrev EndsAs : Profile → List Pair → SessionView → Option SessionFault → Type 0
+EndsAs profile capture r ended = IsOutput profile capture (is_accepted ended) (message_lines r.messages ++ last_line ended)
 
-refused_at : (capture : List Pair) (r : SessionView) (at : ℕ) (fault : WireFault) → IsOver capture r → IsOfRun r → at ≡ bytes_taken r → IsWireFault capture r.messages at fault → EndsAs capture r (Some (session.Wire at fault))
-refused_at capture r at fault over run e why =
-    subst (λ n. EndsAs capture r (Some (session.Wire n fault))) (sym e)
-    (refused (pairs_of r) r.messages fault (leads capture r over run) (subst (λ n. IsWireFault capture r.messages n fault) e why) (no_run_of capture r.messages at fault why))
+refused_at : {profile : Profile} (capture : List Pair) (r : SessionView) (at : ℕ) (fault : WireFault) → IsOver profile capture r → IsOfRun r → at ≡ bytes_taken r → IsWireFaultOf profile capture r.messages at fault → EndsAs profile capture r (Some (session.Wire at fault))
+refused_at {profile} capture r at fault over run e why =
+    subst (λ n. EndsAs profile capture r (Some (session.Wire n fault))) (sym e)
+    (refused (pairs_of r) r.messages fault (leads capture r over run) (subst (λ n. IsWireFaultOf profile capture r.messages n fault) e why) (no_run_of capture r.messages at fault why))
 
-unfinished_at : (capture : List Pair) (r : SessionView) (client server : List ℕ) → IsOver capture r → IsOfRun r → r.closed ≡ None → HasRun (pairs_of r) r.messages client server →
-    IsAccepted (pairs_of r) r.messages → ((client ≡ []) × (server ≡ []) → ⊥) → EndsAs capture r (Some (session.Wire (bytes_taken r) Unfinished))
-unfinished_at capture r client server over run unclosed has all some =
+unfinished_at : {profile : Profile} (capture : List Pair) (r : SessionView) (client server : List ℕ) → IsOver profile capture r → IsOfRun r → r.closed ≡ None → HasRunOf profile (pairs_of r) r.messages client server →
+    IsAcceptedOf profile (pairs_of r) r.messages → ((client ≡ []) × (server ≡ []) → ⊥) → EndsAs profile capture r (Some (session.Wire (bytes_taken r) Unfinished))
+unfinished_at {profile} capture r client server over run unclosed has all some =
     refused_at capture r (bytes_taken r) Unfinished over run refl
-    (inr (refl, ap length (took_all capture r over unclosed), subst (λ ps. IsOpenEnd ps r.messages) (took_all capture r over unclosed) (open_end_of (pairs_of r) r.messages client server has all some)))
+    (inr (refl, ap length (took_all capture r over unclosed), subst (λ ps. IsOpenEndOf profile ps r.messages) (took_all capture r over unclosed) (open_end_of (pairs_of r) r.messages client server has all some)))
 
-open_end : (capture : List Pair) (r : SessionView) (client server : List ℕ) → IsOver capture r → IsOfRun r → r.closed ≡ None → HasRun (pairs_of r) r.messages client server → IsAccepted (pairs_of r) r.messages →
-    EndsAs capture r (open_end_fault client server (bytes_taken r))
-open_end capture r [] [] over run unclosed has all = accepted r.messages (subst (λ ps. HasRun ps r.messages [] []) (took_all capture r over unclosed) has)
+open_end : {profile : Profile} (capture : List Pair) (r : SessionView) (client server : List ℕ) → IsOver profile capture r → IsOfRun r → r.closed ≡ None → HasRunOf profile (pairs_of r) r.messages client server → IsAcceptedOf profile (pairs_of r) r.messages →
+    EndsAs profile capture r (open_end_fault client server (bytes_taken r))
+open_end {profile} capture r [] [] over run unclosed has all = accepted r.messages (subst (λ ps. HasRunOf profile ps r.messages [] []) (took_all capture r over unclosed) has)
 open_end capture r (b ∷ client) server over run unclosed has all = unfinished_at capture r (b ∷ client) server over run unclosed has all (λ e. (let q : b ∷ client ≡ [] = e.0 in cc))
 open_end capture r [] (b ∷ server) over run unclosed has all = unfinished_at capture r [] (b ∷ server) over run unclosed has all (λ e. (let q : b ∷ server ≡ [] = e.1 in cc))
 
-pub shown : (capture : List Pair) (r : SessionView) → IsOver capture r → IsOfRun r → IsComplete r → EndsAs capture r (fault_at_end r)
-shown capture r over run complete = go r.closed refl over.at complete
+pub shown : {profile : Profile} (capture : List Pair) (r : SessionView) → IsOver profile capture r → IsOfRun r → IsComplete r → EndsAs profile capture r (fault_at_end r)
+shown {profile} capture r over run complete = go r.closed refl over.at complete
   where
-    go : (c : Option SessionFault) → r.closed ≡ c → IfSome c (IsWireAt (bytes_taken r)) → IsCompleteBy c r → EndsAs capture r (end_by c (open_end_fault r.client r.server (bytes_taken r)))
+    go : (c : Option SessionFault) → r.closed ≡ c → IfSome c (IsWireAt (bytes_taken r)) → IsCompleteBy c r → EndsAs profile capture r (end_by c (open_end_fault r.client r.server (bytes_taken r)))
     go None unclosed at all = open_end capture r r.client r.server over run unclosed (subst (λ q. HasRunOf q (pairs_of r) r.messages r.client r.server) over.profile_is run) (subst (λ q. IsAcceptedOf q (pairs_of r) r.messages) over.profile_is all)
     go (Some (session.Wire at fault)) closed is refusal =
         refused_at capture r at fault over run is (inl (record { prefix = pairs_of r; rest = over.left; parts = over.parts; at_is = is; refusal = subst (λ q. IsRefusalOf q (pairs_of r) r.messages fault) over.profile_is refusal.1 }))
@@ -64,11 +65,11 @@ then_kept (Some xs) None new bytes a k = absurd a
 then_kept (Some xs) (Some ys) None bytes a k = absurd k
 then_kept (Some xs) (Some ys) (Some zs) bytes a k = k ∙ a
 
-module _ (known : Option (List ℕ)) (r : SessionView) (session : IsOverText known r) (run : IsOfRun r) (complete : IsComplete r) where
-  told : EndsAs (flat_of session.chunks) r (fault_at_end r)
+module _ {profile : Profile} (known : Option (List ℕ)) (r : SessionView) (session : IsOverText profile known r) (run : IsOfRun r) (complete : IsComplete r) where
+  told : EndsAs profile (flat_of session.chunks) r (fault_at_end r)
   told = shown (flat_of session.chunks) r session.over run complete
 
-  prefix_shown : (old new : Option (List ℕ)) → AppendsPrefix old new (message_lines r.messages ++ last_line (fault_at_end r)) → WritesSome known old new
+  prefix_shown : (old new : Option (List ℕ)) → AppendsPrefix old new (message_lines r.messages ++ last_line (fault_at_end r)) → WritesSome profile known old new
   prefix_shown old new a = record {
     chunks = session.chunks;
     is_text = session.is_text;
@@ -78,7 +79,7 @@ module _ (known : Option (List ℕ)) (r : SessionView) (session : IsOverText kno
     appended = a;
   }
 
-  messages_shown : (old new : Option (List ℕ)) → AppendsPrefix old new (message_lines r.messages) → WritesMessages known old new
+  messages_shown : (old new : Option (List ℕ)) → AppendsPrefix old new (message_lines r.messages) → WritesMessages profile known old new
   messages_shown old new a = record {
     chunks = session.chunks;
     is_text = session.is_text;
@@ -90,26 +91,26 @@ module _ (known : Option (List ℕ)) (r : SessionView) (session : IsOverText kno
   }
 
   -- the message lines were not all written
-  pub stopped : {A : Type 0} (old new : Option (List ℕ)) (fault : OutputFault) (o : Result A RunFault) → AppendsPrefix old new (message_lines r.messages) → IsErrAnd o (λ e. e ≡ of_output fault) → IfErr o (LeavesShown known old new)
+  pub stopped : {A : Type 0} (old new : Option (List ℕ)) (fault : OutputFault) (o : Result A RunFault) → AppendsPrefix old new (message_lines r.messages) → IsErrAnd o (λ e. e ≡ of_output fault) → IfErr o (LeavesShown profile known old new)
   stopped old new fault (Ok a) f e = tt
-  stopped old new output.Write (Err e) f same = subst (LeavesShown known old new) (sym same) (prefix_shown old new (prefix_then old new (message_lines r.messages) (last_line (fault_at_end r)) f))
-  stopped old new output.Memory (Err e) f same = subst (LeavesShown known old new) (sym same) (inr (messages_shown old new f))
+  stopped old new output.Write (Err e) f same = subst (LeavesShown profile known old new) (sym same) (prefix_shown old new (prefix_then old new (message_lines r.messages) (last_line (fault_at_end r)) f))
+  stopped old new output.Memory (Err e) f same = subst (LeavesShown profile known old new) (sym same) (inr (messages_shown old new f))
 
   -- all lines were written
   pub all_shown : (old mid new : Option (List ℕ)) (ended : Option SessionFault) (o : Result Bool RunFault) → ended ≡ fault_at_end r → Appends old mid (message_lines r.messages) →
-      IfOk o (λ yes. yes ≡ is_accepted ended) → OnOk o (Appends mid new (last_line ended)) → IfOk o (λ yes. WritesAll known yes old new)
+      IfOk o (λ yes. yes ≡ is_accepted ended) → OnOk o (Appends mid new (last_line ended)) → IfOk o (λ yes. WritesAll profile known yes old new)
   all_shown old mid new ended (Err e) same first answer last = tt
   all_shown old mid new ended (Ok answered) same first answer last = record {
     chunks = session.chunks;
     is_text = session.is_text;
     lines = message_lines r.messages ++ last_line (fault_at_end r);
-    is_shown = subst (λ y. IsOutput (flat_of session.chunks) y (message_lines r.messages ++ last_line (fault_at_end r))) (sym (answer ∙ ap is_accepted same)) told;
+    is_shown = subst (λ y. IsOutput profile (flat_of session.chunks) y (message_lines r.messages ++ last_line (fault_at_end r))) (sym (answer ∙ ap is_accepted same)) told;
     appended = Appends-trans old mid new (message_lines r.messages) (last_line (fault_at_end r)) first (subst (λ e. Appends mid new (last_line e)) same last);
   }
 
   -- the last line was not written, or not all of it
   pub last_stopped : (old mid new : Option (List ℕ)) (ended : Option SessionFault) (o : Result Bool RunFault) → ended ≡ fault_at_end r → Appends old mid (message_lines r.messages) →
-      IfErr o (LeavesLast ended mid new) → IfErr o (LeavesShown known old new)
+      IfErr o (LeavesLast ended mid new) → IfErr o (LeavesShown profile known old new)
   last_stopped old mid new ended (Ok answered) same first left = tt
   last_stopped old mid new ended (Err faults.Write) same first left =
       prefix_shown old new (then_prefix old mid new (message_lines r.messages) (last_line (fault_at_end r)) first (subst (λ e. AppendsPrefix mid new (last_line e)) same left))
@@ -124,7 +125,7 @@ module _ (known : Option (List ℕ)) (r : SessionView) (session : IsOverText kno
   last_stopped old mid new ended (Err faults.ScriptRead) same first left = absurd left
 
 -- a capture that a session is over is a capture text
-pub capture_over : (known : Option (List ℕ)) (r : SessionView) → IsOverText known r → IsCapture known
+pub capture_over : {profile : Profile} (known : Option (List ℕ)) (r : SessionView) → IsOverText profile known r → IsCapture known
 capture_over None r session = tt
 capture_over (Some text) r session = (session.chunks, session.is_text)
 

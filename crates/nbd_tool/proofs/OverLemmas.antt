@@ -1,7 +1,7 @@
 -- A session over a capture's chunks: what it took, and how it stands at its end.
 use Rattle.std.proofs.Common.{◌≡◌, ℕ, ◌≤◌, List, [], ◌∷◌, ◌++◌, length, refl, sym, ◌∙◌, ap, subst, arith, length-append, append_assoc, append-nil, Option, Some, None, IfSome, Result, Ok, Err, IfOk, IfErr, OnErr, OnOk, inl}
 use Rattle.std.specs.Result.{result_and}
-use Rattle.nbd_wire.specs.declared.profile.Profile.TheVariants.{Base}
+use Rattle.nbd_wire.specs.declared.profile.Profile.{Profile}
 use Rattle.nbd_wire.specs.declared.entry.Entry.{Entry}
 use Rattle.nbd_wire.specs.declared.fault.WireFault.{WireFault}
 use Rattle.nbd_wire.specs.declared.message.Side.{Side}
@@ -9,7 +9,7 @@ use Rattle.nbd_wire.specs.protocol.Captures.{Pair, side_pairs}
 use Rattle.nbd_wire.specs.protocol.Explains.{Start}
 use Rattle.nbd_wire.specs.protocol.Marks.{Item, pairs}
 use Rattle.nbd_wire.specs.protocol.Reports.{Report}
-use Rattle.nbd_wire.specs.protocol.Rules.{IsRun}
+use Rattle.nbd_wire.specs.protocol.Rules.{IsRunOf}
 use Rattle.nbd_capture.specs.Capture.{Chunk}
 use Rattle.nbd_capture.specs.Reading.{NamesFirstBadLine, Reading, Reads}
 use Rattle.nbd_capture.specs.declared.reader.State.TheVariants.{Open}
@@ -18,7 +18,7 @@ use Rattle.nbd_capture.specs.declared.capture.CaptureFault.{CaptureFault}
 use Rattle.nbd_capture.specs.declared.capture.CaptureFault.TheVariants as reader
 use Rattle.nbd_session.specs.declared.fault.SessionFault.{SessionFault}
 use Rattle.nbd_session.specs.declared.fault.SessionFault.TheVariants.{Memory, Wire}
-use Rattle.nbd_session.specs.Refusals.{EndsIn, IsRefusalOf, IsWireFault, IsWireFaultOf, Refuses}
+use Rattle.nbd_session.specs.Refusals.{EndsIn, IsRefusalOf, IsWireFaultOf, Refuses}
 use Rattle.nbd_session.specs.Sessions.{AddsPrefix, IsAtEnd, IsReported, SessionView, bytes_taken, end_by, fault_at_end, fault_of, open_end_fault, pairs_of}
 use Rattle.nbd_judge.specs.Captures.{IsChecked, IsFaultOf}
 use Rattle.nbd_judge.specs.Conclusions.{Answers, IsConclusion, IsReportOf}
@@ -40,14 +40,14 @@ sent_both s [] b = refl
 sent_both s (x ∷ a) b = ap (λ ps. record { from = s; byte = x } ∷ ps) (sent_both s a b)
 
 -- no more bytes were taken than there are
-pub taken_within : (capture : List Pair) (r : SessionView) → IsOver capture r → bytes_taken r ≤ length capture
+pub taken_within : {profile : Profile} (capture : List Pair) (r : SessionView) → IsOver profile capture r → bytes_taken r ≤ length capture
 taken_within capture r over =
     let whole = ap length over.parts in
     let both = length-append (pairs_of r) over.left in
     omega arith
 
 -- a session that took all and is open
-pub over_open : (capture : List Pair) (r : SessionView) → r.profile ≡ Base → pairs_of r ≡ capture → r.closed ≡ None → IsOver capture r
+pub over_open : {profile : Profile} (capture : List Pair) (r : SessionView) → r.profile ≡ profile → pairs_of r ≡ capture → r.closed ≡ None → IsOver profile capture r
 over_open capture r base took unclosed = record {
   profile_is = base;
   left = [];
@@ -58,12 +58,12 @@ over_open capture r base took unclosed = record {
 }
 
 -- all was taken of an open session's capture
-pub took_all : (capture : List Pair) (r : SessionView) → IsOver capture r → r.closed ≡ None → pairs_of r ≡ capture
+pub took_all : {profile : Profile} (capture : List Pair) (r : SessionView) → IsOver profile capture r → r.closed ≡ None → pairs_of r ≡ capture
 took_all capture r over unclosed = sym (append-nil (pairs_of r)) ∙ ap (λ ps. pairs_of r ++ ps) (sym (over.all unclosed)) ∙ over.parts
 
 -- a session that a wire fault closed in these bytes
-over_closed : (capture : List Pair) (s : Side) (piece : List ℕ) (old new : SessionView) (at : ℕ) (fault : WireFault) → new.profile ≡ Base → pairs_of old ≡ capture → AddsPrefix old new s piece →
-    new.closed ≡ Some (Wire at fault) → at ≡ bytes_taken new → Refuses new (Wire at fault) → IsOver (capture ++ side_pairs s piece) new
+over_closed : {profile : Profile} (capture : List Pair) (s : Side) (piece : List ℕ) (old new : SessionView) (at : ℕ) (fault : WireFault) → new.profile ≡ profile → pairs_of old ≡ capture → AddsPrefix old new s piece →
+    new.closed ≡ Some (Wire at fault) → at ≡ bytes_taken new → Refuses new (Wire at fault) → IsOver profile (capture ++ side_pairs s piece) new
 over_closed capture s piece old new at fault base took prefix closed is refuses =
     let added = prefix.1 in
     record {
@@ -79,7 +79,7 @@ over_closed capture s piece old new at fault base took prefix closed is refuses 
     }
 
 -- a session that was closed before these bytes
-over_before : (capture more : List Pair) (r : SessionView) (fault : SessionFault) → IsOver capture r → r.closed ≡ Some fault → IsOver (capture ++ more) r
+over_before : {profile : Profile} (capture more : List Pair) (r : SessionView) (fault : SessionFault) → IsOver profile capture r → r.closed ≡ Some fault → IsOver profile (capture ++ more) r
 over_before capture more r fault over closed = record {
   profile_is = over.profile_is;
   left = over.left ++ more;
@@ -90,41 +90,41 @@ over_before capture more r fault over closed = record {
 }
 
 -- one more piece was pushed, and memory did not run out
-pub over_pushed : (capture : List Pair) (old new : SessionView) (s : Side) (piece : List ℕ) (o : Result (Unit {0}) SessionFault) → IsOver capture old → new.profile ≡ old.profile →
+pub over_pushed : {profile : Profile} (capture : List Pair) (old new : SessionView) (s : Side) (piece : List ℕ) (o : Result (Unit {0}) SessionFault) → IsOver profile capture old → new.profile ≡ old.profile →
     OnOk o (pairs_of new ≡ pairs_of old ++ side_pairs s piece) → OnOk o (new.closed ≡ None) → AddsPrefix old new s piece → IfErr o (λ fault. new.closed ≡ Some fault) →
     IfErr o (λ fault. old.closed ≡ None → IsAtEnd new fault) → ((fault : SessionFault) → old.closed ≡ Some fault → (o ≡ Err fault) × (new ≡ old)) → IfErr o (Refuses new) →
-    (o ≡ Err Memory → ⊥) → IsOver (capture ++ side_pairs s piece) new
-over_pushed capture old new s piece o over kept added unshut prefix closed at same wire some = go old.closed refl
+    (o ≡ Err Memory → ⊥) → IsOver profile (capture ++ side_pairs s piece) new
+over_pushed {profile} capture old new s piece o over kept added unshut prefix closed at same wire some = go old.closed refl
   where
     once : (o : Result (Unit {0}) SessionFault) → old.closed ≡ None → OnOk o (pairs_of new ≡ pairs_of old ++ side_pairs s piece) → OnOk o (new.closed ≡ None) → IfErr o (λ fault. new.closed ≡ Some fault) →
-        IfErr o (λ fault. old.closed ≡ None → IsAtEnd new fault) → IfErr o (Refuses new) → (o ≡ Err Memory → ⊥) → IsOver (capture ++ side_pairs s piece) new
+        IfErr o (λ fault. old.closed ≡ None → IsAtEnd new fault) → IfErr o (Refuses new) → (o ≡ Err Memory → ⊥) → IsOver profile (capture ++ side_pairs s piece) new
     once (Ok u) unclosed added unshut closed at wire some = over_open (capture ++ side_pairs s piece) new (kept ∙ over.profile_is) (added ∙ ap (λ ps. ps ++ side_pairs s piece) (took_all capture old over unclosed)) unshut
     once (Err (Wire n fault)) unclosed added unshut closed at wire some = over_closed capture s piece old new n fault (kept ∙ over.profile_is) (took_all capture old over unclosed) prefix closed (at unclosed) wire
     once (Err Memory) unclosed added unshut closed at wire some = absurd (some refl)
 
-    go : (c : Option SessionFault) → old.closed ≡ c → IsOver (capture ++ side_pairs s piece) new
+    go : (c : Option SessionFault) → old.closed ≡ c → IsOver profile (capture ++ side_pairs s piece) new
     go None unclosed = once o unclosed added unshut closed at wire some
-    go (Some fault) shut = subst (IsOver (capture ++ side_pairs s piece)) (sym (same fault shut).1) (over_before capture (side_pairs s piece) old fault over shut)
+    go (Some fault) shut = subst (IsOver profile (capture ++ side_pairs s piece)) (sym (same fault shut).1) (over_before capture (side_pairs s piece) old fault over shut)
 
 -- the report of a session that is over is that of its capture
-pub report_over : (capture : List Pair) (r : SessionView) (o : Result Report SessionFault) → IsOver capture r → fault_of o ≡ fault_at_end r → IfOk o (IsReported r) → IfOk o (HasReport capture)
+pub report_over : {profile : Profile} (capture : List Pair) (r : SessionView) (o : Result Report SessionFault) → IsOver profile capture r → fault_of o ≡ fault_at_end r → IfOk o (IsReported r) → IfOk o (HasReport profile capture)
 report_over capture r (Err fault) over same reported = tt
-report_over capture r (Ok told) over same reported = go r.closed refl
+report_over {profile} capture r (Ok told) over same reported = go r.closed refl
   where
-    go : (c : Option SessionFault) → r.closed ≡ c → HasReport capture told
+    go : (c : Option SessionFault) → r.closed ≡ c → HasReport profile capture told
     go None unclosed = told_of r capture told over.profile_is (took_all capture r over unclosed) reported
     go (Some fault) closed =
         let ends : fault_at_end r ≡ Some fault = ap (λ c. end_by c (open_end_fault r.client r.server (bytes_taken r))) closed in
         absurd (let q : None ≡ Some fault = same ∙ ends in cc)
 
 -- so is its fault
-pub fault_over : {A : Type 0} (capture : List Pair) (r : SessionView) (o : Result A SessionFault) → IsOver capture r → fault_of o ≡ fault_at_end r → IfErr o (EndsIn r) → IfErr o (IsFaultOf capture)
+pub fault_over : {A : Type 0} {profile : Profile} (capture : List Pair) (r : SessionView) (o : Result A SessionFault) → IsOver profile capture r → fault_of o ≡ fault_at_end r → IfErr o (EndsIn r) → IfErr o (IsFaultOf profile capture)
 fault_over capture r (Ok told) over same ends = tt
 fault_over capture r (Err Memory) over same ends = tt
-fault_over capture r (Err (Wire at fault)) over same ends = go r.closed refl over.refused
+fault_over {profile = profile} capture r (Err (Wire at fault)) over same ends = go r.closed refl over.refused
   where
-    go : (c : Option SessionFault) → r.closed ≡ c → IfSome c (Refuses r) → IsFaultOf capture (Wire at fault)
-    go None unclosed refused = (r.messages, subst (λ ps. IsWireFault ps r.messages at fault) (took_all capture r over unclosed) (subst (λ q. IsWireFaultOf q (pairs_of r) r.messages at fault) over.profile_is ends))
+    go : (c : Option SessionFault) → r.closed ≡ c → IfSome c (Refuses r) → IsFaultOf profile capture (Wire at fault)
+    go None unclosed refused = (r.messages, subst (λ ps. IsWireFaultOf profile ps r.messages at fault) (took_all capture r over unclosed) (subst (λ q. IsWireFaultOf q (pairs_of r) r.messages at fault) over.profile_is ends))
     go (Some other) closed refused =
         let now : fault_at_end r ≡ Some other = ap (λ c. end_by c (open_end_fault r.client r.server (bytes_taken r))) closed in
         let is : other ≡ Wire at fault = (let q : Some (Wire at fault) ≡ Some other = same ∙ now in cc) in
@@ -138,18 +138,18 @@ cause_of known reader.Read named = tt
 cause_of known reader.Memory named = tt
 
 -- a chunk was read and pushed
-pub next_pushed : (first old next : Reading) (new : SessionView) (chunks : List Chunk) (s : Side) (bytes piece : List ℕ) → Reads first old chunks → Reads old next (record { side = s; bytes = bytes } ∷ []) →
-    next.state ≡ Open → piece ≡ bytes → IsOver (flat_of chunks ++ side_pairs s piece) new → (all : List Chunk) × Reads first next all × (next.state ≡ Open) × IsOver (flat_of all) new
-next_pushed first old next new chunks s bytes piece before chunk state same over =
+pub next_pushed : {profile : Profile} (first old next : Reading) (new : SessionView) (chunks : List Chunk) (s : Side) (bytes piece : List ℕ) → Reads first old chunks → Reads old next (record { side = s; bytes = bytes } ∷ []) →
+    next.state ≡ Open → piece ≡ bytes → IsOver profile (flat_of chunks ++ side_pairs s piece) new → (all : List Chunk) × Reads first next all × (next.state ≡ Open) × IsOver profile (flat_of all) new
+next_pushed {profile} first old next new chunks s bytes piece before chunk state same over =
     let one : Chunk = record { side = s; bytes = bytes } in
-    (chunks ++ one ∷ [], reads-append first old next chunks (one ∷ []) before chunk, state, subst (λ ps. IsOver ps new) (ap (λ bs. flat_of chunks ++ side_pairs s bs) same ∙ sym (flat-snoc chunks one)) over)
+    (chunks ++ one ∷ [], reads-append first old next chunks (one ∷ []) before chunk, state, subst (λ ps. IsOver profile ps new) (ap (λ bs. flat_of chunks ++ side_pairs s bs) same ∙ sym (flat-snoc chunks one)) over)
 
 -- the conclusion from a session that is over is the verdict on its capture
-pub checked_over : (capture : List Pair) (r : SessionView) (order : List Entry) (initial : Start) (finished : Result Report SessionFault) (v : Verdict) → IsOver capture r →
+pub checked_over : {profile : Profile} (capture : List Pair) (r : SessionView) (order : List Entry) (initial : Start) (finished : Result Report SessionFault) (v : Verdict) → IsOver profile capture r →
     fault_of finished ≡ fault_at_end r → IfOk finished (IsReported r) → IfErr finished (EndsIn r) → IsConclusion finished order initial v →
-    ((items : List Item) → IsRun items → IsReportOf items finished → Answers (pairs items) order initial v) → IsChecked capture order initial v
-checked_over capture r order initial finished v over same reported ends =
-    checked capture order initial finished v (report_over capture r finished over same reported) (fault_over capture r finished over same ends)
+    ((items : List Item) → IsRunOf profile items → IsReportOf items finished → Answers profile (pairs items) order initial v) → IsChecked profile capture order initial v
+checked_over {profile} capture r order initial finished v over same reported ends =
+    checked profile capture order initial finished v (report_over capture r finished over same reported) (fault_over capture r finished over same ends)
 
 -- a value behind a result that may have a fault
 pub joined : {A B E : Type 0} (P : B → Type 0) (o : Result A E) (b : B) (both : Result B E) → both ≡ result_and o (Ok b) → OnOk o (P b) → IfOk both P

@@ -6,7 +6,8 @@ use Rattle.nbd_capture.specs.Capture.{Chunk, IsCaptureText}
 use Rattle.nbd_capture.specs.Order.{IsOrderText}
 use Rattle.nbd_capture.specs.Writing.{AppendsPrefix}
 use Rattle.nbd_wire.specs.declared.entry.Entry.{Entry}
-use Rattle.nbd_wire.specs.protocol.Explains.{IsExplained, Start}
+use Rattle.nbd_wire.specs.declared.profile.Profile.{Profile}
+use Rattle.nbd_wire.specs.protocol.Explains.{IsExplainedOf, Start}
 use Rattle.nbd_judge.specs.declared.verdict.Verdict.{Verdict}
 use Rattle.nbd_judge.specs.declared.verdict.Verdict.TheVariants.{Yes, Wire, Image, Order, Content}
 use Rattle.nbd_tool.specs.Runs.{IsVerdictOn, SaysYes, flat_of}
@@ -14,8 +15,8 @@ use Rattle.nbd_tool.specs.declared.fault.RunFault.{RunFault}
 use Rattle.nbd_tool.specs.declared.fault.RunFault.TheVariants.{Memory, Write}
 use Rattle.nbd_tool.specs.Verdicts.{line}
 
-abbrev IsExplainedOn : (text order_text : List ℕ) → Start → Type 0
-IsExplainedOn text order_text initial = (chunks : List Chunk) × (entries : List Entry) × IsCaptureText text chunks × IsOrderText order_text entries × IsExplained (flat_of chunks) entries initial
+abbrev IsExplainedOn : Profile → (text order_text : List ℕ) → Start → Type 0
+IsExplainedOn profile text order_text initial = (chunks : List Chunk) × (entries : List Entry) × IsCaptureText text chunks × IsOrderText order_text entries × IsExplainedOf profile (flat_of chunks) entries initial
 
 abbrev first : List ℕ → ℕ
 first [] = 0
@@ -26,30 +27,30 @@ n_is_no_y : (text rest : List ℕ) → first text ≡ 110 → text ≡ codes "ye
 n_is_no_y text rest n e = let q : 110 ≡ 121 = sym n ∙ ap first e in omega (arith, q)
 
 -- a verdict whose line begins with yes explains
-explains : (text order_text : List ℕ) (initial : Start) (v : Verdict) (rest : List ℕ) → line v ≡ codes "yes" ++ rest → IsVerdictOn (Some text) (Some order_text) (Some initial) v → IsExplainedOn text order_text initial
-explains text order_text initial (Yes a b c) rest e v = (v.0, v.1, v.2, v.3, v.4.answers.explained)
-explains text order_text initial (Wire at fault) rest e v = absurd (n_is_no_y (line (Wire at fault)) rest refl e)
-explains text order_text initial (Image image size) rest e v = absurd (n_is_no_y (line (Image image size)) rest refl e)
-explains text order_text initial (Order entry fault) rest e v = absurd (n_is_no_y (line (Order entry fault)) rest refl e)
-explains text order_text initial (Content request offset) rest e v = absurd (n_is_no_y (line (Content request offset)) rest refl e)
+explains : (profile : Profile) (text order_text : List ℕ) (initial : Start) (v : Verdict) (rest : List ℕ) → line v ≡ codes "yes" ++ rest → IsVerdictOn profile (Some text) (Some order_text) (Some initial) v → IsExplainedOn profile text order_text initial
+explains profile text order_text initial (Yes a b c) rest e v = (v.0, v.1, v.2, v.3, v.4.answers.explained)
+explains profile text order_text initial (Wire at fault) rest e v = absurd (n_is_no_y (line (Wire at fault)) rest refl e)
+explains profile text order_text initial (Image image size) rest e v = absurd (n_is_no_y (line (Image image size)) rest refl e)
+explains profile text order_text initial (Order entry fault) rest e v = absurd (n_is_no_y (line (Order entry fault)) rest refl e)
+explains profile text order_text initial (Content request offset) rest e v = absurd (n_is_no_y (line (Content request offset)) rest refl e)
 
 -- a prefix of a verdict's line was written
-pub says_prefix : (capture order : Option (List ℕ)) (initial : Option Start) (old new : Option (List ℕ)) (v : Verdict) → IsVerdictOn capture order initial v → AppendsPrefix old new (line v) → SaysYes capture order initial old new
-says_prefix (Some text) (Some order_text) (Some initial) (Some old) (Some new) v is f = λ written at begins.
+pub says_prefix : (profile : Profile) (capture order : Option (List ℕ)) (initial : Option Start) (old new : Option (List ℕ)) (v : Verdict) → IsVerdictOn profile capture order initial v → AppendsPrefix old new (line v) → SaysYes profile capture order initial old new
+says_prefix profile (Some text) (Some order_text) (Some initial) (Some old) (Some new) v is f = λ written at begins.
     (let same : written ≡ f.0 = append_cancel_left old written f.0 (sym at ∙ f.3) in
-    explains text order_text initial v (begins.0 ++ f.1) (f.2 ∙ ap (λ l. l ++ f.1) (sym same ∙ begins.1) ∙ append_assoc (codes "yes") begins.0 f.1) is)
-says_prefix (Some text) (Some order_text) (Some initial) (Some old) None v is f = tt
-says_prefix (Some text) (Some order_text) (Some initial) None new v is f = tt
-says_prefix (Some text) (Some order_text) None old new v is f = tt
-says_prefix (Some text) None initial old new v is f = tt
-says_prefix None order initial old new v is f = tt
+    explains profile text order_text initial v (begins.0 ++ f.1) (f.2 ∙ ap (λ l. l ++ f.1) (sym same ∙ begins.1) ∙ append_assoc (codes "yes") begins.0 f.1) is)
+says_prefix profile (Some text) (Some order_text) (Some initial) (Some old) None v is f = tt
+says_prefix profile (Some text) (Some order_text) (Some initial) None new v is f = tt
+says_prefix profile (Some text) (Some order_text) None old new v is f = tt
+says_prefix profile (Some text) None initial old new v is f = tt
+says_prefix profile None order initial old new v is f = tt
 
 whole : (old new : Option (List ℕ)) (bytes : List ℕ) → Appends old new bytes → AppendsPrefix old new bytes
 whole old new bytes a = (bytes, [], sym (append-nil bytes), a)
 
 -- a verdict's line was written
-pub says_line : (capture order : Option (List ℕ)) (initial : Option Start) (old new : Option (List ℕ)) (v : Verdict) → IsVerdictOn capture order initial v → Appends old new (line v) → SaysYes capture order initial old new
-says_line capture order initial old new v is a = says_prefix capture order initial old new v is (whole old new (line v) a)
+pub says_line : (profile : Profile) (capture order : Option (List ℕ)) (initial : Option Start) (old new : Option (List ℕ)) (v : Verdict) → IsVerdictOn profile capture order initial v → Appends old new (line v) → SaysYes profile capture order initial old new
+says_line profile capture order initial old new v is a = says_prefix profile capture order initial old new v is (whole old new (line v) a)
 
 none_added : (old written : List ℕ) → old ≡ old ++ written → written ≡ []
 none_added old written e = append_cancel_left old written [] (sym e ∙ sym (append-nil old))
@@ -58,22 +59,22 @@ nothing_begins : {A : Type 0} (rest : List ℕ) → [] ≡ codes "yes" ++ rest �
 nothing_begins rest e = let q : 0 ≡ 121 = ap first e in absurd (omega (arith, q))
 
 -- nothing was written
-says_kept : (capture order : Option (List ℕ)) (initial : Option Start) (old new : Option (List ℕ)) → Keeps old new → SaysYes capture order initial old new
-says_kept (Some text) (Some order_text) (Some initial) (Some old) (Some new) kept = λ written at begins.
+says_kept : (profile : Profile) (capture order : Option (List ℕ)) (initial : Option Start) (old new : Option (List ℕ)) → Keeps old new → SaysYes profile capture order initial old new
+says_kept profile (Some text) (Some order_text) (Some initial) (Some old) (Some new) kept = λ written at begins.
     (let e : [] ≡ codes "yes" ++ begins.0 = sym (none_added old written (sym kept ∙ at)) ∙ begins.1 in nothing_begins begins.0 e)
-says_kept (Some text) (Some order_text) (Some initial) (Some old) None kept = tt
-says_kept (Some text) (Some order_text) (Some initial) None new kept = tt
-says_kept (Some text) (Some order_text) None old new kept = tt
-says_kept (Some text) None initial old new kept = tt
-says_kept None order initial old new kept = tt
+says_kept profile (Some text) (Some order_text) (Some initial) (Some old) None kept = tt
+says_kept profile (Some text) (Some order_text) (Some initial) None new kept = tt
+says_kept profile (Some text) (Some order_text) None old new kept = tt
+says_kept profile (Some text) None initial old new kept = tt
+says_kept profile None order initial old new kept = tt
 
-pub says_nothing : (capture order : Option (List ℕ)) (initial : Option Start) (old : Option (List ℕ)) → SaysYes capture order initial old old
-says_nothing capture order initial None = says_kept capture order initial None None tt
-says_nothing capture order initial (Some old) = says_kept capture order initial (Some old) (Some old) refl
+pub says_nothing : (profile : Profile) (capture order : Option (List ℕ)) (initial : Option Start) (old : Option (List ℕ)) → SaysYes profile capture order initial old old
+says_nothing profile capture order initial None = says_kept profile capture order initial None None tt
+says_nothing profile capture order initial (Some old) = says_kept profile capture order initial (Some old) (Some old) refl
 
 -- a verdict's line was written, or was to be written
-pub says_written : (capture order : Option (List ℕ)) (initial : Option Start) (old new : Option (List ℕ)) (v : Verdict) (o : Result Bool RunFault) → IsVerdictOn capture order initial v →
-    OnOk o (Appends old new (line v)) → IfErr o (λ fault. (fault ≡ Write) × AppendsPrefix old new (line v) ⊎ (fault ≡ Memory) × Keeps old new) → SaysYes capture order initial old new
-says_written capture order initial old new v (Ok answered) is written left = says_line capture order initial old new v is written
-says_written capture order initial old new v (Err fault) is written (inl e) = says_prefix capture order initial old new v is e.1
-says_written capture order initial old new v (Err fault) is written (inr e) = says_kept capture order initial old new e.1
+pub says_written : (profile : Profile) (capture order : Option (List ℕ)) (initial : Option Start) (old new : Option (List ℕ)) (v : Verdict) (o : Result Bool RunFault) → IsVerdictOn profile capture order initial v →
+    OnOk o (Appends old new (line v)) → IfErr o (λ fault. (fault ≡ Write) × AppendsPrefix old new (line v) ⊎ (fault ≡ Memory) × Keeps old new) → SaysYes profile capture order initial old new
+says_written profile capture order initial old new v (Ok answered) is written left = says_line profile capture order initial old new v is written
+says_written profile capture order initial old new v (Err fault) is written (inl e) = says_prefix profile capture order initial old new v is e.1
+says_written profile capture order initial old new v (Err fault) is written (inr e) = says_kept profile capture order initial old new e.1

@@ -1,7 +1,7 @@
 -- Each run has one line, or one output, to write.
 use Rattle.std.proofs.Common.{◌≡◌, List, [], ◌∷◌, ◌++◌, length, refl, sym, ◌∙◌, ap, subst}
 use Rattle.std.specs.Prelude.{codes}
-use Rattle.nbd_wire.specs.declared.profile.Profile.TheVariants.{Base}
+use Rattle.nbd_wire.specs.declared.profile.Profile.{Profile}
 use Rattle.nbd_wire.specs.declared.entry.Entry.{Entry}
 use Rattle.nbd_wire.specs.declared.message.Message.{Message}
 use Rattle.nbd_wire.specs.protocol.Captures.{Pair}
@@ -12,7 +12,7 @@ use Rattle.nbd_capture.proofs.FormLemmas.{one_saying}
 use Rattle.nbd_capture.proofs.OrderLineLemmas.{one_entry}
 use Rattle.nbd_capture.proofs.ReadingLemmas.{one_reading}
 use Rattle.nbd_laws.proofs.service.ServiceLemmas.{same_marks}
-use Rattle.nbd_session.specs.Sessions.{HasRun}
+use Rattle.nbd_session.specs.Sessions.{HasRunOf}
 use Rattle.nbd_judge.specs.Captures.{IsChecked}
 use Rattle.nbd_judge.specs.declared.verdict.Verdict.TheVariants.{Wire}
 use Rattle.nbd_judge.proofs.verdicts.UniqueLemmas.{one_answer, one_wire_fault}
@@ -23,11 +23,11 @@ use Rattle.nbd_tool.specs.Uniqueness.{OneLine, OneOutput}
 use Rattle.nbd_tool.specs.Verdicts.{line}
 
 pub one_line : OneLine
-one_line text order_text initial v w a b =
+one_line profile text order_text initial v w a b =
     let chunks : a.0 ≡ b.0 = one_reading IsCaptureLine one_saying text a.0 b.0 a.2 b.2 in
     let entries : a.1 ≡ b.1 = one_reading IsOrderLine one_entry order_text a.1 b.1 a.3 b.3 in
-    one_answer (flat_of b.0) b.1 initial v w
-    (subst (λ (o : List Entry). IsChecked (flat_of b.0) o initial v) entries (subst (λ (c : List Chunk). IsChecked (flat_of c) a.1 initial v) chunks a.4)) b.4
+    one_answer profile (flat_of b.0) b.1 initial v w
+    (subst (λ (o : List Entry). IsChecked profile (flat_of b.0) o initial v) entries (subst (λ (c : List Chunk). IsChecked profile (flat_of c) a.1 initial v) chunks a.4)) b.4
 
 -- the moments of service aside, the same messages complete
 completed_alike : (items : List Item) → completed_messages (without_service items) ≡ completed_messages items
@@ -38,20 +38,20 @@ completed_alike (Completes s m ∷ items) = ap (λ ms. m ∷ ms) (completed_alik
 completed_alike (Serves k ∷ items) = completed_alike items
 
 -- two runs with the same bytes complete the same messages
-one_run : (capture : List Pair) (messages more : List Message) → HasRun capture messages [] [] → HasRun capture more [] [] → messages ≡ more
-one_run capture messages more a b =
+one_run : (profile : Profile) (capture : List Pair) (messages more : List Message) → HasRunOf profile capture messages [] [] → HasRunOf profile capture more [] [] → messages ≡ more
+one_run profile capture messages more a b =
     sym a.has_messages
     ∙ sym (completed_alike a.items)
-    ∙ ap completed_messages (same_marks Base a.items b.items a.is_run b.is_run (a.has_pairs ∙ sym b.has_pairs))
+    ∙ ap completed_messages (same_marks profile a.items b.items a.is_run b.is_run (a.has_pairs ∙ sym b.has_pairs))
     ∙ completed_alike b.items
     ∙ b.has_messages
 
 pub one_output : OneOutput
-one_output capture _ _ _ _ (accepted messages run) (accepted more other) = (refl, ap (λ ms. message_lines ms ++ codes "ok\n") (one_run capture messages more run other))
-one_output capture _ _ _ _ (accepted messages run) (refused prefix more fault leads is none) = absurd (none run.items run.is_run run.has_pairs)
-one_output capture _ _ _ _ (refused prefix more fault leads is none) (accepted messages run) = absurd (none run.items run.is_run run.has_pairs)
-one_output capture _ _ _ _ (refused prefix messages fault leads is none) (refused other more again leads' is' none') =
-    let one = one_wire_fault capture messages more (length prefix) (length other) fault again is is' in (
+one_output profile capture _ _ _ _ (accepted messages run) (accepted more other) = (refl, ap (λ ms. message_lines ms ++ codes "ok\n") (one_run profile capture messages more run other))
+one_output profile capture _ _ _ _ (accepted messages run) (refused prefix more fault leads is none) = absurd (none run.items run.is_run run.has_pairs)
+one_output profile capture _ _ _ _ (refused prefix more fault leads is none) (accepted messages run) = absurd (none run.items run.is_run run.has_pairs)
+one_output profile capture _ _ _ _ (refused prefix messages fault leads is none) (refused other more again leads' is' none') =
+    let one = one_wire_fault profile capture messages more (length prefix) (length other) fault again is is' in (
       refl,
       ap (λ ms. message_lines ms ++ line (Wire (length prefix) fault)) one.2
           ∙ ap (λ n. message_lines more ++ line (Wire n fault)) one.0

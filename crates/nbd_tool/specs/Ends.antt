@@ -1,7 +1,7 @@
 -- How a session that is shown stands at its end, and the last line.
 use Rattle.std.specs.Prelude.{◌≡◌, ℕ, List, [], ◌++◌, Bool, true, false, Option, Some, None, IfSome, codes}
 use Rattle.std.specs.Io.KnownBytes.{Keeps}
-use Rattle.nbd_wire.specs.declared.profile.Profile.TheVariants.{Base}
+use Rattle.nbd_wire.specs.declared.profile.Profile.{Profile}
 use Rattle.nbd_wire.specs.protocol.Captures.{Pair}
 use Rattle.nbd_capture.specs.Capture.{Chunk, IsCaptureText}
 use Rattle.nbd_capture.specs.Writing.{AppendsPrefix}
@@ -20,21 +20,21 @@ abbrev pub IsWireAt : ℕ → SessionFault → Type 0
 IsWireAt n (session.Wire at fault) = at ≡ n
 IsWireAt n session.Memory = ⊥
 
--- a session that is held to the profile Base took all of a capture's bytes, or was closed by a wire fault at the last
--- one that it took
-pub record IsOver (capture : List Pair) (r : SessionView) : Type 0 where
-  pub profile_is : r.profile ≡ Base
+-- a session that is held to the profile took all of a capture's bytes, or was closed by a wire fault at the last one
+-- that it took
+pub record IsOver (profile : Profile) (capture : List Pair) (r : SessionView) : Type 0 where
+  pub profile_is : r.profile ≡ profile
   pub left : List Pair
   pub parts : pairs_of r ++ left ≡ capture
   pub all : r.closed ≡ None → left ≡ []
   pub at : IfSome r.closed (IsWireAt (bytes_taken r))
   pub refused : IfSome r.closed (Refuses r)
 
--- a session over the chunks of a capture text, where its bytes are known
-pub record IsOverText (known : Option (List ℕ)) (r : SessionView) : Type 0 where
+-- a session of the profile over the chunks of a capture text, where its bytes are known
+pub record IsOverText (profile : Profile) (known : Option (List ℕ)) (r : SessionView) : Type 0 where
   pub chunks : List Chunk
   pub is_text : IfSome known (λ text. IsCaptureText text chunks)
-  pub over : IsOver (flat_of chunks) r
+  pub over : IsOver profile (flat_of chunks) r
 
 -- the session was accepted
 abbrev pub is_accepted : Option SessionFault → Bool

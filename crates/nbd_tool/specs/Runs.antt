@@ -1,7 +1,8 @@
 -- What a run of `check` says of its inputs and leaves written, where the readers and the writer state their bytes.
 use Rattle.std.specs.Prelude.{◌≡◌, ◌↔◌, ℕ, List, ◌++◌, Option, Some, IfSome, IsTrue, Bool, codes, map}
 use Rattle.nbd_wire.specs.declared.entry.Entry.{Entry}
-use Rattle.nbd_wire.specs.protocol.Explains.{IsExplained, Start}
+use Rattle.nbd_wire.specs.declared.profile.Profile.{Profile}
+use Rattle.nbd_wire.specs.protocol.Explains.{IsExplainedOf, Start}
 use Rattle.nbd_wire.specs.protocol.Captures.{Pair, flat}
 use Rattle.std.specs.Io.KnownBytes.{Appends, Keeps}
 use Rattle.nbd_capture.specs.Capture.{Chunk, IsCaptureText, IsFirstBadCaptureLine}
@@ -41,18 +42,18 @@ IsOrderCause order _ = ⊥
 abbrev pub flat_of : List Chunk → List Pair
 flat_of chunks = flat (map (λ (c : Chunk). (c.side, c.bytes)) chunks)
 
--- the verdict on known texts and a known start: that on the capture's chunks and the order's entries
-abbrev pub IsVerdictOn : (capture order : Option (List ℕ)) → Option Start → Verdict → Type 0
-IsVerdictOn (Some text) (Some order_text) (Some initial) verdict =
+-- the verdict of the profile on known texts and a known start: that on the capture's chunks and the order's entries
+abbrev pub IsVerdictOn : Profile → (capture order : Option (List ℕ)) → Option Start → Verdict → Type 0
+IsVerdictOn profile (Some text) (Some order_text) (Some initial) verdict =
     (chunks : List Chunk) × (entries : List Entry) × IsCaptureText text chunks × IsOrderText order_text entries
-    × IsChecked (flat_of chunks) entries initial verdict
-IsVerdictOn capture order initial verdict = Unit {0}
+    × IsChecked profile (flat_of chunks) entries initial verdict
+IsVerdictOn profile capture order initial verdict = Unit {0}
 
--- the whole line of one verdict was written, and true was answered exactly where it is a yes
-pub record Tells (capture order : Option (List ℕ)) (initial : Option Start) (yes : Bool)
+-- the whole line of one verdict of the profile was written, and true was answered exactly where it is a yes
+pub record Tells (profile : Profile) (capture order : Option (List ℕ)) (initial : Option Start) (yes : Bool)
     (old new : Option (List ℕ)) : Type 0 where
   pub verdict : Verdict
-  pub is_verdict : IsVerdictOn capture order initial verdict
+  pub is_verdict : IsVerdictOn profile capture order initial verdict
   pub answer : IsTrue yes ↔ IsYes verdict
   pub appended : Appends old new (line verdict)
 
@@ -68,28 +69,29 @@ IsCause capture order start Memory = Unit {0}
 IsCause capture order start ImageRead = IsCapture capture × IsOrder order × HasImage start
 IsCause capture order start _ = ⊥
 
--- a prefix of a verdict's line was written
-pub record TellsPrefix (capture order : Option (List ℕ)) (initial : Option Start)
+-- a prefix of the line of a verdict of the profile was written
+pub record TellsPrefix (profile : Profile) (capture order : Option (List ℕ)) (initial : Option Start)
     (old new : Option (List ℕ)) : Type 0 where
   pub verdict : Verdict
-  pub is_verdict : IsVerdictOn capture order initial verdict
+  pub is_verdict : IsVerdictOn profile capture order initial verdict
   pub appended : AppendsPrefix old new (line verdict)
 
--- what stands written after a fault: a prefix of a verdict's line where the writer failed, else nothing
-abbrev pub LeavesWritten : (capture order : Option (List ℕ)) → Option Start → (old new : Option (List ℕ)) → RunFault
-    → Type 0
-LeavesWritten capture order initial old new Write = TellsPrefix capture order initial old new
-LeavesWritten capture order initial old new _ = Keeps old new
+-- what stands written after a fault: a prefix of the line of a verdict of the profile where the writer failed, else
+-- nothing
+abbrev pub LeavesWritten : Profile → (capture order : Option (List ℕ)) → Option Start → (old new : Option (List ℕ))
+    → RunFault → Type 0
+LeavesWritten profile capture order initial old new Write = TellsPrefix profile capture order initial old new
+LeavesWritten profile capture order initial old new _ = Keeps old new
 
 -- a text begins with `yes`
 abbrev pub BeginsYes : List ℕ → Type 0
 BeginsYes text = (rest : List ℕ) × (text ≡ codes "yes" ++ rest)
 
 -- where what was written begins with `yes`, whether all of its line was written or not, the capture text has chunks and
--- the order text has entries, and these are explained from the start that was read
-abbrev pub SaysYes : (capture order : Option (List ℕ)) → Option Start → (old new : Option (List ℕ)) → Type 0
-SaysYes (Some text) (Some order_text) (Some initial) (Some old) (Some new) =
+-- the order text has entries, and in the profile these are explained from the start that was read
+abbrev pub SaysYes : Profile → (capture order : Option (List ℕ)) → Option Start → (old new : Option (List ℕ)) → Type 0
+SaysYes profile (Some text) (Some order_text) (Some initial) (Some old) (Some new) =
     (written : List ℕ) → new ≡ old ++ written → BeginsYes written →
     (chunks : List Chunk) × (entries : List Entry) × IsCaptureText text chunks × IsOrderText order_text entries
-    × IsExplained (flat_of chunks) entries initial
-SaysYes capture order initial old new = Unit {0}
+    × IsExplainedOf profile (flat_of chunks) entries initial
+SaysYes profile capture order initial old new = Unit {0}

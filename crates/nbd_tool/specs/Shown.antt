@@ -2,13 +2,14 @@
 use Rattle.std.specs.Prelude.{◌≡◌, ◌⊎◌, ℕ, List, [], ◌++◌, Bool, true, false, Option, IfSome, codes, length}
 use Rattle.std.specs.Io.KnownBytes.{Appends, Keeps}
 use Rattle.nbd_wire.specs.declared.message.Message.{Message}
+use Rattle.nbd_wire.specs.declared.profile.Profile.{Profile}
 use Rattle.nbd_wire.specs.protocol.Captures.{Pair}
-use Rattle.nbd_wire.specs.protocol.Within.{IsOfNoRun}
+use Rattle.nbd_wire.specs.protocol.Within.{IsOfNoRunOf}
 use Rattle.nbd_capture.specs.Capture.{Chunk, IsCaptureText}
 use Rattle.nbd_capture.specs.Writing.{AppendsPrefix}
 use Rattle.nbd_wire.specs.declared.fault.WireFault.{WireFault}
-use Rattle.nbd_session.specs.Refusals.{IsWireFault}
-use Rattle.nbd_session.specs.Sessions.{HasRun}
+use Rattle.nbd_session.specs.Refusals.{IsWireFaultOf}
+use Rattle.nbd_session.specs.Sessions.{HasRunOf}
 use Rattle.nbd_judge.specs.declared.verdict.Verdict.TheVariants.{Wire}
 use Rattle.nbd_lines.specs.Script.{message_lines}
 use Rattle.nbd_tool.specs.declared.fault.RunFault.{RunFault}
@@ -16,50 +17,52 @@ use Rattle.nbd_tool.specs.declared.fault.RunFault.TheVariants.{Write, Memory}
 use Rattle.nbd_tool.specs.Runs.{IsCapture, IsCaptureCause, flat_of}
 use Rattle.nbd_tool.specs.Verdicts.{line}
 
--- the prefix of a capture's bytes is that of a run, but for bytes after each side's last message, and these messages
--- complete in that run, in this order
-pub record Leads (capture prefix : List Pair) (messages : List Message) : Type 0 where
+-- the prefix of a capture's bytes is that of a run of the profile, but for bytes after each side's last message, and
+-- these messages complete in that run, in this order
+pub record Leads (profile : Profile) (capture prefix : List Pair) (messages : List Message) : Type 0 where
   pub rest : List Pair
   pub client : List ℕ
   pub server : List ℕ
   pub parts : prefix ++ rest ≡ capture
-  pub run : HasRun prefix messages client server
+  pub run : HasRunOf profile prefix messages client server
 
--- what is to be written of a capture's bytes, and the answer. A run has exactly these bytes: the lines of all its
--- messages and `ok`. Or no run has them: the lines of the messages that completed before the fault, and the line of the
--- wire fault.
-pub data IsOutput (capture : List Pair) : Bool → List ℕ → Type 0 where
-  accepted : (messages : List Message) → HasRun capture messages [] []
-      → IsOutput capture true (message_lines messages ++ codes "ok\n")
+-- what is to be written of a capture's bytes, and the answer. A run of the profile has exactly these bytes: the lines
+-- of all its messages and `ok`. Or no such run has them: the lines of the messages that completed before the fault, and
+-- the line of the wire fault.
+pub data IsOutput (profile : Profile) (capture : List Pair) : Bool → List ℕ → Type 0 where
+  accepted : (messages : List Message) → HasRunOf profile capture messages [] []
+      → IsOutput profile capture true (message_lines messages ++ codes "ok\n")
   refused : (prefix : List Pair) (messages : List Message) (fault : WireFault)
-      → Leads capture prefix messages → IsWireFault capture messages (length prefix) fault → IsOfNoRun capture
-      → IsOutput capture false (message_lines messages ++ line (Wire (length prefix) fault))
+      → Leads profile capture prefix messages → IsWireFaultOf profile capture messages (length prefix) fault
+      → IsOfNoRunOf profile capture
+      → IsOutput profile capture false (message_lines messages ++ line (Wire (length prefix) fault))
 
--- a capture's session was shown
-pub record WritesAll (known : Option (List ℕ)) (yes : Bool) (old new : Option (List ℕ)) : Type 0 where
+-- a capture's session of the profile was shown
+pub record WritesAll (profile : Profile) (known : Option (List ℕ)) (yes : Bool)
+    (old new : Option (List ℕ)) : Type 0 where
   pub chunks : List Chunk
   pub is_text : IfSome known (λ text. IsCaptureText text chunks)
   pub lines : List ℕ
-  pub is_shown : IsOutput (flat_of chunks) yes lines
+  pub is_shown : IsOutput profile (flat_of chunks) yes lines
   pub appended : Appends old new lines
 
--- a prefix of what is to be shown was written
-pub record WritesSome (known old new : Option (List ℕ)) : Type 0 where
+-- a prefix of what is to be shown of a session of the profile was written
+pub record WritesSome (profile : Profile) (known old new : Option (List ℕ)) : Type 0 where
   pub chunks : List Chunk
   pub is_text : IfSome known (λ text. IsCaptureText text chunks)
   pub yes : Bool
   pub lines : List ℕ
-  pub is_shown : IsOutput (flat_of chunks) yes lines
+  pub is_shown : IsOutput profile (flat_of chunks) yes lines
   pub appended : AppendsPrefix old new lines
 
--- a prefix of what is to be shown was written, of its message lines alone
-pub record WritesMessages (known old new : Option (List ℕ)) : Type 0 where
+-- a prefix of what is to be shown of a session of the profile was written, of its message lines alone
+pub record WritesMessages (profile : Profile) (known old new : Option (List ℕ)) : Type 0 where
   pub chunks : List Chunk
   pub is_text : IfSome known (λ text. IsCaptureText text chunks)
   pub yes : Bool
   pub messages : List Message
   pub last : List ℕ
-  pub is_shown : IsOutput (flat_of chunks) yes (message_lines messages ++ last)
+  pub is_shown : IsOutput profile (flat_of chunks) yes (message_lines messages ++ last)
   pub appended : AppendsPrefix old new (message_lines messages)
 
 -- what a fault says of the known bytes of the capture
@@ -67,9 +70,9 @@ abbrev pub IsShowCause : Option (List ℕ) → RunFault → Type 0
 IsShowCause known Write = IsCapture known
 IsShowCause known fault = IsCaptureCause known fault
 
--- what stands written after a fault: a prefix of what is to be shown where the writer failed, a prefix of the message
--- lines or nothing after out of memory, else nothing
-abbrev pub LeavesShown : (known old new : Option (List ℕ)) → RunFault → Type 0
-LeavesShown known old new Write = WritesSome known old new
-LeavesShown known old new Memory = Keeps old new ⊎ WritesMessages known old new
-LeavesShown known old new _ = Keeps old new
+-- what stands written after a fault: a prefix of what is to be shown of a session of the profile where the writer
+-- failed, a prefix of the message lines or nothing after out of memory, else nothing
+abbrev pub LeavesShown : Profile → (known old new : Option (List ℕ)) → RunFault → Type 0
+LeavesShown profile known old new Write = WritesSome profile known old new
+LeavesShown profile known old new Memory = Keeps old new ⊎ WritesMessages profile known old new
+LeavesShown profile known old new _ = Keeps old new

@@ -1,18 +1,19 @@
 -- Each run has one line, or one output, to write.
 use Rattle.std.specs.Prelude.{◌≡◌, ℕ, List, Bool, Some}
+use Rattle.nbd_wire.specs.declared.profile.Profile.{Profile}
 use Rattle.nbd_wire.specs.protocol.Captures.{Pair}
 use Rattle.nbd_wire.specs.protocol.Explains.{Start}
 use Rattle.nbd_judge.specs.declared.verdict.Verdict.{Verdict}
 use Rattle.nbd_tool.specs.Runs.{IsVerdictOn}
 use Rattle.nbd_tool.specs.Shown.{IsOutput}
 
--- a capture text, an order text and a start have one verdict at most, and so one line
+-- in a profile a capture text, an order text and a start have one verdict at most, and so one line
 abbrev pub OneLine : Type 0
-OneLine = (text order_text : List ℕ) (initial : Start) (v w : Verdict) →
-    IsVerdictOn (Some text) (Some order_text) (Some initial) v
-    → IsVerdictOn (Some text) (Some order_text) (Some initial) w → v ≡ w
+OneLine = (profile : Profile) (text order_text : List ℕ) (initial : Start) (v w : Verdict) →
+    IsVerdictOn profile (Some text) (Some order_text) (Some initial) v
+    → IsVerdictOn profile (Some text) (Some order_text) (Some initial) w → v ≡ w
 
--- a capture has one output at most: the same message lines and the same last line
+-- in a profile a capture has one output at most: the same message lines and the same last line
 abbrev pub OneOutput : Type 0
-OneOutput = (capture : List Pair) (yes no : Bool) (lines more : List ℕ) →
-    IsOutput capture yes lines → IsOutput capture no more → (yes ≡ no) × (lines ≡ more)
+OneOutput = (profile : Profile) (capture : List Pair) (yes no : Bool) (lines more : List ℕ) →
+    IsOutput profile capture yes lines → IsOutput profile capture no more → (yes ≡ no) × (lines ≡ more)

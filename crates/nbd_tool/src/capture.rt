@@ -1,10 +1,11 @@
 //! A session over a capture that is read chunk by chunk.
 
 ghost use Rattle.std.specs.Prelude.{◌≡◌, ◌+◌, ◌<◌, ◌^◌, ◌++◌, List, IfErr, IfOk, OnOk, length};
+ghost use Rattle.nbd_wire.specs.declared.profile.Profile.{Profile};
 ghost use Rattle.nbd_wire.specs.protocol.Captures.{Pair, side_pairs};
 ghost use Rattle.nbd_capture.specs.Reading.{at_start};
 ghost use Rattle.nbd_tool.specs.declared.input.TheConstants.{READ_LIMIT};
-ghost use Rattle.nbd_session.specs.Sessions.{bytes_taken, empty_session};
+ghost use Rattle.nbd_session.specs.Sessions.{bytes_taken, empty_session_of};
 ghost use Rattle.nbd_tool.specs.Runs.{IsCaptureCause};
 ghost use Rattle.nbd_tool.specs.Starts.{IsWithinLimit};
 ghost use Rattle.nbd_tool.specs.Ends.{IsOver, IsOverText};
@@ -13,7 +14,7 @@ use crate::fault::RunFault;
 use crate::input::READ_LIMIT;
 use nbd_capture::CaptureReader;
 use nbd_session::{Session, SessionFault};
-use nbd_wire::Side;
+use nbd_wire::{Profile, Side};
 use std::alloc::{AllocError, Global};
 use std::io::BufRead;
 
@@ -33,21 +34,22 @@ impl Witness for Unseen {
     }
 }
 
-/// A session over the capture text that this reader has, up to the byte at which it is refused. A chunk is
-/// dropped once it was shown to the witness and pushed.
+/// A session of this profile over the capture text that the reader has, up to the byte at which it is refused. A chunk
+/// is dropped once it was shown to the witness and pushed.
 ///
 /// The text is read to its end, also after a refused byte, so that a fault of the text or of its reader
 /// comes before any verdict; out of memory is answered at once.
 pub fn session_over<C: BufRead + Drop, S: Witness>(
     alloc: Global,
+    profile: Profile,
     capture: C,
     witness: &mut S,
 ) -> Result<Session, RunFault>
-    ensures over { IfOk result (IsOverText (C.remaining capture)) }
+    ensures over { IfOk result (IsOverText profile (C.remaining capture)) }
     ensures limited { OnOk result (IsWithinLimit (C.remaining capture)) }
     ensures cause { IfErr result (IsCaptureCause (C.remaining capture)) }
 {
-    let mut session = Session::new(alloc);
+    let mut session = Session::of(alloc, profile);
     push_all(alloc, capture, &mut session, witness).and(Ok(session))
 }
 
@@ -58,8 +60,8 @@ fn push_all<C: BufRead + Drop, S: Witness>(
     session: &mut Session,
     witness: &mut S,
 ) -> Result<(), RunFault>
-    requires { session.old ≡ empty_session }
-    ensures over { OnOk result (IsOverText (C.remaining capture) session.new) }
+    requires { session.old ≡ empty_session_of session.old.profile }
+    ensures over { OnOk result (IsOverText session.old.profile (C.remaining capture) session.new) }
     ensures limited { OnOk result (IsWithinLimit (C.remaining capture)) }
     ensures cause { IfErr result (IsCaptureCause (C.remaining capture)) }
 {
@@ -75,8 +77,8 @@ fn push_read<C: BufRead, S: Witness>(
     witness: &mut S,
 ) -> Result<(), RunFault>
     requires new { reader.old ≡ at_start reader.old.rest READ_LIMIT }
-    requires empty { session.old ≡ empty_session }
-    ensures over { OnOk result (IsOverText reader.old.rest session.new) }
+    requires empty { session.old ≡ empty_session_of session.old.profile }
+    ensures over { OnOk result (IsOverText session.old.profile reader.old.rest session.new) }
     ensures limited { OnOk result (IsWithinLimit reader.old.rest) }
     ensures cause { IfErr result (IsCaptureCause reader.old.rest) }
 {
@@ -95,8 +97,8 @@ fn push_shown<S: Witness>(
     piece: &[u8],
 ) -> Result<(), AllocError>
     requires { bytes_taken session.old + length piece.now < 2 ^ 63 }
-    ensures { OnOk result ((capture : List Pair) → IsOver capture session.old →
-        IsOver (capture ++ side_pairs side piece.now) session.new) }
+    ensures { OnOk result ((profile : Profile) (capture : List Pair) → IsOver profile capture session.old →
+        IsOver profile (capture ++ side_pairs side piece.now) session.new) }
 {
     witness.see(side, piece)?;
     match session.push(side, piece) {

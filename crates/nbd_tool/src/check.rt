@@ -2,6 +2,7 @@
 ghost use Rattle.std.specs.Prelude.{◌≡◌, ◌≢◌, ◌⊎◌, ℕ, List, OnOk, IfErr, IfOk, IfSome, Option};
 ghost use Rattle.nbd_capture.specs.Order.{IsOrderText};
 ghost use Rattle.nbd_wire.specs.declared.entry.Entry.{Entry};
+ghost use Rattle.nbd_wire.specs.declared.profile.Profile.TheVariants.{Base};
 ghost use Rattle.nbd_tool.specs.Runs.{IsCapture, IsOrder, IsCause, IsOrderCause, LeavesWritten, SaysYes, Tells};
 ghost use Rattle.nbd_tool.specs.declared.fault.RunFault.TheVariants.{ImageRead, Memory, Write};
 ghost use Rattle.nbd_tool.specs.internal.Outcomes.{IsConcluded};
@@ -16,12 +17,12 @@ use crate::verdict::write_verdict;
 use nbd_capture::parse_order;
 use nbd_judge::Verdict;
 use nbd_session::{SessionFault, Transcript};
-use nbd_wire::Entry;
+use nbd_wire::{Entry, Profile};
 use std::alloc::Global;
 use std::io::{BufRead, Read, Write};
 
 /// Reads a capture text chunk by chunk, then an order text and an image, if there is one, whole; checks the
-/// session from this start, and writes the verdict's line. Answers true where the verdict is yes.
+/// session in the profile `Base` from this start, and writes the verdict's line. Answers true where the verdict is yes.
 ///
 /// The capture is read first, to its end, then the order, then the image; a fault of a text or of its
 /// reader is answered before any verdict, out of memory at once. Nothing is written unless all were read whole and are well formed. After
@@ -29,23 +30,52 @@ use std::io::{BufRead, Read, Write};
 pub fn run_check<C: BufRead + Drop, O: Read + Drop, I: Measured + Drop, W: Write>(
     alloc: Global,
     capture: C,
-    mut order: O,
+    order: O,
     start: StartFrom<I>,
     out: &mut W,
 ) -> Result<bool, RunFault>
     ensures written { IfOk result
-        (λ yes. Tells (C.remaining capture) (O.remaining order) (initial_from I.remaining start) yes
+        (λ yes. Tells Base (C.remaining capture) (O.remaining order) (initial_from I.remaining start) yes
         (W.contents out.old) (W.contents out.new)) }
-    ensures yes { SaysYes (C.remaining capture) (O.remaining order) (initial_from I.remaining start)
+    ensures yes { SaysYes Base (C.remaining capture) (O.remaining order) (initial_from I.remaining start)
         (W.contents out.old) (W.contents out.new) }
     ensures well_formed { OnOk result (IsCapture (C.remaining capture) × IsOrder (O.remaining order)) }
     ensures limited { OnOk result (IsWithinLimit (C.remaining capture) × IsWithinLimit (O.remaining order)
         × IsStartWithinLimit I.remaining start) }
     ensures cause { IfErr result (IsCause (C.remaining capture) (O.remaining order) start) }
-    ensures left { IfErr result (LeavesWritten (C.remaining capture) (O.remaining order)
+    ensures left { IfErr result (LeavesWritten Base (C.remaining capture) (O.remaining order)
         (initial_from I.remaining start) (W.contents out.old) (W.contents out.new)) }
 {
-    let session = session_over(alloc, capture, &mut Unseen)?;
+    run_check_of(alloc, Profile::Base, capture, order, start, out)
+}
+
+/// Reads a capture text chunk by chunk, then an order text and an image, if there is one, whole; checks the
+/// session in this profile from this start, and writes the verdict's line. Answers true where the verdict is yes.
+///
+/// The capture is read first, to its end, then the order, then the image; an `Err` is a fault of a text or of its reader,
+/// which is answered before any verdict, of the writer, or out of memory, which is answered at once. Nothing is written
+/// unless all were read whole and are well formed. After `Write` a prefix of the line stands written.
+pub fn run_check_of<C: BufRead + Drop, O: Read + Drop, I: Measured + Drop, W: Write>(
+    alloc: Global,
+    profile: Profile,
+    capture: C,
+    mut order: O,
+    start: StartFrom<I>,
+    out: &mut W,
+) -> Result<bool, RunFault>
+    ensures written { IfOk result
+        (λ yes. Tells profile (C.remaining capture) (O.remaining order) (initial_from I.remaining start) yes
+        (W.contents out.old) (W.contents out.new)) }
+    ensures yes { SaysYes profile (C.remaining capture) (O.remaining order) (initial_from I.remaining start)
+        (W.contents out.old) (W.contents out.new) }
+    ensures well_formed { OnOk result (IsCapture (C.remaining capture) × IsOrder (O.remaining order)) }
+    ensures limited { OnOk result (IsWithinLimit (C.remaining capture) × IsWithinLimit (O.remaining order)
+        × IsStartWithinLimit I.remaining start) }
+    ensures cause { IfErr result (IsCause (C.remaining capture) (O.remaining order) start) }
+    ensures left { IfErr result (LeavesWritten profile (C.remaining capture) (O.remaining order)
+        (initial_from I.remaining start) (W.contents out.old) (W.contents out.new)) }
+{
+    let session = session_over(alloc, profile, capture, &mut Unseen)?;
     let verdict = verdict_over(alloc, session.finish(), &mut order, start)?;
     write_verdict(alloc, verdict, out)
 }

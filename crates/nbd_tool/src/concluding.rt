@@ -1,9 +1,10 @@
 //! The verdict where an image that does not fit was not kept.
 
 ghost use Rattle.std.specs.Prelude.{◌≡◌, ◌<◌, ℕ, List, IfOk, length};
+ghost use Rattle.nbd_wire.specs.declared.profile.Profile.{Profile};
 ghost use Rattle.nbd_wire.specs.protocol.Explains as definitions;
 ghost use Rattle.nbd_wire.specs.protocol.Marks.{Item, pairs};
-ghost use Rattle.nbd_wire.specs.protocol.Rules.{IsRun};
+ghost use Rattle.nbd_wire.specs.protocol.Rules.{IsRunOf};
 ghost use Rattle.nbd_judge.specs.Conclusions.{Answers, IsConclusion, IsReportOf};
 ghost use Rattle.nbd_tool.specs.Beginnings.{IsReadAs, room_in};
 
@@ -24,9 +25,9 @@ pub fn conclude_from(
 ) -> Result<Verdict, AllocError>
     ensures verdict { IfOk result (λ v. (initial : definitions.Start) →
         IsReadAs (room_in finished) initial beginning → IsConclusion finished order.now initial v) }
-    ensures answers { IfOk result (λ v. (initial : definitions.Start) (items : List Item) →
-        IsReadAs (room_in finished) initial beginning → IsRun items → IsReportOf items finished →
-        Answers (pairs items) order.now initial v) }
+    ensures answers { IfOk result (λ v. (profile : Profile) (initial : definitions.Start) (items : List Item) →
+        IsReadAs (room_in finished) initial beginning → IsRunOf profile items → IsReportOf items finished →
+        Answers profile (pairs items) order.now initial v) }
 {
     laws::verdicts_answer_runs();
     match beginning {

@@ -3,12 +3,12 @@ ghost use Rattle.std.specs.Prelude.{◌≡◌, ◌^◌};
 ghost use Rattle.nbd_tool.specs.Uniqueness.{OneLine, OneOutput};
 ghost use Rattle.nbd_tool.specs.declared.input.TheConstants.{READ_LIMIT};
 
-/// `check` has one line to write at most: what it reads from its three inputs has one verdict.
+/// `check` has one line to write at most: in a profile what it reads from its three inputs has one verdict.
 pub fn one_line()
     ensures { OneLine }
 {}
 
-/// `show` has one output at most: the lines of the same messages, and the same last line.
+/// In a profile `show` has one output at most: the lines of the same messages, and the same last line.
 pub fn one_output()
     ensures { OneOutput }
 {}

@@ -20,7 +20,7 @@ mod tests;
 pub mod verdict;
 
 pub use capture::{Unseen, Witness, session_over};
-pub use check::{read_order, run_check};
+pub use check::{read_order, run_check, run_check_of};
 pub use command_line::{StartWord, exit_status, start_of};
 pub use concluding::conclude_from;
 pub use fault::RunFault;
@@ -30,6 +30,6 @@ pub use input::READ_LIMIT;
 pub use make::run_make;
 pub use opening::{Inputs, Opener, open_inputs, open_start};
 pub use saying::{complain, hint, tell, terminal};
-pub use show::{run_show, write_end};
+pub use show::{run_show, run_show_of, write_end};
 pub use start::{Beginning, Measured, StartFrom, read_start, room_of};
 pub use verdict::{Line, is_yes, line_of};

@@ -1,6 +1,7 @@
 //! The command `show`, over any reader and writer.
 ghost use Rattle.std.specs.Prelude.{◌≡◌, IfErr, IfOk, OnOk, None, true};
 ghost use Rattle.std.specs.Io.KnownBytes.{Appends};
+ghost use Rattle.nbd_wire.specs.declared.profile.Profile.TheVariants.{Base};
 ghost use Rattle.nbd_session.specs.Sessions.{fault_of};
 ghost use Rattle.nbd_tool.specs.Runs.{IsCapture};
 ghost use Rattle.nbd_tool.specs.Ends.{LeavesLast, is_accepted, last_line};
@@ -14,11 +15,12 @@ use nbd_capture::write_whole;
 use nbd_judge::Verdict;
 use nbd_lines::show;
 use nbd_session::{SessionFault, Transcript};
+use nbd_wire::Profile;
 use std::alloc::Global;
 use std::io::{BufRead, Write};
 
-/// Reads a capture text to its end, chunk by chunk, and writes a line for each message that its session accepts, in the order
-/// of their completion, and then `ok`, or where and why the session was refused. Answers true where it
+/// Reads a capture text to its end, chunk by chunk, and writes a line for each message that its session of the profile
+/// `Base` accepts, in the order of their completion, and then `ok`, or where and why the session was refused. Answers true where it
 /// was accepted.
 ///
 /// Nothing is written unless the capture was read whole and is well formed. After `Write` a prefix of the
@@ -29,13 +31,36 @@ pub fn run_show<C: BufRead + Drop, W: Write>(
     out: &mut W,
 ) -> Result<bool, RunFault>
     ensures written { IfOk result
-        (λ yes. WritesAll (C.remaining capture) yes (W.contents out.old) (W.contents out.new)) }
+        (λ yes. WritesAll Base (C.remaining capture) yes (W.contents out.old) (W.contents out.new)) }
     ensures well_formed { OnOk result (IsCapture (C.remaining capture)) }
     ensures limited { OnOk result (IsWithinLimit (C.remaining capture)) }
     ensures cause { IfErr result (IsShowCause (C.remaining capture)) }
-    ensures left { IfErr result (LeavesShown (C.remaining capture) (W.contents out.old) (W.contents out.new)) }
+    ensures left { IfErr result (LeavesShown Base (C.remaining capture) (W.contents out.old) (W.contents out.new)) }
 {
-    let session = session_over(alloc, capture, &mut Unseen)?;
+    run_show_of(alloc, Profile::Base, capture, out)
+}
+
+/// Reads a capture text to its end, chunk by chunk, and writes a line for each message that its session of this profile
+/// accepts, in the order of their completion, and then `ok`, or where and why the session was refused. Answers true
+/// where it was accepted.
+///
+/// An `Err` is a fault of the text, of its reader or of the writer, or out of memory. Nothing is written unless the
+/// capture was read whole and is well formed. After `Write` a prefix of the lines stands written, after `Memory` a
+/// prefix of the message lines, possibly nothing.
+pub fn run_show_of<C: BufRead + Drop, W: Write>(
+    alloc: Global,
+    profile: Profile,
+    capture: C,
+    out: &mut W,
+) -> Result<bool, RunFault>
+    ensures written { IfOk result
+        (λ yes. WritesAll profile (C.remaining capture) yes (W.contents out.old) (W.contents out.new)) }
+    ensures well_formed { OnOk result (IsCapture (C.remaining capture)) }
+    ensures limited { OnOk result (IsWithinLimit (C.remaining capture)) }
+    ensures cause { IfErr result (IsShowCause (C.remaining capture)) }
+    ensures left { IfErr result (LeavesShown profile (C.remaining capture) (W.contents out.old) (W.contents out.new)) }
+{
+    let session = session_over(alloc, profile, capture, &mut Unseen)?;
     let finished = show(alloc, session.messages(), out).and(Ok(session.finish()))?;
     write_end(alloc, finished, out)
 }

@@ -1,13 +1,13 @@
 -- What a verdict on the report of a run says of the run's bytes.
 use Rattle.std.proofs.Common.{◌≡◌, ℕ, List, sym, ◌∙◌, ap, subst}
-use Rattle.nbd_wire.specs.declared.profile.Profile.TheVariants.{Base}
+use Rattle.nbd_wire.specs.declared.profile.Profile.{Profile}
 use Rattle.nbd_wire.specs.declared.entry.Entry.{Entry}
 use Rattle.nbd_wire.specs.protocol.Explains.{Start, start_byte}
 use Rattle.nbd_wire.specs.protocol.Marks.{Item, pairs}
 use Rattle.nbd_wire.specs.protocol.Reports.{Report, report}
-use Rattle.nbd_wire.specs.protocol.Rules.{IsRun}
+use Rattle.nbd_wire.specs.protocol.Rules.{IsRunOf}
 use Rattle.nbd_wire.specs.protocol.Verdicts.{IsFaultless, Passes, answered_count, improper_count, request_count}
-use Rattle.nbd_laws.specs.Explaining.{ExplainedPasses, IsNo, PassingIsExplained}
+use Rattle.nbd_laws.specs.Explaining.{ExplainedPasses, IsNoOf, PassingIsExplained}
 use Rattle.nbd_laws.specs.Moments.{OrdersAreFaultless}
 use Rattle.nbd_laws.specs.Sameness.{SameReports}
 use Rattle.nbd_judge.specs.declared.verdict.Verdict.TheVariants.{Yes, Wire, Image, Order, Content}
@@ -19,40 +19,42 @@ use Rattle.nbd_judge.specs.declared.verdict.OrderFault.{OrderFault}
 use Rattle.nbd_judge.proofs.verdicts.SingleLemmas.{fits_not, has_fault, has_wrong}
 
 -- where an order has a fault, no run with these bytes is served in it
-fault_unserved : OrdersAreFaultless → SameReports → (items : List Item) (order : List Entry) (entry : ℕ) (fault : OrderFault) → IsRun items →
-    IsOrderFault (report items) order entry fault → IsUnserved (pairs items) order
-fault_unserved faultless same items order entry fault run is other run' bytes serves = has_fault (report items) order entry fault is
-    (subst (λ (r : Report). IsFaultless r order) (same Base other items run' run bytes)
-    (subst (λ (o : List Entry). IsFaultless (report other) o) serves (faultless Base other run')))
+fault_unserved : OrdersAreFaultless → SameReports → (profile : Profile) (items : List Item) (order : List Entry) (entry : ℕ) (fault : OrderFault) → IsRunOf profile items →
+    IsOrderFault (report items) order entry fault → IsUnserved profile (pairs items) order
+fault_unserved faultless same profile items order entry fault run is other run' bytes serves = has_fault (report items) order entry fault is
+    (subst (λ (r : Report). IsFaultless r order) (same profile other items run' run bytes)
+    (subst (λ (o : List Entry). IsFaultless (report other) o) serves (faultless profile other run')))
 
 -- so an Order verdict is of an order that no run with the session's bytes is served in
 pub order_unserved : (r : Report) (order : List Entry) (entry : ℕ) (fault : OrderFault) → IsOrderFault r order entry fault →
-    (items : List Item) → IsRun items → report items ≡ r → IsUnserved (pairs items) order
-order_unserved r order entry fault is items run of_run =
-    fault_unserved orders_are_faultless same_reports items order entry fault run (subst (λ (q : Report). IsOrderFault q order entry fault) (sym of_run) is)
+    (profile : Profile) (items : List Item) → IsRunOf profile items → report items ≡ r → IsUnserved profile (pairs items) order
+order_unserved r order entry fault is profile items run of_run =
+    fault_unserved orders_are_faultless same_reports profile items order entry fault run (subst (λ (q : Report). IsOrderFault q order entry fault) (sym of_run) is)
 
 module _ (passing : PassingIsExplained) (only : ExplainedPasses) (faultless : OrdersAreFaultless) (same : SameReports) where
   -- a run that does not pass is not explained
-  no_pass : (items : List Item) (order : List Entry) (initial : Start) → IsRun items → (Passes (report items) order initial → ⊥) → IsNo (pairs items) order initial
-  no_pass items order initial run fails explained = fails (only Base items order initial run explained)
+  no_pass : (profile : Profile) (items : List Item) (order : List Entry) (initial : Start) → IsRunOf profile items → (Passes (report items) order initial → ⊥)
+      → IsNoOf profile (pairs items) order initial
+  no_pass profile items order initial run fails explained = fails (only profile items order initial run explained)
 
-  counted : (f : Report → ℕ) (items : List Item) (n : ℕ) → IsRun items → n ≡ f (report items) → (other : List Item) → IsRun other → pairs other ≡ pairs items → f (report other) ≡ n
-  counted f items n run is other run' e = ap f (same Base other items run' run e) ∙ sym is
+  counted : (profile : Profile) (f : Report → ℕ) (items : List Item) (n : ℕ) → IsRunOf profile items → n ≡ f (report items) → (other : List Item) → IsRunOf profile other
+      → pairs other ≡ pairs items → f (report other) ≡ n
+  counted profile f items n run is other run' e = ap f (same profile other items run' run e) ∙ sym is
 
   pub answers_runs : VerdictsAnswerRuns
-  answers_runs items order initial (Yes a b c) run v = record {
-    explained = passing Base items order initial run (record { faultless = v.1.0; fits_image = v.0; reads = v.1.1 });
+  answers_runs profile items order initial (Yes a b c) run v = record {
+    explained = passing profile items order initial run (record { faultless = v.1.0; fits_image = v.0; reads = v.1.1 });
     counts = record {
-      requests_are = counted request_count items a run v.1.2;
-      answered_are = counted answered_count items b run v.1.3;
-      improper_are = counted improper_count items c run v.1.4;
+      requests_are = counted profile request_count items a run v.1.2;
+      answered_are = counted profile answered_count items b run v.1.3;
+      improper_are = counted profile improper_count items c run v.1.4;
     };
   }
-  answers_runs items order initial (Order e p) run v = (
-    no_pass items order initial run (λ passes. has_fault (report items) order e p v.1 passes.faultless),
-    fault_unserved faultless same items order e p run v.1,
+  answers_runs profile items order initial (Order e p) run v = (
+    no_pass profile items order initial run (λ passes. has_fault (report items) order e p v.1 passes.faultless),
+    fault_unserved faultless same profile items order e p run v.1,
   )
-  answers_runs items order initial (Content k x) run v =
-      no_pass items order initial run (λ passes. has_wrong (report items) order (start_byte initial) k x v.1.1 passes.reads)
-  answers_runs items order initial (Image i s) run v = no_pass items order initial run (λ passes. fits_not (report items).export initial i s passes.fits_image v)
-  answers_runs items order initial (Wire at fault) run v = absurd v
+  answers_runs profile items order initial (Content k x) run v =
+      no_pass profile items order initial run (λ passes. has_wrong (report items) order (start_byte initial) k x v.1.1 passes.reads)
+  answers_runs profile items order initial (Image i s) run v = no_pass profile items order initial run (λ passes. fits_not (report items).export initial i s passes.fits_image v)
+  answers_runs profile items order initial (Wire at fault) run v = absurd v

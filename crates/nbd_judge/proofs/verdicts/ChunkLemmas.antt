@@ -2,14 +2,14 @@
 use Rattle.std.proofs.Common.{◌≡◌, ℕ, zero, suc, ◌+◌, ◌<◌, ◌≤◌, List, [], ◌∷◌, ◌++◌, length, refl, sym, ◌∙◌, ap, subst, arith, take, get_or, add-one, length-append, append_assoc, Result, Ok, Err, IfOk, IfErr, IsErrAnd}
 use Rattle.std.specs.declared.alloc.Global.{Global}
 use Rattle.std.specs.declared.vec.Vec.{Vec}
-use Rattle.nbd_wire.specs.declared.profile.Profile.TheVariants.{Base}
+use Rattle.nbd_wire.specs.declared.profile.Profile.{Profile}
 use Rattle.nbd_wire.specs.declared.entry.Entry.{Entry}
 use Rattle.nbd_wire.specs.declared.message.Side.{Side}
 use Rattle.nbd_wire.specs.protocol.Explains.{Start}
 use Rattle.nbd_wire.specs.protocol.Marks.{Item, pairs}
 use Rattle.nbd_wire.specs.protocol.Captures.{Pair, flat, side_pairs}
 use Rattle.nbd_wire.specs.protocol.Reports.{Report}
-use Rattle.nbd_wire.specs.protocol.Rules.{IsRun, IsRunOf}
+use Rattle.nbd_wire.specs.protocol.Rules.{IsRunOf}
 use Rattle.nbd_session.specs.declared.fault.SessionFault.{SessionFault}
 use Rattle.nbd_session.specs.declared.fault.SessionFault.TheVariants as session
 use Rattle.nbd_session.specs.Sessions.{IsReported, SessionView, pairs_of}
@@ -60,7 +60,7 @@ prefix_whole (d ∷ cs) zero w = absurd (omega arith)
 prefix_whole (d ∷ cs) (suc i) w = ap (λ r. d ∷ r) (prefix_whole cs i (omega arith))
 
 -- what a finished session states is told of its bytes
-pub told_of : (r : SessionView) (capture : List Pair) (told : Report) → r.profile ≡ Base → pairs_of r ≡ capture → IsReported r told → HasReport capture told
+pub told_of : {profile : Profile} (r : SessionView) (capture : List Pair) (told : Report) → r.profile ≡ profile → pairs_of r ≡ capture → IsReported r told → HasReport profile capture told
 told_of r capture told p same reported = record {
   items = reported.items;
   is_run = subst (λ q. IsRunOf q reported.items) p reported.is_run;
@@ -69,23 +69,23 @@ told_of r capture told p same reported = record {
 }
 
 -- the conclusion from what a session over a capture finished with is the verdict on that capture
-pub checked : (capture : List Pair) (order : List Entry) (initial : Start) (finished : Result Report SessionFault) (v : Verdict)
-    → IfOk finished (HasReport capture) → IfErr finished (IsFaultOf capture) → IsConclusion finished order initial v
-    → ((items : List Item) → IsRun items → IsReportOf items finished → Answers (pairs items) order initial v) → IsChecked capture order initial v
-checked capture order initial (Err session.Memory) v told within is answers = absurd is
-checked capture order initial (Err (session.Wire at fault)) v told within is answers = subst (IsChecked capture order initial) (sym is) within
-checked capture order initial (Ok r) v told within is answers = go v is (answers told.items told.is_run (told.same_report told.items told.is_run told.has_pairs))
+pub checked : (profile : Profile) (capture : List Pair) (order : List Entry) (initial : Start) (finished : Result Report SessionFault) (v : Verdict)
+    → IfOk finished (HasReport profile capture) → IfErr finished (IsFaultOf profile capture) → IsConclusion finished order initial v
+    → ((items : List Item) → IsRunOf profile items → IsReportOf items finished → Answers profile (pairs items) order initial v) → IsChecked profile capture order initial v
+checked profile capture order initial (Err session.Memory) v told within is answers = absurd is
+checked profile capture order initial (Err (session.Wire at fault)) v told within is answers = subst (IsChecked profile capture order initial) (sym is) within
+checked profile capture order initial (Ok r) v told within is answers = go v is (answers told.items told.is_run (told.same_report told.items told.is_run told.has_pairs))
   where
-    verdict : (v : Verdict) → IsVerdict r order initial v → Answers (pairs told.items) order initial v → HasVerdict capture order initial v
+    verdict : (v : Verdict) → IsVerdict r order initial v → Answers profile (pairs told.items) order initial v → HasVerdict profile capture order initial v
     verdict v is says = record {
       items = told.items;
       is_run = told.is_run;
       has_pairs = told.has_pairs;
       is_verdict = λ others run has. subst (λ (q : Report). IsVerdict q order initial v) (sym (told.same_report others run has)) is;
-      answers = subst (λ (ps : List Pair). Answers ps order initial v) told.has_pairs says;
+      answers = subst (λ (ps : List Pair). Answers profile ps order initial v) told.has_pairs says;
     }
 
-    go : (v : Verdict) → IsVerdict r order initial v → Answers (pairs told.items) order initial v → IsChecked capture order initial v
+    go : (v : Verdict) → IsVerdict r order initial v → Answers profile (pairs told.items) order initial v → IsChecked profile capture order initial v
     go (Wire at fault) is says = absurd is
     go (Yes a b c) is says = verdict (Yes a b c) is says
     go (Image i s) is says = verdict (Image i s) is says
@@ -109,15 +109,16 @@ piece_fits cs i c w e =
     let within = prefix_within cs (i + 1) in
     omega arith
 
-pub finish_told : (r : SessionView) (capture : List Pair) (o : Result Report SessionFault) → r.profile ≡ Base → pairs_of r ≡ capture → IfOk o (IsReported r) → IfOk o (HasReport capture)
+pub finish_told : {profile : Profile} (r : SessionView) (capture : List Pair) (o : Result Report SessionFault) → r.profile ≡ profile → pairs_of r ≡ capture → IfOk o (IsReported r) → IfOk o (HasReport profile capture)
 finish_told r capture (Ok told) p same h = told_of r capture told p same h
 finish_told r capture (Err fault) p same h = h
 
-pub conclusion_checked : {E : Type 0} (capture : List Pair) (order : List Entry) (initial : Start) (finished : Result Report SessionFault) (o : Result Verdict E)
-    → IfOk finished (HasReport capture) → IfErr finished (IsFaultOf capture) → IfOk o (IsConclusion finished order initial)
-    → IfOk o (λ v. (items : List Item) → IsRun items → IsReportOf items finished → Answers (pairs items) order initial v) → IfOk o (IsChecked capture order initial)
-conclusion_checked capture order initial finished (Ok v) told within is answers = checked capture order initial finished v told within is answers
-conclusion_checked capture order initial finished (Err e) told within is answers = tt
+pub conclusion_checked : {E : Type 0} (profile : Profile) (capture : List Pair) (order : List Entry) (initial : Start) (finished : Result Report SessionFault) (o : Result Verdict E)
+    → IfOk finished (HasReport profile capture) → IfErr finished (IsFaultOf profile capture) → IfOk o (IsConclusion finished order initial)
+    → IfOk o (λ v. (profile : Profile) (items : List Item) → IsRunOf profile items → IsReportOf items finished → Answers profile (pairs items) order initial v)
+    → IfOk o (IsChecked profile capture order initial)
+conclusion_checked profile capture order initial finished (Ok v) told within is answers = checked profile capture order initial finished v told within is (answers profile)
+conclusion_checked profile capture order initial finished (Err e) told within is answers = tt
 
 pub handed_on : {T : Type 0} (o : Result T SessionFault) (fault : SessionFault) (P : SessionFault → Type 0) → IsErrAnd o (λ e. e ≡ fault) → P fault → IfErr o P
 handed_on (Ok x) fault P h p = tt

@@ -1,14 +1,14 @@
 -- A session over chunks that ends in a fault.
 use Rattle.std.proofs.Common.{◌≡◌, ℕ, zero, suc, ◌<◌, List, [], ◌∷◌, ◌++◌, length, refl, sym, ◌∙◌, ap, subst, arith, take, drop, get_or, append_assoc, inl, Result, Ok, Err, IfOk, IfErr, Vec}
 use Rattle.std.specs.declared.alloc.Global.{Global}
-use Rattle.nbd_wire.specs.declared.profile.Profile.TheVariants.{Base}
+use Rattle.nbd_wire.specs.declared.profile.Profile.{Profile}
 use Rattle.nbd_wire.specs.declared.entry.Entry.{Entry}
 use Rattle.nbd_wire.specs.declared.message.Side.{Side}
-use Rattle.nbd_wire.specs.protocol.Explains.{IsExplained, Start}
+use Rattle.nbd_wire.specs.protocol.Explains.{IsExplainedOf, Start}
 use Rattle.nbd_wire.specs.protocol.Captures.{Pair, flat, side_pairs}
 use Rattle.nbd_session.specs.declared.fault.SessionFault.{SessionFault}
 use Rattle.nbd_session.specs.declared.fault.SessionFault.TheVariants.{Memory, Wire}
-use Rattle.nbd_session.specs.Refusals.{EndsIn, IsRefusalOf, IsWireFault, IsWireFaultOf, Refuses}
+use Rattle.nbd_session.specs.Refusals.{EndsIn, IsRefusalOf, IsWireFaultOf, Refuses}
 use Rattle.nbd_session.specs.Sessions.{AddsPrefix, IsAtEnd, SessionView, pairs_of}
 use Rattle.nbd_session.proofs.judge.RefusalLemmas.{no_run_of}
 use Rattle.nbd_judge.specs.declared.verdict.Verdict.{Verdict}
@@ -33,8 +33,8 @@ split_at (d ∷ cs) (suc i) c w e =
     ∙ sym (append_assoc (side_pairs d.0 d.1.items) (flat (records_of (take i cs))) (side_pairs c.0 c.1.items ++ flat (records_of (drop (suc i) cs))))
 
 -- a fault in a chunk is that of the capture
-pub fault_in : (cs : List (Side × Vec ℕ Global)) (i : ℕ) (c : Side × Vec ℕ Global) (piece : List ℕ) (old new : SessionView) (fault : SessionFault) → i < length cs → c ≡ get_or cs i c → piece ≡ c.1.items →
-    new.profile ≡ Base → pairs_of old ≡ flat (records_of (take i cs)) → AddsPrefix old new c.0 piece → IsAtEnd new fault → Refuses new fault → IsFaultOf (flat (records_of cs)) fault
+pub fault_in : {profile : Profile} (cs : List (Side × Vec ℕ Global)) (i : ℕ) (c : Side × Vec ℕ Global) (piece : List ℕ) (old new : SessionView) (fault : SessionFault) → i < length cs → c ≡ get_or cs i c → piece ≡ c.1.items →
+    new.profile ≡ profile → pairs_of old ≡ flat (records_of (take i cs)) → AddsPrefix old new c.0 piece → IsAtEnd new fault → Refuses new fault → IsFaultOf profile (flat (records_of cs)) fault
 fault_in cs i c piece old new Memory w e same p took prefix is refuses = tt
 fault_in cs i c piece old new (Wire at fault) w e same p took prefix is refuses =
     let added = prefix.1 in
@@ -54,24 +54,26 @@ fault_in cs i c piece old new (Wire at fault) w e same p took prefix is refuses 
       }),
     )
 
-end_fault : (r : SessionView) (capture : List Pair) (fault : SessionFault) → r.profile ≡ Base → pairs_of r ≡ capture → EndsIn r fault → IsFaultOf capture fault
+end_fault : {profile : Profile} (r : SessionView) (capture : List Pair) (fault : SessionFault) → r.profile ≡ profile → pairs_of r ≡ capture → EndsIn r fault → IsFaultOf profile capture fault
 end_fault r capture Memory p same e = tt
-end_fault r capture (Wire at fault) p same e =
-    (r.messages, subst (λ ps. IsWireFault ps r.messages at fault) same (subst (λ q. IsWireFaultOf q (pairs_of r) r.messages at fault) p e))
+end_fault {profile} r capture (Wire at fault) p same e =
+    (r.messages, subst (λ ps. IsWireFaultOf profile ps r.messages at fault) same (subst (λ q. IsWireFaultOf q (pairs_of r) r.messages at fault) p e))
 
 -- so is one at the end
-pub finish_fault : {A : Type 0} (r : SessionView) (capture : List Pair) (o : Result A SessionFault) → r.profile ≡ Base → pairs_of r ≡ capture → IfErr o (EndsIn r) → IfErr o (IsFaultOf capture)
+pub finish_fault : {A : Type 0} {profile : Profile} (r : SessionView) (capture : List Pair) (o : Result A SessionFault) → r.profile ≡ profile → pairs_of r ≡ capture → IfErr o (EndsIn r) → IfErr o (IsFaultOf profile capture)
 finish_fault r capture (Ok told) p same h = tt
 finish_fault r capture (Err fault) p same h = end_fault r capture fault p same h
 
 -- yes is said of exactly the captures that are explained
-says_exactly : (capture : List Pair) (order : List Entry) (initial : Start) (v : Verdict) → IsChecked capture order initial v → SaysYes v ↔ IsExplained capture order initial
-says_exactly capture order initial (verdict.Yes a b c) is = ((λ y. is.answers.explained), λ x. tt)
-says_exactly capture order initial (verdict.Wire at fault) is = ((λ y. absurd y), λ x. no_run_of capture is.0 at fault is.1 x.items x.is_run x.has_pairs)
-says_exactly capture order initial (verdict.Image i s) is = ((λ y. absurd y), λ x. is.answers x)
-says_exactly capture order initial (verdict.Order e f) is = ((λ y. absurd y), λ x. is.answers.0 x)
-says_exactly capture order initial (verdict.Content k x) is = ((λ y. absurd y), λ x. is.answers x)
+says_exactly : (profile : Profile) (capture : List Pair) (order : List Entry) (initial : Start) (v : Verdict) → IsChecked profile capture order initial v
+    → SaysYes v ↔ IsExplainedOf profile capture order initial
+says_exactly profile capture order initial (verdict.Yes a b c) is = ((λ y. is.answers.explained), λ x. tt)
+says_exactly profile capture order initial (verdict.Wire at fault) is = ((λ y. absurd y), λ x. no_run_of capture is.0 at fault is.1 x.items x.is_run x.has_pairs)
+says_exactly profile capture order initial (verdict.Image i s) is = ((λ y. absurd y), λ x. is.answers x)
+says_exactly profile capture order initial (verdict.Order e f) is = ((λ y. absurd y), λ x. is.answers.0 x)
+says_exactly profile capture order initial (verdict.Content k x) is = ((λ y. absurd y), λ x. is.answers x)
 
-pub answers_exactly : {E : Type 0} (capture : List Pair) (order : List Entry) (initial : Start) (o : Result Verdict E) → IfOk o (IsChecked capture order initial) → IfOk o (λ v. SaysYes v ↔ IsExplained capture order initial)
-answers_exactly capture order initial (Ok v) is = says_exactly capture order initial v is
-answers_exactly capture order initial (Err e) is = tt
+pub answers_exactly : {E : Type 0} (profile : Profile) (capture : List Pair) (order : List Entry) (initial : Start) (o : Result Verdict E) → IfOk o (IsChecked profile capture order initial)
+    → IfOk o (λ v. SaysYes v ↔ IsExplainedOf profile capture order initial)
+answers_exactly profile capture order initial (Ok v) is = says_exactly profile capture order initial v is
+answers_exactly profile capture order initial (Err e) is = tt

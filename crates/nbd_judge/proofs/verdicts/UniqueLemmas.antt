@@ -1,16 +1,16 @@
 -- A capture is refused in one way at most, and has one answer at most.
 use Rattle.std.proofs.Common.{◌≡◌, ℕ, List, [], ◌∷◌, ◌++◌, ◌⊎◌, length, refl, sym, ◌∙◌, ap, subst, inl, inr, append-nil}
-use Rattle.nbd_wire.specs.declared.profile.Profile.TheVariants.{Base}
+use Rattle.nbd_wire.specs.declared.profile.Profile.{Profile}
 use Rattle.nbd_wire.specs.declared.entry.Entry.{Entry}
 use Rattle.nbd_wire.specs.declared.fault.WireFault.{WireFault}
 use Rattle.nbd_wire.specs.declared.message.Message.{Message}
 use Rattle.nbd_wire.specs.protocol.Captures.{Pair}
 use Rattle.nbd_wire.specs.protocol.Explains.{Start}
 use Rattle.nbd_wire.specs.protocol.Reports.{report}
-use Rattle.nbd_wire.specs.protocol.Splits.{IsPlace}
+use Rattle.nbd_wire.specs.protocol.Splits.{IsPlaceOf}
 use Rattle.nbd_laws.proofs.rows.MarkLemmas.{one_place, prefixes_have_no_place, under_way_agree}
 use Rattle.nbd_session.specs.declared.fault.SessionFault.TheVariants as session
-use Rattle.nbd_session.specs.Refusals.{IsOpenEnd, IsRefusedAt}
+use Rattle.nbd_session.specs.Refusals.{IsOpenEndOf, IsRefusedAtOf}
 use Rattle.nbd_session.proofs.judge.RefusalLemmas.{no_run_of}
 use Rattle.nbd_judge.specs.declared.verdict.Verdict.{Verdict}
 use Rattle.nbd_judge.specs.declared.verdict.Verdict.TheVariants.{Yes, Wire, Image, Order, Content}
@@ -31,35 +31,36 @@ prefixes (x ∷ xs) (y ∷ ys) us vs e =
     ]
 
 -- a longer prefix of a capture with a place has none
-module _ (capture : List Pair) (messages more : List Message) (at place : ℕ) (fault other : WireFault) where
-  longer : (a : IsRefusedAt capture messages at fault) (b : IsRefusedAt capture more place other) (w : List Pair) → b.prefix ≡ a.prefix ++ w → (at ≡ place) × (fault ≡ other) × (messages ≡ more)
+module _ {profile : Profile} (capture : List Pair) (messages more : List Message) (at place : ℕ) (fault other : WireFault) where
+  longer : (a : IsRefusedAtOf profile capture messages at fault) (b : IsRefusedAtOf profile capture more place other) (w : List Pair) → b.prefix ≡ a.prefix ++ w → (at ≡ place) × (fault ≡ other) × (messages ≡ more)
   longer a b w e =
-      let none : w ≡ [] = prefixes_have_no_place Base a.prefix w more messages other fault (subst (λ ps. IsPlace ps more other) e b.refusal.place) a.refusal.place in
+      let none : w ≡ [] = prefixes_have_no_place profile a.prefix w more messages other fault (subst (λ ps. IsPlaceOf profile ps more other) e b.refusal.place) a.refusal.place in
       let same : b.prefix ≡ a.prefix = e ∙ ap (λ l. a.prefix ++ l) none ∙ append-nil a.prefix in
-      let one = one_place Base a.prefix messages more fault other a.refusal.place (subst (λ ps. IsPlace ps more other) same b.refusal.place) in
+      let one = one_place profile a.prefix messages more fault other a.refusal.place (subst (λ ps. IsPlaceOf profile ps more other) same b.refusal.place) in
       (a.at_is ∙ ap length (sym same) ∙ sym b.at_is, one.1, one.0)
 
-  open_end : IsRefusedAt capture messages at fault → IsOpenEnd capture more → ⊥
+  open_end : IsRefusedAtOf profile capture messages at fault → IsOpenEndOf profile capture more → ⊥
   open_end a b = b.accepted.placeless a.prefix a.rest messages fault a.parts a.refusal.place
 
 pub one_wire_fault : OneWireFault
-one_wire_fault capture messages more at place fault other (inl a) (inl b) = elim (prefixes a.prefix b.prefix a.rest b.rest (a.parts ∙ sym b.parts)) [
+one_wire_fault profile capture messages more at place fault other (inl a) (inl b) = elim (prefixes a.prefix b.prefix a.rest b.rest (a.parts ∙ sym b.parts)) [
   | inl w ↦ longer capture messages more at place fault other a b w.0 w.1
   | inr w ↦ (let back = longer capture more messages place at other fault b a w.0 w.1 in (sym back.0, sym back.1, sym back.2))
 ]
-one_wire_fault capture messages more at place fault other (inl a) (inr b) = absurd (open_end capture messages more at place fault other a b.2)
-one_wire_fault capture messages more at place fault other (inr a) (inl b) = absurd (open_end capture more messages place at other fault b a.2)
-one_wire_fault capture messages more at place fault other (inr a) (inr b) =
-    (a.1 ∙ sym b.1, a.0 ∙ sym b.0, under_way_agree Base capture messages more a.2.accepted.under_way b.2.accepted.under_way)
+one_wire_fault profile capture messages more at place fault other (inl a) (inr b) = absurd (open_end capture messages more at place fault other a b.2)
+one_wire_fault profile capture messages more at place fault other (inr a) (inl b) = absurd (open_end capture more messages place at other fault b a.2)
+one_wire_fault profile capture messages more at place fault other (inr a) (inr b) =
+    (a.1 ∙ sym b.1, a.0 ∙ sym b.0, under_way_agree profile capture messages more a.2.accepted.under_way b.2.accepted.under_way)
 
 -- an answer is a wire fault or the verdict on a run
-record IsRefusing (capture : List Pair) (v : Verdict) : Type 0 where
+record IsRefusing (profile : Profile) (capture : List Pair) (v : Verdict) : Type 0 where
   pub at : ℕ
   pub fault : WireFault
   pub is : v ≡ Wire at fault
-  pub of_capture : IsFaultOf capture (session.Wire at fault)
+  pub of_capture : IsFaultOf profile capture (session.Wire at fault)
 
-parts_of : (capture : List Pair) (order : List Entry) (initial : Start) (v : Verdict) → IsChecked capture order initial v → IsRefusing capture v ⊎ HasVerdict capture order initial v
+parts_of : {profile : Profile} (capture : List Pair) (order : List Entry) (initial : Start) (v : Verdict) → IsChecked profile capture order initial v
+    → IsRefusing profile capture v ⊎ HasVerdict profile capture order initial v
 parts_of capture order initial (Wire at fault) c = inl (record { at = at; fault = fault; is = refl; of_capture = c })
 parts_of capture order initial (Yes a b c) h = inr h
 parts_of capture order initial (Image i s) h = inr h
@@ -67,14 +68,14 @@ parts_of capture order initial (Order e f) h = inr h
 parts_of capture order initial (Content k x) h = inr h
 
 pub one_answer : OneAnswer
-one_answer capture order initial v w p q = go (parts_of capture order initial v p) (parts_of capture order initial w q)
+one_answer profile capture order initial v w p q = go (parts_of {profile = profile} capture order initial v p) (parts_of {profile = profile} capture order initial w q)
   where
-    no_both : (u : Verdict) → IsRefusing capture u → (x : Verdict) → HasVerdict capture order initial x → ⊥
+    no_both : (u : Verdict) → IsRefusing profile capture u → (x : Verdict) → HasVerdict profile capture order initial x → ⊥
     no_both u r x h = no_run_of capture r.of_capture.0 r.at r.fault r.of_capture.1 h.items h.is_run h.has_pairs
 
-    go : IsRefusing capture v ⊎ HasVerdict capture order initial v → IsRefusing capture w ⊎ HasVerdict capture order initial w → v ≡ w
+    go : IsRefusing profile capture v ⊎ HasVerdict profile capture order initial v → IsRefusing profile capture w ⊎ HasVerdict profile capture order initial w → v ≡ w
     go (inl a) (inl b) =
-        let one = one_wire_fault capture a.of_capture.0 b.of_capture.0 a.at b.at a.fault b.fault a.of_capture.1 b.of_capture.1 in
+        let one = one_wire_fault profile capture a.of_capture.0 b.of_capture.0 a.at b.at a.fault b.fault a.of_capture.1 b.of_capture.1 in
         a.is ∙ ap (λ at. Wire at a.fault) one.0 ∙ ap (Wire b.at) one.1 ∙ sym b.is
     go (inl a) (inr h) = absurd (no_both v a w h)
     go (inr h) (inl b) = absurd (no_both w b v h)

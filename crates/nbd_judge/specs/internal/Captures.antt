@@ -1,12 +1,13 @@
 use Rattle.std.specs.Prelude.{List, ◌≡◌}
+use Rattle.nbd_wire.specs.declared.profile.Profile.{Profile}
 use Rattle.nbd_wire.specs.protocol.Marks.{Item, pairs}
 use Rattle.nbd_wire.specs.protocol.Captures.{Pair}
 use Rattle.nbd_wire.specs.protocol.Reports.{Report, report}
-use Rattle.nbd_wire.specs.protocol.Rules.{IsRun}
+use Rattle.nbd_wire.specs.protocol.Rules.{IsRunOf}
 
--- some run has these bytes, and the report of each such run is this one
-pub record HasReport (capture : List Pair) (found : Report) : Type 0 where
+-- some run of the profile has these bytes, and the report of each such run is this one
+pub record HasReport (profile : Profile) (capture : List Pair) (found : Report) : Type 0 where
   pub items : List Item
-  pub is_run : IsRun items
+  pub is_run : IsRunOf profile items
   pub has_pairs : pairs items ≡ capture
-  pub same_report : (others : List Item) → IsRun others → pairs others ≡ capture → report others ≡ found
+  pub same_report : (others : List Item) → IsRunOf profile others → pairs others ≡ capture → report others ≡ found

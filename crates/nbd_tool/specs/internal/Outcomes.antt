@@ -1,19 +1,20 @@
 -- What `check` says of a session that has ended.
 use Rattle.std.specs.Prelude.{◌≡◌, List, Option, IfSome, Result}
 use Rattle.nbd_wire.specs.declared.entry.Entry.{Entry}
+use Rattle.nbd_wire.specs.declared.profile.Profile.{Profile}
 use Rattle.nbd_wire.specs.protocol.Explains.{Start}
 use Rattle.nbd_wire.specs.protocol.Marks.{Item, pairs}
 use Rattle.nbd_wire.specs.protocol.Reports.{Report}
-use Rattle.nbd_wire.specs.protocol.Rules.{IsRun}
+use Rattle.nbd_wire.specs.protocol.Rules.{IsRunOf}
 use Rattle.nbd_session.specs.declared.fault.SessionFault.{SessionFault}
 use Rattle.nbd_judge.specs.Conclusions.{Answers, IsConclusion, IsReportOf}
 use Rattle.nbd_judge.specs.declared.verdict.Verdict.{Verdict}
 
--- a verdict on an ended session and an order, from the start where it is known
+-- a verdict on an ended session of any profile and an order, from the start where it is known
 pub record IsConcluded (known : Option Start) (finished : Result Report SessionFault) (order : List Entry)
     (verdict : Verdict) : Type 0 where
   pub initial : Start
   pub is_known : IfSome known (λ start. initial ≡ start)
   pub is_conclusion : IsConclusion finished order initial verdict
-  pub answers : (items : List Item) → IsRun items → IsReportOf items finished
-      → Answers (pairs items) order initial verdict
+  pub answers : (profile : Profile) (items : List Item) → IsRunOf profile items → IsReportOf items finished
+      → Answers profile (pairs items) order initial verdict

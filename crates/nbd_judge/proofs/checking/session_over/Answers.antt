@@ -14,7 +14,7 @@ push-requires c =
 
 pub returns-in_err-push-clause-wire : goal.returns-in_err-push-clause-wire
 returns-in_err-push-clause-wire c =
-    handed_on c.from_residual.result c.in_err-push.field-0.0 (IsFaultOf (flat (records_of c.args.chunks.now))) c.from_residual.ensures.1
+    handed_on c.from_residual.result c.in_err-push.field-0.0 (IsFaultOf c.args.profile (flat (records_of c.args.chunks.now))) c.from_residual.ensures.1
     (fault_in c.args.chunks.now c.loop-side.side-index c.loop-side-item.result c.deref.result.now c.loop-side.session c.push.new.self c.in_err-push.field-0.0
     c.loop-side-test.true c.loop-side-item.is c.deref.ensures.value (c.in_err-push.ensures.profile ∙ c.loop-side.invariant.profile) c.loop-side.invariant.took c.in_err-push.ensures.prefix
     (c.in_err-push.ensures.at c.loop-side.invariant.unclosed) c.in_err-push.ensures.wire)

@@ -1,5 +1,4 @@
 use Rattle.std.proofs.Common.{◌≡◌, None, take}
-use Rattle.nbd_wire.specs.declared.profile.Profile.TheVariants.{Base}
 use Rattle.nbd_wire.specs.protocol.Captures.{flat}
 use Rattle.nbd_session.specs.Sessions.{pairs_of}
 use Rattle.nbd_judge.specs.Captures.{records_of}
@@ -8,6 +7,6 @@ use Rattle.nbd_judge.proofs.checking.session_over.Given as goal
 abbrev pub invariant-loop-side : goal.invariant-loop-side
 invariant-loop-side l = record {
   unclosed : l.session.closed ≡ None;
-  profile : l.session.profile ≡ Base;
+  profile : l.session.profile ≡ l.fn.profile;
   took : pairs_of l.session ≡ flat (records_of (take l.side-index l.chunks));
 }

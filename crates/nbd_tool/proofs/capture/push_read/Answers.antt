@@ -14,7 +14,7 @@ loop-bytes-init g c = (
   [],
   reads_same _ _ c.requires.new,
   ap (λ r. r.state) c.requires.new,
-  over_open [] c.args.session.now (ap (λ (r : SessionView). r.profile) c.requires.empty) (ap (λ r. pairs_of r) c.requires.empty) (ap (λ r. r.closed) c.requires.empty),
+  over_open [] c.args.session.now refl (ap (λ (r : SessionView). pairs_of r) c.requires.empty) (ap (λ (r : SessionView). r.closed) c.requires.empty),
 )
 
 pub push_shown-requires : goal.push_shown-requires
@@ -31,7 +31,7 @@ pub loop-bytes-preserved : goal.loop-bytes-preserved
 loop-bytes-preserved g c =
     let s = c.loop-bytes.invariant in
     next_pushed _ c.loop-bytes.reader c.next_into.new.self c.push_shown.new.session s.0 c.in-Some.side c.next_into.new.bytes.items c.as_slice.result.now s.1
-    (rw c.in-Some.is at c.in_ok-side.ensures.chunk) (rw c.in-Some.is at c.in_ok-side.ensures.state) c.as_slice.ensures.value (c.in_ok-push_shown.ensures (flat_of s.0) s.3)
+    (rw c.in-Some.is at c.in_ok-side.ensures.chunk) (rw c.in-Some.is at c.in_ok-side.ensures.state) c.as_slice.ensures.value (c.in_ok-push_shown.ensures c.args.session.now.profile (flat_of s.0) s.3)
 
 pub returns-in_err-side-clause-cause : goal.returns-in_err-side-clause-cause
 returns-in_err-side-clause-cause g c =

@@ -10,7 +10,7 @@ use Rattle.nbd_tool.proofs.capture.push_read.Given as goal
 
 abbrev pub invariant-loop-bytes : goal.invariant-loop-bytes
 invariant-loop-bytes g l =
-    (chunks : List Chunk) × Reads (at_start l.initial.reader.rest READ_LIMIT) l.reader chunks × (l.reader.state ≡ Open) × IsOver (flat_of chunks) l.session
+    (chunks : List Chunk) × Reads (at_start l.initial.reader.rest READ_LIMIT) l.reader chunks × (l.reader.state ≡ Open) × IsOver l.initial.session.profile (flat_of chunks) l.session
 
 abbrev pub decreases-loop-bytes : goal.decreases-loop-bytes
 decreases-loop-bytes g l = l.reader.room

@@ -1,3 +1,5 @@
+use Rattle.std.proofs.Common.{OnOk, ap, subst}
+use Rattle.nbd_session.specs.Sessions.{SessionView}
 use Rattle.nbd_tool.specs.Ends.{IsOverText}
 use Rattle.nbd_tool.specs.Runs.{IsCaptureCause}
 use Rattle.nbd_tool.specs.Starts.{IsWithinLimit}
@@ -5,7 +7,9 @@ use Rattle.nbd_tool.proofs.OverLemmas.{joined, joined_err, joined_on}
 use Rattle.nbd_tool.proofs.capture.session_over.Goals as goal
 
 pub returns-clause-over : goal.returns-clause-over
-returns-clause-over g c = joined (IsOverText (g.C.Read.remaining c.args.capture)) c.push_all.result c.push_all.new.session c.and.result c.and.ensures c.push_all.ensures.over
+returns-clause-over g c =
+    joined (IsOverText c.args.profile (g.C.Read.remaining c.args.capture)) c.push_all.result c.push_all.new.session c.and.result c.and.ensures
+    (subst (λ q. OnOk c.push_all.result (IsOverText q (g.C.Read.remaining c.args.capture) c.push_all.new.session)) (ap (λ (r : SessionView). r.profile) c.of-session.ensures) c.push_all.ensures.over)
 
 pub returns-clause-limited : goal.returns-clause-limited
 returns-clause-limited g c = joined_on (IsWithinLimit (g.C.Read.remaining c.args.capture)) c.push_all.result c.push_all.new.session c.and.result c.and.ensures c.push_all.ensures.limited

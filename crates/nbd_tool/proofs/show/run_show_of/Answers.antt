@@ -5,7 +5,7 @@ use Rattle.nbd_lines.specs.Script.{message_lines}
 use Rattle.nbd_session.specs.Sessions.{fault_of}
 use Rattle.nbd_tool.proofs.LastLineLemmas.{all_shown, capture_over, last_stopped, output_cause, stopped}
 use Rattle.nbd_tool.proofs.OverLemmas.{both_ok, both_on, first_on}
-use Rattle.nbd_tool.proofs.show.run_show.Goals as goal
+use Rattle.nbd_tool.proofs.show.run_show_of.Goals as goal
 
 pub returns-in_err-finished-clause-left : goal.returns-in_err-finished-clause-left
 returns-in_err-finished-clause-left g c =

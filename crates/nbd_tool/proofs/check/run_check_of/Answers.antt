@@ -3,14 +3,14 @@ use Rattle.nbd_tool.specs.Starts.{initial_from}
 use Rattle.nbd_tool.proofs.LastLineLemmas.{capture_over}
 use Rattle.nbd_tool.proofs.JudgedLemmas.{concluded, leaves, tells}
 use Rattle.nbd_tool.proofs.SayLemmas.{says_nothing, says_written}
-use Rattle.nbd_tool.proofs.check.run_check.Goals as goal
+use Rattle.nbd_tool.proofs.check.run_check_of.Goals as goal
 
 pub returns-clause-written : goal.returns-clause-written
 returns-clause-written g c =
     let judged = c.in_ok-verdict.ensures.verdict in
     let is = concluded (g.C.Read.remaining c.args.capture) (g.O.Read.remaining c.args.order) (initial_from g.I.Read.remaining c.args.start) c.in_ok-session.session c.finish.result judged.0 c.in_ok-verdict.verdict
     c.in_ok-session.ensures.over c.finish.ensures.fault c.finish.ensures.report c.finish.ensures.wire judged.1 judged.2 in
-    tells (g.C.Read.remaining c.args.capture) (g.O.Read.remaining c.args.order) (initial_from g.I.Read.remaining c.args.start) (g.W.Write.contents c.args.out.now) (g.W.Write.contents c.write_verdict.new.out)
+    tells c.args.profile (g.C.Read.remaining c.args.capture) (g.O.Read.remaining c.args.order) (initial_from g.I.Read.remaining c.args.start) (g.W.Write.contents c.args.out.now) (g.W.Write.contents c.write_verdict.new.out)
     c.in_ok-verdict.verdict c.write_verdict.result is
     c.write_verdict.ensures.answer c.write_verdict.ensures.written
 
@@ -19,7 +19,7 @@ returns-clause-left g c =
     let judged = c.in_ok-verdict.ensures.verdict in
     let is = concluded (g.C.Read.remaining c.args.capture) (g.O.Read.remaining c.args.order) (initial_from g.I.Read.remaining c.args.start) c.in_ok-session.session c.finish.result judged.0 c.in_ok-verdict.verdict
     c.in_ok-session.ensures.over c.finish.ensures.fault c.finish.ensures.report c.finish.ensures.wire judged.1 judged.2 in
-    leaves (g.C.Read.remaining c.args.capture) (g.O.Read.remaining c.args.order) (initial_from g.I.Read.remaining c.args.start) (g.W.Write.contents c.args.out.now) (g.W.Write.contents c.write_verdict.new.out)
+    leaves c.args.profile (g.C.Read.remaining c.args.capture) (g.O.Read.remaining c.args.order) (initial_from g.I.Read.remaining c.args.start) (g.W.Write.contents c.args.out.now) (g.W.Write.contents c.write_verdict.new.out)
     c.in_ok-verdict.verdict c.write_verdict.result is c.write_verdict.ensures.left
 
 pub returns-clause-yes : goal.returns-clause-yes
@@ -27,15 +27,15 @@ returns-clause-yes g c =
     let judged = c.in_ok-verdict.ensures.verdict in
     let is = concluded (g.C.Read.remaining c.args.capture) (g.O.Read.remaining c.args.order) (initial_from g.I.Read.remaining c.args.start) c.in_ok-session.session c.finish.result judged.0 c.in_ok-verdict.verdict
     c.in_ok-session.ensures.over c.finish.ensures.fault c.finish.ensures.report c.finish.ensures.wire judged.1 judged.2 in
-    says_written (g.C.Read.remaining c.args.capture) (g.O.Read.remaining c.args.order) (initial_from g.I.Read.remaining c.args.start) (g.W.Write.contents c.args.out.now) (g.W.Write.contents c.write_verdict.new.out)
+    says_written c.args.profile (g.C.Read.remaining c.args.capture) (g.O.Read.remaining c.args.order) (initial_from g.I.Read.remaining c.args.start) (g.W.Write.contents c.args.out.now) (g.W.Write.contents c.write_verdict.new.out)
     c.in_ok-verdict.verdict c.write_verdict.result is
     c.write_verdict.ensures.written c.write_verdict.ensures.left
 
 pub returns-in_err-session-clause-yes : goal.returns-in_err-session-clause-yes
-returns-in_err-session-clause-yes g c = says_nothing (g.C.Read.remaining c.args.capture) (g.O.Read.remaining c.args.order) (initial_from g.I.Read.remaining c.args.start) (g.W.Write.contents c.args.out.now)
+returns-in_err-session-clause-yes g c = says_nothing c.args.profile (g.C.Read.remaining c.args.capture) (g.O.Read.remaining c.args.order) (initial_from g.I.Read.remaining c.args.start) (g.W.Write.contents c.args.out.now)
 
 pub returns-in_err-verdict-clause-yes : goal.returns-in_err-verdict-clause-yes
-returns-in_err-verdict-clause-yes g c = says_nothing (g.C.Read.remaining c.args.capture) (g.O.Read.remaining c.args.order) (initial_from g.I.Read.remaining c.args.start) (g.W.Write.contents c.args.out.now)
+returns-in_err-verdict-clause-yes g c = says_nothing c.args.profile (g.C.Read.remaining c.args.capture) (g.O.Read.remaining c.args.order) (initial_from g.I.Read.remaining c.args.start) (g.W.Write.contents c.args.out.now)
 
 pub returns-in_err-verdict-clause-cause : goal.returns-in_err-verdict-clause-cause
 returns-in_err-verdict-clause-cause g c =
