@@ -9,6 +9,7 @@ pub mod Profiles
 pub mod Reached
 pub mod Replying
 pub mod Sameness
+pub mod Selecting
 pub mod Service
 pub mod Soundness
 pub mod captures

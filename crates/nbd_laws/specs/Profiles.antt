@@ -1,9 +1,20 @@
--- What messages lead to does not hang on the profile that a session is held to.
-use Rattle.std.specs.Prelude.{◌≡◌, List}
+-- What the profiles have in common.
+use Rattle.std.specs.Prelude.{◌≡◌, ◌⊎◌, ◌++◌, ℕ, List, length}
+use Rattle.nbd_wire.specs.declared.entry.Entry.{Entry}
+use Rattle.nbd_wire.specs.declared.fault.WireFault.{WireFault}
+use Rattle.nbd_wire.specs.declared.head_lengths.TheConstants as head_lengths
+use Rattle.nbd_wire.specs.declared.message.Message.{Message}
+use Rattle.nbd_wire.specs.declared.message.Side.TheVariants.{Server}
+use Rattle.nbd_wire.specs.declared.options.TheConstants as options
 use Rattle.nbd_wire.specs.declared.profile.Profile.{Profile}
+use Rattle.nbd_wire.specs.declared.profile.Profile.TheVariants.{Base, Wide}
+use Rattle.nbd_wire.specs.protocol.Captures.{Pair}
+use Rattle.nbd_wire.specs.protocol.Explains.{IsExplainedOf, Start}
 use Rattle.nbd_wire.specs.protocol.Marks.{Item}
-use Rattle.nbd_wire.specs.protocol.Rules.{ends_at}
-use Rattle.nbd_wire.specs.protocol.States.{Core, start_of}
+use Rattle.nbd_wire.specs.protocol.Rows.{IsNoError, answer_kind}
+use Rattle.nbd_wire.specs.protocol.Rules.{IsRunOf, ends_at}
+use Rattle.nbd_wire.specs.protocol.Splits.{IsPlaceOf, IsUnderWayOf, open_bytes}
+use Rattle.nbd_wire.specs.protocol.States.{Answering, Core, Phase, start, start_of}
 
 -- the same, held to this profile
 abbrev pub with_profile : Profile → Core → Core
@@ -13,3 +24,34 @@ with_profile profile core = record core { profile = profile }
 abbrev pub EndsAgree : Type 0
 EndsAgree = (p q : Profile) (items : List Item)
     → with_profile q (ends_at (start_of p) items).core ≡ (ends_at (start_of q) items).core
+
+-- what is explained in Base is explained in Wide
+abbrev pub BaseIsWide : Type 0
+BaseIsWide = (capture : List Pair) (order : List Entry) (initial : Start) → IsExplainedOf Base capture order initial
+    → IsExplainedOf Wide capture order initial
+
+-- open bytes of the server are the whole head of an answer of success to an option on metadata contexts
+abbrev pub IsContextHead : Phase → List ℕ → Type 0
+IsContextHead (Answering option payload info) bytes =
+    ((option ≡ options.LIST_META_CONTEXT) ⊎ (option ≡ options.SET_META_CONTEXT))
+    × (length bytes ≡ head_lengths.ANSWER) × IsNoError (answer_kind bytes)
+IsContextHead phase bytes = ⊥
+
+-- no head of such an answer completes within the items
+abbrev pub AnswersNoContexts : List Item → Type 0
+AnswersNoContexts items = (before more : List Item) → items ≡ before ++ more
+    → IsContextHead (ends_at start before).core.phase (open_bytes Server before) → ⊥
+
+-- items in which no head of such an answer completes are a run of both profiles or of none
+abbrev pub RunsAgree : Type 0
+RunsAgree = (p q : Profile) (items : List Item) → AnswersNoContexts items → IsRunOf p items → IsRunOf q items
+
+-- and these bytes have the same place in both, with the same fault
+abbrev pub PlacesAgree : Type 0
+PlacesAgree = (p q : Profile) (ps : List Pair) (messages : List Message) (fault : WireFault)
+    (place : IsPlaceOf p ps messages fault) → AnswersNoContexts place.items → IsPlaceOf q ps messages fault
+
+-- and these bytes are a session under way in both
+abbrev pub UnderWayAgrees : Type 0
+UnderWayAgrees = (p q : Profile) (ps : List Pair) (messages : List Message) (under : IsUnderWayOf p ps messages)
+    → AnswersNoContexts under.items → IsUnderWayOf q ps messages
