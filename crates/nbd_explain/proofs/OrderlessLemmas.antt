@@ -1,5 +1,5 @@
 -- What is told of a session without an order.
-use Rattle.std.proofs.Common.{◌≡◌, ℕ, List, ◌++◌, sym, subst, Option, Some, None, Result, Ok, Err, IfOk, IfErr, IfSome, OnOk}
+use Rattle.std.proofs.Common.{◌≡◌, ℕ, List, ◌++◌, sym, subst, Option, Some, None, Result, Ok, Err, IfSome}
 use Rattle.std.specs.Io.KnownBytes.{Appends}
 use Rattle.nbd_wire.specs.declared.entry.Entry.{Entry}
 use Rattle.nbd_wire.specs.declared.fault.WireFault.{WireFault}
@@ -8,9 +8,7 @@ use Rattle.nbd_wire.specs.protocol.Explains.{IsExplained, Start, start_byte}
 use Rattle.nbd_wire.specs.protocol.Reports.{Report, report}
 use Rattle.nbd_wire.specs.protocol.Verdicts.{request_count}
 use Rattle.nbd_session.specs.declared.fault.SessionFault.{SessionFault}
-use Rattle.nbd_session.specs.declared.fault.SessionFault.TheVariants.{Wire}
-use Rattle.nbd_session.specs.Refusals.{EndsIn}
-use Rattle.nbd_session.specs.Sessions.{IsReported, SessionView, fault_at_end, fault_of}
+use Rattle.nbd_session.specs.declared.fault.SessionFault.TheVariants.{Memory, Wire}
 use Rattle.nbd_session.proofs.judge.RefusalLemmas.{no_run_of}
 use Rattle.nbd_judge.specs.Captures.{IsChecked, IsFaultOf}
 use Rattle.nbd_judge.specs.Images.{IsOtherSize}
@@ -24,21 +22,19 @@ use Rattle.nbd_order.specs.Unexplained.{IsRefutedBy, IsUnexplained}
 use Rattle.nbd_order.specs.declared.finding.Found.{Found}
 use Rattle.nbd_order.specs.declared.finding.Found.TheVariants.{GaveUp, Image, NoneWhole, Order, Unexplained}
 use Rattle.nbd_order.specs.declared.finding.Wanted.TheVariants.{Any}
-use Rattle.nbd_tool.specs.Beginnings.{IsBeginningOf, IsReadAs}
-use Rattle.nbd_tool.specs.Ends.{IsOverText}
+use Rattle.nbd_tool.specs.Beginnings.{IsBeginningOf, IsReadAs, room_in}
 use Rattle.nbd_explain.specs.Ordering.{IsUnexplainedBy}
 use Rattle.nbd_tool.specs.Runs.{flat_of}
-use Rattle.nbd_tool.specs.Verdicts.{IsYes}
-use Rattle.nbd_tool.specs.declared.fault.RunFault.{RunFault}
+use Rattle.nbd_tool.specs.Verdicts.{IsYes, line}
 use Rattle.nbd_tool.specs.declared.start.Beginning.{Beginning}
 use Rattle.nbd_tool.proofs.OverLemmas.{fault_over, report_over}
 use Rattle.nbd_explain.specs.declared.answer.Answer.{Answer}
 use Rattle.nbd_explain.specs.declared.answer.Answer.TheVariants.{No, Open, Yes}
-use Rattle.nbd_explain.specs.Answering.{IsAnswerTo, answer_to}
+use Rattle.nbd_explain.specs.Answering.{answer_to}
 use Rattle.nbd_explain.specs.Explained.{BeginsWithLine}
 use Rattle.nbd_explain.specs.Orderless.{IsTold, IsToldFrom, Tells}
 use Rattle.nbd_explain.specs.Orderless.IsTold.{found, gave_up, image, unexplained, wire}
-use Rattle.nbd_explain.specs.internal.Lines.{IsLineOf, IsToldOfFound}
+use Rattle.nbd_explain.specs.internal.Lines.{Begins, IsFinishOf, IsLineOf, IsToldBySearch, IsToldOfFound, OnWritten}
 
 -- the verdict on an order that explains a capture is a yes
 yes_of : (capture : List Pair) (entries : List Entry) (initial : Start) (v : Verdict) → IsExplained capture entries initial → IsChecked capture entries initial v → IsYes v
@@ -78,38 +74,37 @@ told_from capture (Some start) initial told beginning f first rest old new is_kn
     subst (λ s. IsTold capture s old new (answer_to f)) is_known (told_of capture initial told beginning f first rest old new has is_read is fits says is_line appended)
 
 -- what the search came to is told
-tells : (known : Option (List ℕ)) (start : Option Start) (room : ℕ) (beginning : Beginning) (r : SessionView) (told : Report) (finished : Result Report SessionFault) (answered : Answer) (old new : Option (List ℕ)) →
-    IsOverText known r → finished ≡ Ok told → fault_of finished ≡ fault_at_end r → IfOk finished (IsReported r) → (begun : IsBeginningOf start room beginning) → IsReadAs (size_of told.export) begun.initial beginning →
-    IsToldOfFound told beginning answered old new → Tells known start answered old new
-tells known start room beginning r told finished answered old new session is same reported begun is_read of =
-    let has : HasReport (flat_of session.chunks) told = subst (λ o. IfOk o (HasReport (flat_of session.chunks))) is (report_over (flat_of session.chunks) r finished session.over same reported) in
+tells : (known : Option (List ℕ)) (start : Option Start) (told : Report) (finish : IsFinishOf known (Ok told)) (beginning : Beginning) (begun : IsBeginningOf start (size_of told.export) beginning) (answered : Answer) (text : List ℕ) →
+    IsToldOfFound told beginning answered text → OnWritten text (Tells known start answered)
+tells known start told finish beginning begun answered text of = λ old new appended.
+    let chunks = finish.over.chunks in
+    let has : HasReport (flat_of chunks) told = report_over (flat_of chunks) finish.session (Ok told) finish.over.over finish.fault finish.report in
     subst (λ a. Tells known start a old new) (sym of.answer) (record {
-      chunks = session.chunks;
-      is_text = session.is_text;
-      is_told = told_from (flat_of session.chunks) start begun.initial told of.kept of.found of.begins.first of.begins.explanation old new begun.is_known has
-          (of.copied (size_of told.export) begun.initial is_read) (of.is_found begun.initial is_read) of.fits
-          (of.says begun.initial has.items is_read has.is_run (has.same_report has.items has.is_run has.has_pairs))
-          of.begins.is_line (subst (Appends old new) of.begins.parts of.appended);
+      chunks = chunks;
+      is_text = finish.over.is_text;
+      is_told = told_from (flat_of chunks) start begun.initial told of.kept of.found of.begins.first of.begins.explanation old new begun.is_known has
+          (of.copied (size_of told.export) begun.initial begun.is_read) (of.is_found begun.initial begun.is_read) of.fits
+          (of.says begun.initial has.items begun.is_read has.is_run (has.same_report has.items has.is_run has.has_pairs))
+          of.begins.is_line (subst (Appends old new) of.begins.parts appended);
     })
-
-pub tells_if : (start : Option Start) (room : ℕ) (beginning : Beginning) (r : SessionView) (told : Report) (finished : Result Report SessionFault) (old new : Option (List ℕ)) (o : Result Answer RunFault) →
-    finished ≡ Ok told → fault_of finished ≡ fault_at_end r → IfOk finished (IsReported r) → (begun : IsBeginningOf start room beginning) → IsReadAs (size_of told.export) begun.initial beginning →
-    IfOk o (λ a. IsToldOfFound told beginning a old new) → IfOk o (λ a. (known : Option (List ℕ)) → IsOverText known r → Tells known start a old new)
-tells_if start room beginning r told finished old new (Err fault) is same reported begun is_read of = tt
-tells_if start room beginning r told finished old new (Ok a) is same reported begun is_read of = λ known session.
-    tells known start room beginning r told finished a old new session is same reported begun is_read of
 
 -- a session that was refused
 wired : (capture : List Pair) (start : Option Start) (at : ℕ) (fault : WireFault) (old new : Option (List ℕ)) → IsFaultOf capture (Wire at fault) → BeginsWithLine (verdict.Wire at fault) old new → IsToldFrom capture start old new No
 wired capture None at fault old new why begins = tt
 wired capture (Some initial) at fault old new why begins = wire why.0 at fault why.1 (no_run_of capture why.0 at fault why.1) begins
 
-pub refuses : (start : Option Start) (r : SessionView) (at : ℕ) (fault : WireFault) (finished : Result Report SessionFault) (old new : Option (List ℕ)) (o : Result Answer RunFault) →
-    finished ≡ Err (Wire at fault) → fault_of finished ≡ fault_at_end r → IfErr finished (EndsIn r) → IfOk o (IsAnswerTo (verdict.Wire at fault)) → OnOk o (BeginsWithLine (verdict.Wire at fault) old new) →
-    IfOk o (λ answer. (known : Option (List ℕ)) → IsOverText known r → Tells known start answer old new)
-refuses start r at fault finished old new (Err e) is same ends answer begins = tt
-refuses start r at fault finished old new (Ok Yes) is same ends answer begins = absurd answer
-refuses start r at fault finished old new (Ok Open) is same ends answer begins = absurd answer
-refuses start r at fault finished old new (Ok No) is same ends answer begins = λ known session.
-    let why = subst (λ o. IfErr o (IsFaultOf (flat_of session.chunks))) is (fault_over (flat_of session.chunks) r finished session.over same ends) in
-    record { chunks = session.chunks; is_text = session.is_text; is_told = wired (flat_of session.chunks) start at fault old new why begins }
+refuses : (known : Option (List ℕ)) (start : Option Start) (at : ℕ) (fault : WireFault) (finish : IsFinishOf known (Err (Wire at fault))) (text : List ℕ) →
+    Begins (line (verdict.Wire at fault)) text → OnWritten text (Tells known start No)
+refuses known start at fault finish text begins = λ old new appended.
+    let chunks = finish.over.chunks in
+    let why : IsFaultOf (flat_of chunks) (Wire at fault) = fault_over {A = Report} (flat_of chunks) finish.session (Err (Wire at fault)) finish.over.over finish.fault finish.wire in
+    record { chunks = chunks; is_text = finish.over.is_text; is_told = wired (flat_of chunks) start at fault old new why (begins.0, subst (Appends old new) begins.1 appended) }
+
+-- without an order
+pub searched : (known : Option (List ℕ)) (start : Option Start) (finished : Result Report SessionFault) (finish : IsFinishOf known finished) (beginning : Beginning) (begun : IsBeginningOf start (room_in finished) beginning)
+    (answered : Answer) (text : List ℕ) → IsToldBySearch beginning finished answered text → OnWritten text (Tells known start answered)
+searched known start (Ok told) finish beginning begun answered text of = tells known start told finish beginning begun answered text of
+searched known start (Err (Wire at fault)) finish beginning begun Yes text of = absurd of.0
+searched known start (Err (Wire at fault)) finish beginning begun Open text of = absurd of.0
+searched known start (Err (Wire at fault)) finish beginning begun No text of = refuses known start at fault finish text of.1
+searched known start (Err Memory) finish beginning begun answered text of = absurd of

@@ -1,28 +1,29 @@
 //! The command `explain`, over any readers and writer.
 
-ghost use Rattle.std.specs.Prelude.{◌≡◌, ◌⊎◌, ℕ, List, Option, IfErr, IfOk, IfSome, OnOk};
-ghost use Rattle.nbd_capture.specs.Order.{IsOrderText};
-ghost use Rattle.nbd_tool.specs.declared.fault.RunFault.TheVariants.{Memory, Write};
-ghost use Rattle.nbd_tool.specs.Ends.{IsOverText};
+ghost use Rattle.std.specs.Prelude.{◌≡◌, ◌⊎◌, ℕ, List, Option, IfErr, IfOk, IsOk, OnOk};
+ghost use Rattle.std.specs.Io.KnownBytes.{Appends};
+ghost use Rattle.nbd_tool.specs.Beginnings.{IsBeginningOf, room_in};
+ghost use Rattle.nbd_tool.specs.declared.fault.RunFault.TheVariants.{ImageRead, Memory, Write};
+ghost use Rattle.nbd_tool.specs.declared.start.Beginning.{Beginning};
 ghost use Rattle.nbd_explain.specs.Ordering.{LeavesOrdered};
-ghost use Rattle.nbd_tool.specs.Runs.{IsCapture, IsCause, IsOrder};
-ghost use Rattle.nbd_tool.specs.Starts.{IsStartWithinLimit, IsWithinLimit, initial_from};
+ghost use Rattle.nbd_tool.specs.Runs.{IsCapture, IsCaptureCause, IsCause, IsOrder};
+ghost use Rattle.nbd_tool.specs.Starts.{HasImage, IsStartWithinLimit, IsWithinLimit, initial_from};
 ghost use Rattle.nbd_explain.specs.Explained.{Explains, IsExplainCause, IsExplained, IsOrderWithinLimit};
-ghost use Rattle.nbd_explain.specs.internal.Lines.{IsToldOn};
+ghost use Rattle.nbd_explain.specs.internal.Lines.{IsFinishOf, IsToldOn, OnWritten};
 
 use crate::answer::Answer;
-use crate::reading::Recorder;
-use crate::searching::explain_by_search;
-use crate::writing::{copy_of, kept_of, write_explained};
+use crate::reading::{Recorder, finished_over};
+use crate::searching::told_searching;
+use crate::writing::{copy_of, kept_of, told_verdict};
+use nbd_capture::write_whole;
 use nbd_search::{Limits, Progress};
-use nbd_session::{Session, SessionFault, Transcript};
+use nbd_session::{SessionFault, Transcript};
 use nbd_story::Story;
 use nbd_tool::{
     Beginning, Measured, RunFault, StartFrom, conclude_from, read_order, read_start, room_of,
-    session_over,
 };
 use nbd_wire::Entry;
-use std::alloc::Global;
+use std::alloc::{AllocError, Global};
 use std::io::{BufRead, Read, Write};
 
 /// Reads a capture text to its end, then an order text and an image, if there are such; writes the line that
@@ -50,74 +51,149 @@ pub fn run_explain<C: BufRead + Drop, O: Read + Drop, I: Measured + Drop, W: Wri
     ensures cause { IfErr result (IsExplainCause O.remaining (C.remaining capture) order start) }
     ensures left { IfErr result (LeavesOrdered (W.contents out.old) (W.contents out.new)) }
 {
+    let told = told_over(alloc, capture, order, start, limits, progress)?;
+    write_told(told, out)
+}
+
+// Writes the text, and gives the answer.
+fn write_told<W: Write>(told: (String, Answer), out: &mut W) -> Result<Answer, RunFault>
+    ensures written { IfOk result (λ answer. (answer ≡ told.1)
+        × Appends (W.contents out.old) (W.contents out.new) told.0.bytes.items) }
+    ensures fault { IfErr result (λ fault. fault ≡ Write) }
+{
+    let (text, answer) = told;
+    write_whole(out, text.as_bytes())?;
+    Ok(answer)
+}
+
+// What is written of a capture, and the answer.
+fn told_over<C: BufRead + Drop, O: Read + Drop, I: Measured + Drop>(
+    alloc: Global,
+    capture: C,
+    order: Option<O>,
+    start: StartFrom<I>,
+    limits: Limits,
+    progress: &mut Progress,
+) -> Result<(String, Answer), RunFault>
+    ensures told { IfOk result (λ told. OnWritten told.0.bytes.items (IsExplained O.remaining (C.remaining capture) order
+        (initial_from I.remaining start) told.1)) }
+    ensures well_formed { OnOk result (IsCapture (C.remaining capture)) }
+    ensures limited { OnOk result (IsWithinLimit (C.remaining capture)) }
+    ensures order_limited { OnOk result (IsOrderWithinLimit O.remaining order) }
+    ensures start_limited { OnOk result (IsStartWithinLimit I.remaining start) }
+    ensures read { OnOk result (IsExplainCause O.remaining (C.remaining capture) order start Write) }
+    ensures cause { IfErr result (IsExplainCause O.remaining (C.remaining capture) order start) }
+{
     let mut recorder = Recorder::new(alloc);
-    let session = session_over(alloc, capture, &mut recorder)?;
-    let story = &mut recorder.story;
+    let finished = finished_over(alloc, capture, &mut recorder);
+    told_after(
+        alloc,
+        finished,
+        &recorder.story,
+        order,
+        start,
+        limits,
+        progress,
+    )
+}
+
+// The same of a capture that was read, or of the fault that was met.
+fn told_after<O: Read + Drop, I: Measured + Drop>(
+    alloc: Global,
+    finished: Result<Result<Transcript, SessionFault>, RunFault>,
+    story: &Story,
+    order: Option<O>,
+    start: StartFrom<I>,
+    limits: Limits,
+    progress: &mut Progress,
+) -> Result<(String, Answer), RunFault>
+    ensures told { IfOk result (λ told. (known : Option (List ℕ)) → IfOk finished (IsFinishOf known) →
+        OnWritten told.0.bytes.items (IsExplained O.remaining known order (initial_from I.remaining start) told.1)) }
+    ensures order_limited { OnOk result (IsOrderWithinLimit O.remaining order) }
+    ensures start_limited { OnOk result (IsStartWithinLimit I.remaining start) }
+    ensures finished { OnOk result (IsOk finished) }
+    ensures read { OnOk result ((known : Option (List ℕ)) → IsCapture known →
+        IsExplainCause O.remaining known order start Write) }
+    ensures cause { IfErr result (λ fault. (known : Option (List ℕ)) → IfOk finished (IsFinishOf known) →
+        IfErr finished (IsCaptureCause known) → IsExplainCause O.remaining known order start fault) }
+{
+    told_of(alloc, finished?, story, order, start, limits, progress)
+}
+
+// The same of the session that it came to.
+fn told_of<O: Read + Drop, I: Measured + Drop>(
+    alloc: Global,
+    finished: Result<Transcript, SessionFault>,
+    story: &Story,
+    order: Option<O>,
+    start: StartFrom<I>,
+    limits: Limits,
+    progress: &mut Progress,
+) -> Result<(String, Answer), RunFault>
+    ensures told { IfOk result (λ told. (known : Option (List ℕ)) → IsFinishOf known finished →
+        OnWritten told.0.bytes.items (IsExplained O.remaining known order (initial_from I.remaining start) told.1)) }
+    ensures order_limited { OnOk result (IsOrderWithinLimit O.remaining order) }
+    ensures start_limited { OnOk result (IsStartWithinLimit I.remaining start) }
+    ensures read { OnOk result ((known : Option (List ℕ)) → IsCapture known →
+        IsExplainCause O.remaining known order start Write) }
+    ensures cause { IfErr result (λ fault. (known : Option (List ℕ)) → IsCapture known →
+        IsExplainCause O.remaining known order start fault) }
+{
     match order {
-        Some(order) => explain_verdict(alloc, session, story, order, start, out),
-        None => explain_by_search(alloc, session, story, start, limits, out, progress),
+        Some(order) => told_with(alloc, finished, story, order, start),
+        None => told_searching(alloc, finished, story, start, limits, progress),
     }
 }
 
 // With an order: the verdict.
-fn explain_verdict<O: Read + Drop, I: Measured + Drop, W: Write>(
+fn told_with<O: Read + Drop, I: Measured + Drop>(
     alloc: Global,
-    session: Session,
-    story: &mut Story,
+    finished: Result<Transcript, SessionFault>,
+    story: &Story,
     mut order: O,
     start: StartFrom<I>,
-    out: &mut W,
-) -> Result<Answer, RunFault>
-    ensures written { IfOk result (λ answer. (known : Option (List ℕ)) → IsOverText known session → Explains known
-        (O.remaining order) (initial_from I.remaining start) answer (W.contents out.old) (W.contents out.new)) }
+) -> Result<(String, Answer), RunFault>
+    ensures told { IfOk result (λ told. (known : Option (List ℕ)) → IsFinishOf known finished →
+        OnWritten told.0.bytes.items (Explains known (O.remaining order) (initial_from I.remaining start) told.1)) }
     ensures limited { OnOk result (IsWithinLimit (O.remaining order)) }
     ensures start_limited { OnOk result (IsStartWithinLimit I.remaining start) }
+    ensures read { OnOk result (IsOrder (O.remaining order)) }
     ensures cause { IfErr result (λ fault. (known : Option (List ℕ)) → IsCapture known →
         IsCause known (O.remaining order) start fault) }
-    ensures left { IfErr result (LeavesOrdered (W.contents out.old) (W.contents out.new)) }
 {
     let order = read_order(alloc, &mut order)?;
-    let entries = order.as_slice();
-    explain_entries(alloc, session, story, entries, start, out)
+    told_on(alloc, finished, story, &order, start)
 }
 
 // The verdict on the entries of an order.
-fn explain_entries<I: Measured + Drop, W: Write>(
+fn told_on<I: Measured + Drop>(
     alloc: Global,
-    session: Session,
-    story: &mut Story,
+    finished: Result<Transcript, SessionFault>,
+    story: &Story,
     entries: &[Entry],
     start: StartFrom<I>,
-    out: &mut W,
-) -> Result<Answer, RunFault>
-    ensures written { IfOk result (λ answer. (known order : Option (List ℕ)) → IsOverText known session →
-        IfSome order (λ text. IsOrderText text entries.now) → Explains known order (initial_from I.remaining start) answer
-        (W.contents out.old) (W.contents out.new)) }
+) -> Result<(String, Answer), RunFault>
+    ensures told { IfOk result (λ told. (beginning : Beginning)
+        × IsBeginningOf (initial_from I.remaining start) (room_in finished) beginning
+        × IsToldOn finished entries.now beginning told.1 told.0.bytes.items) }
     ensures start_limited { OnOk result (IsStartWithinLimit I.remaining start) }
-    ensures cause { IfErr result (λ fault. (known order : Option (List ℕ)) → IsCapture known → IsOrder order →
-        IsCause known order start fault) }
-    ensures left { IfErr result (LeavesOrdered (W.contents out.old) (W.contents out.new)) }
+    ensures cause { IfErr result (λ fault. (fault ≡ ImageRead) × HasImage start ⊎ (fault ≡ Memory)) }
 {
-    story.tell(session.messages())?;
-    let finished = session.finish();
     let start = read_start(alloc, start, room_of(&finished))?;
-    explain_from(alloc, finished, story, entries, start, out)
+    Ok(told_from(alloc, finished, story, entries, start)?)
 }
 
 // The verdict on them from what was read of the start.
-fn explain_from<W: Write>(
+fn told_from(
     alloc: Global,
     finished: Result<Transcript, SessionFault>,
     story: &Story,
     entries: &[Entry],
     start: Beginning,
-    out: &mut W,
-) -> Result<Answer, RunFault>
-    ensures told { IfOk result (λ answer. IsToldOn finished entries.now start answer (W.contents out.old) (W.contents out.new)) }
-    ensures fault { IfErr result (λ fault. (fault ≡ Write) ⊎ (fault ≡ Memory)) }
-    ensures left { IfErr result (LeavesOrdered (W.contents out.old) (W.contents out.new)) }
+) -> Result<(String, Answer), AllocError>
+    ensures { IfOk result (λ told. IsToldOn finished entries.now start told.1 told.0.bytes.items) }
 {
     let kept = copy_of(alloc, &start)?;
     let verdict = conclude_from(alloc, finished, entries, start)?;
-    write_explained(alloc, verdict, story.with(entries, kept_of(&kept)), out)
+    told_verdict(alloc, verdict, story.with(entries, kept_of(&kept)))
 }

@@ -1,9 +1,16 @@
 //! The bytes of a capture, kept while its session takes them.
 
+ghost use Rattle.std.specs.Prelude.{IfErr, IfOk, OnOk};
+ghost use Rattle.nbd_tool.specs.Runs.{IsCaptureCause};
+ghost use Rattle.nbd_tool.specs.Starts.{IsWithinLimit};
+ghost use Rattle.nbd_explain.specs.internal.Lines.{IsFinishOf};
+
+use nbd_session::{SessionFault, Transcript};
 use nbd_story::Story;
-use nbd_tool::Witness;
+use nbd_tool::{RunFault, Witness, session_over};
 use nbd_wire::Side;
 use std::alloc::{AllocError, Global};
+use std::io::BufRead;
 
 /// Keeps all bytes that it is shown.
 #[derive(Drop)]
@@ -25,4 +32,19 @@ impl Witness for Recorder {
     fn see(&mut self, side: Side, bytes: &[u8]) -> Result<(), AllocError> {
         self.story.recording.add(side, bytes)
     }
+}
+
+/// Reads a capture text to its end, and finishes its session; the recorder's story then has its messages.
+pub fn finished_over<C: BufRead + Drop>(
+    alloc: Global,
+    capture: C,
+    recorder: &mut Recorder,
+) -> Result<Result<Transcript, SessionFault>, RunFault>
+    ensures over { IfOk result (IsFinishOf (C.remaining capture)) }
+    ensures limited { OnOk result (IsWithinLimit (C.remaining capture)) }
+    ensures cause { IfErr result (IsCaptureCause (C.remaining capture)) }
+{
+    let session = session_over(alloc, capture, recorder)?;
+    recorder.story.tell(session.messages())?;
+    Ok(session.finish())
 }

@@ -1,76 +1,91 @@
 //! The command `explain` without an order.
 
-ghost use Rattle.std.specs.Prelude.{◌≡◌, ◌⊎◌, ℕ, List, Option, IfErr, IfOk, OnOk};
-ghost use Rattle.nbd_wire.specs.protocol.Explains as definitions;
-ghost use Rattle.nbd_tool.specs.declared.fault.RunFault.TheVariants.{Memory, Write};
-ghost use Rattle.nbd_tool.specs.Beginnings.{IsReadAs};
-ghost use Rattle.nbd_tool.specs.Ends.{IsOverText};
-ghost use Rattle.nbd_explain.specs.Ordering.{IsOrderingCause, LeavesOrdered};
-ghost use Rattle.nbd_tool.specs.Runs.{IsCapture};
-ghost use Rattle.nbd_tool.specs.Starts.{IsStartWithinLimit, initial_from};
-ghost use Rattle.nbd_explain.specs.Orderless.{Tells};
-ghost use Rattle.nbd_explain.specs.internal.Lines.{BeginsWithLineOf, IsLineOf, IsToldOfFound};
+ghost use Rattle.std.specs.Prelude.{◌≡◌, ◌⊎◌, Err, IfErr, IfOk, IsOk, OnOk};
+ghost use Rattle.nbd_tool.specs.declared.fault.RunFault.TheVariants.{ImageRead, Memory};
+ghost use Rattle.nbd_tool.specs.declared.start.Beginning.{Beginning};
+ghost use Rattle.nbd_tool.specs.Beginnings.{IsBeginningOf, room_in};
+ghost use Rattle.nbd_tool.specs.Starts.{HasImage, IsStartWithinLimit, initial_from};
+ghost use Rattle.nbd_explain.specs.Answering.{answer_to};
+ghost use Rattle.nbd_explain.specs.internal.Lines.{Begins, BeginsWithLineOf, IsLineOf, IsToldBySearch, IsToldOfFound};
 
 use crate::answer::{Answer, found_answer};
 use crate::found::found_explanation;
 use crate::ordering::{find_order, found_text_of};
-use crate::writing::{copy_of, kept_of, write_explained};
-use nbd_capture::write_whole;
+use crate::writing::{copy_of, kept_of, told_verdict};
 use nbd_judge::Verdict;
 use nbd_order::{Found, Scope, Wanted};
 use nbd_search::{Limits, Progress};
-use nbd_session::{Session, SessionFault, Transcript};
-use nbd_story::Story;
+use nbd_session::{SessionFault, Transcript};
+use nbd_story::{Sources, Story};
 use nbd_tool::{
     Beginning, Line, Measured, RunFault, StartFrom, conclude_from, read_start, room_of,
 };
 use std::alloc::{AllocError, Global};
-use std::io::Write;
 
-/// Looks for an order that explains a session from this start, and writes the line of what it came to and what that
-/// says; of a session that was refused the verdict's line and why.
-pub fn explain_by_search<I: Measured + Drop, W: Write>(
+/// Looks for an order that explains a finished session from the start that is read: the line of what it came to and what that
+/// says; of a session that was refused the verdict's line and why. And the answer.
+pub fn told_searching<I: Measured + Drop>(
     alloc: Global,
-    session: Session,
-    story: &mut Story,
+    finished: Result<Transcript, SessionFault>,
+    story: &Story,
     start: StartFrom<I>,
     limits: Limits,
-    out: &mut W,
     progress: &mut Progress,
-) -> Result<Answer, RunFault>
-    ensures written { IfOk result (λ answer. (known : Option (List ℕ)) → IsOverText known session →
-        Tells known (initial_from I.remaining start) answer (W.contents out.old) (W.contents out.new)) }
+) -> Result<(String, Answer), RunFault>
+    ensures told { IfOk result (λ told. (beginning : Beginning)
+        × IsBeginningOf (initial_from I.remaining start) (room_in finished) beginning
+        × IsToldBySearch beginning finished told.1 told.0.bytes.items) }
     ensures start_limited { OnOk result (IsStartWithinLimit I.remaining start) }
-    ensures cause { IfErr result (λ fault. (known : Option (List ℕ)) → IsCapture known →
-        IsOrderingCause known start fault) }
-    ensures left { IfErr result (LeavesOrdered (W.contents out.old) (W.contents out.new)) }
+    ensures cause { IfErr result (λ fault. (fault ≡ ImageRead) × HasImage start ⊎ (fault ≡ Memory)) }
 {
-    story.tell(session.messages())?;
-    let finished = session.finish();
     let start = read_start(alloc, start, room_of(&finished))?;
+    Ok(told_by_search(alloc, finished, story, start, limits, progress)?)
+}
+
+// The same from what was read of the start.
+fn told_by_search(
+    alloc: Global,
+    finished: Result<Transcript, SessionFault>,
+    story: &Story,
+    start: Beginning,
+    limits: Limits,
+    progress: &mut Progress,
+) -> Result<(String, Answer), AllocError>
+    ensures { IfOk result (λ told. IsToldBySearch start finished told.1 told.0.bytes.items) }
+{
     match finished {
-        Ok(transcript) => explain_found(alloc, transcript, story, start, limits, out, progress),
-        Err(SessionFault::Wire { at, fault }) => {
-            let verdict = Verdict::Wire { at, fault };
-            write_explained(alloc, verdict, story.with(&[], kept_of(&start)), out)
+        Ok(transcript) => told_of_found(alloc, transcript, story, start, limits, progress),
+        Err(fault) => told_of_fault(alloc, fault, story.with(&[], kept_of(&start))),
+    }
+}
+
+// Of a session that was refused, or that memory ended.
+fn told_of_fault(
+    alloc: Global,
+    fault: SessionFault,
+    sources: Sources<'_>,
+) -> Result<(String, Answer), AllocError>
+    ensures { IfOk result (λ told. (beginning : Beginning) → IsToldBySearch beginning (Err fault) told.1
+        told.0.bytes.items) }
+{
+    match fault {
+        SessionFault::Wire { at, fault } => {
+            told_verdict(alloc, Verdict::Wire { at, fault }, sources)
         }
-        Err(SessionFault::Memory) => Err(RunFault::Memory),
+        SessionFault::Memory => Err(AllocError),
     }
 }
 
 // What looking for an order comes to, from what was read of the start.
-fn explain_found<W: Write>(
+fn told_of_found(
     alloc: Global,
     transcript: Transcript,
     story: &Story,
     start: Beginning,
     limits: Limits,
-    out: &mut W,
     progress: &mut Progress,
-) -> Result<Answer, RunFault>
-    ensures told { IfOk result (λ answer. IsToldOfFound transcript start answer (W.contents out.old) (W.contents out.new)) }
-    ensures fault { IfErr result (λ fault. (fault ≡ Write) ⊎ (fault ≡ Memory)) }
-    ensures left { IfErr result (LeavesOrdered (W.contents out.old) (W.contents out.new)) }
+) -> Result<(String, Answer), AllocError>
+    ensures { IfOk result (λ told. IsToldOfFound transcript start told.1 told.0.bytes.items) }
 {
     let kept = copy_of(alloc, &start)?;
     let scope = Scope {
@@ -78,9 +93,22 @@ fn explain_found<W: Write>(
         limits,
     };
     let found = find_order(alloc, &transcript, start, scope, progress)?;
-    let text = text_of(alloc, transcript, &found, kept, story)?;
-    write_whole(out, text.as_bytes())?;
-    Ok(found_answer(&found))
+    told_found(alloc, transcript, &found, kept, story)
+}
+
+// The line of what was found, and what that says, and the answer.
+fn told_found(
+    alloc: Global,
+    transcript: Transcript,
+    found: &Found,
+    start: Beginning,
+    story: &Story,
+) -> Result<(String, Answer), AllocError>
+    ensures begins { IfOk result (λ told. BeginsWithLineOf transcript found.now start told.0.bytes.items) }
+    ensures answer { IfOk result (λ told. told.1 ≡ answer_to found.now) }
+{
+    let text = text_of(alloc, transcript, found, start, story)?;
+    Ok((text, found_answer(found)))
 }
 
 // The line of what was found, and what that says.
@@ -93,9 +121,21 @@ fn text_of(
 ) -> Result<String, AllocError>
     ensures { IfOk result (λ text. BeginsWithLineOf transcript found.now start text.bytes.items) }
 {
-    let explanation = found_explanation(alloc, found, story.with(&[], kept_of(&start)))?;
-    let line = line_of(alloc, transcript, found, start)?;
-    Ok(format!(in alloc; "{}{}", line, explanation)?)
+    let explanation = found_explanation(alloc, found, story.with(&[], kept_of(&start)));
+    joined(line_of(alloc, transcript, found, start), explanation)
+}
+
+// A text and one behind it, where there was memory for both.
+fn joined(
+    first: Result<String, AllocError>,
+    second: Result<String, AllocError>,
+) -> Result<String, AllocError>
+    ensures begins { IfOk result (λ text. IfOk first (λ front. Begins front.bytes.items text.bytes.items)) }
+    ensures given { OnOk result (IsOk first) }
+{
+    let mut text = first?;
+    text.push_str(&second?)?;
+    Ok(text)
 }
 
 // The line of what was found: of an order that of the verdict on it, and that it was found.

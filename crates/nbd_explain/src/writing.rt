@@ -1,38 +1,31 @@
 //! A verdict's line with its explanation.
 
-ghost use Rattle.std.specs.Prelude.{◌≡◌, ◌⊎◌, ℕ, IfErr, IfOk, OnOk};
+ghost use Rattle.std.specs.Prelude.{ℕ, IfOk};
 ghost use Rattle.nbd_wire.specs.protocol.Explains as definitions;
 ghost use Rattle.nbd_tool.specs.Beginnings.{IsReadAs};
-ghost use Rattle.nbd_tool.specs.declared.fault.RunFault.TheVariants.{Memory, Write};
-ghost use Rattle.nbd_explain.specs.Ordering.{LeavesOrdered};
+ghost use Rattle.nbd_tool.specs.Verdicts.{line};
 ghost use Rattle.nbd_explain.specs.Answering.{IsAnswerTo};
-ghost use Rattle.nbd_explain.specs.Explained.{BeginsWithLine};
+ghost use Rattle.nbd_explain.specs.internal.Lines.{Begins};
 
 use crate::answer::{Answer, verdict_answer};
-use nbd_capture::write_whole;
 use nbd_export::Start;
 use nbd_judge::Verdict;
 use nbd_story::{Sources, explanation_of};
-use nbd_tool::{Beginning, Line, RunFault};
+use nbd_tool::{Beginning, Line};
 use std::alloc::{AllocError, Global};
-use std::io::Write;
 
-/// Writes a verdict's line, and the explanation behind it.
-pub fn write_explained<W: Write>(
+/// A verdict's line with the explanation behind it, and the answer.
+pub fn told_verdict(
     alloc: Global,
     verdict: Verdict,
     sources: Sources<'_>,
-    out: &mut W,
-) -> Result<Answer, RunFault>
-    ensures answer { IfOk result (IsAnswerTo verdict) }
-    ensures fault { IfErr result (λ fault. (fault ≡ Write) ⊎ (fault ≡ Memory)) }
-    ensures written { OnOk result (BeginsWithLine verdict (W.contents out.old) (W.contents out.new)) }
-    ensures left { IfErr result (LeavesOrdered (W.contents out.old) (W.contents out.new)) }
+) -> Result<(String, Answer), AllocError>
+    ensures answer { IfOk result (λ told. IsAnswerTo verdict told.1) }
+    ensures begins { IfOk result (λ told. Begins (line verdict) told.0.bytes.items) }
 {
     let explanation = explanation_of(alloc, &verdict, sources)?;
     let text = format!(in alloc; "{}\n{}", Line { verdict }, explanation)?;
-    write_whole(out, text.as_bytes())?;
-    Ok(verdict_answer(&verdict))
+    Ok((text, verdict_answer(&verdict)))
 }
 
 /// A beginning once more, since what judges takes it.

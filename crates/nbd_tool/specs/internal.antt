@@ -1,3 +1,4 @@
 pub mod FaultWords
 pub mod Outcomes
 pub mod Texts
+pub mod VerdictParts

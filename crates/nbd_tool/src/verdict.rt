@@ -2,7 +2,8 @@
 ghost use Rattle.std.specs.Prelude.{◌≡◌, ◌↔◌, ◌⊎◌, IfErr, IfOk, IsTrue, OnOk};
 ghost use Rattle.std.specs.Io.KnownBytes.{Appends, Keeps};
 ghost use Rattle.nbd_capture.specs.Writing.{AppendsPrefix};
-ghost use Rattle.nbd_tool.specs.Verdicts.{IsYes, fault_name, line, order_fault_name};
+ghost use Rattle.nbd_tool.specs.Verdicts.{IsYes, fault_name, line, order_fault_name, words};
+ghost use Rattle.nbd_tool.specs.internal.VerdictParts.{parts_words};
 ghost use Rattle.nbd_tool.specs.declared.fault.RunFault.TheVariants.{Memory, Write};
 
 use crate::fault::RunFault;
@@ -57,27 +58,98 @@ impl fmt::Display for Line {
     ghost output = { λ line. Some (words line.verdict) };
 
     fn fmt<W: fmt::Write>(&self, f: &mut fmt::Formatter<W>) -> fmt::Result {
-        match self.verdict {
-            Verdict::Yes {
-                requests,
-                answered,
-                improper,
-            } => write!(
-                f,
-                "yes requests {requests} answered {answered} improper {improper}"
-            ),
-            Verdict::Wire { at, fault } => {
-                let name = fault_name(fault);
-                write!(f, "no at byte {at}: {name}")
-            }
-            Verdict::Image { image, size } => write!(f, "no image {image} size {size}"),
-            Verdict::Order { entry, fault } => {
-                let name = order_fault_name(fault);
-                write!(f, "no order entry {entry}: {name}")
-            }
-            Verdict::Content { request, offset } => {
-                write!(f, "no content request {request} offset {offset}")
-            }
+        parts_of(self.verdict).fmt(f)
+    }
+}
+
+/// The words of a verdict's line, of which only the rest differs in form.
+#[derive(Clone, Copy, Drop)]
+struct Parts {
+    first: &'static str,
+    number: u64,
+    second: &'static str,
+    rest: Rest,
+}
+
+/// What such words end with.
+#[derive(Clone, Copy, Drop)]
+enum Rest {
+    /// A name.
+    Name(&'static str),
+    /// A number.
+    Number(u64),
+    /// How many requests were answered, and how many of them were improper.
+    Counts(u64, u64),
+}
+
+// The parts of a verdict's words.
+fn parts_of(verdict: Verdict) -> Parts
+    ensures { parts_words result ≡ words verdict }
+{
+    match verdict {
+        Verdict::Yes {
+            requests,
+            answered,
+            improper,
+        } => Parts {
+            first: "yes requests ",
+            number: requests,
+            second: " answered ",
+            rest: Rest::Counts(answered, improper),
+        },
+        Verdict::Wire { at, fault } => Parts {
+            first: "no at byte ",
+            number: at,
+            second: ": ",
+            rest: Rest::Name(fault_name(fault)),
+        },
+        Verdict::Image { image, size } => Parts {
+            first: "no image ",
+            number: image,
+            second: " size ",
+            rest: Rest::Number(size),
+        },
+        Verdict::Order { entry, fault } => Parts {
+            first: "no order entry ",
+            number: entry,
+            second: ": ",
+            rest: Rest::Name(order_fault_name(fault)),
+        },
+        Verdict::Content { request, offset } => Parts {
+            first: "no content request ",
+            number: request,
+            second: " offset ",
+            rest: Rest::Number(offset),
+        },
+    }
+}
+
+impl fmt::Display for Parts {
+    ghost use Rattle.std.specs.Prelude.{Some};
+    ghost use Rattle.nbd_tool.specs.internal.VerdictParts.{parts_words};
+
+    ghost output = { λ parts. Some (parts_words parts) };
+
+    fn fmt<W: fmt::Write>(&self, f: &mut fmt::Formatter<W>) -> fmt::Result {
+        write!(
+            f,
+            "{}{}{}{}",
+            self.first, self.number, self.second, self.rest
+        )
+    }
+}
+
+impl fmt::Display for Rest {
+    ghost use Rattle.std.specs.Prelude.{Some};
+    ghost use Rattle.nbd_tool.specs.internal.VerdictParts.{rest_words};
+
+    ghost output = { λ rest. Some (rest_words rest) };
+
+    fn fmt<W: fmt::Write>(&self, f: &mut fmt::Formatter<W>) -> fmt::Result {
+        match *self {
+            Rest::Name(name) => f.write_str(name),
+            Rest::Number(number) => number.fmt(f),
+            Rest::Counts(answered, improper) => write!(f, "{answered} improper {improper}"),
         }
     }
 }

@@ -1,7 +1,10 @@
 //! The command `check CAPTURE ORDER --start START` alone: a first answer, while the rest of nbdcheck is not proved yet.
 #![tactic(auto)]
 
-use nbd_tool::{Files, StartWord, check_files, complain, hint, start_of};
+ghost use Rattle.std.specs.Prelude.{◌≡◌};
+ghost use Rattle.nbd_tool.specs.CommandLine.{exit_status};
+
+use nbd_tool::{Files, RunFault, StartWord, check_files, complain, hint, start_of};
 use std::process::ExitCode;
 use std::{env, io};
 
@@ -43,9 +46,16 @@ fn run_words(rt: &HostRuntime, words: &[String]) -> u8 {
 fn check(rt: &HostRuntime, capture: &str, order: &str, start: StartWord<'_>) -> u8 {
     let mut files = Files::new(rt);
     let answer = check_files(&mut files, capture, order, start);
-    let status = files.report(&answer);
+    checked(&files, &answer)
+}
+
+// Says what there is to say behind an answer, and answers the exit status.
+fn checked(files: &Files<'_>, answer: &Result<bool, RunFault>) -> u8
+    ensures { result ≡ exit_status answer.now }
+{
+    let status = files.report(answer);
     if matches!(answer, Ok(false)) {
-        hint(rt, "'nbdcheck explain' with the same words says why");
+        hint(files.rt, "'nbdcheck explain' with the same words says why");
     }
     status
 }

@@ -1,23 +1,28 @@
 -- The text that is made of what looking for an order came to.
-use Rattle.std.specs.Prelude.{◌≡◌, ℕ, List, ◌++◌, Option, Result, Ok}
+use Rattle.std.specs.Prelude.{◌≡◌, ℕ, List, ◌++◌, Option, Result, Ok, Err, IfOk, IfErr}
 use Rattle.std.specs.Io.KnownBytes.{Appends}
 use Rattle.nbd_wire.specs.protocol.Explains.{Start}
 use Rattle.nbd_wire.specs.protocol.Marks.{Item, pairs}
 use Rattle.nbd_wire.specs.protocol.Reports.{Report, report}
 use Rattle.nbd_wire.specs.protocol.Rules.{IsRun}
 use Rattle.nbd_session.specs.declared.fault.SessionFault.{SessionFault}
+use Rattle.nbd_session.specs.declared.fault.SessionFault.TheVariants.{Memory, Wire}
+use Rattle.nbd_session.specs.Refusals.{EndsIn}
+use Rattle.nbd_session.specs.Sessions.{IsReported, SessionView, fault_at_end, fault_of}
 use Rattle.nbd_judge.specs.Conclusions.{Answers, IsConclusion, IsReportOf}
 use Rattle.nbd_judge.specs.declared.verdict.Verdict.{Verdict}
+use Rattle.nbd_judge.specs.declared.verdict.Verdict.TheVariants as verdict
 use Rattle.nbd_judge.specs.Servable.{size_of}
 use Rattle.nbd_order.specs.Finding.{IsFound, IsWanted, Says}
 use Rattle.nbd_order.specs.declared.finding.Found.{Found}
 use Rattle.nbd_order.specs.declared.finding.Found.TheVariants.{GaveUp, Image, NoneWhole, Order, Unexplained}
 use Rattle.nbd_order.specs.declared.finding.Wanted.TheVariants.{Any}
 use Rattle.nbd_tool.specs.Beginnings.{IsReadAs, room_in}
+use Rattle.nbd_tool.specs.Ends.{IsOverText}
+use Rattle.nbd_tool.specs.Verdicts.{line}
 use Rattle.nbd_explain.specs.Ordering.{found_text}
 use Rattle.nbd_explain.specs.declared.answer.Answer.{Answer}
 use Rattle.nbd_explain.specs.Answering.{IsAnswerTo, answer_to}
-use Rattle.nbd_explain.specs.Explained.{BeginsWithLine}
 use Rattle.nbd_explain.specs.Orderless.{found_lines}
 use Rattle.nbd_tool.specs.declared.start.Beginning.{Beginning}
 use Rattle.nbd_wire.specs.declared.entry.Entry.{Entry}
@@ -51,9 +56,25 @@ pub record BeginsWithLineOf (told : Report) (found : Found) (beginning : Beginni
   pub is_line : IsLineOf told found beginning first
   pub parts : text ≡ first ++ explanation
 
--- the verdict on the entries, from each start that was read so, is answered, and written with an explanation
+-- a text is this one, and some text behind it
+abbrev pub Begins : (first text : List ℕ) → Type 0
+Begins first text = (explanation : List ℕ) × (text ≡ first ++ explanation)
+
+-- what holds of each writer to which this text was added
+abbrev pub OnWritten : List ℕ → (Option (List ℕ) → Option (List ℕ) → Type 0) → Type 0
+OnWritten text P = (old new : Option (List ℕ)) → Appends old new text → P old new
+
+-- what a session over the chunks of a capture text came to at its end
+pub record IsFinishOf (known : Option (List ℕ)) (finished : Result Report SessionFault) : Type 0 where
+  pub session : SessionView
+  pub over : IsOverText known session
+  pub fault : fault_of finished ≡ fault_at_end session
+  pub report : IfOk finished (IsReported session)
+  pub wire : IfErr finished (EndsIn session)
+
+-- the verdict on the entries, from each start that was read so, is answered, and told with an explanation
 pub record IsToldOn (finished : Result Report SessionFault) (entries : List Entry) (beginning : Beginning)
-    (answered : Answer) (old new : Option (List ℕ)) : Type 0 where
+    (answered : Answer) (text : List ℕ) : Type 0 where
   pub verdict : Verdict
   pub concludes : (initial : Start) → IsReadAs (room_in finished) initial beginning
       → IsConclusion finished entries initial verdict
@@ -61,14 +82,12 @@ pub record IsToldOn (finished : Result Report SessionFault) (entries : List Entr
       → IsReportOf items finished
       → Answers (pairs items) entries initial verdict
   pub answer : IsAnswerTo verdict answered
-  pub begins : BeginsWithLine verdict old new
+  pub begins : Begins (line verdict) text
 
--- what looking for an order came to, from each start that was read so, is answered, and written with what it says
-pub record IsToldOfFound (told : Report) (beginning : Beginning) (answered : Answer)
-    (old new : Option (List ℕ)) : Type 0 where
+-- what looking for an order came to, from each start that was read so, is answered, and told with what it says
+pub record IsToldOfFound (told : Report) (beginning : Beginning) (answered : Answer) (text : List ℕ) : Type 0 where
   pub found : Found
   pub kept : Beginning
-  pub text : List ℕ
   pub copied : (n : ℕ) (initial : Start) → IsReadAs n initial beginning → IsReadAs n initial kept
   pub is_found : (initial : Start) → IsReadAs (size_of told.export) initial beginning → IsFound told initial found
   pub fits : IsWanted Any found
@@ -76,5 +95,11 @@ pub record IsToldOfFound (told : Report) (beginning : Beginning) (answered : Ans
       → report items ≡ told
       → Says items initial found
   pub begins : BeginsWithLineOf told found kept text
-  pub appended : Appends old new text
   pub answer : answered ≡ answer_to found
+
+-- the same of a finished session: of one that was refused no, the verdict's line and an explanation
+abbrev pub IsToldBySearch : Beginning → Result Report SessionFault → Answer → List ℕ → Type 0
+IsToldBySearch beginning (Ok told) answered text = IsToldOfFound told beginning answered text
+IsToldBySearch beginning (Err (Wire at fault)) answered text = IsAnswerTo (verdict.Wire at fault) answered
+    × Begins (line (verdict.Wire at fault)) text
+IsToldBySearch beginning (Err Memory) answered text = ⊥
