@@ -10,7 +10,8 @@ ghost use Rattle.nbd_laws.specs.captures.Reads as reads;
 ghost use Rattle.nbd_laws.specs.captures.Chunks as chunks;
 ghost use Rattle.nbd_laws.specs.captures.Requests as requests;
 ghost use Rattle.nbd_laws.specs.captures.Options as options;
-ghost use Rattle.nbd_laws.specs.Explaining.{IsNo, IsYes};
+ghost use Rattle.nbd_wire.specs.declared.profile.Profile.TheVariants.{Wide};
+ghost use Rattle.nbd_laws.specs.Explaining.{IsNo, IsYes, IsYesOf};
 
 /// A READ of four zeroes is explained by its service.
 pub fn first_run()
@@ -183,6 +184,11 @@ pub fn padded_export()
 /// With NO_ZEROES it is not.
 pub fn bare_export()
     ensures { IsYes (flat options.bare_export) (whole 1 ∷ []) Zeroes 1 1 0 }
+{}
+
+/// In Wide a metadata context may be selected.
+pub fn context_selected()
+    ensures { IsYesOf Wide (flat options.context_selected) [] Zeroes 0 0 0 }
 {}
 
 /// STARTTLS may be refused by an error.

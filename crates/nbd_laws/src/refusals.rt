@@ -2,12 +2,13 @@
 //! stand in specs/captures/Refused.antt.
 ghost use Rattle.std.specs.Prelude.{[], ◌∷◌};
 ghost use Rattle.nbd_wire.specs.protocol.Captures.{flat};
-ghost use Rattle.nbd_wire.specs.protocol.Splits.{IsPlace};
-ghost use Rattle.nbd_wire.specs.declared.fault.WireFault.TheVariants.{BadMagic, NotFixedNewstyle, BadClientFlags, OutOfTurn, UnknownCookie, BadDisconnect};
+ghost use Rattle.nbd_wire.specs.protocol.Splits.{IsPlace, IsPlaceOf};
+ghost use Rattle.nbd_wire.specs.declared.profile.Profile.TheVariants.{Base, Wide};
+ghost use Rattle.nbd_wire.specs.declared.fault.WireFault.TheVariants.{BadMagic, NotFixedNewstyle, BadClientFlags, OutOfTurn, OutOfProfile, UnknownCookie, BadDisconnect};
 ghost use Rattle.nbd_wire.specs.declared.message.Message.TheVariants.{Greeting};
 ghost use Rattle.nbd_laws.specs.captures.Openings.{hasty_client};
 ghost use Rattle.nbd_laws.specs.captures.Refused as refused;
-ghost use Rattle.nbd_laws.specs.captures.Messages.{opening_messages};
+ghost use Rattle.nbd_laws.specs.captures.Messages.{context_messages, opening_messages, selected_messages};
 
 /// The client speaks first.
 pub fn client_first()
@@ -43,4 +44,10 @@ pub fn unasked_reply()
 /// A DISC with a length.
 pub fn long_disconnect()
     ensures { IsPlace (flat refused.long_disconnect) opening_messages BadDisconnect }
+{}
+
+/// A metadata context is told: Base refuses it at its head. Wide goes on, and refuses a BLOCK_STATUS where it is in force.
+pub fn contexts_out_of_profile()
+    ensures base { IsPlaceOf Base (flat refused.context_head) context_messages OutOfProfile }
+    ensures wide { IsPlaceOf Wide (flat refused.status_in_force) selected_messages OutOfProfile }
 {}

@@ -2,27 +2,28 @@
 use Rattle.std.proofs.Common.{◌≡◌, ℕ, List, [], ◌∷◌, ◌++◌, take, refl, sym, ◌∙◌, ap, subst, Option, Some, None, Result, Ok, Err, Bool, true, ◌&&◌, nat_lt}
 use Rattle.std.proofs.lemmas.Bool.{ltb-true}
 use Rattle.nbd_wire.specs.declared.fault.WireFault.{WireFault}
-use Rattle.nbd_wire.specs.declared.fault.WireFault.TheVariants.{BadMagic, NotFixedNewstyle, BadClientFlags, OutOfTurn, UnknownCookie, BadDisconnect}
+use Rattle.nbd_wire.specs.declared.fault.WireFault.TheVariants.{BadMagic, NotFixedNewstyle, BadClientFlags, OutOfTurn, OutOfProfile, UnknownCookie, BadDisconnect}
 use Rattle.nbd_wire.specs.declared.message.Message.{Message}
 use Rattle.nbd_wire.specs.declared.message.Message.TheVariants.{Greeting}
 use Rattle.nbd_wire.specs.declared.message.Side.TheVariants.{Client, Server}
-use Rattle.nbd_wire.specs.declared.profile.Profile.TheVariants.{Base}
+use Rattle.nbd_wire.specs.declared.profile.Profile.{Profile}
+use Rattle.nbd_wire.specs.declared.profile.Profile.TheVariants.{Base, Wide}
 use Rattle.nbd_wire.specs.protocol.Captures.{ArePairs, Pair, flat}
 use Rattle.nbd_wire.specs.protocol.Options.{is_proper_option, next_phase}
-use Rattle.nbd_wire.specs.protocol.Payloads.{content_of, failure_of, info_of, is_go, is_listed}
+use Rattle.nbd_wire.specs.protocol.Payloads.{content_of, context_of, failure_of, queries_of, info_of, is_go, is_listed}
 use Rattle.nbd_wire.specs.protocol.Operations.{ends_reply, is_failing, is_proper}
 use Rattle.nbd_wire.specs.protocol.Flags.{has, has_only}
 use Rattle.nbd_wire.specs.protocol.Pieces.{piece_of}
 use Rattle.nbd_wire.specs.protocol.Rules.{complete}
-use Rattle.nbd_wire.specs.protocol.Splits.{IsPlace}
+use Rattle.nbd_wire.specs.protocol.Splits.{IsPlace, IsPlaceOf}
 use Rattle.nbd_wire.specs.protocol.States.{target}
 use Rattle.nbd_laws.specs.captures.Openings.{hasty_client}
-use Rattle.nbd_laws.specs.internal.Machine.{Bad, Machine, Reading, More, Whole, Rest, fresh, get, rest_with, on_ok, reads, settle}
+use Rattle.nbd_laws.specs.internal.Machine.{Bad, Machine, Reading, More, Whole, Rest, fresh, fresh_of, get, rest_with, on_ok, reads, settle}
 use Rattle.nbd_laws.proofs.runs.PlacingLemmas.{place_law}
 use Rattle.nbd_laws.proofs.runs.PlaceLemmas.{are_prefix, are_last}
 use Rattle.nbd_laws.specs.internal.Concrete.{concrete}
 use Rattle.nbd_laws.specs.captures.Refused as refused
-use Rattle.nbd_laws.specs.captures.Messages.{opening_messages}
+use Rattle.nbd_laws.specs.captures.Messages.{context_messages, opening_messages, selected_messages}
 use Rattle.nbd_laws.proofs.judge.BlockLemmas.{reads-append}
 use Rattle.nbd_laws.proofs.judge.BoolLemmas.{and_true}
 use Rattle.nbd_laws.proofs.judge.SoundLemmas.{sound}
@@ -46,22 +47,26 @@ bad_of machine p rest More fault e = absurd (cc)
 bad_of machine p rest (Whole m) fault e = absurd (cc)
 bad_of machine p rest (Bad f) fault e = let q : f ≡ fault = cc in ap Bad q
 
-worked : (prefix : List Pair) (p : Pair) (messages : List Message) (fault : WireFault) → are_bytes (prefix ++ p ∷ []) ≡ true → messages_in (reads concrete fresh prefix) ≡ Some messages →
-    reads concrete fresh (prefix ++ p ∷ []) ≡ Err fault → IsPlace (prefix ++ p ∷ []) messages fault
-worked prefix p messages fault bytes read refused = go (reads concrete fresh prefix) refl read (sym (reads-append concrete fresh prefix (p ∷ [])) ∙ refused)
+worked : (profile : Profile) (prefix : List Pair) (p : Pair) (messages : List Message) (fault : WireFault) → are_bytes (prefix ++ p ∷ []) ≡ true → messages_in (reads concrete (fresh_of profile) prefix) ≡ Some messages →
+    reads concrete (fresh_of profile) (prefix ++ p ∷ []) ≡ Err fault → IsPlaceOf profile (prefix ++ p ∷ []) messages fault
+worked profile prefix p messages fault bytes read refused = go (reads concrete (fresh_of profile) prefix) refl read (sym (reads-append concrete (fresh_of profile) prefix (p ∷ [])) ∙ refused)
   where
-    go : (o : Result Machine WireFault) → reads concrete fresh prefix ≡ o → messages_in o ≡ Some messages → on_ok o (λ next. reads concrete next (p ∷ [])) ≡ Err fault → IsPlace (prefix ++ p ∷ []) messages fault
+    go : (o : Result Machine WireFault) → reads concrete (fresh_of profile) prefix ≡ o → messages_in o ≡ Some messages → on_ok o (λ next. reads concrete next (p ∷ [])) ≡ Err fault → IsPlaceOf profile (prefix ++ p ∷ []) messages fault
     go (Err f) e m r = absurd (cc)
     go (Ok mid) e m r =
         let are : ArePairs (prefix ++ p ∷ []) = are_pairs (prefix ++ p ∷ []) bytes in
         let same : mid.messages ≡ messages = cc in
-        subst (λ ms. IsPlace (prefix ++ p ∷ []) ms fault) same
-        (place_law Base concrete sound telling prefix mid p (are_prefix prefix (p ∷ []) are) (are_last prefix p are) e fault (bad_of mid p (rest_with mid.core (get mid.rests p.from) p.byte) _ fault r))
+        subst (λ ms. IsPlaceOf profile (prefix ++ p ∷ []) ms fault) same
+        (place_law profile concrete sound telling prefix mid p (are_prefix prefix (p ∷ []) are) (are_last prefix p are) e fault (bad_of mid p (rest_with mid.core (get mid.rests p.from) p.byte) _ fault r))
+
+at_of : (profile : Profile) (ps : List Pair) (n : ℕ) (p : Pair) (messages : List Message) (fault : WireFault) → take n ps ++ p ∷ [] ≡ ps → are_bytes ps ≡ true → messages_in (reads concrete (fresh_of profile) (take n ps)) ≡ Some messages →
+    reads concrete (fresh_of profile) ps ≡ Err fault → IsPlaceOf profile ps messages fault
+at_of profile ps n p messages fault parts bytes read refused = subst (λ qs. IsPlaceOf profile qs messages fault) parts
+    (worked profile (take n ps) p messages fault (ap are_bytes parts ∙ bytes) read (ap (reads concrete (fresh_of profile)) parts ∙ refused))
 
 at : (ps : List Pair) (n : ℕ) (p : Pair) (messages : List Message) (fault : WireFault) → take n ps ++ p ∷ [] ≡ ps → are_bytes ps ≡ true → messages_in (reads concrete fresh (take n ps)) ≡ Some messages → reads concrete fresh ps ≡ Err fault →
     IsPlace ps messages fault
-at ps n p messages fault parts bytes read refused = subst (λ qs. IsPlace qs messages fault) parts
-    (worked (take n ps) p messages fault (ap are_bytes parts ∙ bytes) read (ap (reads concrete fresh) parts ∙ refused))
+at ps n p messages fault parts bytes read refused = at_of Base ps n p messages fault parts bytes read refused
 
 pub client_first : IsPlace (flat hasty_client) [] OutOfTurn
 unfolding complete next_phase target has has_only is_proper is_proper_option info_of is_listed is_go content_of failure_of ends_reply is_failing piece_of
@@ -94,3 +99,11 @@ unasked_reply = at (flat refused.unasked_reply) 111 (record { from = Server; byt
 pub long_disconnect : IsPlace (flat refused.long_disconnect) opening_messages BadDisconnect
 unfolding complete next_phase target has has_only is_proper is_proper_option info_of is_listed is_go content_of failure_of ends_reply is_failing piece_of
 long_disconnect = at (flat refused.long_disconnect) 123 (record { from = Client; byte = 1 }) opening_messages BadDisconnect refl refl refl refl
+
+pub context_in_base : IsPlaceOf Base (flat refused.context_head) context_messages OutOfProfile
+unfolding complete next_phase target has has_only is_proper is_proper_option queries_of context_of info_of is_listed is_go content_of failure_of ends_reply is_failing piece_of
+context_in_base = at_of Base (flat refused.context_head) 120 (record { from = Server; byte = 19 }) context_messages OutOfProfile refl refl refl refl
+
+pub status_in_wide : IsPlaceOf Wide (flat refused.status_in_force) selected_messages OutOfProfile
+unfolding complete next_phase target has has_only is_proper is_proper_option queries_of context_of info_of is_listed is_go content_of failure_of ends_reply is_failing piece_of
+status_in_wide = at_of Wide (flat refused.status_in_force) 261 (record { from = Client; byte = 8 }) selected_messages OutOfProfile refl refl refl refl

@@ -14,7 +14,7 @@ use Rattle.nbd_wire.specs.declared.message.Message.TheVariants.{Greeting, Client
 use Rattle.nbd_wire.specs.protocol.Marks.{Item, Byte, Starts, Completes, Serves, IsTight, MayFollow, block, of_side}
 use Rattle.nbd_wire.specs.protocol.Options.{is_error}
 use Rattle.nbd_wire.specs.protocol.Flags.{has, has_only}
-use Rattle.nbd_wire.specs.protocol.Rules.{Allows, IsRun, MayAsk, MayComplete, Obeys, after, inside_at}
+use Rattle.nbd_wire.specs.protocol.Rules.{Allows, IsRun, IsRunOf, MayAsk, MayComplete, Obeys, after, inside_at}
 use Rattle.nbd_wire.specs.protocol.Sides.{same_side, side}
 use Rattle.nbd_wire.specs.declared.profile.Profile.{Profile}
 use Rattle.nbd_wire.specs.declared.profile.Profile.TheVariants.{Base, Wide}
@@ -22,7 +22,7 @@ use Rattle.nbd_wire.specs.protocol.Contexts.{Context}
 use Rattle.nbd_laws.specs.internal.JudgeNegotiation.{is_wide}
 use Rattle.nbd_laws.specs.internal.JudgeTransmission.{is_none_in}
 use Rattle.nbd_laws.specs.Prefixes.{ended_messages}
-use Rattle.nbd_wire.specs.protocol.States.{Core, Phase, State, Greet, Flags, Choosing, Naming, Aborting, Answering, Transmission, in_force, start, target}
+use Rattle.nbd_wire.specs.protocol.States.{Core, Phase, State, Greet, Flags, Choosing, Naming, Aborting, Answering, Transmission, in_force, start, start_of, target}
 use Rattle.nbd_laws.proofs.worked.DecidingLemmas.{answers_it, are_equal, both, empty, equal_bools, is_empty, is_sendable, is_served_for, is_fresh, may_answer, may_start_in, may_tell, one, same_sides, sendable, serves, starts_in, tells_it, then_too, true_is_fresh}
 use Rattle.nbd_laws.proofs.worked.DecidingReplyLemmas.{answers_one, answers_target, none_is}
 
@@ -160,14 +160,18 @@ tight [] h = tt
 tight (item ∷ []) h = tt
 tight (item ∷ next ∷ items) h = (let a = both (may_follow item next) (is_tight (next ∷ items)) h in (follows_it item next a.0, tight (next ∷ items) a.1))
 
--- items that pass the tests are a run
-pub is_run : (items : List Item) → of_side Client items ≡ flat_map (block Client) (ended_messages Client items) ++ [] → of_side Server items ≡ flat_map (block Server) (ended_messages Server items) ++ [] →
-    IsTrue (is_tight items) → IsTrue (obeys start items) → IsRun items
-is_run items c s t o = record {
+-- items that pass the tests are a run of the profile
+pub is_run_of : (profile : Profile) (items : List Item) → of_side Client items ≡ flat_map (block Client) (ended_messages Client items) ++ [] → of_side Server items ≡ flat_map (block Server) (ended_messages Server items) ++ [] →
+    IsTrue (is_tight items) → IsTrue (obeys (start_of profile) items) → IsRunOf profile items
+is_run_of profile items c s t o = record {
   marked = record {
     client_side = record { messages = ended_messages Client items; blocks = c };
     server_side = record { messages = ended_messages Server items; blocks = s };
     tight = tight items t;
   };
-  obeys = true_obeys items start o;
+  obeys = true_obeys items (start_of profile) o;
 }
+
+pub is_run : (items : List Item) → of_side Client items ≡ flat_map (block Client) (ended_messages Client items) ++ [] → of_side Server items ≡ flat_map (block Server) (ended_messages Server items) ++ [] →
+    IsTrue (is_tight items) → IsTrue (obeys start items) → IsRun items
+is_run items c s t o = is_run_of Base items c s t o

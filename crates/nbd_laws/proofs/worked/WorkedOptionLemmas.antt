@@ -11,17 +11,18 @@ use Rattle.nbd_wire.specs.protocol.Explains.{Zeroes, start_byte}
 use Rattle.nbd_wire.specs.protocol.Marks.{Item, Serves}
 use Rattle.nbd_wire.specs.protocol.Captures.{flat}
 use Rattle.nbd_wire.specs.protocol.Options.{is_proper_option, next_phase}
-use Rattle.nbd_wire.specs.protocol.Payloads.{content_of, failure_of, info_of, is_go, is_listed}
+use Rattle.nbd_wire.specs.declared.profile.Profile.TheVariants.{Wide}
+use Rattle.nbd_wire.specs.protocol.Payloads.{content_of, context_of, failure_of, queries_of, info_of, is_go, is_listed}
 use Rattle.nbd_wire.specs.protocol.Reports.{report}
 use Rattle.nbd_wire.specs.protocol.Operations.{ends_reply, is_failing, is_proper}
 use Rattle.nbd_wire.specs.protocol.Flags.{has, has_only}
 use Rattle.nbd_wire.specs.protocol.Pieces.{piece_of}
-use Rattle.nbd_wire.specs.protocol.Rules.{IsRun, complete}
+use Rattle.nbd_wire.specs.protocol.Rules.{IsRun, IsRunOf, complete}
 use Rattle.nbd_wire.specs.protocol.States.{target}
 use Rattle.nbd_laws.specs.captures.Options as captures
-use Rattle.nbd_laws.specs.Explaining.{IsYes}
+use Rattle.nbd_laws.specs.Explaining.{IsYes, IsYesOf}
 use Rattle.nbd_laws.proofs.worked.DecidingReadLemmas.{none_wrong}
-use Rattle.nbd_laws.proofs.worked.DecidingRunLemmas.{is_run}
+use Rattle.nbd_laws.proofs.worked.DecidingRunLemmas.{is_run, is_run_of}
 use Rattle.nbd_laws.proofs.service.ExplainingLemmas.{counts_of}
 use Rattle.nbd_laws.proofs.worked.SessionLemmas.{gives, gone, greeted, read, sends}
 
@@ -149,4 +150,37 @@ export_name_alone = record {
     reads = none_wrong (effects (report unnamed_items)) [] (start_byte Zeroes) refl;
   };
   counts = counts_of unnamed_items (flat captures.export_name_alone) 0 0 0 unnamed_run refl refl refl refl;
+}
+
+context_selected_items : List Item
+context_selected_items =
+    sends
+    (Greeting 3
+    ∷ ClientFlags 3
+    ∷ Choice options.STRUCTURED_REPLY []
+    ∷ Answer options.STRUCTURED_REPLY answers.ACK []
+    ∷ Choice options.SET_META_CONTEXT (big_bytes 27 0x00000000000000010000000f626173653a616c6c6f636174696f6e)
+    ∷ Answer options.SET_META_CONTEXT answers.META_CONTEXT (big_bytes 19 0x00000001626173653a616c6c6f636174696f6e)
+    ∷ Answer options.SET_META_CONTEXT answers.ACK []
+    ∷ Choice options.GO (big_bytes 6 0)
+    ∷ Answer options.GO answers.INFO (big_bytes 12 0x00000000000000000008006d)
+    ∷ Answer options.GO answers.ACK []
+    ∷ [])
+
+context_selected_run : IsRunOf Wide context_selected_items
+unfolding context_selected_items enc head tail complete next_phase target has has_only is_proper is_proper_option queries_of context_of info_of is_listed is_go content_of failure_of ends_reply is_failing piece_of report
+context_selected_run = is_run_of Wide context_selected_items refl refl refl refl
+
+pub context_selected : IsYesOf Wide (flat captures.context_selected) [] Zeroes 0 0 0
+unfolding context_selected_items enc head tail complete next_phase target has has_only is_proper is_proper_option queries_of context_of info_of is_listed is_go content_of failure_of ends_reply is_failing piece_of report
+context_selected = record {
+  explained = record {
+    items = context_selected_items;
+    is_run = context_selected_run;
+    has_pairs = refl;
+    has_order = refl;
+    fits_image = tt;
+    reads = none_wrong (effects (report context_selected_items)) [] (start_byte Zeroes) refl;
+  };
+  counts = counts_of context_selected_items (flat captures.context_selected) 0 0 0 context_selected_run refl refl refl refl;
 }

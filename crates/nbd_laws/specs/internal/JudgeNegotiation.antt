@@ -206,7 +206,8 @@ payload_fault earlier proper kind payload =
 
 -- the answer to this option: whether its data was proper and takes contexts, the last EXPORT info since, and what is
 -- selected
-abbrev pub answer : Profile → (option : ℕ) (proper takes : Bool) (info : Option Exporting) → Selection → List ℕ → Decision
+abbrev pub answer : Profile → (option : ℕ) (proper takes : Bool) (info : Option Exporting) → Selection → List ℕ
+    → Decision
 answer profile option proper takes info selection bytes = record {
   head_length = 20;
   head_fault = answer_fault option (number_at 0 8 bytes) (number_at 8 4 bytes)

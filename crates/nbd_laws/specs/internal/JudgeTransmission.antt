@@ -48,7 +48,8 @@ request_of bytes = Request (number_at 4 2 bytes) (number_at 6 2 bytes) (number_a
 abbrev pub request : List Context → Core → List ℕ → Decision
 request contexts now bytes = record {
   head_length = 28;
-  head_fault = request_fault contexts (number_at 0 4 bytes) (number_at 6 2 bytes) (number_at 16 8 bytes) (number_at 24 4 bytes);
+  head_fault = request_fault contexts (number_at 0 4 bytes) (number_at 6 2 bytes) (number_at 16 8 bytes)
+      (number_at 24 4 bytes);
   payload_length = request_payload_length (number_at 6 2 bytes) (number_at 24 4 bytes);
   last_fault = cookie_fault (number_at 6 2 bytes) (target (number_at 8 8 bytes) now.entries);
   message = request_of bytes;

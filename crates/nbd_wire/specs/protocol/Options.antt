@@ -28,7 +28,8 @@ is_proper_option option payload =
     if (option == options.EXPORT_NAME) || (option == options.ABORT) then true
     else if (option == options.LIST) || (option == options.STRUCTURED_REPLY) then length payload == 0
     else if (option == options.INFO) || (option == options.GO) then is_go payload
-    else if (option == options.LIST_META_CONTEXT) || (option == options.SET_META_CONTEXT) then is_some (queries_of payload)
+    else if (option == options.LIST_META_CONTEXT) || (option == options.SET_META_CONTEXT) then is_some
+    (queries_of payload)
     else false
 
 -- whose turn it is in a phase of the negotiation
@@ -61,8 +62,8 @@ IsInfo payload = (info : Info) × (info_of payload ≡ Some info)
     × ((size flags : ℕ) → info ≡ Export size flags → IsTrue (has flags transmission.HAS_FLAGS))
 
 -- an option reply to an option with this data, of which this info has come: an error, or where the option is proper one
--- of a kind that the option takes (proto.md, "Option types"; only errors where it is not proper is this project's
--- choice)
+-- of a kind that the option takes, contexts aside (`MayTell`; proto.md, "Option types"; only errors where it is not
+-- proper is this project's choice)
 abbrev pub MayAnswer : (option : ℕ) (payload : List ℕ) (info : Option Exporting) (kind : ℕ) (answer : List ℕ) → Type 0
 MayAnswer option payload info kind answer =
     IsTrue (is_error kind)
@@ -72,7 +73,7 @@ MayAnswer option payload info kind answer =
     ⊎ IsTrue (is_proper_option option payload) × (kind ≡ answers.INFO)
     × ((option ≡ options.INFO) ⊎ (option ≡ options.GO)) × IsInfo answer
 
--- SET_META_CONTEXT without queries
+-- so many queries are none
 abbrev pub asks_nothing : Option ℕ → Bool
 asks_nothing (Some count) = count == 0
 asks_nothing None = false
@@ -84,13 +85,13 @@ takes_contexts option payload =
     (option == options.LIST_META_CONTEXT)
     || ((option == options.SET_META_CONTEXT) && not (asks_nothing (queries_of payload)))
 
--- a context that answers an option has an id that none has which the option selected before; those of
--- LIST_META_CONTEXT are not looked at (proto.md, "Option reply types", "Metadata querying")
+-- a context that answers SET_META_CONTEXT has another id than each that came since it was chosen; the ids of those that
+-- answer LIST_META_CONTEXT are not looked at (proto.md, "Option types", "Metadata querying")
 abbrev pub IsFreshFor : ℕ → Selection → Context → Type 0
 IsFreshFor option selection context = option ≡ options.SET_META_CONTEXT → has_id selection.contexts context.id ≡ false
 
--- an option reply of success to a proper LIST_META_CONTEXT or SET_META_CONTEXT, after which this is selected: an empty
--- ACK or a context (proto.md, "Option types", "Option reply types")
+-- an option reply of success to a proper LIST_META_CONTEXT or SET_META_CONTEXT, where this was selected before it: an
+-- empty ACK, or a context (proto.md, "Option types", "Option reply types")
 abbrev pub MayTell : Selection → (option : ℕ) (payload : List ℕ) (kind : ℕ) (answer : List ℕ) → Type 0
 MayTell selection option payload kind answer =
     ((option ≡ options.LIST_META_CONTEXT) ⊎ (option ≡ options.SET_META_CONTEXT))
@@ -99,8 +100,8 @@ MayTell selection option payload kind answer =
     ⊎ (kind ≡ answers.META_CONTEXT) × IsTrue (takes_contexts option payload)
     × ((context : Context) × (context_of answer ≡ Some context) × IsFreshFor option selection context))
 
--- what is selected once an option is chosen: SET_META_CONTEXT replaces what an earlier one selected, whatever its answer
--- (proto.md, "Option types")
+-- what is selected once an option is chosen: SET_META_CONTEXT replaces what an earlier one selected, whatever its
+-- answer (proto.md, "Option types")
 abbrev pub selection_at : (id : ℕ) (payload : List ℕ) → Selection → Selection
 selection_at id payload selection =
     if id == options.SET_META_CONTEXT then
@@ -119,7 +120,7 @@ selection_told kind answer selection =
     else if kind == answers.ACK then record selection { granted = true }
     else selection
 
--- the same, by the phase in which an answer comes
+-- what is selected after an answer that comes in this phase: one to another option changes nothing
 abbrev pub selection_after : Phase → (kind : ℕ) (answer : List ℕ) → Selection → Selection
 selection_after (Answering option payload info) kind answer selection =
     if option == options.SET_META_CONTEXT then selection_told kind answer selection else selection

@@ -244,7 +244,7 @@ abbrev pub IsNoError : ℕ → Type 0
 IsNoError kind = IsTrue (is_error kind) → ⊥
 
 -- a SERVER, INFO or META_CONTEXT payload that does not have its form, an info on the export without HAS_FLAGS, or a
--- context to SET_META_CONTEXT with the id of an earlier one
+-- context to SET_META_CONTEXT with the id of an earlier one since the option
 abbrev pub IsBadPayload : Selection → (option kind : ℕ) → List ℕ → Type 0
 IsBadPayload selection option kind payload =
     (kind ≡ answers.SERVER) × (IsTrue (is_listed payload) → ⊥)
@@ -333,14 +333,15 @@ pub data RowIn (since now : Core) (bytes : List ℕ) : WireFault → Phase → S
       → (IsFollowed now.profile (Answering option payload info) → ⊥) → length bytes ≡ head_lengths.ANSWER
       → IsNoError (answer_kind bytes)
       → RowIn since now bytes OutOfProfile (Answering option payload info) Server
-  -- at the head of a request: BLOCK_STATUS where a context is in force (this project's choice)
+  -- at the head of a request: BLOCK_STATUS where a context is in force, which is not followed yet (this project's
+  -- choice)
   status_in_force : {export : Exporting} → length bytes ≡ head_lengths.REQUEST
       → request_type bytes ≡ commands.BLOCK_STATUS → in_force now ≢ []
       → RowIn since now bytes OutOfProfile (Transmission export) Client
   -- at the head of an ACK: it has a payload (proto.md, "Option reply types")
   ack_with_payload : {phase : Phase} (asked : ℕ) → IsAsked phase asked → length bytes ≡ head_lengths.ANSWER
       → answer_kind bytes ≡ answers.ACK → answer_length bytes ≢ 0 → RowIn since now bytes BadReplyPayload phase Server
-  -- at the last byte of an answer (proto.md, "Option reply types", "Transmission flags")
+  -- at the last byte of an answer (proto.md, "Option reply types", "Transmission flags", "Metadata querying")
   bad_reply_payload : {option : ℕ} {payload : List ℕ} {info : Option Exporting}
       → IsWholeIn since now bytes (Answering option payload info) Server
       → IsBadPayload now.selection option (answer_kind bytes) (answer_payload bytes)

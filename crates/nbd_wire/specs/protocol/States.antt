@@ -27,8 +27,9 @@ pub data Phase : Type 0 where
   Transmission : (export : Exporting) → Phase
 
 -- the profile that the session is held to, the phase, the server's handshake flags, the client's flags, whether
--- structured replies are in force, what the last SET_META_CONTEXT selected, whether the option that was chosen last may
--- lead into transmission with that selection, whether a DISC has completed, and the numbered requests
+-- structured replies are in force, what the last SET_META_CONTEXT selected, whether the option that was chosen last
+-- brings that selection in force where it leads into transmission, whether a DISC has completed, and the numbered
+-- requests
 pub record Core : Type 0 where
   pub profile : Profile
   pub phase : Phase
