@@ -5,7 +5,7 @@ ghost use Rattle.nbd_laws.specs.Prefixes.{CompletionsStandAfterBytes, PrefixesAr
 ghost use Rattle.nbd_laws.specs.Cuts.{CutsDoNotCount};
 ghost use Rattle.nbd_laws.specs.Moments.{LatestMoments, OrdersAreFaultless};
 ghost use Rattle.nbd_laws.specs.Negotiating.{AnswersFollowChoices, HandshakesAreFair};
-ghost use Rattle.nbd_laws.specs.Profiles.{EndsAgree};
+ghost use Rattle.nbd_laws.specs.Profiles.{BaseIsWide, EndsAgree};
 ghost use Rattle.nbd_laws.specs.Replying.{RepliesAreWhole};
 ghost use Rattle.nbd_laws.specs.Sameness.{SameMarks, SameReports, ReportsIgnoreService};
 ghost use Rattle.nbd_laws.specs.Service.{CookiesAreDistinct, DisconnectsAreEmpty, EachReplyAnswersOne, EmptyIsExplained, NothingAfterDisconnect, RepliesEndAsTheyStart, ServedOnceAfterCompletion};
@@ -144,4 +144,9 @@ pub fn open_bytes_end_runs()
 /// What items lead to does not hang on the profile that a session is held to, but for the profile itself.
 pub fn ends_ignore_profiles()
     ensures { EndsAgree }
+{}
+
+/// What is explained in the profile base is explained in the profile wide.
+pub fn base_is_wide()
+    ensures { BaseIsWide }
 {}
