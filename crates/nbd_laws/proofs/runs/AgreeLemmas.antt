@@ -1,5 +1,7 @@
 -- What a session that is held to one profile may do, it may do under the other too, but for answers of success to the options on metadata contexts.
-use Rattle.std.proofs.Common.{◌≡◌, ◌⊎◌, ℕ, ◌==◌, Bool, true, false, List, [], ◌∷◌, refl, subst, sym, inl, inr}
+use Rattle.std.proofs.Common.{◌≡◌, ◌⊎◌, ℕ, ◌<◌, ◌≤◌, ◌^◌, ◌==◌, Bool, true, false, List, [], ◌∷◌, ◌++◌, length, drop, refl, sym, ◌∙◌, ap, subst, inl, inr, Option, Some, None, nat_lt, arith, length-append, append-nil}
+use Rattle.std.proofs.lemmas.Bool.{ltb-true, ltb-false}
+use Rattle.byteorder.specs.Numbers.{big_number-reads_back}
 use Rattle.nbd_wire.specs.declared.commands.TheConstants as commands
 use Rattle.nbd_wire.specs.declared.entry.Entry.{Entry}
 use Rattle.nbd_wire.specs.declared.message.Message.{Message}
@@ -11,13 +13,28 @@ use Rattle.nbd_wire.specs.declared.profile.Profile.{Profile}
 use Rattle.nbd_wire.specs.declared.profile.Profile.TheVariants.{Base, Wide}
 use Rattle.nbd_wire.specs.protocol.Contexts.{Selection}
 use Rattle.nbd_wire.specs.protocol.Marks.{Item, Byte, Starts, Completes, Serves}
-use Rattle.nbd_wire.specs.protocol.Options.{MayTell}
-use Rattle.nbd_wire.specs.protocol.Rows.{IsNoError}
-use Rattle.nbd_wire.specs.protocol.Rules.{IsServedFor, MayAsk, MayComplete, MayStartIn, Obeys, complete}
+use Rattle.nbd_wire.specs.protocol.Encoding.{enc, head, tail}
+use Rattle.nbd_wire.specs.protocol.Operations.{Exporting}
+use Rattle.nbd_wire.specs.protocol.Options.{MayTell, turn}
+use Rattle.nbd_wire.specs.protocol.Payloads.{number_at}
+use Rattle.nbd_wire.specs.protocol.Rows.{IsNoError, answer_kind}
+use Rattle.nbd_wire.specs.protocol.Sendable.{IsSendable}
+use Rattle.nbd_wire.specs.protocol.Sides.{side}
+use Rattle.nbd_wire.specs.protocol.Splits.{open_bytes}
+use Rattle.nbd_wire.specs.protocol.Rules.{IsRunBut, IsServedFor, MayAsk, MayComplete, MayStart, MayStartIn, Obeys, complete}
 use Rattle.nbd_wire.specs.protocol.States.{Core, Phase, Greet, Flags, Choosing, Naming, Aborting, Answering, Ended, Transmission, start_of}
-use Rattle.nbd_laws.specs.Profiles.{BaseIsWide, with_profile}
+use Rattle.nbd_wire.proofs.FieldLemmas.{number_at-append}
+use Rattle.nbd_laws.specs.Profiles.{AnswersNoContexts, BaseIsWide, IsContextHead, RunsAgree, with_profile}
+use Rattle.nbd_laws.specs.internal.Machine.{Both, IsFilled, Machine, Rest, fresh_of, get, old_of, put, rest_with}
+use Rattle.nbd_laws.proofs.judge.PhaseLemmas.{Later-turn}
+use Rattle.nbd_laws.proofs.machine.MachineLemmas.{Busy, Idle, Later, Loose, Open, Walk, ended, final, get-put_same, led, loose, middle, old-filled, opening, serving, with_byte}
+use Rattle.nbd_laws.proofs.machine.MarkLemmas.{within_middle, within_opening}
 use Rattle.nbd_laws.proofs.rows.RowReplyLemmas.{ack_succeeds, context_succeeds}
-use Rattle.nbd_laws.proofs.runs.ProfileLemmas.{complete_with}
+use Rattle.nbd_laws.proofs.runs.ProfileLemmas.{complete_with, phase_at_base}
+use Rattle.nbd_laws.proofs.runs.BlockLemmas.{marked_is_walk}
+use Rattle.nbd_laws.proofs.runs.PlacingLemmas.{from_machine}
+use Rattle.nbd_laws.proofs.runs.SplitLemmas.{AreInStep, InStep, in_step_completed, in_step_with}
+use Rattle.nbd_laws.proofs.runs.TraceLemmas.{led_whole}
 
 -- an answer of success to an option on metadata contexts
 abbrev pub IsTold : Phase → Message → Type 0
@@ -96,3 +113,172 @@ base_is_wide capture order initial ex = record {
   fits_image = ex.fits_image;
   reads = ex.reads;
 }
+
+-- the parts of such an answer
+record IsToldAnswer (phase : Phase) (m : Message) : Type 0 where
+  option : ℕ
+  payload : List ℕ
+  info : Option Exporting
+  answered : ℕ
+  kind : ℕ
+  given : List ℕ
+  phase_is : phase ≡ Answering option payload info
+  message_is : m ≡ Answer answered kind given
+  on_contexts : (option ≡ options.LIST_META_CONTEXT) ⊎ (option ≡ options.SET_META_CONTEXT)
+  succeeds : IsNoError kind
+
+told_answer : (phase : Phase) (m : Message) → IsTold phase m → IsToldAnswer phase m
+told_answer (Answering option payload info) (Answer answered kind given) t = record {
+  option = option;
+  payload = payload;
+  info = info;
+  answered = answered;
+  kind = kind;
+  given = given;
+  phase_is = refl;
+  message_is = refl;
+  on_contexts = t.0;
+  succeeds = t.1;
+}
+told_answer phase m t = absurd t
+
+answer_kind_is : (option kind : ℕ) (payload : List ℕ) → kind < 2 ^ 32 → answer_kind (enc (Answer option kind payload)) ≡ kind
+unfolding enc head tail
+answer_kind_is option kind payload h = big_number-reads_back 4 kind (drop 16 (enc (Answer option kind payload))) h
+
+answer_long : (option kind : ℕ) (payload : List ℕ) → 20 ≤ length (enc (Answer option kind payload))
+unfolding enc head tail
+answer_long option kind payload = omega arith
+
+kind_fits : (option kind : ℕ) (payload : List ℕ) → IsSendable (Answer option kind payload) → kind < 2 ^ 32
+unfolding IsSendable
+kind_fits option kind payload h = h.1
+
+-- an answer is of the negotiation
+answer_turn : (core : Core) (phase : Phase) (s : Side) (option kind : ℕ) (payload : List ℕ) → MayStartIn phase core s (Answer option kind payload) → turn phase ≡ Some s
+unfolding MayStartIn
+answer_turn core Greet s option kind payload h = h
+answer_turn core Flags s option kind payload h = h
+answer_turn core Choosing s option kind payload h = h
+answer_turn core Naming s option kind payload h = h
+answer_turn core Aborting s option kind payload h = h
+answer_turn core (Answering asked given info) s option kind payload h = h
+answer_turn core Ended s option kind payload h = h
+answer_turn core (Transmission export) Client option kind payload h = absurd (let q : false ≡ true = h.0 in (cc))
+answer_turn core (Transmission export) Server option kind payload h = absurd (let q : false ≡ true = h in (cc))
+
+-- while an answer comes nothing completes
+answer_stays : (core since : Core) (s : Side) (m : Message) (option kind : ℕ) (payload : List ℕ) → m ≡ Answer option kind payload → MayStart since s m → Later s since core → since ≡ core
+answer_stays core since s m option kind payload is starts l = Later-turn l (answer_turn since since.phase s option kind payload (subst (λ x. MayStart since s x) is starts))
+
+-- the head of an answer of success to an option on metadata contexts, when its last byte has come
+head_told : (core since : Core) (s : Side) (m : Message) (bytes left : List ℕ) → side m ≡ s → IsSendable m → MayStart since s m → Later s since core → enc m ≡ bytes ++ left → length bytes ≡ 20 → IsTold since.phase m →
+    (s ≡ Server) × IsContextHead core.phase bytes
+head_told core since s m bytes left sided sendable starts l e long t =
+    let a : IsToldAnswer since.phase m = told_answer since.phase m t in
+    let fits : a.kind < 2 ^ 32 = kind_fits a.answered a.kind a.given (subst IsSendable a.message_is sendable) in
+    let same : since ≡ core = answer_stays core since s m a.answered a.kind a.given a.message_is starts l in
+    let e' : enc (Answer a.answered a.kind a.given) ≡ bytes ++ left = ap enc (sym a.message_is) ∙ e in
+    let kind_is : a.kind ≡ answer_kind bytes = sym (answer_kind_is a.answered a.kind a.given fits) ∙ ap (number_at 12 4) e' ∙ number_at-append 12 4 bytes left (omega arith) in
+    let phase_is : core.phase ≡ Answering a.option a.payload a.info = ap (λ (c : Core). c.phase) (sym same) ∙ a.phase_is in
+    (sym sided ∙ ap side a.message_is, subst (λ p. IsContextHead p bytes) (sym phase_is) (a.on_contexts, long, subst IsNoError kind_is a.succeeds))
+
+-- a message whose head has come is no such answer
+abbrev IsPast : Rest → Message → Type 0
+IsPast rest m = 20 ≤ length rest.bytes → IsTold rest.since.phase m → ⊥
+
+abbrev Past : Rest → Open → Type 0
+Past rest Idle = Unit {0}
+Past rest (Busy m left) = IsPast rest m
+Past rest Loose = Unit {0}
+
+abbrev ArePast : Both Rest → Both Open → Type 0
+ArePast rests o = (s : Side) → Past (get rests s) (get o s)
+
+past_with : (rests : Both Rest) (o : Both Open) (s : Side) (rest : Rest) (x : Open) → ArePast rests o → Past rest x → ArePast (put rests s rest) (put o s x)
+past_with rests o Client rest x all h Client = h
+past_with rests o Client rest x all h Server = all Server
+past_with rests o Server rest x all h Client = all Client
+past_with rests o Server rest x all h Server = h
+
+long_filled : (bytes : List ℕ) → 20 ≤ length bytes → IsFilled bytes
+long_filled [] h = absurd (omega (arith, h))
+long_filled (b ∷ bytes) h = tt
+
+-- with one more byte
+past_step : (core : Core) (rest : Rest) (b : ℕ) (s : Side) (m : Message) (left : List ℕ) → IsPast rest m → side m ≡ s → IsSendable m → MayStart (rest_with core rest b).since s m → Later s (rest_with core rest b).since core →
+    enc m ≡ (rest_with core rest b).bytes ++ left → (s ≡ Server → IsContextHead core.phase (rest_with core rest b).bytes → ⊥) → IsPast (rest_with core rest b) m
+past_step core rest b s m left before sided sendable starts l e none long t = go (nat_lt (length rest.bytes) 20) refl
+  where
+    go : (c : Bool) → nat_lt (length rest.bytes) 20 ≡ c → ⊥
+    go true c =
+        let few : length rest.bytes < 20 = ltb-true (length rest.bytes) 20 c in
+        let just : length (rest.bytes ++ b ∷ []) ≡ 20 = omega (arith, few, long, length-append rest.bytes (b ∷ [])) in
+        let h : (s ≡ Server) × IsContextHead core.phase (rest.bytes ++ b ∷ []) = head_told core (rest_with core rest b).since s m (rest.bytes ++ b ∷ []) left sided sendable starts l e just t in
+        none h.0 h.1
+    go false c =
+        let many : 20 ≤ length rest.bytes = ltb-false (length rest.bytes) 20 c in
+        before many (subst (λ (x : Core). IsTold x.phase m) (old-filled core rest (long_filled rest.bytes many)) t)
+
+-- at no prefix the server's bytes are the head of such an answer
+abbrev TellsNone : Machine → List Item → Type 0
+TellsNone machine items = (before more : List Item) → items ≡ before ++ more → IsContextHead (led machine before).core.phase (get (led machine before).rests Server).bytes → ⊥
+
+tells_byte : (machine : Machine) (s : Side) (b : ℕ) (items : List Item) → TellsNone machine (Byte s b ∷ items) → TellsNone (with_byte machine s b) items
+tells_byte machine s b items none before more e = none (Byte s b ∷ before) more (ap (λ l. Byte s b ∷ l) e)
+
+tells_here : (machine : Machine) (s : Side) (b : ℕ) (items : List Item) → TellsNone machine (Byte s b ∷ items) → s ≡ Server → IsContextHead machine.core.phase (rest_with machine.core (get machine.rests s) b).bytes → ⊥
+tells_here machine s b items none e h = none (Byte s b ∷ []) items refl
+    (subst (λ u. IsContextHead machine.core.phase (get (put machine.rests s (rest_with machine.core (get machine.rests s) b)) u).bytes) e
+    (subst (λ (r : Rest). IsContextHead machine.core.phase r.bytes) (sym (get-put_same machine.rests s (rest_with machine.core (get machine.rests s) b))) h))
+
+-- what completes in such items may do so in the other profile
+carries : {P : Type 0} {o : Both Open} {items : List Item} (q : Profile) (w : Walk P o items) (machine : Machine) (js : List Entry) → Obeys (record { core = machine.core; served = js }) items → AreInStep machine o → ArePast machine.rests o →
+    TellsNone machine items → Carries q machine.core items
+carries q (ended c d) machine js ob st past none = tt
+carries q (serving k w) machine js ob st past none = carries q w machine _ ob.1 st past (λ before more e. none (Serves k ∷ before) more (ap (λ l. Serves k ∷ l) e))
+carries {o = o} q (opening s m b left {items = items} is f g w) machine js ob st past none =
+    let none' : TellsNone machine (Byte s b ∷ items) = (λ before more e. none (Starts s m ∷ before) more (ap (λ l. Starts s m ∷ l) e)) in
+    let empty : (get machine.rests s).bytes ≡ [] = subst (InStep machine.core (get machine.rests s) s) is (st s) in
+    let i : InStep machine.core (rest_with machine.core (get machine.rests s) b) s (Busy m left) = within_opening machine.core (get machine.rests s) s m b left empty f g ob.0.0 ob.0.1 ob.0.2 in
+    let p : IsPast (rest_with machine.core (get machine.rests s) b) m =
+    past_step machine.core (get machine.rests s) b s m left (λ long t. absurd (let z : length (get machine.rests s).bytes ≡ 0 = ap length empty in omega (arith, z, long))) i.0.sided i.0.sendable i.0.starts i.1 i.0.encodes (tells_here machine s b items none') in
+    carries q w (with_byte machine s b) js ob.1.1 (in_step_with machine o s (rest_with machine.core (get machine.rests s) b) (Busy m left) st i) (past_with machine.rests o s (rest_with machine.core (get machine.rests s) b) (Busy m left) past p) (tells_byte machine s b items none')
+carries {o = o} q (middle s m b left {items = items} is g w) machine js ob st past none =
+    let i0 : InStep machine.core (get machine.rests s) s (Busy m (b ∷ left)) = subst (InStep machine.core (get machine.rests s) s) is (st s) in
+    let i : InStep machine.core (rest_with machine.core (get machine.rests s) b) s (Busy m left) = within_middle machine.core (get machine.rests s) s m b left i0 g in
+    let p : IsPast (rest_with machine.core (get machine.rests s) b) m =
+    past_step machine.core (get machine.rests s) b s m left (subst (Past (get machine.rests s)) is (past s)) i.0.sided i.0.sendable i.0.starts i.1 i.0.encodes (tells_here machine s b items none) in
+    carries q w (with_byte machine s b) js ob.1 (in_step_with machine o s (rest_with machine.core (get machine.rests s) b) (Busy m left) st i) (past_with machine.rests o s (rest_with machine.core (get machine.rests s) b) (Busy m left) past p) (tells_byte machine s b items none)
+carries {o = o} q (final s m b {items = items} is w) machine js ob st past none =
+    let i0 : InStep machine.core (get machine.rests s) s (Busy m (b ∷ [])) = subst (InStep machine.core (get machine.rests s) s) is (st s) in
+    let since_is : old_of machine.core (get machine.rests s) ≡ (get machine.rests s).since = old-filled machine.core (get machine.rests s) i0.0.filled in
+    let starts : MayStart (old_of machine.core (get machine.rests s)) s m = subst (λ c. MayStart c s m) (sym since_is) i0.0.starts in
+    let later : Later s (old_of machine.core (get machine.rests s)) machine.core = subst (λ c. Later s c machine.core) (sym since_is) i0.1 in
+    let p : IsPast (rest_with machine.core (get machine.rests s) b) m =
+    past_step machine.core (get machine.rests s) b s m [] (subst (Past (get machine.rests s)) is (past s)) i0.0.sided i0.0.sendable starts later (i0.0.encodes ∙ sym (append-nil ((get machine.rests s).bytes ++ b ∷ []))) (tells_here machine s b (Completes s m ∷ items) none) in
+    let next : Machine = record { core = complete machine.core m; rests = put machine.rests s (record (rest_with machine.core (get machine.rests s) b) { bytes = [] }); messages = machine.messages ++ m ∷ [] } in (
+      may_with q machine.core machine.core.phase m (λ t. absurd (whole_told machine.core (rest_with machine.core (get machine.rests s) b) s m starts later i0.0.encodes p t)) ob.1.0,
+      carries q w next js ob.1.1 (in_step_completed machine o s m _ (machine.messages ++ m ∷ []) st i0.0.sided ob.1.0 refl) (past_with machine.rests o s (record (rest_with machine.core (get machine.rests s) b) { bytes = [] }) Idle past tt)
+          (subst (λ x. TellsNone x items) (led_whole machine s b m) (λ before more e. none (Byte s b ∷ Completes s m ∷ before) more (ap (λ l. Byte s b ∷ Completes s m ∷ l) e))),
+    )
+  where
+    whole_told : (core : Core) (rest : Rest) (s : Side) (m : Message) → MayStart rest.since s m → Later s rest.since core → enc m ≡ rest.bytes → IsPast rest m → IsTold core.phase m → ⊥
+    whole_told core rest s m starts l e p t =
+        let a : IsToldAnswer core.phase m = told_answer core.phase m t in
+        let same : rest.since ≡ core = answer_stays core rest.since s m a.answered a.kind a.given a.message_is starts l in
+        p (subst (λ l. 20 ≤ length l) (ap enc (sym a.message_is) ∙ e) (answer_long a.answered a.kind a.given)) (subst (λ (c : Core). IsTold c.phase m) (sym same) t)
+carries {o = o} q (loose s b {items = items} u is w) machine js ob st past none =
+    carries q w (with_byte machine s b) js ob.1 (in_step_with machine o s (rest_with machine.core (get machine.rests s) b) Loose st tt) (past_with machine.rests o s (rest_with machine.core (get machine.rests s) b) Loose past tt) (tells_byte machine s b items none)
+
+-- a run but for open bytes within which no such head completes is one of the other profile
+pub run_agrees : (p q : Profile) (items : List Item) (client server : List ℕ) → AnswersNoContexts items → IsRunBut p items client server → IsRunBut q items client server
+run_agrees p q items client server none run = record {
+  marked = run.marked;
+  obeys = obeys_with q items (start_of p).core [] run.obeys
+      (carries q (marked_is_walk {P = Unit {0}} items client server (λ f. tt) (λ f. tt) run.marked) (fresh_of p) [] run.obeys (elim [ Client ↦ refl | Server ↦ refl ]) (elim [ Client ↦ tt | Server ↦ tt ])
+      (λ before more e h. none before more e (subst (λ phase. IsContextHead phase (open_bytes Server before)) (phase_at_base p before) (from_machine p (λ since now bytes. IsContextHead now.phase bytes) Server before h))));
+}
+
+pub runs_agree : RunsAgree
+runs_agree p q items none run = run_agrees p q items [] [] none run
