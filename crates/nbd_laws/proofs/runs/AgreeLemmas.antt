@@ -1,9 +1,10 @@
 -- What a session that is held to one profile may do, it may do under the other too, but for answers of success to the options on metadata contexts.
-use Rattle.std.proofs.Common.{◌≡◌, ◌⊎◌, ℕ, ◌<◌, ◌≤◌, ◌^◌, ◌==◌, Bool, true, false, List, [], ◌∷◌, ◌++◌, length, drop, refl, sym, ◌∙◌, ap, subst, inl, inr, Option, Some, None, nat_lt, arith, length-append, append-nil}
+use Rattle.std.proofs.Common.{◌≡◌, ◌⊎◌, ℕ, ◌<◌, ◌≤◌, ◌^◌, ◌==◌, Bool, true, false, List, [], ◌∷◌, ◌++◌, length, drop, refl, sym, ◌∙◌, ap, subst, inl, inr, Option, Some, nat_lt, arith, length-append, append-nil, not, ◌&&◌, if◌then◌else◌}
 use Rattle.std.proofs.lemmas.Bool.{ltb-true, ltb-false}
 use Rattle.byteorder.specs.Numbers.{big_number-reads_back}
 use Rattle.nbd_wire.specs.declared.commands.TheConstants as commands
 use Rattle.nbd_wire.specs.declared.entry.Entry.{Entry}
+use Rattle.nbd_wire.specs.declared.head_lengths.TheConstants as head_lengths
 use Rattle.nbd_wire.specs.declared.message.Message.{Message}
 use Rattle.nbd_wire.specs.declared.message.Message.TheVariants.{Greeting, ClientFlags, Choice, Answer, Exported, Request, Simple, Chunk}
 use Rattle.nbd_wire.specs.declared.message.Side.{Side}
@@ -12,25 +13,27 @@ use Rattle.nbd_wire.specs.declared.options.TheConstants as options
 use Rattle.nbd_wire.specs.declared.profile.Profile.{Profile}
 use Rattle.nbd_wire.specs.declared.profile.Profile.TheVariants.{Base, Wide}
 use Rattle.nbd_wire.specs.protocol.Contexts.{Selection}
+use Rattle.nbd_wire.specs.declared.fault.WireFault.{WireFault}
+use Rattle.nbd_wire.specs.protocol.Captures.{Pair}
 use Rattle.nbd_wire.specs.protocol.Marks.{Item, Byte, Starts, Completes, Serves}
 use Rattle.nbd_wire.specs.protocol.Encoding.{enc, head, tail}
-use Rattle.nbd_wire.specs.protocol.Operations.{Exporting}
+use Rattle.nbd_wire.specs.protocol.Operations.{Exporting, Operation}
 use Rattle.nbd_wire.specs.protocol.Options.{MayTell, turn}
 use Rattle.nbd_wire.specs.protocol.Payloads.{number_at}
-use Rattle.nbd_wire.specs.protocol.Rows.{IsNoError, answer_kind}
+use Rattle.nbd_wire.specs.protocol.Rows.{IsNoError, answer_kind, IsAnswered, IsFollowed, IsImproperSuccess, IsOutOfTurn, IsWhole, IsWholeIn, Row, RowIn, wrong_magic, neither_magic, not_fixed_newstyle, bad_client_flags, out_of_turn, wrong_option, bad_reply_kind, out_of_profile, status_in_force, ack_with_payload, bad_reply_payload, missing_export_info, no_has_flags, bad_padding, export_too_large, cookie_in_use, unknown_cookie, simple_forbidden, chunk_forbidden, bad_chunk, bad_content, incomplete_read, success_of_improper, bad_disconnect, whole_greeting, whole_flags, whole_choice, whole_export, whole_abort_answer, whole_answer, whole_request, whole_simple, whole_chunk}
 use Rattle.nbd_wire.specs.protocol.Sendable.{IsSendable}
-use Rattle.nbd_wire.specs.protocol.Sides.{side}
-use Rattle.nbd_wire.specs.protocol.Splits.{open_bytes}
-use Rattle.nbd_wire.specs.protocol.Rules.{IsRunBut, IsServedFor, MayAsk, MayComplete, MayStart, MayStartIn, Obeys, complete}
-use Rattle.nbd_wire.specs.protocol.States.{Core, Phase, Greet, Flags, Choosing, Naming, Aborting, Answering, Ended, Transmission, start_of}
+use Rattle.nbd_wire.specs.protocol.Sides.{side, same_side}
+use Rattle.nbd_wire.specs.protocol.Splits.{open_bytes, HasNoneAtOf, HoldsAtOf, IsClearOf, IsSplitOf, IsWholeAtOf, completes_in, since_from}
+use Rattle.nbd_wire.specs.protocol.Rules.{IsRunBut, IsServedFor, MayAsk, MayComplete, MayStart, MayStartIn, Obeys, complete, ends_at}
+use Rattle.nbd_wire.specs.protocol.States.{Core, Phase, Greet, Flags, Choosing, Naming, Aborting, Answering, Ended, Transmission, start_of, start}
 use Rattle.nbd_wire.proofs.FieldLemmas.{number_at-append}
-use Rattle.nbd_laws.specs.Profiles.{AnswersNoContexts, BaseIsWide, IsContextHead, RunsAgree, with_profile}
+use Rattle.nbd_laws.specs.Profiles.{AnswersNoContexts, BaseIsWide, IsContextHead, RunsAgree, with_profile, PlacesAgree, UnderWayAgrees}
 use Rattle.nbd_laws.specs.internal.Machine.{Both, IsFilled, Machine, Rest, fresh_of, get, old_of, put, rest_with}
 use Rattle.nbd_laws.proofs.judge.PhaseLemmas.{Later-turn}
 use Rattle.nbd_laws.proofs.machine.MachineLemmas.{Busy, Idle, Later, Loose, Open, Walk, ended, final, get-put_same, led, loose, middle, old-filled, opening, serving, with_byte}
 use Rattle.nbd_laws.proofs.machine.MarkLemmas.{within_middle, within_opening}
 use Rattle.nbd_laws.proofs.rows.RowReplyLemmas.{ack_succeeds, context_succeeds}
-use Rattle.nbd_laws.proofs.runs.ProfileLemmas.{complete_with, phase_at_base}
+use Rattle.nbd_laws.proofs.runs.ProfileLemmas.{complete_with, phase_at_base, ends_agree}
 use Rattle.nbd_laws.proofs.runs.BlockLemmas.{marked_is_walk}
 use Rattle.nbd_laws.proofs.runs.PlacingLemmas.{from_machine}
 use Rattle.nbd_laws.proofs.runs.SplitLemmas.{AreInStep, InStep, in_step_completed, in_step_with}
@@ -97,17 +100,18 @@ obeys_with q (Starts s m ∷ items) core js ob c = ((ob.0.0, ob.0.1, starts_with
 obeys_with q (Completes s m ∷ items) core js ob c = (c.0, subst (λ x. Obeys (record { core = x; served = js }) items) (sym (complete_with q core m)) (obeys_with q items (complete core m) js ob.1 c.1))
 obeys_with q (Serves k ∷ items) core js ob c = (ob.0, obeys_with q items core _ ob.1 c)
 
-wide : (items : List Item) (core : Core) (js : List Entry) → Obeys (record { core = core; served = js }) items → Carries Wide core items
-wide [] core js ob = tt
-wide (Byte s b ∷ items) core js ob = wide items core js ob.1
-wide (Starts s m ∷ items) core js ob = wide items core js ob.1
-wide (Completes s m ∷ items) core js ob = (may_with Wide core core.phase m (λ t. refl) ob.0, wide items (complete core m) js ob.1)
-wide (Serves k ∷ items) core js ob = wide items core _ ob.1
+-- in Wide each message may that may in the profile of the core
+carries_wide : (items : List Item) (core : Core) (js : List Entry) → Obeys (record { core = core; served = js }) items → Carries Wide core items
+carries_wide [] core js ob = tt
+carries_wide (Byte s b ∷ items) core js ob = carries_wide items core js ob.1
+carries_wide (Starts s m ∷ items) core js ob = carries_wide items core js ob.1
+carries_wide (Completes s m ∷ items) core js ob = (may_with Wide core core.phase m (λ t. refl) ob.0, carries_wide items (complete core m) js ob.1)
+carries_wide (Serves k ∷ items) core js ob = carries_wide items core _ ob.1
 
 pub base_is_wide : BaseIsWide
 base_is_wide capture order initial ex = record {
   items = ex.items;
-  is_run = record { marked = ex.is_run.marked; obeys = obeys_with Wide ex.items (start_of Base).core [] ex.is_run.obeys (wide ex.items (start_of Base).core [] ex.is_run.obeys) };
+  is_run = record { marked = ex.is_run.marked; obeys = obeys_with Wide ex.items (start_of Base).core [] ex.is_run.obeys (carries_wide ex.items (start_of Base).core [] ex.is_run.obeys) };
   has_pairs = ex.has_pairs;
   has_order = ex.has_order;
   fits_image = ex.fits_image;
@@ -282,3 +286,136 @@ run_agrees p q items client server none run = record {
 
 pub runs_agree : RunsAgree
 runs_agree p q items none run = run_agrees p q items [] [] none run
+
+-- the core before the open bytes does not hang on the profile either
+since_with : (q : Profile) (s : Side) (core : Core) (items : List Item) → with_profile q (since_from s core items) ≡ since_from s (with_profile q core) items
+since_with q s core [] = refl
+since_with q s core (Byte t b ∷ items) = go (same_side s t && not (completes_in s items)) (since_with q s core items)
+  where
+    go : (c : Bool) → with_profile q (since_from s core items) ≡ since_from s (with_profile q core) items →
+        with_profile q (if c then core else since_from s core items) ≡ (if c then with_profile q core else since_from s (with_profile q core) items)
+    go true later = refl
+    go false later = later
+since_with q s core (Starts t m ∷ items) = since_with q s core items
+since_with q s core (Completes t m ∷ items) = since_with q s (complete core m) items ∙ ap (λ c. since_from s c items) (sym (complete_with q core m))
+since_with q s core (Serves k ∷ items) = since_with q s core items
+
+answered_with : {since now : Core} {cookie : ℕ} {e : Operation} (q : Profile) → IsAnswered since now cookie e → IsAnswered (with_profile q since) (with_profile q now) cookie e
+answered_with q a = record { number = a.number; outstanding = a.outstanding; is_entry = a.is_entry }
+
+whole_with : {since now : Core} {bytes : List ℕ} {phase : Phase} {s : Side} (q : Profile) → IsWholeIn since now bytes phase s → IsWholeIn (with_profile q since) (with_profile q now) bytes phase s
+whole_with q (whole_greeting long) = whole_greeting long
+whole_with q (whole_flags long) = whole_flags long
+whole_with q (whole_choice long) = whole_choice long
+whole_with q (whole_export long) = whole_export long
+whole_with q (whole_abort_answer long) = whole_abort_answer long
+whole_with q (whole_answer long) = whole_answer long
+whole_with q (whole_request long) = whole_request long
+whole_with q (whole_simple e begins a long) = whole_simple e begins (answered_with q a) long
+whole_with q (whole_chunk begins long) = whole_chunk begins long
+
+success_with : (q : Profile) (since now : Core) (bytes : List ℕ) (phase : Phase) → IsImproperSuccess since now phase bytes → IsImproperSuccess (with_profile q since) (with_profile q now) phase bytes
+success_with q since now bytes (Answering option payload info) h = h
+success_with q since now bytes (Transmission export) (e, a, improper, form) = (e, answered_with q a, improper, form)
+success_with q since now bytes phase h = absurd h
+
+-- the two profiles follow the same options but for those on metadata contexts
+followed_with : (p q : Profile) (phase : Phase) (bytes : List ℕ) → (IsContextHead phase bytes → ⊥) → length bytes ≡ head_lengths.ANSWER → IsNoError (answer_kind bytes) → IsFollowed p phase → IsFollowed q phase
+followed_with p q Aborting bytes none long succeeds f = f
+followed_with p q (Answering option payload info) bytes none long succeeds (inl is) = inl is
+followed_with p q (Answering option payload info) bytes none long succeeds (inr (inl is)) = inr (inl is)
+followed_with p q (Answering option payload info) bytes none long succeeds (inr (inr (inl is))) = inr (inr (inl is))
+followed_with p q (Answering option payload info) bytes none long succeeds (inr (inr (inr (inl is)))) = inr (inr (inr (inl is)))
+followed_with p q (Answering option payload info) bytes none long succeeds (inr (inr (inr (inr is)))) = absurd (none (is.1, long, succeeds))
+followed_with p q phase bytes none long succeeds f = absurd f
+
+turn_with : (now : Core) (q : Profile) (phase : Phase) (s : Side) → IsOutOfTurn phase now s → IsOutOfTurn phase (with_profile q now) s
+turn_with now q Greet s h = h
+turn_with now q Flags s h = h
+turn_with now q Choosing s h = h
+turn_with now q Naming s h = h
+turn_with now q Aborting s h = h
+turn_with now q (Answering option payload info) s h = h
+turn_with now q Ended s h = h
+turn_with now q (Transmission export) Client h = h
+turn_with now q (Transmission export) Server h = h
+
+-- a row that holds of open bytes that are no such head holds in the other profile
+row_with : {since now : Core} {bytes : List ℕ} {fault : WireFault} {phase : Phase} {s : Side} (q : Profile) → (s ≡ Server → IsContextHead phase bytes → ⊥) → RowIn since now bytes fault phase s →
+    RowIn (with_profile q since) (with_profile q now) bytes fault phase s
+row_with q none (wrong_magic head wrong) = wrong_magic head wrong
+row_with q none (neither_magic long simple chunk) = neither_magic long simple chunk
+row_with q none (not_fixed_newstyle head lacks) = not_fixed_newstyle head lacks
+row_with q none (bad_client_flags long more) = bad_client_flags long more
+row_with {now = now} q none (out_of_turn {phase = phase} {s = s} long out) = out_of_turn long (turn_with now q phase s out)
+row_with q none (wrong_option asked is long other) = wrong_option asked is long other
+row_with {now = now} {bytes = bytes} q none (bad_reply_kind {phase = phase} followed long succeeds takes) = bad_reply_kind (followed_with now.profile q phase bytes (none refl) long succeeds followed) long succeeds takes
+row_with {now = now} {bytes = bytes} q none (out_of_profile {option = option} {payload = payload} {info = info} left long succeeds) =
+    out_of_profile (λ f. left (followed_with q now.profile (Answering option payload info) bytes (none refl) long succeeds f)) long succeeds
+row_with q none (status_in_force long is some) = status_in_force long is some
+row_with q none (ack_with_payload asked is long ack more) = ack_with_payload asked is long ack more
+row_with q none (bad_reply_payload whole bad) = bad_reply_payload (whole_with q whole) bad
+row_with q none (missing_export_info is proper long ack) = missing_export_info is proper long ack
+row_with q none (no_has_flags long lacks) = no_has_flags long lacks
+row_with q none (bad_padding lacks whole bad) = bad_padding lacks (whole_with q whole) bad
+row_with q none (export_too_large head large) = export_too_large head large
+row_with q none (cookie_in_use k whole no_disc is) = cookie_in_use k (whole_with q whole) no_disc is
+row_with q none (unknown_cookie head no_one) = unknown_cookie head no_one
+row_with q none (simple_forbidden e begins long a why) = simple_forbidden e begins long (answered_with q a) why
+row_with q none (chunk_forbidden begins long structured) = chunk_forbidden begins long structured
+row_with q none (bad_chunk begins whole bad) = bad_chunk begins (whole_with q whole) bad
+row_with q none (bad_content e begins whole a bad) = bad_content e begins (whole_with q whole) (answered_with q a) bad
+row_with q none (incomplete_read e x begins whole a finishes read inside missing) = incomplete_read e x begins (whole_with q whole) (answered_with q a) finishes read inside missing
+row_with {since = since} {now = now} {bytes = bytes} q none (success_of_improper {phase = phase} whole improper) = success_of_improper (whole_with q whole) (success_with q since now bytes phase improper)
+row_with q none (bad_disconnect long is more) = bad_disconnect long is more
+
+-- at the end of items whose open bytes are no such head the same rows hold in both profiles
+holds_agree : (p q : Profile) (items : List Item) (fault : WireFault) → (IsContextHead (ends_at start items).core.phase (open_bytes Server items) → ⊥) → HoldsAtOf p fault items → HoldsAtOf q fault items
+holds_agree p q items fault none h = record {
+  s = h.s;
+  is_last = h.is_last;
+  row = subst (λ c. Row fault c (ends_at (start_of q) items).core h.s (open_bytes h.s items)) (since_with q h.s (start_of p).core items)
+      (subst (λ c. Row fault (with_profile q (since_from h.s (start_of p).core items)) c h.s (open_bytes h.s items)) (ends_agree p q items)
+      (row_with q (λ is head. none (subst (λ phase. IsContextHead phase (open_bytes Server items)) (phase_at_base p items) (subst (λ s. IsContextHead (ends_at (start_of p) items).core.phase (open_bytes s items)) is head))) h.row));
+}
+
+whole_agrees : (p q : Profile) (items : List Item) → IsWholeAtOf p items → IsWholeAtOf q items
+whole_agrees p q items h = record {
+  s = h.s;
+  is_last = h.is_last;
+  whole = subst (λ c. IsWhole c (ends_at (start_of q) items).core h.s (open_bytes h.s items)) (since_with q h.s (start_of p).core items)
+      (subst (λ c. IsWhole (with_profile q (since_from h.s (start_of p).core items)) c h.s (open_bytes h.s items)) (ends_agree p q items) (whole_with q h.whole));
+}
+
+none_agrees : (p q : Profile) (items : List Item) → (IsContextHead (ends_at start items).core.phase (open_bytes Server items) → ⊥) → HasNoneAtOf p items → HasNoneAtOf q items
+none_agrees p q items none h = ((λ fault holds. h.0 fault (holds_agree q p items fault none holds)), (λ whole. h.1 (whole_agrees q p items whole)))
+
+clear_agrees : (p q : Profile) (items : List Item) → AnswersNoContexts items → IsClearOf p items → IsClearOf q items
+clear_agrees p q items none clear before more s b e = none_agrees p q before (none before (Byte s b ∷ more) e) (clear before more s b e)
+
+split_agrees : (p q : Profile) (items : List Item) (ps : List Pair) (messages : List Message) → AnswersNoContexts items → IsSplitOf p items ps messages → IsSplitOf q items ps messages
+split_agrees p q items ps messages none split = record {
+  run = run_agrees p q items (open_bytes Client items) (open_bytes Server items) none split.run;
+  are_pairs = split.are_pairs;
+  has_pairs = split.has_pairs;
+  has_messages = split.has_messages;
+}
+
+pub places_agree : PlacesAgree
+places_agree p q ps messages fault place none =
+    let here : IsContextHead (ends_at start place.items).core.phase (open_bytes Server place.items) → ⊥ = none place.items [] (sym (append-nil place.items)) in
+    record {
+      items = place.items;
+      split = split_agrees p q place.items ps messages none place.split;
+      holds = holds_agree p q place.items fault here place.holds;
+      lowest = λ other less holds. place.lowest other less (holds_agree q p place.items other here holds);
+      first = clear_agrees p q place.items none place.first;
+    }
+
+pub under_way_agrees : UnderWayAgrees
+under_way_agrees p q ps messages under none = record {
+  items = under.items;
+  split = split_agrees p q under.items ps messages none under.split;
+  clear = clear_agrees p q under.items none under.clear;
+  none_at = none_agrees p q under.items (none under.items [] (sym (append-nil under.items))) under.none_at;
+}
