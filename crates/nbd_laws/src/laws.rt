@@ -5,7 +5,7 @@ ghost use Rattle.nbd_laws.specs.Prefixes.{CompletionsStandAfterBytes, PrefixesAr
 ghost use Rattle.nbd_laws.specs.Cuts.{CutsDoNotCount};
 ghost use Rattle.nbd_laws.specs.Moments.{LatestMoments, OrdersAreFaultless};
 ghost use Rattle.nbd_laws.specs.Negotiating.{AnswersFollowChoices, HandshakesAreFair};
-ghost use Rattle.nbd_laws.specs.Profiles.{EndsAgree};
+ghost use Rattle.nbd_laws.specs.Profiles.{BaseIsWide, EndsAgree, PlacesAgree, RunsAgree, UnderWayAgrees};
 ghost use Rattle.nbd_laws.specs.Replying.{RepliesAreWhole};
 ghost use Rattle.nbd_laws.specs.Sameness.{SameMarks, SameReports, ReportsIgnoreService};
 ghost use Rattle.nbd_laws.specs.Service.{CookiesAreDistinct, DisconnectsAreEmpty, EachReplyAnswersOne, EmptyIsExplained, NothingAfterDisconnect, RepliesEndAsTheyStart, ServedOnceAfterCompletion};
@@ -144,4 +144,17 @@ pub fn open_bytes_end_runs()
 /// What items lead to does not hang on the profile that a session is held to, but for the profile itself.
 pub fn ends_ignore_profiles()
     ensures { EndsAgree }
+{}
+
+/// What is explained in the profile Base is explained in the profile Wide.
+pub fn base_is_wide()
+    ensures { BaseIsWide }
+{}
+
+/// Items in which no head of an answer of success to an option on metadata contexts completes are a run, the place
+/// of a fault or a session under way in both profiles or in none.
+pub fn profiles_agree()
+    ensures runs { RunsAgree }
+    ensures places { PlacesAgree }
+    ensures under_way { UnderWayAgrees }
 {}

@@ -27,7 +27,7 @@ use Rattle.nbd_laws.proofs.judge.BoolLemmas.{not_false, not_true}
 use Rattle.std.proofs.lemmas.Bool.{eqb-false}
 
 -- no kind of success is an error
-ack_succeeds : (kind : ℕ) → kind ≡ answers.ACK → IsNoError kind
+pub ack_succeeds : (kind : ℕ) → kind ≡ answers.ACK → IsNoError kind
 unfolding has
 ack_succeeds kind e h = let q : is_error 1 ≡ true = sym (ap is_error e) ∙ h in (cc)
 
@@ -55,7 +55,7 @@ info_link payload = go (info_of payload) refl
     go (Some (BlockSize a b c)) e = record { yes = λ q. (BlockSize a b c, e, λ size flags is. absurd (cc)); no = λ q. absurd (cc) }
     go (Some (Other kind)) e = record { yes = λ q. (Other kind, e, λ size flags is. absurd (cc)); no = λ q. absurd (cc) }
 
-context_succeeds : (kind : ℕ) → kind ≡ answers.META_CONTEXT → IsNoError kind
+pub context_succeeds : (kind : ℕ) → kind ≡ answers.META_CONTEXT → IsNoError kind
 unfolding has
 context_succeeds kind e h = let q : is_error 4 ≡ true = sym (ap is_error e) ∙ h in (cc)
 

@@ -295,18 +295,20 @@ module _ (profile : Profile) (asked : ℕ) (asked_with : List ℕ) (info : Optio
     ok.1,
     inr (inr (inr (
       wide,
-      (ok.0,
-      elim ok.2 [
-        | inl a ↦ inl a
-        | inr a ↦ inr (
-          a.0,
-          (
-            a.2.0,
-            a.2.1,
-            λ set. (asks_some set a.1, ap (λ (cs : List Context). has_id cs a.2.0.id) (sym (same set)) ∙ a.2.2 set),
-          ),
-        )
-      ]),
+      (
+        ok.0,
+        elim ok.2 [
+          | inl a ↦ inl a
+          | inr a ↦ inr (
+            a.0,
+            (
+              a.2.0,
+              a.2.1,
+              λ set. (asks_some set a.1, ap (λ (cs : List Context). has_id cs a.2.0.id) (sym (same set)) ∙ a.2.2 set),
+            ),
+          )
+        ],
+      ),
     ))),
   )
 

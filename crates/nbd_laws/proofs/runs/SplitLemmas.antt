@@ -35,7 +35,7 @@ in_step_sided machine o h u = go (get o u) (h u)
     go (Busy m left) i = i.0.sided
     go Loose i = tt
 
-in_step_with : (machine : Machine) (o : Both Open) (s : Side) (rest : Rest) (x : Open) → AreInStep machine o → InStep machine.core rest s x →
+pub in_step_with : (machine : Machine) (o : Both Open) (s : Side) (rest : Rest) (x : Open) → AreInStep machine o → InStep machine.core rest s x →
     AreInStep (record machine { rests = put machine.rests s rest }) (put o s x)
 in_step_with machine o s rest x all h u = go (same_or_not s u)
   where
@@ -44,7 +44,7 @@ in_step_with machine o s rest x all h u = go (same_or_not s u)
         (subst (λ r. InStep machine.core r s (get (put o s x) s)) (sym (get-put_same machine.rests s rest)) (subst (λ y. InStep machine.core rest s y) (sym (get-put_same o s x)) h))
     go (inr ne) = subst (λ r. InStep machine.core r u (get (put o s x) u)) (sym (get-put_other machine.rests s u rest ne)) (subst (λ y. InStep machine.core (get machine.rests u) u y) (sym (get-put_other o s u x ne)) (all u))
 
-in_step_completed : (machine : Machine) (o : Both Open) (s : Side) (m : Message) (rest : Rest) (ms : List Message) → AreInStep machine o → side m ≡ s → MayComplete machine.core machine.core.phase m → rest.bytes ≡ [] →
+pub in_step_completed : (machine : Machine) (o : Both Open) (s : Side) (m : Message) (rest : Rest) (ms : List Message) → AreInStep machine o → side m ≡ s → MayComplete machine.core machine.core.phase m → rest.bytes ≡ [] →
     AreInStep (record { core = complete machine.core m; rests = put machine.rests s rest; messages = ms }) (put o s Idle)
 in_step_completed machine o s m rest ms all sd ok e u = go (same_or_not s u)
   where

@@ -81,8 +81,7 @@ completes core Aborting (Answer option kind payload) h =
       ],
     )
 completes core (Answering asked asked_with info) (Answer option kind payload) h =
-    let a = both (option == asked) _ h in
-    (
+    let a = both (option == asked) _ h in (
       eqb-true option asked a.0,
       elim (one (may_answer asked asked_with info kind payload) _ a.1) [
         | inl q ↦ inl (answers_it asked asked_with info kind payload q)
