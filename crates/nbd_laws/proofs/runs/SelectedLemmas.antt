@@ -31,12 +31,13 @@ use Rattle.nbd_laws.specs.internal.Machine.{Both, get}
 use Rattle.nbd_laws.proofs.judge.BoolLemmas.{and_true, or_true}
 use Rattle.nbd_laws.proofs.machine.MachineLemmas.{Open, Idle, Busy, Walk, ended, serving, opening, middle, final, loose}
 use Rattle.nbd_laws.proofs.runs.FollowLemmas.{Follows, each_with, follows}
-use Rattle.nbd_laws.proofs.runs.PrefixLemmas.{phase-complete, transmission_row}
+use Rattle.nbd_laws.proofs.runs.PrefixLemmas.{InTransmission, asks, gives, phase-complete, replies, transmission_row}
 use Rattle.nbd_laws.proofs.runs.ReachLemmas.{IsSendableOpen}
 use Rattle.nbd_laws.proofs.runs.RunLemmas.{core_end-ends_at, walk_of}
 use Rattle.nbd_laws.proofs.service.InsideLemmas.{core_end}
 use Rattle.std.proofs.lemmas.Bool.{eqb-false, eqb-true}
 use Rattle.std.proofs.lemmas.List.Elements.{All-append, All-cons, All-head, All-map, All-nil, All-push, All-tail, All-weaker}
+use Rattle.std.proofs.lemmas.List.{map-append}
 use Rattle.std.proofs.lemmas.Slice.Eq.{bytes_eq-Decides}
 
 -- messages that may complete one after the other, each with an encoding
@@ -156,3 +157,387 @@ granting-phase core asked info at = answer-phase core options.SET_META_CONTEXT a
 
 granting-selection : (core : Core) (asked : List ℕ) (info : Option Exporting) → core.phase ≡ Answering options.SET_META_CONTEXT asked info → (complete core granting).selection ≡ record core.selection { granted = true }
 granting-selection core asked info at = answer-selection core options.SET_META_CONTEXT asked info options.SET_META_CONTEXT answers.ACK [] at
+
+-- the option that leads to a phase
+abbrev Leads : Phase → ℕ → List ℕ → Type 0
+Leads Naming id payload = id ≡ options.EXPORT_NAME
+Leads (Answering asked asked_with info) id payload = (asked ≡ id) × (asked_with ≡ payload)
+Leads (Transmission export) id payload = IsTrue (is_proper_option id payload)
+Leads _ id payload = Unit {0}
+
+-- the phase does not wait for an answer to SET_META_CONTEXT
+abbrev NoSet : Phase → Type 0
+NoSet phase = (asked : List ℕ) (info : Option Exporting) → phase ≢ Answering options.SET_META_CONTEXT asked info
+
+-- a message that chooses nothing
+record Goes (core : Core) (m : Message) : Type 0 where
+  no_choice : (id : ℕ) (payload : List ℕ) → m ≢ Choice id payload
+  agreed_is : (complete core m).agreed ≡ core.agreed
+  structured_is : ((complete core m).structured ≡ core.structured) ⊎ (m ≡ structuring)
+  leads : (id : ℕ) (payload : List ℕ) → Leads core.phase id payload → Leads (complete core m).phase id payload
+
+-- what it does to the selection
+data Selects (core : Core) (m : Message) : Type 0 where
+  tells : (asked : List ℕ) (info : Option Exporting) (context : Context) → core.phase ≡ Answering options.SET_META_CONTEXT asked info → context.id < 2 ^ 32 → m ≡ telling context → Selects core m
+  grants : (asked : List ℕ) (info : Option Exporting) (count : ℕ) → core.phase ≡ Answering options.SET_META_CONTEXT asked info → queries_of asked ≡ Some count → m ≡ granting → Selects core m
+  keeps : (complete core m).selection ≡ core.selection → NoSet (complete core m).phase → Selects core m
+
+data Happens (core : Core) : Message → Type 0 where
+  chooses : (id : ℕ) (payload : List ℕ) → core.phase ≡ Choosing → Happens core (Choice id payload)
+  goes : (m : Message) → Goes core m → Selects core m → Happens core m
+
+-- an answer is an error, or where the option is proper an ACK without payload or of another kind, to SET_META_CONTEXT a
+-- context
+abbrev IsSaid : (asked : ℕ) (p : List ℕ) (kind : ℕ) (answer : List ℕ) → Type 0
+IsSaid asked p kind answer =
+    IsTrue (is_error kind)
+    ⊎ IsTrue (is_proper_option asked p) × ((kind ≡ answers.ACK) × (answer ≡ [])
+    ⊎ (kind ≢ answers.ACK) × (asked ≡ options.SET_META_CONTEXT → (kind ≡ answers.META_CONTEXT) × ((context : Context) × (context_of answer ≡ Some context))))
+
+module _ (asked : ℕ) (p : List ℕ) (kind : ℕ) (answer : List ℕ) where
+  said : (info : Option Exporting) → MayAnswer asked p info kind answer → IsSaid asked p kind answer
+  said info ok = elim ok [
+    | inl e ↦ inl e
+    | inr ok ↦ elim ok [
+      | inl x ↦ inr (x.0, inl (x.1, x.2))
+      | inr ok ↦ elim ok [
+        | inl x ↦ inr (x.0, inr ((λ a. let s : kind ≡ answers.SERVER = x.1 in omega arith), λ set. absurd (let l : asked ≡ options.LIST = x.2 in omega arith)))
+        | inr x ↦ inr (
+          x.0,
+          inr (
+            (λ a. let s : kind ≡ answers.INFO = x.1 in omega arith),
+            λ set. absurd (elim x.2 [ inl i ↦ (let l : asked ≡ options.INFO = i in omega arith) | inr g ↦ (let l : asked ≡ options.GO = g in omega arith) ]),
+          ),
+        )
+      ]
+    ]
+  ]
+
+  told_so : (selection : Selection) → MayTell selection asked p kind answer → IsSaid asked p kind answer
+  told_so selection ok = inr (ok.1, elim ok.2 [
+    | inl a ↦ inl a
+    | inr t ↦ inr ((λ a. let s : kind ≡ answers.META_CONTEXT = t.0 in omega arith), λ set. (t.0, (t.2.0, t.2.1)))
+  ])
+
+grants_both : (option kind : ℕ) → grants_structured option kind ≡ true → (option ≡ options.STRUCTURED_REPLY) × (kind ≡ answers.ACK)
+grants_both option kind e =
+    let r = and_true (option == options.STRUCTURED_REPLY) (kind == answers.ACK) e in
+    (eqb-true option options.STRUCTURED_REPLY r.0, eqb-true kind answers.ACK r.1)
+
+or_no : (a b : Bool) → b ≡ false → (a || b) ≡ a
+or_no true b e = refl
+or_no false b e = e
+
+answer-structured : (core : Core) (option kind : ℕ) (answer : List ℕ) → (kind ≡ answers.ACK → answer ≡ []) → ((complete core (Answer option kind answer)).structured ≡ core.structured) ⊎ (Answer option kind answer ≡ structuring)
+unfolding complete
+answer-structured core option kind answer none = go (grants_structured option kind) refl
+  where
+    go : (b : Bool) → grants_structured option kind ≡ b → ((core.structured || grants_structured option kind) ≡ core.structured) ⊎ (Answer option kind answer ≡ structuring)
+    go true e = let r = grants_both option kind e in inr (ap (λ o. Answer o kind answer) r.0 ∙ ap (λ k. Answer options.STRUCTURED_REPLY k answer) r.1 ∙ ap (Answer options.STRUCTURED_REPLY answers.ACK) (none r.1))
+    go false e = inl (or_no core.structured (grants_structured option kind) e)
+
+answer-agreed : (core : Core) (option kind : ℕ) (answer : List ℕ) → (complete core (Answer option kind answer)).agreed ≡ core.agreed
+unfolding complete
+answer-agreed core option kind answer = refl
+
+has_queries : (o : Option ℕ) → IsTrue (is_some o) → (count : ℕ) × (o ≡ Some count)
+has_queries (Some count) h = (count, refl)
+has_queries None h = absurd (cc)
+
+proper_set : (p : List ℕ) → IsTrue (is_proper_option options.SET_META_CONTEXT p) → (count : ℕ) × (queries_of p ≡ Some count)
+unfolding is_proper_option
+proper_set p h = has_queries (queries_of p) h
+
+proper_go : (p : List ℕ) → IsTrue (is_proper_option options.GO p) → IsTrue (is_go p)
+unfolding is_proper_option
+proper_go p h = h
+
+proper_name : (p : List ℕ) → IsTrue (is_proper_option options.EXPORT_NAME p)
+unfolding is_proper_option
+proper_name p = refl
+
+module _ (core : Core) (asked : ℕ) (p : List ℕ) (info : Option Exporting) (option kind : ℕ) (answer : List ℕ) (at : core.phase ≡ Answering asked p info) (same : option ≡ asked) (b : AreBytes answer) (is : IsSaid asked p kind answer) where
+  empty_ack : kind ≡ answers.ACK → answer ≡ []
+  empty_ack a = elim is [
+    | inl e ↦ absurd (let q : true ≡ false = sym e ∙ ap is_error a ∙ acknowledges in (cc))
+    | inr s ↦ elim s.1 [ inl x ↦ x.1 | inr x ↦ absurd (x.0 a) ]
+  ]
+
+  proper : is_error kind ≡ false → IsTrue (is_proper_option asked p)
+  proper fine = elim is [
+    | inl e ↦ absurd (let q : true ≡ false = sym e ∙ fine in (cc))
+    | inr s ↦ s.0
+  ]
+
+  leads_on : (id : ℕ) (payload : List ℕ) → (asked ≡ id) × (p ≡ payload) → Leads (reply_phase asked p info kind answer) id payload
+  leads_on id payload l = go (is_error kind) ((kind == answers.SERVER) || (kind == answers.META_CONTEXT)) (kind == answers.INFO) refl
+    where
+      acked : (i : Option Exporting) → IsTrue (is_proper_option asked p) → Leads (ack_phase asked i) id payload
+      acked None h = tt
+      acked (Some export) h = by_go (asked == options.GO)
+        where
+          by_go : (g : Bool) → Leads (if g then Transmission export else Choosing) id payload
+          by_go true = subst (λ x. IsTrue (is_proper_option id x)) l.1 (subst (λ x. IsTrue (is_proper_option x p)) l.0 h)
+          by_go false = tt
+
+      go : (e s i : Bool) → is_error kind ≡ e → Leads (if e then Choosing else if s then Answering asked p info else if i then Answering asked p (last_info (info_of answer) info) else ack_phase asked info) id payload
+      go true s i q = tt
+      go false true i q = l
+      go false false true q = l
+      go false false false q = acked info (proper q)
+
+  answer_goes : Goes core (Answer option kind answer)
+  answer_goes = record {
+    no_choice = λ id payload q. cc;
+    agreed_is = answer-agreed core option kind answer;
+    structured_is = answer-structured core option kind answer empty_ack;
+    leads = λ id payload l. subst (λ phase. Leads phase id payload) (sym (answer-phase core asked p info option kind answer at)) (leads_on id payload (subst (λ phase. Leads phase id payload) at l));
+  }
+
+  reply_set : (with : List ℕ) (last : Option Exporting) → reply_phase asked p info kind answer ≡ Answering options.SET_META_CONTEXT with last → (is_error kind ≡ false) × (asked ≡ options.SET_META_CONTEXT)
+  reply_set with last e = go (is_error kind) ((kind == answers.SERVER) || (kind == answers.META_CONTEXT)) (kind == answers.INFO) refl e
+    where
+      acked : (i : Option Exporting) → ack_phase asked i ≡ Answering options.SET_META_CONTEXT with last → ⊥
+      acked None q = cc
+      acked (Some export) q = by_go (asked == options.GO) q
+        where
+          by_go : (g : Bool) → (if g then Transmission export else Choosing) ≡ Answering options.SET_META_CONTEXT with last → ⊥
+          by_go true q = cc
+          by_go false q = cc
+
+      go : (e s i : Bool) → is_error kind ≡ e → (if e then Choosing else if s then Answering asked p info else if i then Answering asked p (last_info (info_of answer) info) else ack_phase asked info) ≡ Answering options.SET_META_CONTEXT with last → (is_error kind ≡ false) × (asked ≡ options.SET_META_CONTEXT)
+      go true s i r q = absurd (cc)
+      go false true i r q = (r, (cc))
+      go false false true r q = (r, (cc))
+      go false false false r q = absurd (acked info q)
+
+  abbrev then_set : Bool → Selection
+  then_set set = if set then selection_told kind answer core.selection else core.selection
+
+  kept : ((is_error kind ≡ false) × (asked ≡ options.SET_META_CONTEXT) → ⊥) → then_set (asked == options.SET_META_CONTEXT) ≡ core.selection → Selects core (Answer option kind answer)
+  kept never e = keeps (answer-selection core asked p info option kind answer at ∙ e) (λ with last q. never (reply_set with last (sym (answer-phase core asked p info option kind answer at) ∙ q)))
+
+  error_tells_nothing : IsTrue (is_error kind) → selection_told kind answer core.selection ≡ core.selection
+  error_tells_nothing e = go (kind == answers.META_CONTEXT) (kind == answers.ACK) refl refl
+    where
+      go : (m a : Bool) → (kind == answers.META_CONTEXT) ≡ m → (kind == answers.ACK) ≡ a → (if m then with_context (context_of answer) core.selection else if a then record core.selection { granted = true } else core.selection) ≡ core.selection
+      go true a q r = absurd (let w : true ≡ false = sym e ∙ ap is_error (eqb-true kind answers.META_CONTEXT q) ∙ tells_one in (cc))
+      go false true q r = absurd (let w : true ≡ false = sym e ∙ ap is_error (eqb-true kind answers.ACK r) ∙ acknowledges in (cc))
+      go false false q r = refl
+
+  answer_is : (n : ℕ) (k : ℕ) (a : List ℕ) → asked ≡ n → kind ≡ k → answer ≡ a → Answer option kind answer ≡ Answer n k a
+  answer_is n k a x y z = ap (λ o. Answer o kind answer) (same ∙ x) ∙ ap (λ o. Answer n o answer) y ∙ ap (Answer n k) z
+
+  answer_selects : Selects core (Answer option kind answer)
+  answer_selects = go (asked == options.SET_META_CONTEXT) refl
+    where
+      go : (set : Bool) → (asked == options.SET_META_CONTEXT) ≡ set → Selects core (Answer option kind answer)
+      go false q = kept (λ r. eqb-false asked options.SET_META_CONTEXT q r.1) (ap then_set q)
+      go true q =
+          let set : asked ≡ options.SET_META_CONTEXT = eqb-true asked options.SET_META_CONTEXT q in
+          let here : core.phase ≡ Answering options.SET_META_CONTEXT p info = at ∙ ap (λ o. Answering o p info) set in
+          elim is [
+            | inl e ↦ kept (λ r. let w : true ≡ false = sym e ∙ r.0 in (cc)) (ap then_set q ∙ error_tells_nothing e)
+            | inr s ↦ elim s.1 [
+              | inl x ↦ (let count : (count : ℕ) × (queries_of p ≡ Some count) = proper_set p (subst (λ o. IsTrue (is_proper_option o p)) set s.0) in
+                  grants p info count.0 here count.1 (answer_is options.SET_META_CONTEXT answers.ACK [] set x.0 x.1))
+              | inr x ↦ (let t = x.1 set in
+                  let f : (t.1.0.id < 2 ^ 32) × (answer ≡ big_bytes 4 t.1.0.id ++ t.1.0.name) = context_form t.1.0 answer b t.1.1 in
+                  tells p info t.1.0 here f.0 (answer_is options.SET_META_CONTEXT answers.META_CONTEXT (big_bytes 4 t.1.0.id ++ t.1.0.name) set t.0 f.1))
+            ]
+          ]
+
+  answer_happens : Happens core (Answer option kind answer)
+  answer_happens = goes (Answer option kind answer) answer_goes answer_selects
+
+-- what stays in transmission
+record IsSteady (old now : Core) : Type 0 where
+  selection_is : now.selection ≡ old.selection
+  agreed_is : now.agreed ≡ old.agreed
+  structured_is : now.structured ≡ old.structured
+
+steady_reply : (o : Option ℕ) (core : Core) (m : Message) → IsSteady core (reply_to o core m)
+steady_reply (Some k) core m = record { selection_is = refl; agreed_is = refl; structured_is = refl }
+steady_reply None core m = record { selection_is = refl; agreed_is = refl; structured_is = refl }
+
+steady_request : (b : Bool) (core : Core) (e : Operation) → IsSteady core (core_with_request b core e)
+steady_request true core e = record { selection_is = refl; agreed_is = refl; structured_is = refl }
+steady_request false core e = record { selection_is = refl; agreed_is = refl; structured_is = refl }
+
+-- a message that leaves the selection and enters this phase
+quietly : (core : Core) (m : Message) (phase : Phase) → ((id : ℕ) (payload : List ℕ) → m ≢ Choice id payload) → IsSteady core (complete core m) → (complete core m).phase ≡ phase →
+    NoSet phase → ((id : ℕ) (payload : List ℕ) → Leads core.phase id payload → Leads phase id payload) → Happens core m
+quietly core m phase no_choice steady at no_set leads = goes m
+    (record {
+      no_choice = no_choice;
+      agreed_is = steady.agreed_is;
+      structured_is = inl steady.structured_is;
+      leads = λ id payload l. subst (λ x. Leads x id payload) (sym at) (leads id payload l);
+    })
+    (keeps steady.selection_is (λ asked info q. no_set asked info (sym at ∙ q)))
+
+steady_in : (core : Core) (export : Exporting) (m : Message) → InTransmission core export m → IsSteady core (complete core m)
+unfolding complete
+steady_in core export m (asks flags command cookie offset len p h) = steady_request (command == commands.DISC) core _
+steady_in core export m (replies error cookie p h) = steady_reply (request_of_reply core (Simple error cookie p)) core (Simple error cookie p)
+steady_in core export m (gives flags kind cookie p h) = steady_reply (request_of_reply core (Chunk flags kind cookie p)) core (Chunk flags kind cookie p)
+
+no_choice_in : (core : Core) (export : Exporting) (m : Message) → InTransmission core export m → (id : ℕ) (payload : List ℕ) → m ≢ Choice id payload
+no_choice_in core export m (asks flags command cookie offset len p h) id payload q = cc
+no_choice_in core export m (replies error cookie p h) id payload q = cc
+no_choice_in core export m (gives flags kind cookie p h) id payload q = cc
+
+-- an answer to ABORT is none to STRUCTURED_REPLY
+no_grant : (option kind : ℕ) → option ≡ options.ABORT → grants_structured option kind ≡ false
+no_grant option kind e = ap (λ o. grants_structured o kind) e
+
+happens : (core : Core) (phase : Phase) (m : Message) → core.phase ≡ phase → IsSendable m → MayComplete core phase m → Happens core m
+unfolding MayComplete complete next_phase IsSendable
+happens core (Transmission export) m at sn ok =
+    let i : InTransmission core export m = transmission_row core export m ok in
+    quietly core m (Transmission export) (no_choice_in core export m i) (steady_in core export m i) (phase-complete core export m i ∙ at)
+    (λ asked info q. cc) (λ id payload l. subst (λ x. Leads x id payload) at l)
+happens core Greet (Greeting flags) at sn ok =
+    quietly core (Greeting flags) Flags (λ id payload q. cc) (record { selection_is = refl; agreed_is = refl; structured_is = refl }) (ap (λ phase. next_phase phase (Greeting flags)) at)
+    (λ asked info q. cc) (λ id payload l. tt)
+happens core Flags (ClientFlags flags) at sn ok =
+    quietly core (ClientFlags flags) Choosing (λ id payload q. cc) (record { selection_is = refl; agreed_is = refl; structured_is = refl }) (ap (λ phase. next_phase phase (ClientFlags flags)) at)
+    (λ asked info q. cc) (λ id payload l. tt)
+happens core Choosing (Choice id p) at sn ok = chooses id p at
+happens core Naming (Exported size flags padded) at sn ok =
+    quietly core (Exported size flags padded) (Transmission (record { size = size; flags = flags })) (λ id payload q. cc) (record { selection_is = refl; agreed_is = refl; structured_is = refl })
+    (ap (λ phase. next_phase phase (Exported size flags padded)) at) (λ asked info q. cc) (λ id payload l. subst (λ x. IsTrue (is_proper_option x payload)) (sym (subst (λ x. Leads x id payload) at l)) (proper_name payload))
+happens core Aborting (Answer option kind p) at sn ok =
+    quietly core (Answer option kind p) Ended (λ id payload q. cc) (record {
+      selection_is = ap (λ phase. selection_after phase kind p core.selection) at;
+      agreed_is = refl;
+      structured_is = or_no core.structured (grants_structured option kind) (no_grant option kind ok.0);
+    }) (ap (λ phase. next_phase phase (Answer option kind p)) at)
+    (λ asked info q. cc) (λ id payload l. tt)
+happens core (Answering asked p info) (Answer option kind answer) at sn ok = answer_happens core asked p info option kind answer at ok.0 sn.2.1 (elim ok.1 [
+  | inl a ↦ said asked p kind answer info a
+  | inr t ↦ told_so asked p kind answer core.selection t.1
+])
+happens core phase m at sn ok = absurd ok
+
+-- a list that holds something
+record Splits (xs : List Message) (x : Message) : Type 0 where
+  before : List Message
+  after : List Message
+  at : xs ≡ before ++ x ∷ after
+
+splits_more : (xs ys : List Message) (x : Message) → Splits xs x → Splits (xs ++ ys) x
+splits_more xs ys x s = record { before = s.before; after = s.after ++ ys; at = ap (λ l. l ++ ys) s.at ∙ append_assoc s.before (x ∷ s.after) ys }
+
+splits_behind : (xs ys : List Message) (x : Message) → Splits ys x → Splits (xs ++ ys) x
+splits_behind xs ys x s = record { before = xs ++ s.before; after = s.after; at = ap (λ l. xs ++ l) s.at ∙ sym (append_assoc xs s.before (x ∷ s.after)) }
+
+splits_cons : (y : Message) (xs : List Message) (x : Message) → Splits xs x → Splits (y ∷ xs) x
+splits_cons y xs x s = record { before = y ∷ s.before; after = s.after; at = ap (λ l. y ∷ l) s.at }
+
+-- in which of two lists it stands
+splits-append : (xs ys before after : List Message) (x : Message) → xs ++ ys ≡ before ++ x ∷ after → Splits xs x ⊎ Splits ys x
+splits-append [] ys before after x e = inr (record { before = before; after = after; at = e })
+splits-append (y ∷ xs) ys [] after x e = inl (record { before = []; after = xs; at = let q : y ≡ x = cc in ap (λ z. z ∷ xs) q })
+splits-append (y ∷ xs) ys (b ∷ before) after x e = elim (splits-append xs ys before after x (cc)) [
+  | inl s ↦ inl (splits_cons y xs x s)
+  | inr s ↦ inr s
+]
+
+all_at : (P : Message → Type 0) (before : List Message) (x : Message) (after : List Message) → All P (before ++ x ∷ after) → P x
+all_at P [] x after h = All-head P x after h
+all_at P (b ∷ before) x after h = all_at P before x after (All-tail P b (before ++ x ∷ after) h)
+
+-- it stands in what is left where it does not stand in what is left out
+splits_without : (early middle late : List Message) (x : Message) → All (λ m. m ≢ x) middle → Splits (early ++ (middle ++ late)) x → Splits (early ++ late) x
+splits_without early middle late x none s = elim (splits-append early (middle ++ late) s.before s.after x s.at) [
+  | inl a ↦ splits_more early late x a
+  | inr a ↦ elim (splits-append middle late a.before a.after x a.at) [
+    | inl b ↦ absurd (all_at (λ m. m ≢ x) b.before x b.after (subst (All (λ (m : Message). m ≢ x)) b.at none) refl)
+    | inr b ↦ splits_behind early late x b
+  ]
+]
+
+-- SET_META_CONTEXT was chosen last, and these contexts were told since
+record Asked (messages : List Message) (selection : Selection) (asked : List ℕ) : Type 0 where
+  early : List Message
+  cut : messages ≡ early ++ (Choice options.SET_META_CONTEXT asked ∷ map telling selection.contexts)
+  ids : All (λ (context : Context). context.id < 2 ^ 32) selection.contexts
+  name_is : selection.export_name ≡ name_in asked
+  of_bytes : AreBytes asked
+  waits : selection.granted ≡ false
+
+-- what the last SET_META_CONTEXT selected was granted
+record Granted (messages : List Message) (selection : Selection) : Type 0 where
+  early : List Message
+  asked : List ℕ
+  between : List Message
+  cut : messages ≡ early ++ (Choice options.SET_META_CONTEXT asked ∷ (map telling selection.contexts ++ granting ∷ between))
+  ids : All (λ (context : Context). context.id < 2 ^ 32) selection.contexts
+  last_set : ChooseNoOther between
+  count : ℕ
+  asks_for : HasQueriesForm selection.export_name count asked
+
+abbrev NamesSame : (id : ℕ) (payload name : List ℕ) → Type 0
+NamesSame id payload name = (id ≡ options.EXPORT_NAME) × (payload ≡ name) ⊎ (id ≡ options.GO) × (name_in payload ≡ name)
+
+-- the option that was chosen last names the export of what was granted
+record Agreed (messages : List Message) (phase : Phase) (selection : Selection) : Type 0 where
+  front : List Message
+  id : ℕ
+  payload : List ℕ
+  late : List Message
+  cut : messages ≡ front ++ Choice id payload ∷ late
+  granted : Granted front selection
+  structured : Splits front structuring
+  last_choice : ChooseNone late
+  named : NamesSame id payload selection.export_name
+  of_bytes : AreBytes payload
+  leads : Leads phase id payload
+
+-- what one sees looking back
+record Looked (core : Core) (messages : List Message) : Type 0 where
+  asked : (with : List ℕ) (info : Option Exporting) → core.phase ≡ Answering options.SET_META_CONTEXT with info → Asked messages core.selection with
+  granted : core.selection.granted ≡ true → Granted messages core.selection
+  structured : core.structured ≡ true → Splits messages structuring
+  agreed : core.agreed ≡ true → Agreed messages core.phase core.selection
+
+granted_more : (messages : List Message) (selection : Selection) (m : Message) → ((payload : List ℕ) → m ≢ Choice options.SET_META_CONTEXT payload) → Granted messages selection → Granted (messages ++ m ∷ []) selection
+granted_more messages selection m other g = record {
+  early = g.early;
+  asked = g.asked;
+  between = g.between ++ m ∷ [];
+  cut = ap (λ l. l ++ m ∷ []) g.cut ∙ simp append_assoc;
+  ids = g.ids;
+  last_set = All-push _ g.between m g.last_set other;
+  count = g.count;
+  asks_for = g.asks_for;
+}
+
+granted_now : (messages : List Message) (selection : Selection) (asked : List ℕ) (count : ℕ) → queries_of asked ≡ Some count → Asked messages selection asked → Granted (messages ++ granting ∷ []) (record selection { granted = true })
+granted_now messages selection asked count e a = record {
+  early = a.early;
+  asked = asked;
+  between = [];
+  cut = ap (λ l. l ++ granting ∷ []) a.cut ∙ simp append_assoc;
+  ids = a.ids;
+  last_set = All-nil _;
+  count = count;
+  asks_for = subst (λ name. HasQueriesForm name count asked) (sym a.name_is) (queries_of-found asked count a.of_bytes e);
+}
+
+asked_now : (messages : List Message) (selection : Selection) (id : ℕ) (p : List ℕ) → AreBytes p → id ≡ options.SET_META_CONTEXT → Asked (messages ++ Choice id p ∷ []) (selection_at id p selection) p
+asked_now messages selection id p b e = subst (λ x. Asked (messages ++ Choice x p ∷ []) (selection_at x p selection) p) (sym e)
+    (record { early = messages; cut = refl; ids = All-nil _; name_is = refl; of_bytes = b; waits = refl })
+
+asked_more : (messages : List Message) (selection : Selection) (context : Context) (asked : List ℕ) → context.id < 2 ^ 32 → Asked messages selection asked → Asked (messages ++ telling context ∷ []) (one_more selection context) asked
+asked_more messages selection context asked l a = record {
+  early = a.early;
+  cut = ap (λ x. x ++ telling context ∷ []) a.cut
+      ∙ append_assoc a.early (Choice options.SET_META_CONTEXT asked ∷ map telling selection.contexts) (telling context ∷ [])
+      ∙ ap (λ x. a.early ++ (Choice options.SET_META_CONTEXT asked ∷ x)) (sym (map-append telling selection.contexts (context ∷ [])));
+  ids = All-push _ selection.contexts context a.ids l;
+  name_is = a.name_is;
+  of_bytes = a.of_bytes;
+  waits = a.waits;
+}
