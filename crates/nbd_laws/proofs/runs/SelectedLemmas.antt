@@ -449,20 +449,31 @@ all_at P [] x after h = All-head P x after h
 all_at P (b ∷ before) x after h = all_at P before x after (All-tail P b (before ++ x ∷ after) h)
 
 -- it stands in what is left where it does not stand in what is left out
-splits_without : (early middle late : List Message) (x : Message) → All (λ m. m ≢ x) middle → Splits (early ++ (middle ++ late)) x → Splits (early ++ late) x
-splits_without early middle late x none s = elim (splits-append early (middle ++ late) s.before s.after x s.at) [
+splits_without : (early mid late : List Message) (x : Message) → All (λ m. m ≢ x) mid → Splits (early ++ (mid ++ late)) x → Splits (early ++ late) x
+splits_without early mid late x none s = elim (splits-append early (mid ++ late) s.before s.after x s.at) [
   | inl a ↦ splits_more early late x a
-  | inr a ↦ elim (splits-append middle late a.before a.after x a.at) [
+  | inr a ↦ elim (splits-append mid late a.before a.after x a.at) [
     | inl b ↦ absurd (all_at (λ m. m ≢ x) b.before x b.after (subst (All (λ (m : Message). m ≢ x)) b.at none) refl)
     | inr b ↦ splits_behind early late x b
   ]
 ]
 
+-- the id of a context has four bytes
+abbrev IsShort : Context → Type 0
+IsShort context = context.id < 2 ^ 32
+
+-- another message than one that chooses SET_META_CONTEXT, and than one that chooses
+abbrev IsOther : Message → Type 0
+IsOther m = (payload : List ℕ) → m ≢ Choice options.SET_META_CONTEXT payload
+
+abbrev IsNoChoice : Message → Type 0
+IsNoChoice m = (id : ℕ) (payload : List ℕ) → m ≢ Choice id payload
+
 -- SET_META_CONTEXT was chosen last, and these contexts were told since
 record Asked (messages : List Message) (selection : Selection) (asked : List ℕ) : Type 0 where
   early : List Message
   cut : messages ≡ early ++ (Choice options.SET_META_CONTEXT asked ∷ map telling selection.contexts)
-  ids : All (λ (context : Context). context.id < 2 ^ 32) selection.contexts
+  ids : All IsShort selection.contexts
   name_is : selection.export_name ≡ name_in asked
   of_bytes : AreBytes asked
   waits : selection.granted ≡ false
@@ -473,7 +484,7 @@ record Granted (messages : List Message) (selection : Selection) : Type 0 where
   asked : List ℕ
   between : List Message
   cut : messages ≡ early ++ (Choice options.SET_META_CONTEXT asked ∷ (map telling selection.contexts ++ granting ∷ between))
-  ids : All (λ (context : Context). context.id < 2 ^ 32) selection.contexts
+  ids : All IsShort selection.contexts
   last_set : ChooseNoOther between
   count : ℕ
   asks_for : HasQueriesForm selection.export_name count asked
@@ -509,7 +520,7 @@ granted_more messages selection m other g = record {
   between = g.between ++ m ∷ [];
   cut = ap (λ l. l ++ m ∷ []) g.cut ∙ simp append_assoc;
   ids = g.ids;
-  last_set = All-push _ g.between m g.last_set other;
+  last_set = All-push IsOther g.between m g.last_set other;
   count = g.count;
   asks_for = g.asks_for;
 }
@@ -521,14 +532,14 @@ granted_now messages selection asked count e a = record {
   between = [];
   cut = ap (λ l. l ++ granting ∷ []) a.cut ∙ simp append_assoc;
   ids = a.ids;
-  last_set = All-nil _;
+  last_set = All-nil IsOther;
   count = count;
   asks_for = subst (λ name. HasQueriesForm name count asked) (sym a.name_is) (queries_of-found asked count a.of_bytes e);
 }
 
 asked_now : (messages : List Message) (selection : Selection) (id : ℕ) (p : List ℕ) → AreBytes p → id ≡ options.SET_META_CONTEXT → Asked (messages ++ Choice id p ∷ []) (selection_at id p selection) p
 asked_now messages selection id p b e = subst (λ x. Asked (messages ++ Choice x p ∷ []) (selection_at x p selection) p) (sym e)
-    (record { early = messages; cut = refl; ids = All-nil _; name_is = refl; of_bytes = b; waits = refl })
+    (record { early = messages; cut = refl; ids = All-nil IsShort; name_is = refl; of_bytes = b; waits = refl })
 
 asked_more : (messages : List Message) (selection : Selection) (context : Context) (asked : List ℕ) → context.id < 2 ^ 32 → Asked messages selection asked → Asked (messages ++ telling context ∷ []) (one_more selection context) asked
 asked_more messages selection context asked l a = record {
@@ -536,8 +547,329 @@ asked_more messages selection context asked l a = record {
   cut = ap (λ x. x ++ telling context ∷ []) a.cut
       ∙ append_assoc a.early (Choice options.SET_META_CONTEXT asked ∷ map telling selection.contexts) (telling context ∷ [])
       ∙ ap (λ x. a.early ++ (Choice options.SET_META_CONTEXT asked ∷ x)) (sym (map-append telling selection.contexts (context ∷ [])));
-  ids = All-push _ selection.contexts context a.ids l;
+  ids = All-push IsShort selection.contexts context a.ids l;
   name_is = a.name_is;
   of_bytes = a.of_bytes;
   waits = a.waits;
 }
+
+-- the phase after a choice waits for an answer to SET_META_CONTEXT only where that was chosen
+choice_set : (id : ℕ) (p with : List ℕ) (info : Option Exporting) → choice_phase id p ≡ Answering options.SET_META_CONTEXT with info → (id ≡ options.SET_META_CONTEXT) × (p ≡ with)
+choice_set id p with info e = go (id == options.EXPORT_NAME) (id == options.ABORT) e
+  where
+    go : (n a : Bool) → (if n then Naming else if a then Aborting else Answering id p None) ≡ Answering options.SET_META_CONTEXT with info → (id ≡ options.SET_META_CONTEXT) × (p ≡ with)
+    go true a q = absurd (cc)
+    go false true q = absurd (cc)
+    go false false q = ((cc), (cc))
+
+choice_leads : (id : ℕ) (p : List ℕ) → Leads (choice_phase id p) id p
+choice_leads id p = go (id == options.EXPORT_NAME) (id == options.ABORT) refl
+  where
+    go : (n a : Bool) → (id == options.EXPORT_NAME) ≡ n → Leads (if n then Naming else if a then Aborting else Answering id p None) id p
+    go true a q = eqb-true id options.EXPORT_NAME q
+    go false true q = tt
+    go false false q = (refl, refl)
+
+named_no_set : (id : ℕ) (p name : List ℕ) → NamesSame id p name → id ≡ options.SET_META_CONTEXT → ⊥
+named_no_set id p name n e = elim n [
+  | inl x ↦ (let q : id ≡ options.EXPORT_NAME = x.0 in omega arith)
+  | inr x ↦ (let q : id ≡ options.GO = x.0 in omega arith)
+]
+
+agrees_on : (id : ℕ) (p : List ℕ) (selection : Selection) → agrees id p selection ≡ true → (selection.granted ≡ true) × NamesSame id p selection.export_name
+agrees_on id p selection e =
+    let r = and_true selection.granted _ e in
+    (r.0, go (id == options.EXPORT_NAME) (id == options.GO) refl refl r.1)
+  where
+    go : (n g : Bool) → (id == options.EXPORT_NAME) ≡ n → (id == options.GO) ≡ g → (if n then bytes_eq p selection.export_name else if g then bytes_eq (name_in p) selection.export_name else false) ≡ true → NamesSame id p selection.export_name
+    go true g q r h = inl (eqb-true id options.EXPORT_NAME q, (bytes_eq-Decides p selection.export_name).0 h)
+    go false true q r h = inr (eqb-true id options.GO r, (bytes_eq-Decides (name_in p) selection.export_name).0 h)
+    go false false q r h = absurd (cc)
+
+agrees_so : (id : ℕ) (p : List ℕ) (selection : Selection) → selection.granted ≡ true → NamesSame id p selection.export_name → agrees id p selection ≡ true
+agrees_so id p selection g n = ap (λ b. b && (if id == options.EXPORT_NAME then bytes_eq p selection.export_name else if id == options.GO then bytes_eq (name_in p) selection.export_name else false)) g ∙ elim n [
+  | inl x ↦ (ap (λ k. if k == options.EXPORT_NAME then bytes_eq p selection.export_name else if k == options.GO then bytes_eq (name_in p) selection.export_name else false) x.0 ∙ (bytes_eq-Decides p selection.export_name).1 x.1)
+  | inr x ↦ (ap (λ k. if k == options.EXPORT_NAME then bytes_eq p selection.export_name else if k == options.GO then bytes_eq (name_in p) selection.export_name else false) x.0 ∙ (bytes_eq-Decides (name_in p) selection.export_name).1 x.1)
+]
+
+-- an option other than SET_META_CONTEXT leaves the selection
+selection_left : (id : ℕ) (p : List ℕ) (selection : Selection) → (id ≡ options.SET_META_CONTEXT → ⊥) → selection_at id p selection ≡ selection
+selection_left id p selection other = go (id == options.SET_META_CONTEXT) refl
+  where
+    go : (b : Bool) → (id == options.SET_META_CONTEXT) ≡ b → (if b then record { export_name = name_in p; contexts = []; granted = false } else selection) ≡ selection
+    go true q = absurd (other (eqb-true id options.SET_META_CONTEXT q))
+    go false q = refl
+
+module _ (core : Core) (messages : List Message) (l : Looked core messages) (id : ℕ) (p : List ℕ) (at : core.phase ≡ Choosing) (b : AreBytes p) where
+  abbrev now : List Message
+  now = messages ++ Choice id p ∷ []
+
+  abbrev next : Core
+  next = complete core (Choice id p)
+
+  phase_is : next.phase ≡ choice_phase id p
+  phase_is = choice-phase core id p at
+
+  still_granted : (selection_at id p core.selection).granted ≡ true → Granted now (selection_at id p core.selection)
+  still_granted h = go (id == options.SET_META_CONTEXT) refl h
+    where
+      go : (s : Bool) → (id == options.SET_META_CONTEXT) ≡ s → (if s then record { export_name = name_in p; contexts = []; granted = false } else core.selection).granted ≡ true →
+          Granted now (if s then record { export_name = name_in p; contexts = []; granted = false } else core.selection)
+      go true q g = absurd (cc)
+      go false q g = granted_more messages core.selection (Choice id p) (λ payload e. eqb-false id options.SET_META_CONTEXT q (cc)) (l.granted g)
+
+  asked_so : (with : List ℕ) (info : Option Exporting) → next.phase ≡ Answering options.SET_META_CONTEXT with info → Asked now (selection_at id p core.selection) with
+  asked_so with info q =
+      let s : (id ≡ options.SET_META_CONTEXT) × (p ≡ with) = choice_set id p with info (sym phase_is ∙ q) in
+      subst (λ w. Asked now (selection_at id p core.selection) w) s.1 (asked_now messages core.selection id p b s.0)
+
+  agreed_so : next.agreed ≡ true → Agreed now next.phase (selection_at id p core.selection)
+  agreed_so a =
+      let r : (core.structured ≡ true) × (agrees id p core.selection ≡ true) = and_true core.structured (agrees id p core.selection) (sym (choice-agreed core id p) ∙ a) in
+      let n : (core.selection.granted ≡ true) × NamesSame id p core.selection.export_name = agrees_on id p core.selection r.1 in
+      subst (λ s. Agreed now next.phase s) (sym (selection_left id p core.selection (named_no_set id p core.selection.export_name n.1)))
+      (record {
+        front = messages;
+        id = id;
+        payload = p;
+        late = [];
+        cut = refl;
+        granted = l.granted n.0;
+        structured = l.structured r.0;
+        last_choice = All-nil IsNoChoice;
+        named = n.1;
+        of_bytes = b;
+        leads = subst (λ phase. Leads phase id p) (sym phase_is) (choice_leads id p);
+      })
+
+  chosen_looked : Looked next now
+  chosen_looked =
+      let same : next.selection ≡ selection_at id p core.selection = choice-selection core id p in
+      record {
+        asked = λ with info q. subst (λ s. Asked now s with) (sym same) (asked_so with info q);
+        granted = λ g. subst (λ s. Granted now s) (sym same) (still_granted (subst (λ (s : Selection). s.granted ≡ true) same g));
+        structured = λ s. splits_more messages (Choice id p ∷ []) structuring (l.structured (sym (choice-structured core id p) ∙ s));
+        agreed = λ a. subst (λ s. Agreed now next.phase s) (sym same) (agreed_so a);
+      }
+
+-- the option that agreed does not wait for an answer to SET_META_CONTEXT
+agreed_no_set : (messages : List Message) (phase : Phase) (selection : Selection) → Agreed messages phase selection → NoSet phase
+agreed_no_set messages phase selection a with info q =
+    let l : Leads (Answering options.SET_META_CONTEXT with info) a.id a.payload = subst (λ x. Leads x a.id a.payload) q a.leads in
+    named_no_set a.id a.payload selection.export_name a.named (sym l.0)
+
+agreed_more : (messages : List Message) (phase later : Phase) (selection : Selection) (m : Message) → IsNoChoice m → ((id : ℕ) (payload : List ℕ) → Leads phase id payload → Leads later id payload) → Agreed messages phase selection →
+    Agreed (messages ++ m ∷ []) later selection
+agreed_more messages phase later selection m none leads a = record {
+  front = a.front;
+  id = a.id;
+  payload = a.payload;
+  late = a.late ++ m ∷ [];
+  cut = ap (λ x. x ++ m ∷ []) a.cut ∙ append_assoc a.front (Choice a.id a.payload ∷ a.late) (m ∷ []);
+  granted = a.granted;
+  structured = a.structured;
+  last_choice = All-push IsNoChoice a.late m a.last_choice none;
+  named = a.named;
+  of_bytes = a.of_bytes;
+  leads = leads a.id a.payload a.leads;
+}
+
+same_asked : (phase : Phase) (asked with : List ℕ) (info last : Option Exporting) → phase ≡ Answering options.SET_META_CONTEXT asked info → phase ≡ Answering options.SET_META_CONTEXT with last → asked ≡ with
+same_asked phase asked with info last e f = cc
+
+module _ (core : Core) (messages : List Message) (l : Looked core messages) (m : Message) (g : Goes core m) where
+  abbrev grown : List Message
+  grown = messages ++ m ∷ []
+
+  abbrev then_ : Core
+  then_ = complete core m
+
+  structured_grown : then_.structured ≡ true → Splits grown structuring
+  structured_grown s = elim g.structured_is [
+    | inl e ↦ splits_more messages (m ∷ []) structuring (l.structured (sym e ∙ s))
+    | inr e ↦ splits_behind messages (m ∷ []) structuring (record { before = []; after = []; at = ap (λ x. x ∷ []) e })
+  ]
+
+  no_agreed : (asked : List ℕ) (info : Option Exporting) → core.phase ≡ Answering options.SET_META_CONTEXT asked info → then_.agreed ≡ true → ⊥
+  no_agreed asked info at a = agreed_no_set messages core.phase core.selection (l.agreed (sym g.agreed_is ∙ a)) asked info at
+
+  gone_looked : Selects core m → Looked then_ grown
+  gone_looked (keeps same no_set) = record {
+    asked = λ with info q. absurd (no_set with info q);
+    granted = λ h. subst (λ s. Granted grown s) (sym same) (granted_more messages core.selection m (λ payload. g.no_choice options.SET_META_CONTEXT payload) (l.granted (subst (λ (s : Selection). s.granted ≡ true) same h)));
+    structured = structured_grown;
+    agreed = λ a. subst (λ s. Agreed grown then_.phase s) (sym same) (agreed_more messages core.phase then_.phase core.selection m g.no_choice g.leads (l.agreed (sym g.agreed_is ∙ a)));
+  }
+  gone_looked (tells asked info context at short e) =
+      let before : Asked messages core.selection asked = l.asked asked info at in
+      let same : then_.selection ≡ one_more core.selection context = ap (λ x. (complete core x).selection) e ∙ telling-selection core asked info context at short in
+      let stays : then_.phase ≡ Answering options.SET_META_CONTEXT asked info = ap (λ x. (complete core x).phase) e ∙ telling-phase core asked info context at in
+      let after : Asked grown then_.selection asked = subst (λ s. Asked grown s asked) (sym same) (subst (λ x. Asked (messages ++ x ∷ []) (one_more core.selection context) asked) (sym e) (asked_more messages core.selection context asked short before)) in
+      record {
+        asked = λ with last q. subst (λ w. Asked grown then_.selection w) (same_asked then_.phase asked with info last stays q) after;
+        granted = λ h. absurd (let q : false ≡ true = sym after.waits ∙ h in (cc));
+        structured = structured_grown;
+        agreed = λ a. absurd (no_agreed asked info at a);
+      }
+  gone_looked (grants asked info count at is e) =
+      let before : Asked messages core.selection asked = l.asked asked info at in
+      let same : then_.selection ≡ record core.selection { granted = true } = ap (λ x. (complete core x).selection) e ∙ granting-selection core asked info at in
+      let leaves : then_.phase ≡ Choosing = ap (λ x. (complete core x).phase) e ∙ granting-phase core asked info at in
+      record {
+        asked = λ with last q. absurd (let w : Choosing ≡ Answering options.SET_META_CONTEXT with last = sym leaves ∙ q in (cc));
+        granted = λ h. subst (λ s. Granted grown s) (sym same) (subst (λ x. Granted (messages ++ x ∷ []) (record core.selection { granted = true })) (sym e) (granted_now messages core.selection asked count is before));
+        structured = structured_grown;
+        agreed = λ a. absurd (no_agreed asked info at a);
+      }
+
+choice_bytes : (id : ℕ) (p : List ℕ) → IsSendable (Choice id p) → AreBytes p
+unfolding IsSendable
+choice_bytes id p sn = sn.1.1
+
+looks_on : (core : Core) (messages : List Message) (m : Message) → IsSendable m → Happens core m → Looked core messages → Looked (complete core m) (messages ++ m ∷ [])
+looks_on core messages m sn (chooses id p at) l = chosen_looked core messages l id p at (choice_bytes id p sn)
+looks_on core messages m sn (goes n g s) l = gone_looked core messages l n g s
+
+looked : (ms messages : List Message) (core : Core) → Passes core ms → Looked core messages → Looked (led core ms) (messages ++ ms)
+looked [] messages core p l = subst (Looked core) (sym (append-nil messages)) l
+looked (m ∷ ms) messages core p l =
+    subst (Looked (led (complete core m) ms)) (append_assoc messages (m ∷ []) ms)
+    (looked ms (messages ++ m ∷ []) (complete core m) p.2 (looks_on core messages m p.0 (happens core core.phase m refl p.0 p.1) l))
+
+looked_first : (profile : Profile) → Looked (start_of profile).core []
+looked_first profile = record { asked = λ with info q. absurd (cc); granted = λ q. absurd (cc); structured = λ q. absurd (cc); agreed = λ q. absurd (cc) }
+
+-- looking back, from the end
+module _ (messages : List Message) (export : Exporting) (selection : Selection) (a : Agreed messages (Transmission export) selection) where
+  abbrev g : Granted a.front selection
+  g = a.granted
+
+  names_so : Names a.id a.payload selection.export_name
+  names_so = elim a.named [
+    | inl x ↦ inl x
+    | inr x ↦ (let go : IsTrue (is_go a.payload) = proper_go a.payload (subst (λ id. IsTrue (is_proper_option id a.payload)) x.0 a.leads) in
+        let form = (is_go-exact a.payload a.of_bytes).0 go in
+        let listed = go-only form.0 a.payload form.1 form.2 in
+        let name : form.0 ≡ selection.export_name = sym (name_is form.0 listed.0 a.payload a.of_bytes listed.1) ∙ x.1 in
+        inr (x.0, (form.1, subst (λ n. HasGoForm n form.1 a.payload) name form.2)))
+  ]
+
+  -- neither the question nor its answer put structured replies in force
+  abbrev question : List Message
+  question = Choice options.SET_META_CONTEXT g.asked ∷ (map telling selection.contexts ++ granting ∷ [])
+
+  questioned : All (λ m. m ≢ structuring) question
+  questioned = All-cons (λ m. m ≢ structuring) (Choice options.SET_META_CONTEXT g.asked) (map telling selection.contexts ++ granting ∷ []) (λ q. cc)
+      (All-push (λ m. m ≢ structuring) (map telling selection.contexts) granting (All-map (λ m. m ≢ structuring) telling selection.contexts (All-weaker IsShort (λ c. telling c ≢ structuring) (λ c short q. cc) selection.contexts g.ids)) (λ q. cc))
+
+  selected_so : AreSelected messages selection.contexts
+  selected_so =
+      let s : Splits (g.early ++ g.between) structuring = splits_without g.early question g.between structuring questioned (subst (λ x. Splits x structuring) (g.cut ∙ ap (λ x. g.early ++ (Choice options.SET_META_CONTEXT g.asked ∷ x)) (sym (append_assoc (map telling selection.contexts) (granting ∷ []) g.between))) a.structured) in
+      record {
+        early = g.early;
+        asked = g.asked;
+        between = g.between;
+        id = a.id;
+        payload = a.payload;
+        late = a.late;
+        cut = a.cut ∙ ap (λ x. x ++ Choice a.id a.payload ∷ a.late) g.cut ∙ simp append_assoc;
+        ids = g.ids;
+        last_set = g.last_set;
+        last_choice = a.last_choice;
+        name = selection.export_name;
+        count = g.count;
+        asks = g.asks_for;
+        names = names_so;
+        before = s.before;
+        after = s.after;
+        structured = s.at;
+      }
+
+-- in force are the contexts of a selection that agreed
+some_in_force : (core : Core) → in_force core ≢ [] → (core.agreed ≡ true) × (in_force core ≡ core.selection.contexts)
+some_in_force core h = go core.agreed h
+  where
+    go : (b : Bool) → (if b then core.selection.contexts else []) ≢ [] → (b ≡ true) × ((if b then core.selection.contexts else []) ≡ core.selection.contexts)
+    go true n = (refl, refl)
+    go false n = absurd (n refl)
+
+agreed_in_force : (core : Core) → core.agreed ≡ true → in_force core ≡ core.selection.contexts
+agreed_in_force core e = ap (λ b. if b then core.selection.contexts else []) e
+
+-- structured replies stay in force
+structured_stays : (core : Core) (m : Message) → core.structured ≡ true → (complete core m).structured ≡ true
+unfolding complete
+structured_stays core (Greeting flags) h = h
+structured_stays core (ClientFlags flags) h = h
+structured_stays core (Choice id p) h = h
+structured_stays core (Answer option kind p) h = ap (λ b. b || grants_structured option kind) h
+structured_stays core (Exported size flags padded) h = h
+structured_stays core (Request flags command cookie offset len p) h = (steady_request (command == commands.DISC) core _).structured_is ∙ h
+structured_stays core (Simple error cookie p) h = (steady_reply (request_of_reply core (Simple error cookie p)) core (Simple error cookie p)).structured_is ∙ h
+structured_stays core (Chunk flags kind cookie p) h = (steady_reply (request_of_reply core (Chunk flags kind cookie p)) core (Chunk flags kind cookie p)).structured_is ∙ h
+
+structured_led : (ms : List Message) (core : Core) → core.structured ≡ true → (led core ms).structured ≡ true
+structured_led [] core h = h
+structured_led (m ∷ ms) core h = structured_led ms (complete core m) (structured_stays core m h)
+
+or_yes : (a : Bool) → (a || true) ≡ true
+or_yes true = refl
+or_yes false = refl
+
+structured_now : (core : Core) → (complete core structuring).structured ≡ true
+unfolding complete
+structured_now core = or_yes core.structured
+
+structured_by : (ms : List Message) (core : Core) → Splits ms structuring → (led core ms).structured ≡ true
+structured_by ms core s =
+    ap (λ l. (led core l).structured) s.at ∙ ap (λ (c : Core). c.structured) (led-append s.before (structuring ∷ s.after) core)
+    ∙ structured_led s.after (complete (led core s.before) structuring) (structured_now (led core s.before))
+
+-- messages that do not choose SET_META_CONTEXT, after its answer
+record IsLeft (old now : Core) : Type 0 where
+  selection_is : now.selection ≡ old.selection
+  no_set : NoSet now.phase
+
+left_one : (core : Core) (m : Message) → Happens core m → IsOther m → NoSet core.phase → IsLeft core (complete core m)
+left_one core m (chooses id p at) other none =
+    let no : id ≡ options.SET_META_CONTEXT → ⊥ = λ e. other p (ap (λ i. Choice i p) e) in
+    record {
+      selection_is = choice-selection core id p ∙ selection_left id p core.selection no;
+      no_set = λ with info q. no (choice_set id p with info (sym (choice-phase core id p at) ∙ q)).0;
+    }
+left_one core m (goes n g (keeps same no_set)) other none = record { selection_is = same; no_set = no_set }
+left_one core m (goes n g (tells asked info context at short e)) other none = absurd (none asked info at)
+left_one core m (goes n g (grants asked info count at is e)) other none = absurd (none asked info at)
+
+left : (ms : List Message) (core : Core) → Passes core ms → ChooseNoOther ms → NoSet core.phase → IsLeft core (led core ms)
+left [] core p other none = record { selection_is = refl; no_set = none }
+left (m ∷ ms) core p other none =
+    let one : IsLeft core (complete core m) = left_one core m (happens core core.phase m refl p.0 p.1) (All-head IsOther m ms other) none in
+    let all : IsLeft (complete core m) (led (complete core m) ms) = left ms (complete core m) p.2 (All-tail IsOther m ms other) one.no_set in
+    record { selection_is = all.selection_is ∙ one.selection_is; no_set = all.no_set }
+
+agreed_one : (core : Core) (m : Message) → Happens core m → IsNoChoice m → (complete core m).agreed ≡ core.agreed
+agreed_one core m (chooses id p at) none = absurd (none id p refl)
+agreed_one core m (goes n g s) none = g.agreed_is
+
+agreed_led : (ms : List Message) (core : Core) → Passes core ms → ChooseNone ms → (led core ms).agreed ≡ core.agreed
+agreed_led [] core p none = refl
+agreed_led (m ∷ ms) core p none =
+    agreed_led ms (complete core m) p.2 (All-tail IsNoChoice m ms none) ∙ agreed_one core m (happens core core.phase m refl p.0 p.1) (All-head IsNoChoice m ms none)
+
+-- contexts that are told are selected
+record IsTold (core : Core) (asked : List ℕ) (contexts : List Context) (now : Core) : Type 0 where
+  phase_is : now.phase ≡ Answering options.SET_META_CONTEXT asked None
+  selection_is : now.selection ≡ record core.selection { contexts = core.selection.contexts ++ contexts }
+
+told : (contexts : List Context) (core : Core) (asked : List ℕ) → All IsShort contexts → core.phase ≡ Answering options.SET_META_CONTEXT asked None → IsTold core asked contexts (led core (map telling contexts))
+told [] core asked short at = record { phase_is = at; selection_is = ap (λ cs. record core.selection { contexts = cs }) (sym (append-nil core.selection.contexts)) }
+told (context ∷ contexts) core asked short at =
+    let same : (complete core (telling context)).selection ≡ one_more core.selection context = telling-selection core asked None context at (All-head IsShort context contexts short) in
+    let r : IsTold (complete core (telling context)) asked contexts (led (complete core (telling context)) (map telling contexts)) =
+    told contexts (complete core (telling context)) asked (All-tail IsShort context contexts short) (telling-phase core asked None context at) in
+    record {
+      phase_is = r.phase_is;
+      selection_is = r.selection_is ∙ ap (λ (s : Selection). record s { contexts = s.contexts ++ contexts }) same
+          ∙ ap (λ cs. record core.selection { contexts = cs }) (append_assoc core.selection.contexts (context ∷ []) contexts);
+    }
