@@ -1,5 +1,5 @@
 -- The contexts in force are those that one sees looking back over the completed messages.
-use Rattle.std.proofs.Common.{◌≡◌, ◌≢◌, ℕ, ◌⊎◌, ◌<◌, ◌≤◌, ◌^◌, ◌==◌, ◌&&◌, ◌||◌, List, [], ◌∷◌, ◌++◌, length, map, drop, refl, sym, ◌∙◌, ap, subst, inl, inr, Option, Some, None, Bool, true, false, if◌then◌else◌, IsTrue, is_some, arith, append_assoc, append-nil}
+use Rattle.std.proofs.Common.{◌≡◌, ◌≢◌, ℕ, ◌⊎◌, ◌<◌, ◌^◌, ◌==◌, ◌&&◌, ◌||◌, List, [], ◌∷◌, ◌++◌, map, refl, sym, ◌∙◌, ap, subst, inl, inr, Option, Some, None, Bool, true, false, if◌then◌else◌, IsTrue, is_some, arith, append_assoc, append-nil}
 use Rattle.std.specs.Prelude.{All}
 use Rattle.std.specs.Str.{bytes_eq}
 use Rattle.byteorder.specs.Endian.{big_bytes}
@@ -12,23 +12,22 @@ use Rattle.nbd_wire.specs.declared.message.Message.TheVariants.{Greeting, Client
 use Rattle.nbd_wire.specs.declared.message.Side.{Side}
 use Rattle.nbd_wire.specs.declared.message.Side.TheVariants.{Client, Server}
 use Rattle.nbd_wire.specs.declared.profile.Profile.{Profile}
-use Rattle.nbd_wire.specs.declared.profile.Profile.TheVariants.{Wide}
-use Rattle.nbd_wire.specs.protocol.Contexts.{Context, Selection, no_selection}
+use Rattle.nbd_wire.specs.protocol.Contexts.{Context, Selection}
 use Rattle.nbd_wire.specs.protocol.Encoding.{AreBytes}
 use Rattle.nbd_wire.specs.protocol.Flags.{has}
-use Rattle.nbd_wire.specs.protocol.Forms.{HasContextForm, HasGoForm, HasListedForm, HasQueriesForm}
+use Rattle.nbd_wire.specs.protocol.Forms.{HasContextForm, HasGoForm, HasQueriesForm}
 use Rattle.nbd_wire.specs.protocol.Marks.{Item, Byte, Starts, Completes, Serves, completed_messages}
 use Rattle.nbd_wire.specs.protocol.Operations.{Exporting, Operation}
 use Rattle.nbd_wire.specs.protocol.Options.{MayAnswer, MayTell, ack_phase, agrees, choice_phase, is_error, is_proper_option, last_info, next_phase, reply_phase, selection_after, selection_at, selection_told, with_context}
-use Rattle.nbd_wire.specs.protocol.Payloads.{context_of, info_of, is_go, name_in, number_at, queries_of}
-use Rattle.nbd_wire.specs.protocol.Rules.{IsRunOf, MayComplete, complete, core_with_request, ends_at, grants_structured, reply_to, request_of_reply}
+use Rattle.nbd_wire.specs.protocol.Payloads.{context_of, info_of, is_go, name_in, queries_of}
+use Rattle.nbd_wire.specs.protocol.Rules.{MayComplete, complete, core_with_request, ends_at, grants_structured, reply_to, request_of_reply}
 use Rattle.nbd_wire.specs.protocol.Sendable.{IsSendable}
 use Rattle.nbd_wire.specs.protocol.States.{Core, Phase, Greet, Flags, Choosing, Naming, Aborting, Answering, Ended, Transmission, in_force, start_of}
 use Rattle.nbd_wire.proofs.ListedFormLemmas.{go-only, is_go-exact}
 use Rattle.nbd_wire.proofs.QueryLemmas.{context-long, context-reads, name_is, queries_of-form, queries_of-found}
 use Rattle.nbd_laws.specs.Selecting.{AreSelected, ChooseNone, ChooseNoOther, ContextsAreSelected, Names, telling}
 use Rattle.nbd_laws.specs.internal.Machine.{Both, get}
-use Rattle.nbd_laws.proofs.judge.BoolLemmas.{and_true, or_true}
+use Rattle.nbd_laws.proofs.judge.BoolLemmas.{and_true}
 use Rattle.nbd_laws.proofs.machine.MachineLemmas.{Open, Idle, Busy, Walk, ended, serving, opening, middle, final, loose}
 use Rattle.nbd_laws.proofs.runs.FollowLemmas.{Follows, each_with, follows}
 use Rattle.nbd_laws.proofs.runs.PrefixLemmas.{InTransmission, asks, gives, phase-complete, replies, transmission_row}
@@ -36,7 +35,7 @@ use Rattle.nbd_laws.proofs.runs.ReachLemmas.{IsSendableOpen}
 use Rattle.nbd_laws.proofs.runs.RunLemmas.{core_end-ends_at, walk_of}
 use Rattle.nbd_laws.proofs.service.InsideLemmas.{core_end}
 use Rattle.std.proofs.lemmas.Bool.{eqb-false, eqb-true}
-use Rattle.std.proofs.lemmas.List.Elements.{All-append, All-cons, All-head, All-map, All-nil, All-push, All-tail, All-weaker}
+use Rattle.std.proofs.lemmas.List.Elements.{All-cons, All-head, All-map, All-nil, All-push, All-tail, All-weaker}
 use Rattle.std.proofs.lemmas.List.{map-append}
 use Rattle.std.proofs.lemmas.Slice.Eq.{bytes_eq-Decides}
 
@@ -73,12 +72,13 @@ passes-append : (xs ys : List Message) (core : Core) → Passes core (xs ++ ys) 
 passes-append [] ys core p = (tt, p)
 passes-append (m ∷ xs) ys core p = let r = passes-append xs ys (complete core m) p.2 in ((p.0, p.1, r.0), r.1)
 
--- what each message leads to
-set_asked : (phase : Phase) (core : Core) (id : ℕ) (p : List ℕ) → MayComplete core phase (Choice id p) → phase ≡ Choosing
+-- an option is chosen in one phase alone
+chosen_in : (phase : Phase) (core : Core) (id : ℕ) (p : List ℕ) → MayComplete core phase (Choice id p) → phase ≡ Choosing
 unfolding MayComplete
-set_asked Choosing core id p ok = refl
-set_asked phase core id p ok = absurd ok
+chosen_in Choosing core id p ok = refl
+chosen_in phase core id p ok = absurd ok
 
+-- what each message leads to
 choice-phase : (core : Core) (id : ℕ) (p : List ℕ) → core.phase ≡ Choosing → (complete core (Choice id p)).phase ≡ choice_phase id p
 unfolding complete next_phase
 choice-phase core id p at = ap (λ phase. next_phase phase (Choice id p)) at
@@ -214,10 +214,13 @@ module _ (asked : ℕ) (p : List ℕ) (kind : ℕ) (answer : List ℕ) where
   ]
 
   told_so : (selection : Selection) → MayTell selection asked p kind answer → IsSaid asked p kind answer
-  told_so selection ok = inr (ok.1, elim ok.2 [
-    | inl a ↦ inl a
-    | inr t ↦ inr ((λ a. let s : kind ≡ answers.META_CONTEXT = t.0 in omega arith), λ set. (t.0, (t.2.0, t.2.1)))
-  ])
+  told_so selection ok = inr (
+    ok.1,
+    elim ok.2 [
+      | inl a ↦ inl a
+      | inr t ↦ inr ((λ a. let s : kind ≡ answers.META_CONTEXT = t.0 in omega arith), λ set. (t.0, (t.2.0, t.2.1)))
+    ],
+  )
 
 grants_both : (option kind : ℕ) → grants_structured option kind ≡ true → (option ≡ options.STRUCTURED_REPLY) × (kind ≡ answers.ACK)
 grants_both option kind e =
@@ -681,40 +684,40 @@ module _ (core : Core) (messages : List Message) (l : Looked core messages) (m :
   abbrev grown : List Message
   grown = messages ++ m ∷ []
 
-  abbrev then_ : Core
-  then_ = complete core m
+  abbrev gone : Core
+  gone = complete core m
 
-  structured_grown : then_.structured ≡ true → Splits grown structuring
+  structured_grown : gone.structured ≡ true → Splits grown structuring
   structured_grown s = elim g.structured_is [
     | inl e ↦ splits_more messages (m ∷ []) structuring (l.structured (sym e ∙ s))
     | inr e ↦ splits_behind messages (m ∷ []) structuring (record { before = []; after = []; at = ap (λ x. x ∷ []) e })
   ]
 
-  no_agreed : (asked : List ℕ) (info : Option Exporting) → core.phase ≡ Answering options.SET_META_CONTEXT asked info → then_.agreed ≡ true → ⊥
+  no_agreed : (asked : List ℕ) (info : Option Exporting) → core.phase ≡ Answering options.SET_META_CONTEXT asked info → gone.agreed ≡ true → ⊥
   no_agreed asked info at a = agreed_no_set messages core.phase core.selection (l.agreed (sym g.agreed_is ∙ a)) asked info at
 
-  gone_looked : Selects core m → Looked then_ grown
+  gone_looked : Selects core m → Looked gone grown
   gone_looked (keeps same no_set) = record {
     asked = λ with info q. absurd (no_set with info q);
     granted = λ h. subst (λ s. Granted grown s) (sym same) (granted_more messages core.selection m (λ payload. g.no_choice options.SET_META_CONTEXT payload) (l.granted (subst (λ (s : Selection). s.granted ≡ true) same h)));
     structured = structured_grown;
-    agreed = λ a. subst (λ s. Agreed grown then_.phase s) (sym same) (agreed_more messages core.phase then_.phase core.selection m g.no_choice g.leads (l.agreed (sym g.agreed_is ∙ a)));
+    agreed = λ a. subst (λ s. Agreed grown gone.phase s) (sym same) (agreed_more messages core.phase gone.phase core.selection m g.no_choice g.leads (l.agreed (sym g.agreed_is ∙ a)));
   }
   gone_looked (tells asked info context at short e) =
       let before : Asked messages core.selection asked = l.asked asked info at in
-      let same : then_.selection ≡ one_more core.selection context = ap (λ x. (complete core x).selection) e ∙ telling-selection core asked info context at short in
-      let stays : then_.phase ≡ Answering options.SET_META_CONTEXT asked info = ap (λ x. (complete core x).phase) e ∙ telling-phase core asked info context at in
-      let after : Asked grown then_.selection asked = subst (λ s. Asked grown s asked) (sym same) (subst (λ x. Asked (messages ++ x ∷ []) (one_more core.selection context) asked) (sym e) (asked_more messages core.selection context asked short before)) in
+      let same : gone.selection ≡ one_more core.selection context = ap (λ x. (complete core x).selection) e ∙ telling-selection core asked info context at short in
+      let stays : gone.phase ≡ Answering options.SET_META_CONTEXT asked info = ap (λ x. (complete core x).phase) e ∙ telling-phase core asked info context at in
+      let after : Asked grown gone.selection asked = subst (λ s. Asked grown s asked) (sym same) (subst (λ x. Asked (messages ++ x ∷ []) (one_more core.selection context) asked) (sym e) (asked_more messages core.selection context asked short before)) in
       record {
-        asked = λ with last q. subst (λ w. Asked grown then_.selection w) (same_asked then_.phase asked with info last stays q) after;
+        asked = λ with last q. subst (λ w. Asked grown gone.selection w) (same_asked gone.phase asked with info last stays q) after;
         granted = λ h. absurd (let q : false ≡ true = sym after.waits ∙ h in (cc));
         structured = structured_grown;
         agreed = λ a. absurd (no_agreed asked info at a);
       }
   gone_looked (grants asked info count at is e) =
       let before : Asked messages core.selection asked = l.asked asked info at in
-      let same : then_.selection ≡ record core.selection { granted = true } = ap (λ x. (complete core x).selection) e ∙ granting-selection core asked info at in
-      let leaves : then_.phase ≡ Choosing = ap (λ x. (complete core x).phase) e ∙ granting-phase core asked info at in
+      let same : gone.selection ≡ record core.selection { granted = true } = ap (λ x. (complete core x).selection) e ∙ granting-selection core asked info at in
+      let leaves : gone.phase ≡ Choosing = ap (λ x. (complete core x).phase) e ∙ granting-phase core asked info at in
       record {
         asked = λ with last q. absurd (let w : Choosing ≡ Answering options.SET_META_CONTEXT with last = sym leaves ∙ q in (cc));
         granted = λ h. subst (λ s. Granted grown s) (sym same) (subst (λ x. Granted (messages ++ x ∷ []) (record core.selection { granted = true })) (sym e) (granted_now messages core.selection asked count is before));
@@ -873,3 +876,121 @@ told (context ∷ contexts) core asked short at =
       selection_is = r.selection_is ∙ ap (λ (s : Selection). record s { contexts = s.contexts ++ contexts }) same
           ∙ ap (λ cs. record core.selection { contexts = cs }) (append_assoc core.selection.contexts (context ∷ []) contexts);
     }
+
+-- what was selected is in force
+module _ (core : Core) (messages : List Message) (contexts : List Context) (a : AreSelected messages contexts) (p : Passes core messages) where
+  abbrev chosen : Message
+  chosen = Choice a.id a.payload
+
+  abbrev asks_for : Message
+  asks_for = Choice options.SET_META_CONTEXT a.asked
+
+  abbrev parts : List Message
+  parts = a.early ++ (asks_for ∷ (map telling contexts ++ (granting ∷ (a.between ++ chosen ∷ a.late))))
+
+  in_parts : messages ≡ parts
+  in_parts = a.cut ∙ simp append_assoc
+
+  abbrev at_first : Core
+  at_first = led core a.early
+
+  abbrev at_question : Core
+  at_question = complete at_first asks_for
+
+  abbrev at_answer : Core
+  at_answer = led at_question (map telling contexts)
+
+  abbrev at_grant : Core
+  at_grant = complete at_answer granting
+
+  abbrev at_choice : Core
+  at_choice = led at_grant a.between
+
+  abbrev at_end : Core
+  at_end = led (complete at_choice chosen) a.late
+
+  ends_there : led core messages ≡ at_end
+  ends_there =
+      ap (led core) in_parts
+      ∙ led-append a.early (asks_for ∷ (map telling contexts ++ (granting ∷ (a.between ++ chosen ∷ a.late)))) core
+      ∙ led-append (map telling contexts) (granting ∷ (a.between ++ chosen ∷ a.late)) at_question
+      ∙ led-append a.between (chosen ∷ a.late) at_grant
+
+  from_first : Passes at_first (asks_for ∷ (map telling contexts ++ (granting ∷ (a.between ++ chosen ∷ a.late))))
+  from_first = (passes-append a.early (asks_for ∷ (map telling contexts ++ (granting ∷ (a.between ++ chosen ∷ a.late)))) core (subst (Passes core) in_parts p)).1
+
+  from_answer : Passes at_answer (granting ∷ (a.between ++ chosen ∷ a.late))
+  from_answer = (passes-append (map telling contexts) (granting ∷ (a.between ++ chosen ∷ a.late)) at_question from_first.2).1
+
+  from_grant : Passes at_grant a.between × Passes at_choice (chosen ∷ a.late)
+  from_grant = passes-append a.between (chosen ∷ a.late) at_grant from_answer.2
+
+  told_all : IsTold at_question a.asked contexts at_answer
+  told_all = told contexts at_question a.asked a.ids (choice-phase at_first options.SET_META_CONTEXT a.asked (chosen_in at_first.phase at_first options.SET_META_CONTEXT a.asked from_first.1))
+
+  abbrev whole : Selection
+  whole = record { export_name = name_in a.asked; contexts = contexts; granted = true }
+
+  selected_at_grant : at_grant.selection ≡ whole
+  selected_at_grant =
+      granting-selection at_answer a.asked None told_all.phase_is
+      ∙ ap (λ (s : Selection). record s { granted = true }) (told_all.selection_is ∙ ap (λ (s : Selection). record s { contexts = s.contexts ++ contexts }) (choice-selection at_first options.SET_META_CONTEXT a.asked))
+
+  at_rest : NoSet at_grant.phase
+  at_rest with info q = (let w : Choosing ≡ Answering options.SET_META_CONTEXT with info = sym (granting-phase at_answer a.asked None told_all.phase_is) ∙ q in cc)
+
+  left_between : IsLeft at_grant at_choice
+  left_between = left a.between at_grant from_grant.0 a.last_set at_rest
+
+  named_same : NamesSame a.id a.payload (name_in a.asked)
+  named_same =
+      let name : name_in a.asked ≡ a.name = (queries_of-form a.name a.count a.asked (choice_bytes options.SET_META_CONTEXT a.asked from_first.0) a.asks).1 in
+      elim a.names [
+        | inl x ↦ inl (x.0, x.1 ∙ sym name)
+        | inr x ↦ (let listed = go-only a.name a.payload x.1.0 x.1.1 in
+            inr (x.0, name_is a.name listed.0 a.payload (choice_bytes a.id a.payload from_grant.1.0) listed.1 ∙ sym name))
+      ]
+
+  no_set_then : a.id ≡ options.SET_META_CONTEXT → ⊥
+  no_set_then = named_no_set a.id a.payload (name_in a.asked) named_same
+
+  left_late : IsLeft (complete at_choice chosen) at_end
+  left_late = left a.late (complete at_choice chosen) from_grant.1.2 (All-weaker IsNoChoice IsOther (λ m h payload. h options.SET_META_CONTEXT payload) a.late a.last_choice)
+      (λ with info q. no_set_then (choice_set a.id a.payload with info (sym (choice-phase at_choice a.id a.payload (chosen_in at_choice.phase at_choice a.id a.payload from_grant.1.1)) ∙ q)).0)
+
+  selected_at_choice : at_choice.selection ≡ whole
+  selected_at_choice = left_between.selection_is ∙ selected_at_grant
+
+  selected_at_end : at_end.selection ≡ whole
+  selected_at_end = left_late.selection_is ∙ choice-selection at_choice a.id a.payload ∙ selection_left a.id a.payload at_choice.selection no_set_then ∙ selected_at_choice
+
+  structured_at_choice : at_choice.structured ≡ true
+  structured_at_choice = elim (splits-append a.early a.between a.before a.after structuring a.structured) [
+    | inl s ↦ structured_led a.between at_grant (structured_stays at_answer granting (structured_led (map telling contexts) at_question (structured_stays at_first asks_for (structured_by a.early core s))))
+    | inr s ↦ structured_by a.between at_grant s
+  ]
+
+  agreed_at_end : at_end.agreed ≡ true
+  agreed_at_end =
+      agreed_led a.late (complete at_choice chosen) from_grant.1.2 a.last_choice
+      ∙ choice-agreed at_choice a.id a.payload
+      ∙ ap (λ b. b && agrees a.id a.payload at_choice.selection) structured_at_choice
+      ∙ ap (agrees a.id a.payload) selected_at_choice
+      ∙ agrees_so a.id a.payload whole refl named_same
+
+  selected_in_force : in_force (led core messages) ≡ contexts
+  selected_in_force = ap in_force ends_there ∙ agreed_in_force at_end agreed_at_end ∙ ap (λ (s : Selection). s.contexts) selected_at_end
+
+pub contexts_are_selected : ContextsAreSelected
+contexts_are_selected profile items export run there =
+    let first : Core = (start_of profile).core in
+    let messages : List Message = completed_messages items in
+    let p : Passes first messages = passing (walk_of run) first (follows items (start_of profile) run.obeys) (elim [ Client ↦ tt | Server ↦ tt ]) in
+    let same : led first messages ≡ (ends_at (start_of profile) items).core = sym (led_end first items) ∙ core_end-ends_at first [] items in
+    let l : Looked (ends_at (start_of profile) items).core messages = subst (λ c. Looked c messages) same (looked messages [] first p (looked_first profile)) in (
+      λ contexts a. ap in_force (sym same) ∙ selected_in_force first messages contexts a p,
+      λ some.
+          let f = some_in_force (ends_at (start_of profile) items).core some in
+          let agreed : Agreed messages (Transmission export) (ends_at (start_of profile) items).core.selection = subst (λ phase. Agreed messages phase (ends_at (start_of profile) items).core.selection) there (l.agreed f.0) in
+          subst (AreSelected messages) (sym f.1) (selected_so messages export (ends_at (start_of profile) items).core.selection agreed),
+    )
