@@ -14,6 +14,7 @@ pub mod ReachLemmas
 pub mod RestLemmas
 pub mod RunByteLemmas
 pub mod RunLemmas
+pub mod SelectedLemmas
 pub mod SplitLemmas
 pub mod TraceLemmas
 pub mod TrackLemmas

@@ -19,7 +19,8 @@ telling context = Answer options.SET_META_CONTEXT answers.META_CONTEXT (big_byte
 
 -- no message chooses SET_META_CONTEXT
 abbrev pub ChooseNoOther : List Message → Type 0
-ChooseNoOther messages = All (λ (m : Message). (payload : List ℕ) → m ≢ Choice options.SET_META_CONTEXT payload) messages
+ChooseNoOther messages =
+    All (λ (m : Message). (payload : List ℕ) → m ≢ Choice options.SET_META_CONTEXT payload) messages
 
 -- no message chooses an option
 abbrev pub ChooseNone : List Message → Type 0

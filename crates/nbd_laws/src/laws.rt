@@ -7,6 +7,7 @@ ghost use Rattle.nbd_laws.specs.Moments.{LatestMoments, OrdersAreFaultless};
 ghost use Rattle.nbd_laws.specs.Negotiating.{AnswersFollowChoices, HandshakesAreFair};
 ghost use Rattle.nbd_laws.specs.Profiles.{BaseIsWide, EndsAgree, PlacesAgree, RunsAgree, UnderWayAgrees};
 ghost use Rattle.nbd_laws.specs.Replying.{RepliesAreWhole};
+ghost use Rattle.nbd_laws.specs.Selecting.{ContextsAreSelected};
 ghost use Rattle.nbd_laws.specs.Sameness.{SameMarks, SameReports, ReportsIgnoreService};
 ghost use Rattle.nbd_laws.specs.Service.{CookiesAreDistinct, DisconnectsAreEmpty, EachReplyAnswersOne, EmptyIsExplained, NothingAfterDisconnect, RepliesEndAsTheyStart, ServedOnceAfterCompletion};
 ghost use Rattle.nbd_laws.specs.Explaining.{PassingIsExplained, ExplainedPasses};
@@ -157,4 +158,11 @@ pub fn profiles_agree()
     ensures runs { RunsAgree }
     ensures places { PlacesAgree }
     ensures under_way { UnderWayAgrees }
+{}
+
+/// In transmission the metadata contexts in force are those that the last SET_META_CONTEXT selected, where an ACK ended
+/// its answer, structured replies were in force and the option that led into transmission names the same export. Where
+/// there is no such selection, none is in force.
+pub fn contexts_are_selected()
+    ensures { ContextsAreSelected }
 {}

@@ -15,7 +15,7 @@ use Rattle.nbd_laws.proofs.machine.MachineLemmas.{Open, Idle, Busy, Loose, Walk,
 use Rattle.nbd_laws.proofs.runs.RunLemmas.{core_end-ends_at, walk_of}
 
 -- an open message has an encoding
-abbrev IsSendableOpen : Side → Open → Type 0
+abbrev pub IsSendableOpen : Side → Open → Type 0
 IsSendableOpen s Idle = Unit {0}
 IsSendableOpen s (Busy m left) = IsSendable m
 IsSendableOpen s Loose = Unit {0}
