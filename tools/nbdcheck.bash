@@ -51,8 +51,10 @@ _nbdcheck_picture() {
     if [ "$before" = --start ]; then
         mapfile -t COMPREPLY < <(compgen -W "$starts" -- "$word")
         [[ ${COMPREPLY[0]:-} = image: ]] && compopt -o nospace 2>/dev/null
+    elif [ "$before" = --profile ]; then
+        mapfile -t COMPREPLY < <(compgen -W "base wide" -- "$word")
     elif [[ $word = -* ]]; then
-        mapfile -t COMPREPLY < <(compgen -W "--start --help" -- "$word")
+        mapfile -t COMPREPLY < <(compgen -W "--start --profile --help" -- "$word")
     else
         mapfile -t COMPREPLY < <(compgen -f -- "${word#:}")
     fi

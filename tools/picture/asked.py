@@ -15,10 +15,11 @@ MALFORMED = re.compile(r"fault (capture|order) line \d+")
 
 
 class Nbdcheck:
-    """Runs of nbdcheck over one capture, with one order and one start."""
+    """Runs of nbdcheck over one capture, with one order, one start and one profile, where one is named."""
 
-    def __init__(self, program, capture, order, start):
+    def __init__(self, program, capture, order, start, profile=None):
         self.program, self.capture, self.order, self.start = program, capture, order, start
+        self.profile = [] if profile is None else ["--profile", profile]
 
     @contextlib.contextmanager
     def _running(self, words, errors):
@@ -70,17 +71,17 @@ class Nbdcheck:
     def explain(self):
         """The lines of `explain`, its status, and what it said beside them."""
         order = [] if self.order is None else [self.order]
-        status, out, said = self._run(["explain", self.capture, *order, "--start", self.start], (YES, NO, GAVE_UP))
+        status, out, said = self._run(["explain", self.capture, *order, "--start", self.start, *self.profile], (YES, NO, GAVE_UP))
         return out.decode(errors="backslashreplace"), status, said.decode(errors="backslashreplace")
 
     def found_order(self):
         """The order that nbdcheck finds."""
-        return self._run(["order", self.capture, "--start", self.start], (YES,))[1]
+        return self._run(["order", self.capture, "--start", self.start, *self.profile], (YES,))[1]
 
     def lines(self, *options):
         """The lines of `show`, each without its line feed."""
         with tempfile.TemporaryFile() as errors:
-            with self._running(["show", *options, self.capture], errors) as child:
+            with self._running(["show", *options, self.capture, *self.profile], errors) as child:
                 for line in child.stdout:
                     yield line.rstrip(b"\n")
             errors.seek(0)
