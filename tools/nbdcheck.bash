@@ -3,10 +3,10 @@
 _nbdcheck() {
     # The commands, each with its options; every other word is the name of a file.
     local -A options=(
-        [check]="--start --help"
-        [explain]="--start --help"
-        [order]="--start --whole --arrival --states --steps --help"
-        [show]="--names --help"
+        [check]="--start --profile --help"
+        [explain]="--start --profile --help"
+        [order]="--start --profile --whole --arrival --states --steps --help"
+        [show]="--names --profile --help"
         [make]="--help"
         [help]=""
     )
@@ -20,6 +20,8 @@ _nbdcheck() {
     elif [ "$before" = --start ]; then
         mapfile -t COMPREPLY < <(compgen -W "$starts" -- "$word")
         [[ ${COMPREPLY[0]:-} = image: ]] && compopt -o nospace 2>/dev/null
+    elif [ "$before" = --profile ]; then
+        mapfile -t COMPREPLY < <(compgen -W "base wide" -- "$word")
     elif [[ $word = -* ]]; then
         mapfile -t COMPREPLY < <(compgen -W "${options[$name]:-}" -- "$word")
     else

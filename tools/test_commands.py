@@ -6,7 +6,7 @@ import subprocess
 import time
 
 from built import PROGRAM, TOP, Ended, Room, Tally
-from messages import begun, read, records_of, simple, text, write
+from messages import answer, begun, option, read, records_of, simple, text, write
 
 LF = b"\n"
 EMPTY = b"the capture is empty: nothing was recorded\n"
@@ -19,6 +19,7 @@ FOUND = text(begun() + [read(1, 0, 1), simple(1, b"\x07")])
 LONG = text(begun() + [write(1, 0, bytes(1 << 24))])
 LONG_SCRIPT = b"C option id=3 payload=" + b"00" * (1 << 24) + b"\n"
 SCRIPT = b"S greeting flags=3\nC client-flags flags=3\n"
+NAMED_GREETING = b"S greeting, NBD_FLAG_FIXED_NEWSTYLE NBD_FLAG_NO_ZEROES (0x3)\n"
 MADE = b"S 4e42444d4147494349484156454f50540003\nC 00000003\n"
 
 
@@ -128,6 +129,39 @@ def starts(tally, room):
         found = room.run("check", room.path("none"), room.path("none"), "--start", start)
         tally.want(f"--start '{start}'", found, fault("start", 2))
     tally.want("no path", room.run("check", capture, order, "--start", "image:"), fault("image read"))
+
+
+def profiles(tally, room):
+    """The two profiles, the default, and words that are neither; each command that takes the option."""
+    granted = begun()[:2] + [option(9, bytes(8)), answer(9, 1)]
+    capture, order = room.put("capture", text(granted)), room.put("order", b"")
+    stopped, yes = b"no at byte 58: OutOfProfile\n", b"yes requests 0 answered 0 improper 0\n"
+    # The status and the first line in the profile base, and those in wide.
+    for asked, base, wide in (
+        (["check", capture, order], (1, stopped), (0, yes)),
+        (["explain", capture, order], (1, stopped), (0, yes)),
+        (["explain", capture], (1, stopped), (0, yes)),
+        (["order", capture], (1, stopped), (0, b"")),
+        (["order", capture, "--arrival"], (1, b""), (0, b"")),
+        (["show", capture], (1, b"S greeting flags=3\n"), (0, b"S greeting flags=3\n")),
+        (["show", capture, "--names"], (1, NAMED_GREETING), (0, NAMED_GREETING)),
+    ):
+        for profile, wanted in ((None, base), ("base", base), ("wide", wide)):
+            found = room.run(*asked, *([] if profile is None else ["--profile", profile]))
+            first = found.out.partition(LF)
+            tally.want(f"{asked[0]} {asked[2:]} --profile {profile}", (found.status, first[0] + first[1]), wanted)
+        for profile in ("", "Wide", "base ", "wider"):
+            # No file has this name: none is opened before the profile is judged.
+            words = [room.path("none") if word == capture else word for word in asked]
+            found = room.run(*words, "--profile", profile)
+            tally.want(f"{asked[0]} {asked[2:]} --profile '{profile}'", found, fault("profile", 2))
+    last = room.run("show", capture, "--names", "--profile", "wide").out.splitlines()[-3:]
+    tally.want("names of contexts", last, [b"C NBD_OPT_LIST_META_CONTEXT (9), 8 bytes of data",
+                                           b"S reply to NBD_OPT_LIST_META_CONTEXT (9): NBD_REP_ACK (1), 0 bytes of data", b"ok"])
+    tally.want("a start and a profile that are none", room.run("check", "c", "o", "--start", "x", "--profile", "x"), fault("start", 2))
+    for asked in (["make", "s", "--profile", "base"], ["check", "c", "o", "--profile"], ["show", "c", "--profile", "base", "--profile", "wide"]):
+        found = room.run(*asked)
+        tally.want(f"{asked}", (found.status, found.out, found.err[:7]), (2, b"", b"error: "))
 
 
 def lines(tally, room):
@@ -382,7 +416,7 @@ def images(tally, room):
 
 def run(tally):
     with Room() as room:
-        for part in (examples, words, paths, starts, lines, files, outputs, terminals, bad_capture_lines, bad_order_lines,
+        for part in (examples, words, paths, starts, profiles, lines, files, outputs, terminals, bad_capture_lines, bad_order_lines,
                      looks_of_captures, memory, images):
             part(tally, room)
 

@@ -10,19 +10,30 @@ from collections import namedtuple
 from pathlib import Path
 
 from built import TOP, Ended, Room, Tally
-from messages import (CACHE, CLIENT, DISC, FLUSH, READ, SERVER, TRIM, WRITE, WRITE_ZEROES, answer, begun, chunk, client_flags, content,
+from messages import (BLOCK_STATUS, CACHE, CLIENT, DISC, FLUSH, READ, SERVER, TRIM, WRITE, WRITE_ZEROES, answer, begun, chunk, client_flags, content,
                       cut, done, export_info, front, greeting, hole, option, read, request, simple, text, write)
 from test_commands import EMPTY, fault
 from test_cuts import SESSIONS
 
 EXPLAINED = Path(__file__).resolve().parent / "explained"
 
-Session = namedtuple("Session", "records order start", defaults=("", "zero"))
+Session = namedtuple("Session", "records order start profile", defaults=("", "zero", "base"))
 
 HELLO = [greeting(), client_flags()]
 GO = [*HELLO, option(7, bytes(6))]
 ASKED = [*begun(), read(1, 0, 4)]
 CHUNKED = [*begun(structured=True), read(1, 0, 4)]
+
+
+def queries(*asked):
+    """The data of an option that asks for the contexts of the export without a name."""
+    return bytes(4) + len(asked).to_bytes(4, "big") + b"".join(len(name).to_bytes(4, "big") + name for name in asked)
+
+
+# A negotiation that lists metadata contexts, and one that then sets one.
+LISTED = [*HELLO, option(8), answer(8, 1), option(9, queries()), answer(9, 4, b"\0\0\0\0base:allocation"), answer(9, 1)]
+ALLOCATION = b"\0\0\0\1base:allocation"
+SELECTED = [*LISTED, option(10, queries(b"base:allocation")), answer(10, 4, ALLOCATION), answer(10, 1), *begun()[2:]]
 # A WRITE of two bytes, then a READ of four, each answered before the next.
 WRITTEN = [*begun(), write(1, 0, b"\xab\xcd"), simple(1), read(2, 0, 4), simple(2, b"\xab\xcd\0\0")]
 MISREAD = WRITTEN[:-1] + [simple(2, b"\xab\xce\0\0")]
@@ -43,6 +54,12 @@ WIRE = {
         [*HELLO, option(8), answer(8, 1), option(10, bytes(8)), answer(10, 4, b"\0\0\0\1base:allocation")]),
     "out-of-profile-of-extended-headers": Session([*HELLO, option(11), answer(11, 1)]),
     "out-of-profile-of-an-unknown-option": Session([*HELLO, option(77), answer(77, 1)]),
+    "out-of-profile-of-tls-in-wide": Session([*HELLO, option(5), answer(5, 1)], profile="wide"),
+    "out-of-profile-of-block-status": Session([*SELECTED, request(BLOCK_STATUS, 1, 0, 8)], profile="wide"),
+    "bad-reply-payload-of-a-context": Session(
+        [*SELECTED[:-4], answer(10, 4, b"\0\0\0\1qemu:dirty-bitmap:a")], profile="wide"),
+    "success-of-improper-contexts": Session(
+        [*LISTED, option(10, queries(b"base:allocation")[:-1]), answer(10, 1)], profile="wide"),
     "bad-reply-payload": Session([*GO, answer(7, 1, b"\0")]),
     "missing-export-info": Session([*GO, answer(7, 1)]),
     "bad-export": Session([*HELLO, option(1, b"disk"), (SERVER, (8).to_bytes(8, "big") + b"\0\0")]),
@@ -92,6 +109,9 @@ JUDGED = {
     "content-of-many-bytes": Session(PIECED, "1\n2\n3\n4\n5\n"),
     "content-of-many-bytes-in-part": Session(PIECED, "1\n2\n3\n4\n5 20 11\n5 1 19\n"),
     "yes": Session(WRITTEN, "1\n2\n"),
+    "content-in-wide": Session(
+        [*SELECTED, write(1, 0, b"\xab\xcd"), simple(1), read(2, 0, 4), content(2, 0, b"\xab\xce\0\0"), done(2)], "1\n2\n",
+        profile="wide"),
     "no-such-request": Session(WRITTEN, "1\n3\n"),
     "twice": Session(WRITTEN, "1\n2\n1\n"),
     "late": Session(TIMED, "2\n1\n"),
@@ -270,6 +290,22 @@ REASONS = [
     ([*begun(structured=True), read(1, 4, 4), chunk(1, 0x8002, b"\0\0\0\5\0\0" + bytes(7) + b"\3")],
      "the offset of the error lies outside the range of the request"),
 ]
+# The same of sessions that are held to the profile wide.
+WIDE_REASONS = [
+    (opted(9, b"\0\0\0"), "the data ends within the length of the name, 4 bytes from byte 39 on"),
+    (opted(10, b"\0\0\0\3ab"), "at byte 39 the name has the length 3, and the bytes behind that are 2"),
+    (opted(9, b"\0\0\0\2ab\0\0\0"), "the data ends within the count of queries, 4 bytes from byte 45 on"),
+    (opted(9, bytes(4) + b"\0\0\0\1\0\0\0"),
+     "the data has 0 of 1 queries whole; the data ends within the length of the next, 4 bytes from byte 47 on"),
+    (opted(10, queries(b"a", b"bc")[:-1]),
+     "the data has 1 of 2 queries whole; at byte 52 the next has the length 2, and the bytes behind that are 1"),
+    (opted(10, bytes(4) + b"\xff" * 4 + b"\0\0\0\1a"),
+     "the data has 1 of 4294967295 queries whole; the data ends within the length of the next, 4 bytes from byte 52 on"),
+    (opted(9, queries(b"a") + b"b"), "the count of queries is 1, and behind them the data goes on, from byte 52"),
+    ([*HELLO, option(9, queries()), answer(9, 4, b"\0\0\0")], "its data is shorter than the id of a context, which has 4 bytes"),
+    ([*HELLO, option(10, queries(b"a")), answer(10, 4, ALLOCATION), answer(10, 4, ALLOCATION)],
+     "a context that was selected before has the same id"),
+]
 # Those of a WRITE that breaks as many parts of its rule as one can.
 SEVERAL = [
     "its range passes the end of the export of 8 bytes", "it carries FUA, and the export lacks SEND_FUA",
@@ -324,22 +360,28 @@ def start_of(room, name, start):
     return f"image:{room.put(f'{name}.image', bytes(range(int(size))))}" if kind == "image" else start
 
 
+def profile_of(session):
+    """The words that name its profile: none for that which is meant without them."""
+    return [] if session.profile == "base" else ["--profile", session.profile]
+
+
 def sessions(tally, room):
     for name, session in {**WIRE, **JUDGED}.items():
         capture, order = room.put(f"{name}.cap", text(session.records)), room.put(f"{name}.ord", session.order.encode())
-        words = [capture, order, "--start", start_of(room, name, session.start)]
+        profile = profile_of(session)
+        words = [capture, order, "--start", start_of(room, name, session.start), *profile]
         wanted = (EXPLAINED / f"{name}.txt").read_bytes()
         line, status = first_line(wanted), 0 if wanted.startswith(b"yes") else 1
         tally.want(f"check {name}", room.run("check", *words), Ended(status, line, b""))
         tally.want(f"explain {name}", room.run("explain", *words), Ended(status, wanted, b""))
         last = line if name in WIRE else b"ok\n"
-        shown = room.run("show", capture)
+        shown = room.run("show", capture, *profile)
         tally.want(f"show {name}", ending(shown), Ended(int(name in WIRE), last, b""))
         searched(tally, room, name, [capture, *words[2:]])
         arrival = b"".join(b"%d\n" % number for number in numbers_of(session.records))
         ended = Ended(1, b"", b"no order: the session was refused\n") if name in WIRE else Ended(0, arrival, b"")
-        tally.want(f"order {name}", room.run("order", capture, "--arrival"), ended)
-        named = room.run("show", capture, "--names")
+        tally.want(f"order {name}", room.run("order", capture, "--arrival", *profile), ended)
+        named = room.run("show", capture, "--names", *profile)
         tally.want(f"names of {name}", ending(named), Ended(int(name in WIRE), last, b""))
         tally.want(f"names of {name}, lines", named.out.count(b"\n"), shown.out.count(b"\n"))
 
@@ -407,9 +449,9 @@ def told_of(tally, name, found):
     return found.out.decode()
 
 
-def reasons_of(tally, room, name, records):
+def reasons_of(tally, room, name, records, *profile):
     """What is said to be wrong in a session."""
-    told = told_of(tally, name, room.run("explain", room.put("reason", text(records))))
+    told = told_of(tally, name, room.run("explain", room.put("reason", text(records)), *profile))
     return re.findall(r"(?m)^wrong: (.*)$", told)
 
 
@@ -417,6 +459,8 @@ def reasons(tally, room):
     """Which part of its rule a message breaks: the one reason that there is, or each."""
     for records, reason in REASONS:
         tally.want(reason, reasons_of(tally, room, reason, records), [reason])
+    for records, reason in WIDE_REASONS:
+        tally.want(f"wide: {reason}", reasons_of(tally, room, reason, records, "--profile", "wide"), [reason])
     several = request(WRITE, 1, 7, 2, b"\1\2", flags=0x8017)
     tally.want("several reasons", reasons_of(tally, room, "several reasons", improper(several, 0x83)), SEVERAL)
     page = (TOP / "docs/RECORDING.md").read_text()
@@ -424,7 +468,9 @@ def reasons(tally, room):
         told = told_of(tally, f"granted {number}", room.run("explain", room.put("granted", text(opted(number, b"")))))
         lines = told.split("\n")
         tally.holds(f"granted {number}", lines[3].startswith("granted: ") and lines[3].endswith(f", for {extension}"), told)
-        tally.holds(f"instead of {number}", lines[4].startswith("instead: record with"), told)
+        wider = "try --profile wide, which follows the negotiation of metadata contexts, though not block status yet; or "
+        first = "instead: " + (wider if number in (9, 10) else "")
+        tally.holds(f"instead of {number}", lines[4].startswith(first + "record with"), told)
         named = re.findall(r"--[\w=-]+|h\.\w+|tls-creds|add_meta_context|opt_\w+", lines[4])
         tally.want(f"instead of {number}, in docs/RECORDING.md", [word for word in named if word not in page], [])
 

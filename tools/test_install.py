@@ -103,6 +103,8 @@ def completions(tally, prefix, folder):
         (["check", "one.cap", "one.ord", "--start", "z"], {"zero"}),
         (["check", "one.cap", "one.ord", "--start", "image", ":"], {"one.cap", "one.ord", "two.cap"}),
         (["check", "one.cap", "one.ord", "--start", "image", ":", "tw"], {"two.cap"}),
+        (["show", "--profile", ""], {"base", "wide"}),
+        (["order", "one.cap", "--profile", "w"], {"wide"}),
         (["show", "t"], {"two.cap"}),
     ):
         tally.want(f"completion of {line}", completed(prefix, folder, *line), wanted)

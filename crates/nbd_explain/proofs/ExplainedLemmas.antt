@@ -4,6 +4,7 @@ use Rattle.std.specs.Fmt.{decimal}
 use Rattle.std.specs.Io.KnownBytes.{Appends, Keeps}
 use Rattle.nbd_wire.specs.declared.entry.Entry.{Entry}
 use Rattle.nbd_wire.specs.declared.fault.WireFault.{WireFault}
+use Rattle.nbd_wire.specs.declared.profile.Profile.{Profile}
 use Rattle.nbd_wire.specs.protocol.Explains.{Start}
 use Rattle.nbd_wire.specs.protocol.Reports.{Report}
 use Rattle.nbd_capture.specs.Order.{IsOrderText}
@@ -49,14 +50,14 @@ each_ok (Ok a) p = p
 each_ok (Err e) p = tt
 
 -- the verdict on the entries of an order text, of a session that took all bytes of a capture text
-pub explained : (known order : Option (List ℕ)) (entries : List Entry) (start : Option Start) (finished : Result Report SessionFault) (finish : IsFinishOf known finished) (beginning : Beginning)
+pub explained : {profile : Profile} (known order : Option (List ℕ)) (entries : List Entry) (start : Option Start) (finished : Result Report SessionFault) (finish : IsFinishOf profile known finished) (beginning : Beginning)
     (begun : IsBeginningOf start (room_in finished) beginning) (answered : Answer) (text : List ℕ) →
-    IfSome order (λ text. IsOrderText text entries) → IsToldOn finished entries beginning answered text → OnWritten text (Explains known order start answered)
-explained known order entries start finished finish beginning begun answered text is_text told = λ old new appended. record {
+    IfSome order (λ text. IsOrderText text entries) → IsToldOn finished entries beginning answered text → OnWritten text (Explains profile known order start answered)
+explained {profile} known order entries start finished finish beginning begun answered text is_text told = λ old new appended. record {
   verdict = told.verdict;
-  is_verdict = verdict_on known order start finish.over.chunks entries begun.initial told.verdict finish.over.is_text is_text begun.is_known
+  is_verdict = verdict_on profile known order start finish.over.chunks entries begun.initial told.verdict finish.over.is_text is_text begun.is_known
       (checked_over (flat_of finish.over.chunks) finish.session entries begun.initial finished told.verdict finish.over.over finish.fault finish.report finish.wire
-      (told.concludes begun.initial begun.is_read) (λ items is_run reports. told.answers begun.initial items begun.is_read is_run reports));
+      (told.concludes begun.initial begun.is_read) (λ items is_run reports. told.answers profile begun.initial items begun.is_read is_run reports));
   answer = told.answer;
   begins = (told.begins.0, subst (Appends old new) told.begins.1 appended);
 }
@@ -94,10 +95,10 @@ leaves_same old Write = tt
 leaves_same old Memory = keeps_same old
 
 -- the lines of an accepted session's requests
-pub arrives : (known : Option (List ℕ)) (r : SessionView) (told : Report) (finished : Result Report SessionFault) (old new : Option (List ℕ)) → IsOverText known r → finished ≡ Ok told →
-    fault_of finished ≡ fault_at_end r → IfOk finished (IsReported r) → Appends old new (number_lines (length told.asked)) → Arrives known true old new
-arrives known r told finished old new session is same reported lines =
-    let has = subst (λ o. IfOk o (HasReport (flat_of session.chunks))) is (report_over (flat_of session.chunks) r finished session.over same reported) in
+pub arrives : {profile : Profile} (known : Option (List ℕ)) (r : SessionView) (told : Report) (finished : Result Report SessionFault) (old new : Option (List ℕ)) → IsOverText profile known r → finished ≡ Ok told →
+    fault_of finished ≡ fault_at_end r → IfOk finished (IsReported r) → Appends old new (number_lines (length told.asked)) → Arrives profile known true old new
+arrives {profile} known r told finished old new session is same reported lines =
+    let has = subst (λ o. IfOk o (HasReport profile (flat_of session.chunks))) is (report_over (flat_of session.chunks) r finished session.over same reported) in
     record {
       chunks = session.chunks;
       is_text = session.is_text;
@@ -106,10 +107,10 @@ arrives known r told finished old new session is same reported lines =
     }
 
 -- nothing of a refused one
-pub arrives_not : (known : Option (List ℕ)) (r : SessionView) (at : ℕ) (fault : WireFault) (finished : Result Report SessionFault) (old new : Option (List ℕ)) → IsOverText known r →
-    finished ≡ Err (Wire at fault) → fault_of finished ≡ fault_at_end r → IfErr finished (EndsIn r) → Keeps old new → Arrives known false old new
-arrives_not known r at fault finished old new session is same ends kept =
-    let why = subst (λ o. IfErr o (IsFaultOf (flat_of session.chunks))) is (fault_over (flat_of session.chunks) r finished session.over same ends) in
+pub arrives_not : {profile : Profile} (known : Option (List ℕ)) (r : SessionView) (at : ℕ) (fault : WireFault) (finished : Result Report SessionFault) (old new : Option (List ℕ)) → IsOverText profile known r →
+    finished ≡ Err (Wire at fault) → fault_of finished ≡ fault_at_end r → IfErr finished (EndsIn r) → Keeps old new → Arrives profile known false old new
+arrives_not {profile} known r at fault finished old new session is same ends kept =
+    let why = subst (λ o. IfErr o (IsFaultOf profile (flat_of session.chunks))) is (fault_over (flat_of session.chunks) r finished session.over same ends) in
     record { chunks = session.chunks; is_text = session.is_text; arrival = refused (no_run_of (flat_of session.chunks) why.0 at fault why.1) kept }
 
 -- one more number

@@ -5,11 +5,12 @@ use Rattle.std.specs.Fmt.{decimal}
 use Rattle.std.specs.Io.KnownBytes.{Appends}
 use Rattle.nbd_wire.specs.declared.entry.Entry.{Entry}
 use Rattle.nbd_wire.specs.declared.fault.WireFault.{WireFault}
+use Rattle.nbd_wire.specs.declared.profile.Profile.{Profile}
 use Rattle.nbd_wire.specs.protocol.Captures.{Pair}
-use Rattle.nbd_wire.specs.protocol.Explains.{FitsImage, IsExplained, Start, start_byte}
+use Rattle.nbd_wire.specs.protocol.Explains.{FitsImage, IsExplainedOf, Start, start_byte}
 use Rattle.nbd_wire.specs.protocol.Marks.{Item, pairs}
 use Rattle.nbd_wire.specs.protocol.Reports.{Report, report}
-use Rattle.nbd_wire.specs.protocol.Rules.{IsRun}
+use Rattle.nbd_wire.specs.protocol.Rules.{IsRunOf}
 use Rattle.nbd_wire.specs.protocol.Verdicts.{Passes, request_count}
 use Rattle.nbd_laws.specs.Soundness.{IsSoundReport}
 use Rattle.nbd_judge.proofs.contents.StartLemmas.{no_export}
@@ -78,61 +79,61 @@ nothing_passes r initial sound none =
     nothing_at i e at = absurd (cc)
 
 -- what was found of the report of a run, and written
-ordered : (capture : List Pair) (initial : Start) (wanted : Wanted) (told : Report) (items : List Item) (f : Found) (old new : Option (List ℕ)) → IsRun items → pairs items ≡ capture → report items ≡ told →
-    IsFound told initial f → IsWanted wanted f → Says items initial f → Appends old new (found_text f) → IsOrdered capture initial wanted old new (ordered_of f)
-ordered capture initial wanted told items (found.Order entries) old new is_run has same is fits says appended =
-    order entries.items (subst (λ c. IsExplained c entries.items initial) has says) fits appended
-ordered capture initial wanted told items (found.Unexplained refutation) old new is_run has same is fits says appended =
+ordered : {profile : Profile} (capture : List Pair) (initial : Start) (wanted : Wanted) (told : Report) (items : List Item) (f : Found) (old new : Option (List ℕ)) → IsRunOf profile items → pairs items ≡ capture → report items ≡ told →
+    IsFound told initial f → IsWanted wanted f → Says profile items initial f → Appends old new (found_text f) → IsOrdered profile capture initial wanted old new (ordered_of f)
+ordered {profile} capture initial wanted told items (found.Order entries) old new is_run has same is fits says appended =
+    order entries.items (subst (λ c. IsExplainedOf profile c entries.items initial) has says) fits appended
+ordered {profile} capture initial wanted told items (found.Unexplained refutation) old new is_run has same is fits says appended =
     unexplained items refutation.reads.items refutation.offset is_run has
     (subst (λ r. IsRefutedBy r (start_byte initial) refutation.offset refutation.reads.items) (sym same) is)
-    (subst (λ c. IsUnexplained c initial) has says) appended
-ordered capture initial wanted told items (found.Image n size) old new is_run has same is fits says appended =
+    (subst (λ c. IsUnexplained profile c initial) has says) appended
+ordered {profile} capture initial wanted told items (found.Image n size) old new is_run has same is fits says appended =
     image items n size is_run has (subst (λ (r : Report). IsOtherSize r.export initial n size) (sym same) is) appended
-ordered capture initial wanted told items found.NoneWhole old new is_run has same is fits says appended =
-    none_whole items fits is_run has (subst (λ c. IsUnexplainedBy c initial (arrival (request_count (report items)))) has says) appended
-ordered capture initial wanted told items (found.GaveUp request offset reason) old new is_run has same is fits says appended =
-    gave_up items request offset reason is_run has (subst (λ c. IsUnexplainedBy c initial (arrival (request_count (report items)))) has says) appended
+ordered {profile} capture initial wanted told items found.NoneWhole old new is_run has same is fits says appended =
+    none_whole items fits is_run has (subst (λ c. IsUnexplainedBy profile c initial (arrival (request_count (report items)))) has says) appended
+ordered {profile} capture initial wanted told items (found.GaveUp request offset reason) old new is_run has same is fits says appended =
+    gave_up items request offset reason is_run has (subst (λ c. IsUnexplainedBy profile c initial (arrival (request_count (report items)))) has says) appended
 
 -- the same, where the start may be known
-ordered_from : (capture : List Pair) (known : Option Start) (initial : Start) (wanted : Wanted) (told : Report) (items : List Item) (f : Found) (old new : Option (List ℕ)) → IfSome known (λ s. initial ≡ s) →
-    IsRun items → pairs items ≡ capture → report items ≡ told → IsFound told initial f → IsWanted wanted f → Says items initial f → Appends old new (found_text f) →
-    IsOrderedFrom capture known wanted old new (ordered_of f)
+ordered_from : {profile : Profile} (capture : List Pair) (known : Option Start) (initial : Start) (wanted : Wanted) (told : Report) (items : List Item) (f : Found) (old new : Option (List ℕ)) → IfSome known (λ s. initial ≡ s) →
+    IsRunOf profile items → pairs items ≡ capture → report items ≡ told → IsFound told initial f → IsWanted wanted f → Says profile items initial f → Appends old new (found_text f) →
+    IsOrderedFrom profile capture known wanted old new (ordered_of f)
 ordered_from capture None initial wanted told items f old new is is_run has same found fits says appended = tt
-ordered_from capture (Some start) initial wanted told items f old new is is_run has same found fits says appended =
-    subst (λ s. IsOrdered capture s wanted old new (ordered_of f)) is (ordered capture initial wanted told items f old new is_run has same found fits says appended)
+ordered_from {profile} capture (Some start) initial wanted told items f old new is is_run has same found fits says appended =
+    subst (λ s. IsOrdered profile capture s wanted old new (ordered_of f)) is (ordered capture initial wanted told items f old new is_run has same found fits says appended)
 
-pub orders : (known : Option (List ℕ)) (start : Option Start) (room : ℕ) (beginning : Beginning) (wanted : Wanted) (r : SessionView) (told : Report) (finished : Result Report SessionFault) (f : Found)
+pub orders : {profile : Profile} (known : Option (List ℕ)) (start : Option Start) (room : ℕ) (beginning : Beginning) (wanted : Wanted) (r : SessionView) (told : Report) (finished : Result Report SessionFault) (f : Found)
     (old new : Option (List ℕ)) →
-    IsOverText known r → finished ≡ Ok told → fault_of finished ≡ fault_at_end r → IfOk finished (IsReported r) → (begun : IsBeginningOf start room beginning) → IsReadAs (size_of told.export) begun.initial beginning →
+    IsOverText profile known r → finished ≡ Ok told → fault_of finished ≡ fault_at_end r → IfOk finished (IsReported r) → (begun : IsBeginningOf start room beginning) → IsReadAs (size_of told.export) begun.initial beginning →
     ((initial : Start) → IsReadAs (size_of told.export) initial beginning → IsFound told initial f) → IsWanted wanted f →
-    ((initial : Start) (items : List Item) → IsReadAs (size_of told.export) initial beginning → IsRun items → report items ≡ told → Says items initial f) →
-    Appends old new (found_text f) → Orders known start wanted (ordered_of f) old new
-orders known start room beginning wanted r told finished f old new session is same reported begun is_read found fits says appended =
-    let has : HasReport (flat_of session.chunks) told = subst (λ o. IfOk o (HasReport (flat_of session.chunks))) is (report_over (flat_of session.chunks) r finished session.over same reported) in
+    ((profile : Profile) (initial : Start) (items : List Item) → IsReadAs (size_of told.export) initial beginning → IsRunOf profile items → report items ≡ told → Says profile items initial f) →
+    Appends old new (found_text f) → Orders profile known start wanted (ordered_of f) old new
+orders {profile} known start room beginning wanted r told finished f old new session is same reported begun is_read found fits says appended =
+    let has : HasReport profile (flat_of session.chunks) told = subst (λ o. IfOk o (HasReport profile (flat_of session.chunks))) is (report_over (flat_of session.chunks) r finished session.over same reported) in
     let told_is : report has.items ≡ told = has.same_report has.items has.is_run has.has_pairs in
     record {
       chunks = session.chunks;
       is_text = session.is_text;
       is_ordered = ordered_from (flat_of session.chunks) start begun.initial wanted told has.items f old new begun.is_known has.is_run has.has_pairs told_is
-          (found begun.initial is_read) fits (says begun.initial has.items is_read has.is_run told_is) appended;
+          (found begun.initial is_read) fits (says profile begun.initial has.items is_read has.is_run told_is) appended;
     }
 
 -- the session was refused
-wired : (capture : List Pair) (start : Option Start) (wanted : Wanted) (at : ℕ) (fault : WireFault) (old new : Option (List ℕ)) → IsFaultOf capture (Wire at fault) → Appends old new (line (verdict.Wire at fault)) →
-    IsOrderedFrom capture start wanted old new Refuted
+wired : {profile : Profile} (capture : List Pair) (start : Option Start) (wanted : Wanted) (at : ℕ) (fault : WireFault) (old new : Option (List ℕ)) → IsFaultOf profile capture (Wire at fault) → Appends old new (line (verdict.Wire at fault)) →
+    IsOrderedFrom profile capture start wanted old new Refuted
 wired capture None wanted at fault old new why appended = tt
 wired capture (Some initial) wanted at fault old new why appended = wire why.0 at fault why.1 (no_run_of capture why.0 at fault why.1) appended
 
-pub refuses : (known : Option (List ℕ)) (start : Option Start) (wanted : Wanted) (r : SessionView) (at : ℕ) (fault : WireFault) (finished : Result Report SessionFault) (old new : Option (List ℕ)) → IsOverText known r →
-    finished ≡ Err (Wire at fault) → fault_of finished ≡ fault_at_end r → IfErr finished (EndsIn r) → Appends old new (line (verdict.Wire at fault)) → Orders known start wanted Refuted old new
-refuses known start wanted r at fault finished old new session is same ends appended =
-    let why = subst (λ o. IfErr o (IsFaultOf (flat_of session.chunks))) is (fault_over (flat_of session.chunks) r finished session.over same ends) in
+pub refuses : {profile : Profile} (known : Option (List ℕ)) (start : Option Start) (wanted : Wanted) (r : SessionView) (at : ℕ) (fault : WireFault) (finished : Result Report SessionFault) (old new : Option (List ℕ)) → IsOverText profile known r →
+    finished ≡ Err (Wire at fault) → fault_of finished ≡ fault_at_end r → IfErr finished (EndsIn r) → Appends old new (line (verdict.Wire at fault)) → Orders profile known start wanted Refuted old new
+refuses {profile} known start wanted r at fault finished old new session is same ends appended =
+    let why = subst (λ o. IfErr o (IsFaultOf profile (flat_of session.chunks))) is (fault_over (flat_of session.chunks) r finished session.over same ends) in
     record { chunks = session.chunks; is_text = session.is_text; is_ordered = wired (flat_of session.chunks) start wanted at fault old new why appended }
 
 -- what is said of a report, and of a refused session
 pub told_found : (beginning : Beginning) (wanted : Wanted) (finished : Result Report SessionFault) (told : Report) (f : Found) (answer : Ordered) (text : List ℕ) → finished ≡ Ok told →
     ((initial : Start) → IsReadAs (size_of told.export) initial beginning → IsFound told initial f) → IsWanted wanted f →
-    ((initial : Start) (items : List Item) → IsReadAs (size_of told.export) initial beginning → IsRun items → report items ≡ told → Says items initial f) →
+    ((profile : Profile) (initial : Start) (items : List Item) → IsReadAs (size_of told.export) initial beginning → IsRunOf profile items → report items ≡ told → Says profile items initial f) →
     answer ≡ ordered_of f → text ≡ found_text f → IsToldOf beginning wanted finished answer text
 told_found beginning wanted finished told f answer text is is_found fits says same lines =
     subst (λ q. IsToldOf beginning wanted q answer text) (sym is)
@@ -146,29 +147,29 @@ told_refused beginning wanted at fault finished text is same =
     (subst (IsToldOf beginning wanted (Err (Wire at fault)) Refuted) (sym same) (of_refusal at fault))
 
 -- what was said of a session that has ended
-told_from : (known : Option (List ℕ)) (start : Option Start) (beginning : Beginning) (wanted : Wanted) (r : SessionView) (finished : Result Report SessionFault) (answer : Ordered) (text : List ℕ)
+told_from : {profile : Profile} (known : Option (List ℕ)) (start : Option Start) (beginning : Beginning) (wanted : Wanted) (r : SessionView) (finished : Result Report SessionFault) (answer : Ordered) (text : List ℕ)
     (old new : Option (List ℕ)) →
-    IsOverText known r → fault_of finished ≡ fault_at_end r → IfOk finished (IsReported r) → IfErr finished (EndsIn r) → IsBeginningOf start (room_in finished) beginning →
-    IsToldOf beginning wanted finished answer text → Appends old new text → Orders known start wanted answer old new
+    IsOverText profile known r → fault_of finished ≡ fault_at_end r → IfOk finished (IsReported r) → IfErr finished (EndsIn r) → IsBeginningOf start (room_in finished) beginning →
+    IsToldOf beginning wanted finished answer text → Appends old new text → Orders profile known start wanted answer old new
 told_from known start beginning wanted r _ _ _ old new session same reported ends begun (of_report told f is_found fits says) appended =
     orders known start (size_of told.export) beginning wanted r told (Ok told) f old new session refl same reported begun begun.is_read is_found fits says appended
 told_from known start beginning wanted r _ _ _ old new session same reported ends begun (of_refusal at fault) appended =
     refuses known start wanted r at fault (Err (Wire at fault)) old new session refl same ends appended
 
-orders_told : (known : Option (List ℕ)) (start : Option Start) (wanted : Wanted) (r : SessionView) (finished : Result Report SessionFault) (answer : Ordered) (text : List ℕ)
+orders_told : {profile : Profile} (known : Option (List ℕ)) (start : Option Start) (wanted : Wanted) (r : SessionView) (finished : Result Report SessionFault) (answer : Ordered) (text : List ℕ)
     (old new : Option (List ℕ)) →
-    IsOverText known r → fault_of finished ≡ fault_at_end r → IfOk finished (IsReported r) → IfErr finished (EndsIn r) →
-    IsToldFrom start wanted finished answer text → Appends old new text → Orders known start wanted answer old new
+    IsOverText profile known r → fault_of finished ≡ fault_at_end r → IfOk finished (IsReported r) → IfErr finished (EndsIn r) →
+    IsToldFrom start wanted finished answer text → Appends old new text → Orders profile known start wanted answer old new
 orders_told known start wanted r finished answer text old new session same reported ends told appended =
     told_from known start told.0 wanted r finished answer text old new session same reported ends told.1 told.2 appended
 
 -- and was written
-pub orders_written : (known : Option (List ℕ)) (start : Option Start) (wanted : Wanted) (r : SessionView) (finished : Result Report SessionFault) (answer : Ordered) (text : List ℕ)
+pub orders_written : {profile : Profile} (known : Option (List ℕ)) (start : Option Start) (wanted : Wanted) (r : SessionView) (finished : Result Report SessionFault) (answer : Ordered) (text : List ℕ)
     (old new : Option (List ℕ)) (o : Result Ordered RunFault) →
-    IsOverText known r → fault_of finished ≡ fault_at_end r → IfOk finished (IsReported r) → IfErr finished (EndsIn r) →
-    IsToldFrom start wanted finished answer text → IfOk o (λ ordered. (ordered ≡ answer) × Appends old new text) → IfOk o (λ ordered. Orders known start wanted ordered old new)
-orders_written known start wanted r finished answer text old new (Ok said) session same reported ends told written =
-    subst (λ ordered. Orders known start wanted ordered old new) (sym written.0) (orders_told known start wanted r finished answer text old new session same reported ends told written.1)
+    IsOverText profile known r → fault_of finished ≡ fault_at_end r → IfOk finished (IsReported r) → IfErr finished (EndsIn r) →
+    IsToldFrom start wanted finished answer text → IfOk o (λ ordered. (ordered ≡ answer) × Appends old new text) → IfOk o (λ ordered. Orders profile known start wanted ordered old new)
+orders_written {profile} known start wanted r finished answer text old new (Ok said) session same reported ends told written =
+    subst (λ ordered. Orders profile known start wanted ordered old new) (sym written.0) (orders_told known start wanted r finished answer text old new session same reported ends told written.1)
 orders_written known start wanted r finished answer text old new (Err fault) session same reported ends told written = tt
 
 -- the line of one READ, and that of another count of them

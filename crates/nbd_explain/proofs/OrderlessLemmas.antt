@@ -3,8 +3,9 @@ use Rattle.std.proofs.Common.{◌≡◌, ℕ, List, ◌++◌, sym, subst, Option
 use Rattle.std.specs.Io.KnownBytes.{Appends}
 use Rattle.nbd_wire.specs.declared.entry.Entry.{Entry}
 use Rattle.nbd_wire.specs.declared.fault.WireFault.{WireFault}
+use Rattle.nbd_wire.specs.declared.profile.Profile.{Profile}
 use Rattle.nbd_wire.specs.protocol.Captures.{Pair}
-use Rattle.nbd_wire.specs.protocol.Explains.{IsExplained, Start, start_byte}
+use Rattle.nbd_wire.specs.protocol.Explains.{IsExplainedOf, Start, start_byte}
 use Rattle.nbd_wire.specs.protocol.Reports.{Report, report}
 use Rattle.nbd_wire.specs.protocol.Verdicts.{request_count}
 use Rattle.nbd_session.specs.declared.fault.SessionFault.{SessionFault}
@@ -37,7 +38,7 @@ use Rattle.nbd_explain.specs.Orderless.IsTold.{found, gave_up, image, unexplaine
 use Rattle.nbd_explain.specs.internal.Lines.{Begins, IsFinishOf, IsLineOf, IsToldBySearch, IsToldOfFound, OnWritten}
 
 -- the verdict on an order that explains a capture is a yes
-yes_of : (capture : List Pair) (entries : List Entry) (initial : Start) (v : Verdict) → IsExplained capture entries initial → IsChecked capture entries initial v → IsYes v
+yes_of : {profile : Profile} (capture : List Pair) (entries : List Entry) (initial : Start) (v : Verdict) → IsExplainedOf profile capture entries initial → IsChecked profile capture entries initial v → IsYes v
 yes_of capture entries initial (verdict.Yes a b c) explained judged = tt
 yes_of capture entries initial (verdict.Wire at fault) explained judged =
     absurd (no_run_of capture judged.0 at fault judged.1 explained.items explained.is_run explained.has_pairs)
@@ -46,63 +47,63 @@ yes_of capture entries initial (verdict.Order entry fault) explained judged = ab
 yes_of capture entries initial (verdict.Content request offset) explained judged = absurd (judged.answers explained)
 
 -- what was found of the report of a run, and written
-told_of : (capture : List Pair) (initial : Start) (told : Report) (beginning : Beginning) (f : Found) (first rest : List ℕ) (old new : Option (List ℕ)) → (has : HasReport capture told) →
-    IsReadAs (size_of told.export) initial beginning → IsFound told initial f → IsWanted Any f → Says has.items initial f → IsLineOf told f beginning first → Appends old new (first ++ rest) → IsTold capture initial old new (answer_to f)
-told_of capture initial told beginning (Order entries) first rest old new has is_read is fits says is_line appended =
-    let judged : IsChecked capture entries.items initial is_line.verdict =
-    checked capture entries.items initial (Ok told) is_line.verdict has tt (is_line.concludes initial is_read) (λ items is_run reported. is_line.answers initial items is_read is_run reported) in
-    let explained : IsExplained capture entries.items initial = subst (λ c. IsExplained c entries.items initial) has.has_pairs says in
+told_of : {profile : Profile} (capture : List Pair) (initial : Start) (told : Report) (beginning : Beginning) (f : Found) (first rest : List ℕ) (old new : Option (List ℕ)) → (has : HasReport profile capture told) →
+    IsReadAs (size_of told.export) initial beginning → IsFound told initial f → IsWanted Any f → Says profile has.items initial f → IsLineOf told f beginning first → Appends old new (first ++ rest) → IsTold profile capture initial old new (answer_to f)
+told_of {profile} capture initial told beginning (Order entries) first rest old new has is_read is fits says is_line appended =
+    let judged : IsChecked profile capture entries.items initial is_line.verdict =
+    checked profile capture entries.items initial (Ok told) is_line.verdict has tt (is_line.concludes initial is_read) (λ items is_run reported. is_line.answers profile initial items is_read is_run reported) in
+    let explained : IsExplainedOf profile capture entries.items initial = subst (λ c. IsExplainedOf profile c entries.items initial) has.has_pairs says in
     found entries.items is_line.verdict explained judged (yes_of capture entries.items initial is_line.verdict explained judged)
     (rest, subst (λ text. Appends old new (text ++ rest)) is_line.is_line appended)
-told_of capture initial told beginning (Unexplained refutation) first rest old new has is_read is fits says is_line appended =
+told_of {profile} capture initial told beginning (Unexplained refutation) first rest old new has is_read is fits says is_line appended =
     unexplained has.items refutation.reads.items refutation.offset has.is_run has.has_pairs
     (subst (λ r. IsRefutedBy r (start_byte initial) refutation.offset refutation.reads.items) (sym (has.same_report has.items has.is_run has.has_pairs)) is)
-    (subst (λ c. IsUnexplained c initial) has.has_pairs says) (rest, subst (λ text. Appends old new (text ++ rest)) is_line appended)
+    (subst (λ c. IsUnexplained profile c initial) has.has_pairs says) (rest, subst (λ text. Appends old new (text ++ rest)) is_line appended)
 told_of capture initial told beginning (Image n size) first rest old new has is_read is fits says is_line appended =
     image has.items n size has.is_run has.has_pairs (subst (λ (r : Report). IsOtherSize r.export initial n size) (sym (has.same_report has.items has.is_run has.has_pairs)) is)
     (rest, subst (λ text. Appends old new (text ++ rest)) is_line appended)
 told_of capture initial told beginning NoneWhole first rest old new has is_read is fits says is_line appended = absurd (cc)
-told_of capture initial told beginning (GaveUp request offset reason) first rest old new has is_read is fits says is_line appended =
-    gave_up has.items request offset reason has.is_run has.has_pairs (subst (λ c. IsUnexplainedBy c initial (arrival (request_count (report has.items)))) has.has_pairs says)
+told_of {profile} capture initial told beginning (GaveUp request offset reason) first rest old new has is_read is fits says is_line appended =
+    gave_up has.items request offset reason has.is_run has.has_pairs (subst (λ c. IsUnexplainedBy profile c initial (arrival (request_count (report has.items)))) has.has_pairs says)
     (rest, subst (λ text. Appends old new (text ++ rest)) is_line appended)
 
 -- the same, where the start may be known
-told_from : (capture : List Pair) (known : Option Start) (initial : Start) (told : Report) (beginning : Beginning) (f : Found) (first rest : List ℕ) (old new : Option (List ℕ)) → IfSome known (λ s. initial ≡ s) → (has : HasReport capture told) →
-    IsReadAs (size_of told.export) initial beginning → IsFound told initial f → IsWanted Any f → Says has.items initial f → IsLineOf told f beginning first → Appends old new (first ++ rest) → IsToldFrom capture known old new (answer_to f)
+told_from : {profile : Profile} (capture : List Pair) (known : Option Start) (initial : Start) (told : Report) (beginning : Beginning) (f : Found) (first rest : List ℕ) (old new : Option (List ℕ)) → IfSome known (λ s. initial ≡ s) → (has : HasReport profile capture told) →
+    IsReadAs (size_of told.export) initial beginning → IsFound told initial f → IsWanted Any f → Says profile has.items initial f → IsLineOf told f beginning first → Appends old new (first ++ rest) → IsToldFrom profile capture known old new (answer_to f)
 told_from capture None initial told beginning f first rest old new is_known has is_read is fits says is_line appended = tt
-told_from capture (Some start) initial told beginning f first rest old new is_known has is_read is fits says is_line appended =
-    subst (λ s. IsTold capture s old new (answer_to f)) is_known (told_of capture initial told beginning f first rest old new has is_read is fits says is_line appended)
+told_from {profile} capture (Some start) initial told beginning f first rest old new is_known has is_read is fits says is_line appended =
+    subst (λ s. IsTold profile capture s old new (answer_to f)) is_known (told_of capture initial told beginning f first rest old new has is_read is fits says is_line appended)
 
 -- what the search came to is told
-tells : (known : Option (List ℕ)) (start : Option Start) (told : Report) (finish : IsFinishOf known (Ok told)) (beginning : Beginning) (begun : IsBeginningOf start (size_of told.export) beginning) (answered : Answer) (text : List ℕ) →
-    IsToldOfFound told beginning answered text → OnWritten text (Tells known start answered)
-tells known start told finish beginning begun answered text of = λ old new appended.
+tells : {profile : Profile} (known : Option (List ℕ)) (start : Option Start) (told : Report) (finish : IsFinishOf profile known (Ok told)) (beginning : Beginning) (begun : IsBeginningOf start (size_of told.export) beginning) (answered : Answer) (text : List ℕ) →
+    IsToldOfFound told beginning answered text → OnWritten text (Tells profile known start answered)
+tells {profile} known start told finish beginning begun answered text of = λ old new appended.
     let chunks = finish.over.chunks in
-    let has : HasReport (flat_of chunks) told = report_over (flat_of chunks) finish.session (Ok told) finish.over.over finish.fault finish.report in
-    subst (λ a. Tells known start a old new) (sym of.answer) (record {
+    let has : HasReport profile (flat_of chunks) told = report_over (flat_of chunks) finish.session (Ok told) finish.over.over finish.fault finish.report in
+    subst (λ a. Tells profile known start a old new) (sym of.answer) (record {
       chunks = chunks;
       is_text = finish.over.is_text;
       is_told = told_from (flat_of chunks) start begun.initial told of.kept of.found of.begins.first of.begins.explanation old new begun.is_known has
           (of.copied (size_of told.export) begun.initial begun.is_read) (of.is_found begun.initial begun.is_read) of.fits
-          (of.says begun.initial has.items begun.is_read has.is_run (has.same_report has.items has.is_run has.has_pairs))
+          (of.says profile begun.initial has.items begun.is_read has.is_run (has.same_report has.items has.is_run has.has_pairs))
           of.begins.is_line (subst (Appends old new) of.begins.parts appended);
     })
 
 -- a session that was refused
-wired : (capture : List Pair) (start : Option Start) (at : ℕ) (fault : WireFault) (old new : Option (List ℕ)) → IsFaultOf capture (Wire at fault) → BeginsWithLine (verdict.Wire at fault) old new → IsToldFrom capture start old new No
+wired : {profile : Profile} (capture : List Pair) (start : Option Start) (at : ℕ) (fault : WireFault) (old new : Option (List ℕ)) → IsFaultOf profile capture (Wire at fault) → BeginsWithLine (verdict.Wire at fault) old new → IsToldFrom profile capture start old new No
 wired capture None at fault old new why begins = tt
 wired capture (Some initial) at fault old new why begins = wire why.0 at fault why.1 (no_run_of capture why.0 at fault why.1) begins
 
-refuses : (known : Option (List ℕ)) (start : Option Start) (at : ℕ) (fault : WireFault) (finish : IsFinishOf known (Err (Wire at fault))) (text : List ℕ) →
-    Begins (line (verdict.Wire at fault)) text → OnWritten text (Tells known start No)
-refuses known start at fault finish text begins = λ old new appended.
+refuses : {profile : Profile} (known : Option (List ℕ)) (start : Option Start) (at : ℕ) (fault : WireFault) (finish : IsFinishOf profile known (Err (Wire at fault))) (text : List ℕ) →
+    Begins (line (verdict.Wire at fault)) text → OnWritten text (Tells profile known start No)
+refuses {profile} known start at fault finish text begins = λ old new appended.
     let chunks = finish.over.chunks in
-    let why : IsFaultOf (flat_of chunks) (Wire at fault) = fault_over {A = Report} (flat_of chunks) finish.session (Err (Wire at fault)) finish.over.over finish.fault finish.wire in
+    let why : IsFaultOf profile (flat_of chunks) (Wire at fault) = fault_over {A = Report} (flat_of chunks) finish.session (Err (Wire at fault)) finish.over.over finish.fault finish.wire in
     record { chunks = chunks; is_text = finish.over.is_text; is_told = wired (flat_of chunks) start at fault old new why (begins.0, subst (Appends old new) begins.1 appended) }
 
 -- without an order
-pub searched : (known : Option (List ℕ)) (start : Option Start) (finished : Result Report SessionFault) (finish : IsFinishOf known finished) (beginning : Beginning) (begun : IsBeginningOf start (room_in finished) beginning)
-    (answered : Answer) (text : List ℕ) → IsToldBySearch beginning finished answered text → OnWritten text (Tells known start answered)
+pub searched : {profile : Profile} (known : Option (List ℕ)) (start : Option Start) (finished : Result Report SessionFault) (finish : IsFinishOf profile known finished) (beginning : Beginning) (begun : IsBeginningOf start (room_in finished) beginning)
+    (answered : Answer) (text : List ℕ) → IsToldBySearch beginning finished answered text → OnWritten text (Tells profile known start answered)
 searched known start (Ok told) finish beginning begun answered text of = tells known start told finish beginning begun answered text of
 searched known start (Err (Wire at fault)) finish beginning begun Yes text of = absurd of.0
 searched known start (Err (Wire at fault)) finish beginning begun Open text of = absurd of.0

@@ -2,11 +2,12 @@
 use Rattle.std.specs.Prelude.{◌≡◌, ℕ, zero, suc, List, [], ◌++◌, Bool, true, false, Option, IfSome, codes, length}
 use Rattle.std.specs.Fmt.{decimal}
 use Rattle.std.specs.Io.KnownBytes.{Appends, Keeps}
+use Rattle.nbd_wire.specs.declared.profile.Profile.{Profile}
 use Rattle.nbd_wire.specs.protocol.Captures.{Pair}
 use Rattle.nbd_wire.specs.protocol.Marks.{Item, pairs}
 use Rattle.nbd_wire.specs.protocol.Reports.{report}
-use Rattle.nbd_wire.specs.protocol.Rules.{IsRun}
-use Rattle.nbd_wire.specs.protocol.Within.{IsOfNoRun}
+use Rattle.nbd_wire.specs.protocol.Rules.{IsRunOf}
+use Rattle.nbd_wire.specs.protocol.Within.{IsOfNoRunOf}
 use Rattle.nbd_capture.specs.Capture.{Chunk, IsCaptureText}
 use Rattle.nbd_tool.specs.Runs.{flat_of}
 
@@ -15,16 +16,16 @@ abbrev pub number_lines : ℕ → List ℕ
 number_lines zero = []
 number_lines (suc n) = number_lines n ++ (decimal (suc n) ++ codes "\n")
 
--- some run has these bytes, and the numbers of its requests were written; or no run has them, and nothing was
--- written
-pub data HasArrival (capture : List Pair) (old new : Option (List ℕ)) : Bool → Type 0 where
-  accepted : (items : List Item) → IsRun items → pairs items ≡ capture
+-- some run of the profile has these bytes, and the numbers of its requests were written; or no such run has them, and
+-- nothing was written
+pub data HasArrival (profile : Profile) (capture : List Pair) (old new : Option (List ℕ)) : Bool → Type 0 where
+  accepted : (items : List Item) → IsRunOf profile items → pairs items ≡ capture
       → Appends old new (number_lines (length (report items).asked))
-      → HasArrival capture old new true
-  refused : IsOfNoRun capture → Keeps old new → HasArrival capture old new false
+      → HasArrival profile capture old new true
+  refused : IsOfNoRunOf profile capture → Keeps old new → HasArrival profile capture old new false
 
 -- the same of a capture text
-pub record Arrives (known : Option (List ℕ)) (yes : Bool) (old new : Option (List ℕ)) : Type 0 where
+pub record Arrives (profile : Profile) (known : Option (List ℕ)) (yes : Bool) (old new : Option (List ℕ)) : Type 0 where
   pub chunks : List Chunk
   pub is_text : IfSome known (λ text. IsCaptureText text chunks)
-  pub arrival : HasArrival (flat_of chunks) old new yes
+  pub arrival : HasArrival profile (flat_of chunks) old new yes

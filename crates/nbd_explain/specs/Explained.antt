@@ -1,5 +1,6 @@
 -- What a run of `explain` writes, where the readers and the writer state their bytes.
 use Rattle.std.specs.Prelude.{ℕ, List, Option, Some, None}
+use Rattle.nbd_wire.specs.declared.profile.Profile.{Profile}
 use Rattle.nbd_wire.specs.protocol.Explains.{Start}
 use Rattle.nbd_judge.specs.declared.verdict.Verdict.{Verdict}
 use Rattle.nbd_tool.specs.declared.fault.RunFault.{RunFault}
@@ -16,21 +17,21 @@ use Rattle.nbd_explain.specs.Orderless.{BeginsWith, Tells}
 abbrev pub BeginsWithLine : Verdict → (old new : Option (List ℕ)) → Type 0
 BeginsWithLine verdict old new = BeginsWith (line verdict) old new
 
--- the whole line of one verdict was written, and some text behind it; yes was answered exactly where the verdict is a
--- yes, and else no
-pub record Explains (capture order : Option (List ℕ)) (initial : Option Start) (answered : Answer)
+-- the whole line of one verdict of the profile was written, and some text behind it; yes was answered exactly where the
+-- verdict is a yes, and else no
+pub record Explains (profile : Profile) (capture order : Option (List ℕ)) (initial : Option Start) (answered : Answer)
     (old new : Option (List ℕ)) : Type 0 where
   pub verdict : Verdict
-  pub is_verdict : IsVerdictOn capture order initial verdict
+  pub is_verdict : IsVerdictOn profile capture order initial verdict
   pub answer : IsAnswerTo verdict answered
   pub begins : BeginsWithLine verdict old new
 
 -- the same, where an order is given; else what looking for one came to
-abbrev pub IsExplained : {O : Type 0} → (O → Option (List ℕ)) → Option (List ℕ) → Option O → Option Start → Answer
-    → (old new : Option (List ℕ)) → Type 0
-IsExplained remaining capture (Some order) initial answer old new =
-    Explains capture (remaining order) initial answer old new
-IsExplained remaining capture None initial answer old new = Tells capture initial answer old new
+abbrev pub IsExplained : {O : Type 0} → Profile → (O → Option (List ℕ)) → Option (List ℕ) → Option O → Option Start
+    → Answer → (old new : Option (List ℕ)) → Type 0
+IsExplained profile remaining capture (Some order) initial answer old new =
+    Explains profile capture (remaining order) initial answer old new
+IsExplained profile remaining capture None initial answer old new = Tells profile capture initial answer old new
 
 -- an order that is given has no more bytes than an input may have
 abbrev pub IsOrderWithinLimit : {O : Type 0} → (O → Option (List ℕ)) → Option O → Type 0

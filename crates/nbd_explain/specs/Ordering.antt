@@ -5,17 +5,18 @@ use Rattle.std.specs.Io.KnownBytes.{Appends, Keeps}
 use Rattle.nbd_wire.specs.declared.entry.Entry.{Entry}
 use Rattle.nbd_wire.specs.declared.fault.WireFault.{WireFault}
 use Rattle.nbd_wire.specs.declared.message.Message.{Message}
+use Rattle.nbd_wire.specs.declared.profile.Profile.{Profile}
 use Rattle.nbd_wire.specs.protocol.Captures.{Pair}
-use Rattle.nbd_wire.specs.protocol.Explains.{IsExplained, Start, start_byte}
+use Rattle.nbd_wire.specs.protocol.Explains.{IsExplainedOf, Start, start_byte}
 use Rattle.nbd_wire.specs.protocol.Marks.{Item, pairs}
 use Rattle.nbd_wire.specs.protocol.Reports.{report}
-use Rattle.nbd_wire.specs.protocol.Rules.{IsRun}
+use Rattle.nbd_wire.specs.protocol.Rules.{IsRunOf}
 use Rattle.nbd_wire.specs.protocol.Verdicts.{request_count}
-use Rattle.nbd_wire.specs.protocol.Within.{IsOfNoRun}
+use Rattle.nbd_wire.specs.protocol.Within.{IsOfNoRunOf}
 use Rattle.nbd_capture.specs.Capture.{Chunk, IsCaptureText}
 use Rattle.nbd_capture.specs.Lines.{line_feed}
 use Rattle.nbd_capture.specs.Order.{entry_text}
-use Rattle.nbd_session.specs.Refusals.{IsWireFault}
+use Rattle.nbd_session.specs.Refusals.{IsWireFaultOf}
 use Rattle.nbd_judge.specs.Images.{IsOtherSize}
 use Rattle.nbd_judge.specs.declared.verdict.Verdict.TheVariants.{Wire}
 use Rattle.nbd_judge.specs.declared.verdict.Verdict.TheVariants as verdict
@@ -90,49 +91,49 @@ status_of (Ok Refuted) = 1
 status_of (Ok Open) = 5
 status_of (Err fault) = status fault
 
--- this order does not explain the capture
-abbrev pub IsUnexplainedBy : List Pair → Start → List Entry → Type 0
-IsUnexplainedBy capture initial order = IsExplained capture order initial → ⊥
+-- in the profile this order does not explain the capture
+abbrev pub IsUnexplainedBy : Profile → List Pair → Start → List Entry → Type 0
+IsUnexplainedBy profile capture initial order = IsExplainedOf profile capture order initial → ⊥
 
--- what was written of a capture's bytes from a start, and the answer
-pub data IsOrdered (capture : List Pair) (initial : Start) (wanted : Wanted) (old new : Option (List ℕ)) : Ordered
-    → Type 0 where
+-- what was written of a capture's bytes from a start, and the answer, of the profile
+pub data IsOrdered (profile : Profile) (capture : List Pair) (initial : Start) (wanted : Wanted)
+    (old new : Option (List ℕ)) : Ordered → Type 0 where
   -- an order that explains it, and is one of those that are wanted
-  order : (entries : List Entry) → IsExplained capture entries initial → IsWantedOrder wanted entries
+  order : (entries : List Entry) → IsExplainedOf profile capture entries initial → IsWantedOrder wanted entries
       → Appends old new (entry_lines entries)
-      → IsOrdered capture initial wanted old new IsFound
-  -- no run has these bytes: where and why
-  wire : (messages : List Message) (at : ℕ) (fault : WireFault) → IsWireFault capture messages at fault
-      → IsOfNoRun capture
-      → Appends old new (line (Wire at fault)) → IsOrdered capture initial wanted old new Refuted
+      → IsOrdered profile capture initial wanted old new IsFound
+  -- no run of the profile has these bytes: where and why
+  wire : (messages : List Message) (at : ℕ) (fault : WireFault) → IsWireFaultOf profile capture messages at fault
+      → IsOfNoRunOf profile capture
+      → Appends old new (line (Wire at fault)) → IsOrdered profile capture initial wanted old new Refuted
   -- the image has another size than the export
-  image : (items : List Item) (image size : ℕ) → IsRun items → pairs items ≡ capture
+  image : (items : List Item) (image size : ℕ) → IsRunOf profile items → pairs items ≡ capture
       → IsOtherSize (report items).export initial image size
-      → Appends old new (line (verdict.Image image size)) → IsOrdered capture initial wanted old new Refuted
+      → Appends old new (line (verdict.Image image size)) → IsOrdered profile capture initial wanted old new Refuted
   -- no order explains it: in each one of these READs has a wrong byte at this offset
-  unexplained : (items : List Item) (reads : List ℕ) (offset : ℕ) → IsRun items → pairs items ≡ capture
-      → IsRefutedBy (report items) (start_byte initial) offset reads → IsUnexplained capture initial
-      → Appends old new (unexplained_line reads offset) → IsOrdered capture initial wanted old new Refuted
+  unexplained : (items : List Item) (reads : List ℕ) (offset : ℕ) → IsRunOf profile items → pairs items ≡ capture
+      → IsRefutedBy (report items) (start_byte initial) offset reads → IsUnexplained profile capture initial
+      → Appends old new (unexplained_line reads offset) → IsOrdered profile capture initial wanted old new Refuted
   -- an order of whole requests was wanted and none was found, which is not proved. That of arrival does not explain it
-  none_whole : (items : List Item) → wanted ≡ Whole → IsRun items → pairs items ≡ capture
-      → IsUnexplainedBy capture initial (arrival (request_count (report items)))
-      → Appends old new none_whole_line → IsOrdered capture initial wanted old new Open
+  none_whole : (items : List Item) → wanted ≡ Whole → IsRunOf profile items → pairs items ≡ capture
+      → IsUnexplainedBy profile capture initial (arrival (request_count (report items)))
+      → Appends old new none_whole_line → IsOrdered profile capture initial wanted old new Open
   -- the search was broken off
-  gave_up : (items : List Item) (request offset : ℕ) (reason : Reason) → IsRun items → pairs items ≡ capture
-      → IsUnexplainedBy capture initial (arrival (request_count (report items)))
-      → Appends old new (gave_up_line request offset reason) → IsOrdered capture initial wanted old new Open
+  gave_up : (items : List Item) (request offset : ℕ) (reason : Reason) → IsRunOf profile items → pairs items ≡ capture
+      → IsUnexplainedBy profile capture initial (arrival (request_count (report items)))
+      → Appends old new (gave_up_line request offset reason) → IsOrdered profile capture initial wanted old new Open
 
 -- the same, where the start is known
-abbrev pub IsOrderedFrom : List Pair → Option Start → Wanted → (old new : Option (List ℕ)) → Ordered → Type 0
-IsOrderedFrom capture (Some initial) wanted old new ordered = IsOrdered capture initial wanted old new ordered
-IsOrderedFrom capture None wanted old new ordered = Unit {0}
+abbrev pub IsOrderedFrom : Profile → List Pair → Option Start → Wanted → (old new : Option (List ℕ)) → Ordered → Type 0
+IsOrderedFrom profile capture (Some initial) wanted old new ordered = IsOrdered profile capture initial wanted old new ordered
+IsOrderedFrom profile capture None wanted old new ordered = Unit {0}
 
 -- the same of a capture text
-pub record Orders (known : Option (List ℕ)) (initial : Option Start) (wanted : Wanted) (ordered : Ordered)
-    (old new : Option (List ℕ)) : Type 0 where
+pub record Orders (profile : Profile) (known : Option (List ℕ)) (initial : Option Start) (wanted : Wanted)
+    (ordered : Ordered) (old new : Option (List ℕ)) : Type 0 where
   pub chunks : List Chunk
   pub is_text : IfSome known (λ text. IsCaptureText text chunks)
-  pub is_ordered : IsOrderedFrom (flat_of chunks) initial wanted old new ordered
+  pub is_ordered : IsOrderedFrom profile (flat_of chunks) initial wanted old new ordered
 
 -- what a fault says of the capture and of the start
 abbrev pub IsOrderingCause : {I : Type 0} → Option (List ℕ) → StartFrom I → RunFault → Type 0

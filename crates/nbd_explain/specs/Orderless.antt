@@ -4,15 +4,16 @@ use Rattle.std.specs.Io.KnownBytes.{Appends}
 use Rattle.nbd_wire.specs.declared.entry.Entry.{Entry}
 use Rattle.nbd_wire.specs.declared.fault.WireFault.{WireFault}
 use Rattle.nbd_wire.specs.declared.message.Message.{Message}
+use Rattle.nbd_wire.specs.declared.profile.Profile.{Profile}
 use Rattle.nbd_wire.specs.protocol.Captures.{Pair}
-use Rattle.nbd_wire.specs.protocol.Explains.{IsExplained, Start, start_byte}
+use Rattle.nbd_wire.specs.protocol.Explains.{IsExplainedOf, Start, start_byte}
 use Rattle.nbd_wire.specs.protocol.Marks.{Item, pairs}
 use Rattle.nbd_wire.specs.protocol.Reports.{report}
-use Rattle.nbd_wire.specs.protocol.Rules.{IsRun}
+use Rattle.nbd_wire.specs.protocol.Rules.{IsRunOf}
 use Rattle.nbd_wire.specs.protocol.Verdicts.{request_count}
-use Rattle.nbd_wire.specs.protocol.Within.{IsOfNoRun}
+use Rattle.nbd_wire.specs.protocol.Within.{IsOfNoRunOf}
 use Rattle.nbd_capture.specs.Capture.{Chunk, IsCaptureText}
-use Rattle.nbd_session.specs.Refusals.{IsWireFault}
+use Rattle.nbd_session.specs.Refusals.{IsWireFaultOf}
 use Rattle.nbd_judge.specs.Captures.{IsChecked}
 use Rattle.nbd_judge.specs.Images.{IsOtherSize}
 use Rattle.nbd_judge.specs.declared.verdict.Verdict.{Verdict}
@@ -35,37 +36,38 @@ abbrev pub found_lines : Verdict → List ℕ
 found_lines verdict = words verdict
     ++ codes "\norder: found, not given; 'nbdcheck order' with the same words writes it\n"
 
--- what was written of a capture's bytes from a start, and the answer
-pub data IsTold (capture : List Pair) (initial : Start) (old new : Option (List ℕ)) : Answer → Type 0 where
+-- what was written of a capture's bytes from a start, and the answer, of the profile
+pub data IsTold (profile : Profile) (capture : List Pair) (initial : Start) (old new : Option (List ℕ)) : Answer
+    → Type 0 where
   -- an order explains it: the line of the yes that is the verdict on that order, and that it was found
-  found : (entries : List Entry) (verdict : Verdict) → IsExplained capture entries initial
-      → IsChecked capture entries initial verdict → IsYes verdict
-      → BeginsWith (found_lines verdict) old new → IsTold capture initial old new Yes
-  -- no run has these bytes: where and why
-  wire : (messages : List Message) (at : ℕ) (fault : WireFault) → IsWireFault capture messages at fault
-      → IsOfNoRun capture
-      → BeginsWith (line (Wire at fault)) old new → IsTold capture initial old new No
+  found : (entries : List Entry) (verdict : Verdict) → IsExplainedOf profile capture entries initial
+      → IsChecked profile capture entries initial verdict → IsYes verdict
+      → BeginsWith (found_lines verdict) old new → IsTold profile capture initial old new Yes
+  -- no run of the profile has these bytes: where and why
+  wire : (messages : List Message) (at : ℕ) (fault : WireFault) → IsWireFaultOf profile capture messages at fault
+      → IsOfNoRunOf profile capture
+      → BeginsWith (line (Wire at fault)) old new → IsTold profile capture initial old new No
   -- the image has another size than the export
-  image : (items : List Item) (image size : ℕ) → IsRun items → pairs items ≡ capture
+  image : (items : List Item) (image size : ℕ) → IsRunOf profile items → pairs items ≡ capture
       → IsOtherSize (report items).export initial image size
-      → BeginsWith (line (Image image size)) old new → IsTold capture initial old new No
+      → BeginsWith (line (Image image size)) old new → IsTold profile capture initial old new No
   -- no order explains it: in each one of these READs has a wrong byte at this offset
-  unexplained : (items : List Item) (reads : List ℕ) (offset : ℕ) → IsRun items → pairs items ≡ capture
-      → IsRefutedBy (report items) (start_byte initial) offset reads → IsUnexplained capture initial
-      → BeginsWith (unexplained_line reads offset) old new → IsTold capture initial old new No
+  unexplained : (items : List Item) (reads : List ℕ) (offset : ℕ) → IsRunOf profile items → pairs items ≡ capture
+      → IsRefutedBy (report items) (start_byte initial) offset reads → IsUnexplained profile capture initial
+      → BeginsWith (unexplained_line reads offset) old new → IsTold profile capture initial old new No
   -- the search was broken off
-  gave_up : (items : List Item) (request offset : ℕ) (reason : Reason) → IsRun items → pairs items ≡ capture
-      → IsUnexplainedBy capture initial (arrival (request_count (report items)))
-      → BeginsWith (gave_up_line request offset reason) old new → IsTold capture initial old new Open
+  gave_up : (items : List Item) (request offset : ℕ) (reason : Reason) → IsRunOf profile items → pairs items ≡ capture
+      → IsUnexplainedBy profile capture initial (arrival (request_count (report items)))
+      → BeginsWith (gave_up_line request offset reason) old new → IsTold profile capture initial old new Open
 
 -- the same, where the start is known
-abbrev pub IsToldFrom : List Pair → Option Start → (old new : Option (List ℕ)) → Answer → Type 0
-IsToldFrom capture (Some initial) old new answer = IsTold capture initial old new answer
-IsToldFrom capture None old new answer = Unit {0}
+abbrev pub IsToldFrom : Profile → List Pair → Option Start → (old new : Option (List ℕ)) → Answer → Type 0
+IsToldFrom profile capture (Some initial) old new answer = IsTold profile capture initial old new answer
+IsToldFrom profile capture None old new answer = Unit {0}
 
 -- the same of a capture text
-pub record Tells (known : Option (List ℕ)) (initial : Option Start) (answer : Answer)
+pub record Tells (profile : Profile) (known : Option (List ℕ)) (initial : Option Start) (answer : Answer)
     (old new : Option (List ℕ)) : Type 0 where
   pub chunks : List Chunk
   pub is_text : IfSome known (λ text. IsCaptureText text chunks)
-  pub is_told : IsToldFrom (flat_of chunks) initial old new answer
+  pub is_told : IsToldFrom profile (flat_of chunks) initial old new answer

@@ -3,37 +3,39 @@ use Rattle.std.specs.Prelude.{◌≡◌, ◌++◌, ℕ, List, Bool, true, false,
 use Rattle.std.specs.Io.KnownBytes.{Appends, Keeps}
 use Rattle.nbd_wire.specs.declared.fault.WireFault.{WireFault}
 use Rattle.nbd_wire.specs.declared.message.Message.{Message}
+use Rattle.nbd_wire.specs.declared.profile.Profile.{Profile}
 use Rattle.nbd_wire.specs.protocol.Captures.{Pair}
 use Rattle.nbd_wire.specs.protocol.Marks.{Item, pairs}
-use Rattle.nbd_wire.specs.protocol.Rules.{IsRun}
-use Rattle.nbd_wire.specs.protocol.Within.{IsOfNoRun}
+use Rattle.nbd_wire.specs.protocol.Rules.{IsRunOf}
+use Rattle.nbd_wire.specs.protocol.Within.{IsOfNoRunOf}
 use Rattle.nbd_capture.specs.Capture.{Chunk, IsCaptureText}
-use Rattle.nbd_session.specs.Refusals.{IsWireFault}
+use Rattle.nbd_session.specs.Refusals.{IsWireFaultOf}
 use Rattle.nbd_judge.specs.declared.verdict.Verdict.TheVariants.{Wire}
 use Rattle.nbd_tool.specs.declared.fault.RunFault.{RunFault}
 use Rattle.nbd_tool.specs.declared.fault.RunFault.TheVariants.{Write, Memory}
 use Rattle.nbd_tool.specs.Runs.{flat_of}
 use Rattle.nbd_tool.specs.Verdicts.{line}
 
--- true of the bytes of some run, false of those of none
-abbrev pub IsSettled : List Pair → Bool → Type 0
-IsSettled capture true = (items : List Item) × IsRun items × (pairs items ≡ capture)
-IsSettled capture false = IsOfNoRun capture
+-- true of the bytes of some run of the profile, false of those of none
+abbrev pub IsSettled : Profile → List Pair → Bool → Type 0
+IsSettled profile capture true = (items : List Item) × IsRunOf profile items × (pairs items ≡ capture)
+IsSettled profile capture false = IsOfNoRunOf profile capture
 
--- the last line: `ok` of the bytes of some run, else where and why they are of none
-pub data IsLastLine (capture : List Pair) : Bool → List ℕ → Type 0 where
-  accepted : IsLastLine capture true (codes "ok\n")
-  refused : (messages : List Message) (at : ℕ) (fault : WireFault) → IsWireFault capture messages at fault
-      → IsLastLine capture false (line (Wire at fault))
+-- the last line: `ok` of the bytes of some run of the profile, else where and why they are of none
+pub data IsLastLine (profile : Profile) (capture : List Pair) : Bool → List ℕ → Type 0 where
+  accepted : IsLastLine profile capture true (codes "ok\n")
+  refused : (messages : List Message) (at : ℕ) (fault : WireFault) → IsWireFaultOf profile capture messages at fault
+      → IsLastLine profile capture false (line (Wire at fault))
 
 -- the same of a capture text, and behind some text the last line was written
-pub record Settles (known : Option (List ℕ)) (yes : Bool) (old new : Option (List ℕ)) : Type 0 where
+pub record Settles (profile : Profile) (known : Option (List ℕ)) (yes : Bool)
+    (old new : Option (List ℕ)) : Type 0 where
   pub chunks : List Chunk
   pub is_text : IfSome known (λ text. IsCaptureText text chunks)
-  pub settled : IsSettled (flat_of chunks) yes
+  pub settled : IsSettled profile (flat_of chunks) yes
   pub front : List ℕ
   pub last : List ℕ
-  pub is_last : IsLastLine (flat_of chunks) yes last
+  pub is_last : IsLastLine profile (flat_of chunks) yes last
   pub appended : Appends old new (front ++ last)
 
 -- nothing was written before a fault, but where the writer failed or memory ran out

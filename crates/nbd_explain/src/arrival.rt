@@ -2,6 +2,7 @@
 
 ghost use Rattle.std.specs.Prelude.{◌≡◌, ◌⊎◌, IfErr, IfOk, OnOk};
 ghost use Rattle.std.specs.Io.KnownBytes.{Appends};
+ghost use Rattle.nbd_wire.specs.declared.profile.Profile.TheVariants.{Base};
 ghost use Rattle.nbd_tool.specs.declared.fault.RunFault.TheVariants.{Memory, Write};
 ghost use Rattle.nbd_explain.specs.Ordering.{LeavesOrdered};
 ghost use Rattle.nbd_tool.specs.Shown.{IsShowCause};
@@ -11,24 +12,47 @@ ghost use Rattle.nbd_explain.specs.Arrival.{Arrives, number_lines};
 use nbd_capture::write_whole;
 use nbd_session::SessionFault;
 use nbd_tool::{RunFault, Unseen, session_over};
+use nbd_wire::Profile;
 use std::alloc::{AllocError, Global};
 use std::io::{BufRead, Write};
 
 /// Reads a capture text to its end, and writes the numbers of its requests, a line each, in the order in which they came:
 /// the order of service of a server that takes one after the other. Answers false, and writes nothing, where the session
-/// was refused. Nothing is written before all numbers are there; after `Write` some of them may stand written.
+/// was refused in the profile `Base`. Nothing is written before all numbers are there; after `Write` some of them may stand
+/// written.
 pub fn run_arrival<C: BufRead + Drop, W: Write>(
     alloc: Global,
     capture: C,
     out: &mut W,
 ) -> Result<bool, RunFault>
     ensures written { IfOk result
-        (λ yes. Arrives (C.remaining capture) yes (W.contents out.old) (W.contents out.new)) }
+        (λ yes. Arrives Base (C.remaining capture) yes (W.contents out.old) (W.contents out.new)) }
     ensures limited { OnOk result (IsWithinLimit (C.remaining capture)) }
     ensures cause { IfErr result (IsShowCause (C.remaining capture)) }
     ensures left { IfErr result (LeavesOrdered (W.contents out.old) (W.contents out.new)) }
 {
-    let session = session_over(alloc, capture, &mut Unseen)?;
+    run_arrival_of(alloc, Profile::Base, capture, out)
+}
+
+/// Reads a capture text to its end, and writes the numbers of its requests, a line each, in the order in which they came:
+/// the order of service of a server that takes one after the other. Answers false, and writes nothing, where the session
+/// was refused in this profile.
+///
+/// An `Err` is a fault of the text, of its reader or of the writer, or out of memory. Nothing is written before all numbers
+/// are there; after `Write` some of them may stand written.
+pub fn run_arrival_of<C: BufRead + Drop, W: Write>(
+    alloc: Global,
+    profile: Profile,
+    capture: C,
+    out: &mut W,
+) -> Result<bool, RunFault>
+    ensures written { IfOk result
+        (λ yes. Arrives profile (C.remaining capture) yes (W.contents out.old) (W.contents out.new)) }
+    ensures limited { OnOk result (IsWithinLimit (C.remaining capture)) }
+    ensures cause { IfErr result (IsShowCause (C.remaining capture)) }
+    ensures left { IfErr result (LeavesOrdered (W.contents out.old) (W.contents out.new)) }
+{
+    let session = session_over(alloc, profile, capture, &mut Unseen)?;
     match session.finish() {
         Ok(transcript) => {
             write_numbers(alloc, transcript.count(), out)?;

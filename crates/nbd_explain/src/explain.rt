@@ -2,6 +2,8 @@
 
 ghost use Rattle.std.specs.Prelude.{◌≡◌, ◌⊎◌, ℕ, List, Option, IfErr, IfOk, IsOk, OnOk};
 ghost use Rattle.std.specs.Io.KnownBytes.{Appends};
+ghost use Rattle.nbd_wire.specs.declared.profile.Profile.{Profile};
+ghost use Rattle.nbd_wire.specs.declared.profile.Profile.TheVariants.{Base};
 ghost use Rattle.nbd_tool.specs.Beginnings.{IsBeginningOf, room_in};
 ghost use Rattle.nbd_tool.specs.declared.fault.RunFault.TheVariants.{ImageRead, Memory, Write};
 ghost use Rattle.nbd_tool.specs.declared.start.Beginning.{Beginning};
@@ -22,12 +24,12 @@ use nbd_story::Story;
 use nbd_tool::{
     Beginning, Measured, RunFault, StartFrom, conclude_from, read_order, read_start, room_of,
 };
-use nbd_wire::Entry;
+use nbd_wire::{Entry, Profile};
 use std::alloc::{AllocError, Global};
 use std::io::{BufRead, Read, Write};
 
 /// Reads a capture text to its end, then an order text and an image, if there are such; writes the line that
-/// `check` writes, and behind it why the answer is no. Without an order it looks for one within these limits: it
+/// `check` writes in the profile `Base`, and behind it why the answer is no. Without an order it looks for one within these limits: it
 /// writes the line that `check` writes of the order that was found, or that with which `order` says that there is none or
 /// that it found none, and behind it what that says.
 ///
@@ -42,7 +44,7 @@ pub fn run_explain<C: BufRead + Drop, O: Read + Drop, I: Measured + Drop, W: Wri
     out: &mut W,
     progress: &mut Progress,
 ) -> Result<Answer, RunFault>
-    ensures written { IfOk result (λ answer. IsExplained O.remaining (C.remaining capture) order
+    ensures written { IfOk result (λ answer. IsExplained Base O.remaining (C.remaining capture) order
         (initial_from I.remaining start) answer (W.contents out.old) (W.contents out.new)) }
     ensures well_formed { OnOk result (IsCapture (C.remaining capture)) }
     ensures limited { OnOk result (IsWithinLimit (C.remaining capture)) }
@@ -51,7 +53,45 @@ pub fn run_explain<C: BufRead + Drop, O: Read + Drop, I: Measured + Drop, W: Wri
     ensures cause { IfErr result (IsExplainCause O.remaining (C.remaining capture) order start) }
     ensures left { IfErr result (LeavesOrdered (W.contents out.old) (W.contents out.new)) }
 {
-    let told = told_over(alloc, capture, order, start, limits, progress)?;
+    run_explain_of(
+        alloc,
+        Profile::Base,
+        capture,
+        order,
+        start,
+        limits,
+        out,
+        progress,
+    )
+}
+
+/// Reads a capture text to its end, then an order text and an image, if there are such; writes the line that
+/// `check` writes in this profile, and behind it why the answer is no. Without an order it looks for one within these
+/// limits: it writes the line that `check` writes of the order that was found, or that with which `order` says that there is
+/// none or that it found none, and behind it what that says.
+///
+/// An `Err` is a fault of a text, of a reader or of the writer, or out of memory. Nothing is written unless all were read
+/// whole and are well formed. After `Write` some of it may stand written. A long search says on `progress` how far it is.
+pub fn run_explain_of<C: BufRead + Drop, O: Read + Drop, I: Measured + Drop, W: Write>(
+    alloc: Global,
+    profile: Profile,
+    capture: C,
+    order: Option<O>,
+    start: StartFrom<I>,
+    limits: Limits,
+    out: &mut W,
+    progress: &mut Progress,
+) -> Result<Answer, RunFault>
+    ensures written { IfOk result (λ answer. IsExplained profile O.remaining (C.remaining capture) order
+        (initial_from I.remaining start) answer (W.contents out.old) (W.contents out.new)) }
+    ensures well_formed { OnOk result (IsCapture (C.remaining capture)) }
+    ensures limited { OnOk result (IsWithinLimit (C.remaining capture)) }
+    ensures order_limited { OnOk result (IsOrderWithinLimit O.remaining order) }
+    ensures start_limited { OnOk result (IsStartWithinLimit I.remaining start) }
+    ensures cause { IfErr result (IsExplainCause O.remaining (C.remaining capture) order start) }
+    ensures left { IfErr result (LeavesOrdered (W.contents out.old) (W.contents out.new)) }
+{
+    let told = told_over(alloc, profile, capture, order, start, limits, progress)?;
     write_told(told, out)
 }
 
@@ -69,14 +109,15 @@ fn write_told<W: Write>(told: (String, Answer), out: &mut W) -> Result<Answer, R
 // What is written of a capture, and the answer.
 fn told_over<C: BufRead + Drop, O: Read + Drop, I: Measured + Drop>(
     alloc: Global,
+    profile: Profile,
     capture: C,
     order: Option<O>,
     start: StartFrom<I>,
     limits: Limits,
     progress: &mut Progress,
 ) -> Result<(String, Answer), RunFault>
-    ensures told { IfOk result (λ told. OnWritten told.0.bytes.items (IsExplained O.remaining (C.remaining capture) order
-        (initial_from I.remaining start) told.1)) }
+    ensures told { IfOk result (λ told. OnWritten told.0.bytes.items (IsExplained profile O.remaining (C.remaining capture)
+        order (initial_from I.remaining start) told.1)) }
     ensures well_formed { OnOk result (IsCapture (C.remaining capture)) }
     ensures limited { OnOk result (IsWithinLimit (C.remaining capture)) }
     ensures order_limited { OnOk result (IsOrderWithinLimit O.remaining order) }
@@ -84,8 +125,8 @@ fn told_over<C: BufRead + Drop, O: Read + Drop, I: Measured + Drop>(
     ensures read { OnOk result (IsExplainCause O.remaining (C.remaining capture) order start Write) }
     ensures cause { IfErr result (IsExplainCause O.remaining (C.remaining capture) order start) }
 {
-    let mut recorder = Recorder::new(alloc);
-    let finished = finished_over(alloc, capture, &mut recorder);
+    let mut recorder = Recorder::of(alloc, profile);
+    let finished = finished_over(alloc, profile, capture, &mut recorder);
     told_after(
         alloc,
         finished,
@@ -107,15 +148,16 @@ fn told_after<O: Read + Drop, I: Measured + Drop>(
     limits: Limits,
     progress: &mut Progress,
 ) -> Result<(String, Answer), RunFault>
-    ensures told { IfOk result (λ told. (known : Option (List ℕ)) → IfOk finished (IsFinishOf known) →
-        OnWritten told.0.bytes.items (IsExplained O.remaining known order (initial_from I.remaining start) told.1)) }
+    ensures told { IfOk result (λ told. (profile : Profile) (known : Option (List ℕ)) → IfOk finished (IsFinishOf profile known) →
+        OnWritten told.0.bytes.items
+        (IsExplained profile O.remaining known order (initial_from I.remaining start) told.1)) }
     ensures order_limited { OnOk result (IsOrderWithinLimit O.remaining order) }
     ensures start_limited { OnOk result (IsStartWithinLimit I.remaining start) }
     ensures finished { OnOk result (IsOk finished) }
     ensures read { OnOk result ((known : Option (List ℕ)) → IsCapture known →
         IsExplainCause O.remaining known order start Write) }
-    ensures cause { IfErr result (λ fault. (known : Option (List ℕ)) → IfOk finished (IsFinishOf known) →
-        IfErr finished (IsCaptureCause known) → IsExplainCause O.remaining known order start fault) }
+    ensures cause { IfErr result (λ fault. (profile : Profile) (known : Option (List ℕ)) →
+        IfOk finished (IsFinishOf profile known) → IfErr finished (IsCaptureCause known) → IsExplainCause O.remaining known order start fault) }
 {
     told_of(alloc, finished?, story, order, start, limits, progress)
 }
@@ -130,8 +172,9 @@ fn told_of<O: Read + Drop, I: Measured + Drop>(
     limits: Limits,
     progress: &mut Progress,
 ) -> Result<(String, Answer), RunFault>
-    ensures told { IfOk result (λ told. (known : Option (List ℕ)) → IsFinishOf known finished →
-        OnWritten told.0.bytes.items (IsExplained O.remaining known order (initial_from I.remaining start) told.1)) }
+    ensures told { IfOk result (λ told. (profile : Profile) (known : Option (List ℕ)) → IsFinishOf profile known finished →
+        OnWritten told.0.bytes.items
+        (IsExplained profile O.remaining known order (initial_from I.remaining start) told.1)) }
     ensures order_limited { OnOk result (IsOrderWithinLimit O.remaining order) }
     ensures start_limited { OnOk result (IsStartWithinLimit I.remaining start) }
     ensures read { OnOk result ((known : Option (List ℕ)) → IsCapture known →
@@ -153,8 +196,8 @@ fn told_with<O: Read + Drop, I: Measured + Drop>(
     mut order: O,
     start: StartFrom<I>,
 ) -> Result<(String, Answer), RunFault>
-    ensures told { IfOk result (λ told. (known : Option (List ℕ)) → IsFinishOf known finished →
-        OnWritten told.0.bytes.items (Explains known (O.remaining order) (initial_from I.remaining start) told.1)) }
+    ensures told { IfOk result (λ told. (profile : Profile) (known : Option (List ℕ)) → IsFinishOf profile known finished →
+        OnWritten told.0.bytes.items (Explains profile known (O.remaining order) (initial_from I.remaining start) told.1)) }
     ensures limited { OnOk result (IsWithinLimit (O.remaining order)) }
     ensures start_limited { OnOk result (IsStartWithinLimit I.remaining start) }
     ensures read { OnOk result (IsOrder (O.remaining order)) }

@@ -1,6 +1,8 @@
 //! The command `show --names`, over any reader and writer.
 
 ghost use Rattle.std.specs.Prelude.{◌≡◌, ◌⊎◌, ℕ, List, Option, IfErr, IfOk, OnOk};
+ghost use Rattle.nbd_wire.specs.declared.profile.Profile.{Profile};
+ghost use Rattle.nbd_wire.specs.declared.profile.Profile.TheVariants.{Base};
 ghost use Rattle.nbd_tool.specs.declared.fault.RunFault.TheVariants.{Memory, Write};
 ghost use Rattle.nbd_tool.specs.Ends.{IsOverText};
 ghost use Rattle.nbd_tool.specs.Runs.{IsCapture};
@@ -14,12 +16,13 @@ use nbd_capture::write_whole;
 use nbd_session::Session;
 use nbd_story::{Story, Told, told_line};
 use nbd_tool::{RunFault, session_over, write_end};
-use nbd_wire::Message;
+use nbd_wire::{Message, Profile};
 use std::alloc::Global;
 use std::io::{BufRead, Write};
 
-/// Reads a capture text to its end, and writes each message that its session accepts in words, a line each, in the order
-/// of their completion, and then `ok`, or where and why the session was refused. Answers true where it was accepted.
+/// Reads a capture text to its end, and writes each message that its session of the profile `Base` accepts in words, a line
+/// each, in the order of their completion, and then `ok`, or where and why the session was refused. Answers true where it was
+/// accepted.
 ///
 /// Nothing is written unless the capture was read whole and is well formed. After `Write` or `Memory` a prefix of the
 /// lines stands written, possibly nothing.
@@ -28,14 +31,37 @@ pub fn run_names<C: BufRead + Drop, W: Write>(
     capture: C,
     out: &mut W,
 ) -> Result<bool, RunFault>
-    ensures answer { IfOk result (λ yes. Settles (C.remaining capture) yes (W.contents out.old) (W.contents out.new)) }
+    ensures answer { IfOk result
+        (λ yes. Settles Base (C.remaining capture) yes (W.contents out.old) (W.contents out.new)) }
     ensures well_formed { OnOk result (IsCapture (C.remaining capture)) }
     ensures limited { OnOk result (IsWithinLimit (C.remaining capture)) }
     ensures cause { IfErr result (IsShowCause (C.remaining capture)) }
     ensures left { IfErr result (KeepsUnread (W.contents out.old) (W.contents out.new)) }
 {
-    let mut recorder = Recorder::new(alloc);
-    let session = session_over(alloc, capture, &mut recorder)?;
+    run_names_of(alloc, Profile::Base, capture, out)
+}
+
+/// Reads a capture text to its end, and writes each message that its session of this profile accepts in words, a line each,
+/// in the order of their completion, and then `ok`, or where and why the session was refused. Answers true where it was
+/// accepted.
+///
+/// An `Err` is a fault of the text, of its reader or of the writer, or out of memory. Nothing is written unless the capture
+/// was read whole and is well formed. After `Write` or `Memory` a prefix of the lines stands written, possibly nothing.
+pub fn run_names_of<C: BufRead + Drop, W: Write>(
+    alloc: Global,
+    profile: Profile,
+    capture: C,
+    out: &mut W,
+) -> Result<bool, RunFault>
+    ensures answer { IfOk result
+        (λ yes. Settles profile (C.remaining capture) yes (W.contents out.old) (W.contents out.new)) }
+    ensures well_formed { OnOk result (IsCapture (C.remaining capture)) }
+    ensures limited { OnOk result (IsWithinLimit (C.remaining capture)) }
+    ensures cause { IfErr result (IsShowCause (C.remaining capture)) }
+    ensures left { IfErr result (KeepsUnread (W.contents out.old) (W.contents out.new)) }
+{
+    let mut recorder = Recorder::of(alloc, profile);
+    let session = session_over(alloc, profile, capture, &mut recorder)?;
     write_names(alloc, session, &mut recorder.story, out)
 }
 
@@ -46,9 +72,10 @@ fn write_names<W: Write>(
     story: &mut Story,
     out: &mut W,
 ) -> Result<bool, RunFault>
-    ensures answer { IfOk result (λ yes. (known : Option (List ℕ)) → IsOverText known session →
-        Settles known yes (W.contents out.old) (W.contents out.new)) }
-    ensures cause { IfErr result (λ fault. (known : Option (List ℕ)) → IsOverText known session → IsShowCause known fault) }
+    ensures answer { IfOk result (λ yes. (profile : Profile) (known : Option (List ℕ)) → IsOverText profile known session →
+        Settles profile known yes (W.contents out.old) (W.contents out.new)) }
+    ensures cause { IfErr result (λ fault. (profile : Profile) (known : Option (List ℕ)) → IsOverText profile known session →
+        IsShowCause known fault) }
     ensures left { IfErr result (KeepsUnread (W.contents out.old) (W.contents out.new)) }
 {
     write_story(alloc, session.messages(), story, out)?;

@@ -2,10 +2,12 @@
 
 ghost use Rattle.std.specs.Prelude.{◌≡◌, ◌⊎◌, ◌++◌, ◌∷◌, List, [], Err, IfErr, IfOk, Ok, OnOk};
 ghost use Rattle.std.specs.Io.KnownBytes.{Appends};
+ghost use Rattle.nbd_wire.specs.declared.profile.Profile.{Profile};
+ghost use Rattle.nbd_wire.specs.declared.profile.Profile.TheVariants.{Base};
 ghost use Rattle.nbd_wire.specs.protocol.Explains as definitions;
 ghost use Rattle.nbd_wire.specs.protocol.Marks.{Item};
 ghost use Rattle.nbd_wire.specs.protocol.Reports.{report};
-ghost use Rattle.nbd_wire.specs.protocol.Rules.{IsRun};
+ghost use Rattle.nbd_wire.specs.protocol.Rules.{IsRunOf};
 ghost use Rattle.nbd_judge.specs.Beginnings.{initial_of};
 ghost use Rattle.nbd_judge.specs.Servable.{size_of};
 ghost use Rattle.nbd_capture.specs.Lines.{line_feed};
@@ -28,7 +30,7 @@ use nbd_tool::{
     Beginning, Line, Measured, RunFault, StartFrom, Unseen, line_of, read_start, room_of,
     session_over,
 };
-use nbd_wire::Entry;
+use nbd_wire::{Entry, Profile};
 use std::alloc::{AllocError, Global};
 use std::io::{BufRead, Write};
 
@@ -56,7 +58,7 @@ pub fn order_status(answer: &Result<Ordered, RunFault>) -> u8
 }
 
 /// Reads a capture text to its end, and then an image, if there is one, and writes an order of service that explains the session
-/// from this start, an entry a line; or a line that says why there is none or that none was found.
+/// from this start in the profile `Base`, an entry a line; or a line that says why there is none or that none was found.
 ///
 /// Nothing is written unless all were read whole and are well formed. After `Write` some of it may stand written. A long search
 /// says on `progress` how far it is.
@@ -68,14 +70,46 @@ pub fn run_order<C: BufRead + Drop, I: Measured + Drop, W: Write>(
     out: &mut W,
     progress: &mut Progress,
 ) -> Result<Ordered, RunFault>
-    ensures written { IfOk result (λ ordered. Orders (C.remaining capture) (initial_from I.remaining start) scope.wanted ordered
-        (W.contents out.old) (W.contents out.new)) }
+    ensures written { IfOk result (λ ordered. Orders Base (C.remaining capture) (initial_from I.remaining start) scope.wanted
+        ordered (W.contents out.old) (W.contents out.new)) }
     ensures limited { OnOk result (IsWithinLimit (C.remaining capture)) }
     ensures start_limited { OnOk result (IsStartWithinLimit I.remaining start) }
     ensures cause { IfErr result (IsOrderingCause (C.remaining capture) start) }
     ensures left { IfErr result (LeavesOrdered (W.contents out.old) (W.contents out.new)) }
 {
-    let session = session_over(alloc, capture, &mut Unseen)?;
+    run_order_of(
+        alloc,
+        Profile::Base,
+        capture,
+        start,
+        scope,
+        out,
+        progress,
+    )
+}
+
+/// Reads a capture text to its end, and then an image, if there is one, and writes an order of service that explains the session
+/// from this start in this profile, an entry a line; or a line that says why there is none or that none was found.
+///
+/// An `Err` is a fault of the text, of a reader or of the writer, or out of memory. Nothing is written unless all were read
+/// whole and are well formed. After `Write` some of it may stand written. A long search says on `progress` how far it is.
+pub fn run_order_of<C: BufRead + Drop, I: Measured + Drop, W: Write>(
+    alloc: Global,
+    profile: Profile,
+    capture: C,
+    start: StartFrom<I>,
+    scope: Scope,
+    out: &mut W,
+    progress: &mut Progress,
+) -> Result<Ordered, RunFault>
+    ensures written { IfOk result (λ ordered. Orders profile (C.remaining capture) (initial_from I.remaining start) scope.wanted
+        ordered (W.contents out.old) (W.contents out.new)) }
+    ensures limited { OnOk result (IsWithinLimit (C.remaining capture)) }
+    ensures start_limited { OnOk result (IsStartWithinLimit I.remaining start) }
+    ensures cause { IfErr result (IsOrderingCause (C.remaining capture) start) }
+    ensures left { IfErr result (LeavesOrdered (W.contents out.old) (W.contents out.new)) }
+{
+    let session = session_over(alloc, profile, capture, &mut Unseen)?;
     let told = told_over(alloc, session.finish(), start, scope, progress)?;
     write_told(told, out)
 }
@@ -164,9 +198,9 @@ pub fn find_order(
     ensures found { IfOk result (λ f. (initial : definitions.Start) →
         IsReadAs (size_of transcript.now.export) initial beginning → IsFound transcript.now initial f) }
     ensures wanted { IfOk result (IsWanted scope.wanted) }
-    ensures says { IfOk result (λ f. (initial : definitions.Start) (items : List Item) →
-        IsReadAs (size_of transcript.now.export) initial beginning → IsRun items → report items ≡ transcript.now →
-        Says items initial f) }
+    ensures says { IfOk result (λ f. (profile : Profile) (initial : definitions.Start) (items : List Item) →
+        IsReadAs (size_of transcript.now.export) initial beginning → IsRunOf profile items →
+        report items ≡ transcript.now → Says profile items initial f) }
 {
     nbd_order::laws::found_is_so();
     match beginning {

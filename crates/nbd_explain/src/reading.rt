@@ -8,7 +8,7 @@ ghost use Rattle.nbd_explain.specs.internal.Lines.{IsFinishOf};
 use nbd_session::{SessionFault, Transcript};
 use nbd_story::Story;
 use nbd_tool::{RunFault, Witness, session_over};
-use nbd_wire::Side;
+use nbd_wire::{Profile, Side};
 use std::alloc::{AllocError, Global};
 use std::io::BufRead;
 
@@ -20,10 +20,10 @@ pub struct Recorder {
 }
 
 impl Recorder {
-    /// It was shown nothing; takes no memory.
-    pub fn new(alloc: Global) -> Recorder {
+    /// It was shown nothing of a session of this profile; takes no memory.
+    pub fn of(alloc: Global, profile: Profile) -> Recorder {
         Recorder {
-            story: Story::new(alloc),
+            story: Story::of(alloc, profile),
         }
     }
 }
@@ -34,17 +34,18 @@ impl Witness for Recorder {
     }
 }
 
-/// Reads a capture text to its end, and finishes its session; the recorder's story then has its messages.
+/// Reads a capture text to its end, and finishes its session of this profile; the recorder's story then has its messages.
 pub fn finished_over<C: BufRead + Drop>(
     alloc: Global,
+    profile: Profile,
     capture: C,
     recorder: &mut Recorder,
 ) -> Result<Result<Transcript, SessionFault>, RunFault>
-    ensures over { IfOk result (IsFinishOf (C.remaining capture)) }
+    ensures over { IfOk result (IsFinishOf profile (C.remaining capture)) }
     ensures limited { OnOk result (IsWithinLimit (C.remaining capture)) }
     ensures cause { IfErr result (IsCaptureCause (C.remaining capture)) }
 {
-    let session = session_over(alloc, capture, recorder)?;
+    let session = session_over(alloc, profile, capture, recorder)?;
     recorder.story.tell(session.messages())?;
     Ok(session.finish())
 }

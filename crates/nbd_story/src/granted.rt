@@ -1,18 +1,38 @@
 //! What to do about a session that has an extension which nbdcheck does not follow.
 
+use crate::story::Story;
 use crate::text::Text;
-use nbd_wire::options;
+use nbd_wire::{Profile, options};
+
+/// How a session is recorded without a request on block status.
+const WITHOUT_STATUS: &str =
+    "record without block status: nbdsh without --base-allocation and add_meta_context, nbdcopy --no-extents; qemu always asks, so serve without structured replies: nbdkit --no-sr";
 
 impl Text {
-    /// Adds which option the server granted, and how a session without it is recorded.
-    pub fn instead(self, option: u32) -> Text {
+    /// Adds which option the server granted last, and how the session is followed further, or recorded without it.
+    pub fn instead(self, story: &Story) -> Text {
         self.say("granted: ")
-            .option(option)
+            .option(story.option)
             .say(", for ")
-            .say(extension(option))
+            .say(extension(story.option))
             .say("\ninstead: ")
-            .say(advice(option))
+            .say(wider(story.option, story.profile))
+            .say(advice(story.option))
             .say("\n")
+    }
+
+    /// Adds how a session is recorded without a request on block status.
+    pub fn without_status(self) -> Text {
+        self.say("instead: ").say(WITHOUT_STATUS).say("\n")
+    }
+}
+
+// In which profile an option is followed that is not in this one.
+fn wider(option: u32, profile: Profile) -> &'static str {
+    match option {
+        options::LIST_META_CONTEXT | options::SET_META_CONTEXT if profile == Profile::Base =>
+            "try --profile wide, which follows the negotiation of metadata contexts, though not block status yet; or ",
+        _ => "",
     }
 }
 
@@ -34,8 +54,7 @@ fn advice(option: u32) -> &'static str {
             "record without TLS: a client of nbd: in place of nbds:, qemu without tls-creds, nbdkit --tls=off",
         options::LIST_META_CONTEXT =>
             "record without listing contexts: nbdinfo --size, nbdsh without opt_list_meta_context; qemu-nbd --list always asks",
-        options::SET_META_CONTEXT =>
-            "record without block status: nbdsh without --base-allocation and add_meta_context, nbdcopy --no-extents; qemu always asks, so serve without structured replies: nbdkit --no-sr",
+        options::SET_META_CONTEXT => WITHOUT_STATUS,
         options::EXTENDED_HEADERS =>
             "record without them: in libnbd h.set_request_extended_headers(False), or a server that has none",
         _ => "record with a client that does not ask for it, or a server that refuses it",

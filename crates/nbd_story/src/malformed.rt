@@ -12,6 +12,16 @@ struct Data<'a> {
     first: u64,
 }
 
+impl<'a> Data<'a> {
+    // What stands behind so many bytes of it.
+    fn behind(self, count: u64) -> Data<'a> {
+        Data {
+            bytes: self.bytes.get(count as usize..).unwrap_or(&[]),
+            first: self.first.saturating_add(count),
+        }
+    }
+}
+
 impl Story {
     // What a message of the negotiation has behind a head of this length. No byte of the other side comes between.
     fn data_of(&self, told: &Told, head: usize) -> Data<'_> {
@@ -57,6 +67,9 @@ impl Text {
     fn bad_option(self, option: u32, data: Data<'_>) -> Text {
         match option {
             options::INFO | options::GO => self.bad_name(data).bad_infos(data),
+            options::LIST_META_CONTEXT | options::SET_META_CONTEXT => self
+                .bad_name(data)
+                .bad_queries(data),
             _ => self
                 .number(
                     "wrong: the option has no data, and there is some from byte ",
@@ -111,10 +124,69 @@ impl Text {
         }
     }
 
+    // A count of queries that is not there whole, or does not fit the queries behind it.
+    fn bad_queries(self, data: Data<'_>) -> Text {
+        let at = number_in(data.bytes, 0, 4).saturating_add(4);
+        if (data.bytes.len() as u64) < at {
+            // The name is told as wrong.
+            return self;
+        }
+        let rest = data.behind(at);
+        if rest.bytes.len() < 4 {
+            self.number(
+                "wrong: the data ends within the count of queries, 4 bytes from byte ",
+                rest.first,
+            )
+            .say(" on\n")
+        } else {
+            self.bad_query(number_in(rest.bytes, 0, 4), rest.behind(4))
+        }
+    }
+
+    // The first of so many queries that is not there whole, or the bytes behind the last one.
+    fn bad_query(self, count: u64, queries: Data<'_>) -> Text {
+        let mut rest = queries;
+        for number in 0..count {
+            let behind = (rest.bytes.len() as u64).saturating_sub(4);
+            let length = number_in(rest.bytes, 0, 4);
+            if rest.bytes.len() < 4 || length > behind {
+                return self.cut_query(number, count, length, rest);
+            }
+            rest = rest.behind(length.saturating_add(4));
+        }
+        self.number("wrong: the count of queries is ", count)
+            .number(", and behind them the data goes on, from byte ", rest.first)
+            .say("\n")
+    }
+
+    // A query behind so many others that is not there whole.
+    fn cut_query(self, before: u64, count: u64, length: u64, query: Data<'_>) -> Text {
+        let text = self
+            .number("wrong: the data has ", before)
+            .number(" of ", count)
+            .say(" queries whole; ");
+        if query.bytes.len() < 4 {
+            text.number(
+                "the data ends within the length of the next, 4 bytes from byte ",
+                query.first,
+            )
+            .say(" on\n")
+        } else {
+            text.number("at byte ", query.first)
+                .number(" the next has the length ", length)
+                .number(
+                    ", and the bytes behind that are ",
+                    (query.bytes.len() as u64).saturating_sub(4),
+                )
+                .say("\n")
+        }
+    }
+
     fn bad_reply(self, kind: u32, data: Data<'_>) -> Text {
         match kind {
             answers::SERVER => self.bad_name(data),
             answers::INFO => self.wrong(info_reason(data.bytes)),
+            answers::META_CONTEXT => self.wrong(context_reason(data.bytes)),
             _ => self.wrong(Some("an ACK has no data")),
         }
     }
@@ -131,6 +203,15 @@ fn info_reason(data: &[u8]) -> Option<&'static str> {
         Some("the data of an info on the export has 12 bytes")
     } else {
         Some("the info on the export lacks HAS_FLAGS (0x1)")
+    }
+}
+
+// Why a context has not its form, or may not be selected.
+fn context_reason(data: &[u8]) -> Option<&'static str> {
+    if data.len() < 4 {
+        Some("its data is shorter than the id of a context, which has 4 bytes")
+    } else {
+        Some("a context that was selected before has the same id")
     }
 }
 

@@ -6,8 +6,8 @@ use crate::recording::Recording;
 use nbd_state::Export;
 use nbd_wire::flags::has_wide;
 use nbd_wire::{
-    AnswerHead, Info, Message, Part, RequestHead, Side, answers, commands, handshake, head_lengths,
-    options, side_of,
+    AnswerHead, Info, Message, Part, Profile, RequestHead, Side, answers, commands, handshake,
+    head_lengths, options, side_of,
 };
 use std::alloc::{AllocError, Global};
 use std::collections::BTreeMap;
@@ -104,6 +104,8 @@ pub fn range(head: &RequestHead) -> Part {
 /// The messages of a session, and its requests.
 #[derive(Drop)]
 pub struct Story {
+    /// What the session is held to.
+    pub profile: Profile,
     /// The bytes of the capture.
     pub recording: Recording,
     /// The messages, in the order of their completion.
@@ -127,9 +129,10 @@ pub struct Story {
 }
 
 impl Story {
-    /// One without a byte and without a message; takes no memory.
-    pub fn new(alloc: Global) -> Story {
+    /// One of a session of this profile, without a byte and without a message; takes no memory.
+    pub fn of(alloc: Global, profile: Profile) -> Story {
         Story {
+            profile,
             recording: Recording::new(alloc),
             told: Vec::new(alloc),
             requests: Vec::new(alloc),

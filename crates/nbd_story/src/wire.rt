@@ -2,9 +2,13 @@
 
 use crate::story::{Story, Told};
 use crate::text::Text;
-use nbd_judge::{Breaker, Rule, wire_rule};
+use nbd_judge::{Breaker, wire_rule};
 use nbd_wire::{Side, WireFault};
 use std::alloc::Global;
+
+/// What is not followed of a request on block status.
+const STATUS: &str =
+    "nbdcheck does not follow block status yet: the request asks for it, and a metadata context is in force.";
 
 /// Who broke a rule where a request was answered before it was whole.
 const EARLY: &str =
@@ -31,18 +35,21 @@ impl Text {
     fn wire_rule(self, fault: WireFault, breaker: &str, story: &Story) -> Text {
         let rule = wire_rule(fault);
         match fault {
-            WireFault::OutOfProfile => self.choice(&rule).instead(story.option),
-            WireFault::ExportTooLarge => self.choice(&rule),
+            WireFault::OutOfProfile if story.is_transmission => self
+                .choice(STATUS, rule.section)
+                .without_status(),
+            WireFault::OutOfProfile => self.choice(rule.sentence, rule.section).instead(story),
+            WireFault::ExportTooLarge => self.choice(rule.sentence, rule.section),
             _ => self.rule(&rule, breaker),
         }
     }
 
     // What nbdcheck does not follow.
-    fn choice(self, rule: &Rule) -> Text {
+    fn choice(self, sentence: &str, section: &str) -> Text {
         self.say("not judged: ")
-            .say(rule.sentence)
+            .say(sentence)
             .say("\nsection: ")
-            .say(rule.section)
+            .say(section)
             .say("\n")
     }
 

@@ -1,6 +1,6 @@
 //! The commands.
 
-use crate::files::{Output, explain_file, explain_files, order_files, write_of};
+use crate::files::{Output, check_files, explain_file, explain_files, order_files, write_of};
 use crate::hints::{tell_of_capture, tell_of_fault};
 use crate::words::command;
 use clap::error::ErrorKind;
@@ -8,7 +8,8 @@ use clap::{ArgMatches, Error};
 use nbd_explain::{explain_status, order_status};
 use nbd_order::{Scope, Wanted};
 use nbd_search::Limits;
-use nbd_tool::{Files, RunFault, StartWord, check_files, complain, hint, start_of, tell};
+use nbd_tool::{Files, RunFault, StartWord, complain, hint, start_of, tell};
+use nbd_wire::Profile;
 use std::{env, io};
 
 /// The exit status of help and of the version.
@@ -67,6 +68,20 @@ fn start_in<'a>(words: &ArgMatches<'a>) -> Option<StartWord<'a>> {
     words.get_str("start").and_then(start_of)
 }
 
+/// The profile that the words name.
+fn profile_in(words: &ArgMatches<'_>) -> Option<Profile> {
+    words.get_str("profile").and_then(profile_of)
+}
+
+/// The profile that a word names, if it names one.
+fn profile_of(word: &str) -> Option<Profile> {
+    match word {
+        "base" => Some(Profile::Base),
+        "wide" => Some(Profile::Wide),
+        _ => None,
+    }
+}
+
 /// Which orders are looked for, and what that may cost, as the words have it.
 fn scope_in(words: &ArgMatches<'_>) -> Option<Scope> {
     let wanted = if words.get_flag("whole") {
@@ -115,10 +130,13 @@ fn check(rt: &HostRuntime, words: &ArgMatches<'_>) -> u8 {
     let Some(start) = start_in(words) else {
         return complain(rt, "fault start", USAGE);
     };
+    let Some(profile) = profile_in(words) else {
+        return complain(rt, "fault profile", USAGE);
+    };
     let capture = words.get_str("CAPTURE").unwrap_or("");
     let order = words.get_str("ORDER").unwrap_or("");
     let mut files = Files::new(rt);
-    let answer = check_files(&mut files, capture, order, start);
+    let answer = check_files(&mut files, profile, capture, order, start);
     let status = reported(&files, &answer, capture, order);
     if matches!(answer, Ok(false)) {
         hint(rt, "'nbdcheck explain' with the same words says why");
@@ -131,12 +149,15 @@ fn explain(rt: &HostRuntime, words: &ArgMatches<'_>) -> u8 {
     let Some(start) = start_in(words) else {
         return complain(rt, "fault start", USAGE);
     };
+    let Some(profile) = profile_in(words) else {
+        return complain(rt, "fault profile", USAGE);
+    };
     let capture = words.get_str("CAPTURE").unwrap_or("");
     let mut files = Files::new(rt);
     let order = words.get_str("ORDER");
     let answer = match order {
-        Some(order) => explain_files(&mut files, capture, order, start),
-        None => explain_file(&mut files, capture, start),
+        Some(order) => explain_files(&mut files, profile, capture, order, start),
+        None => explain_file(&mut files, profile, capture, start),
     };
     if let Err(fault) = &answer {
         files.say(fault);
@@ -155,15 +176,18 @@ fn order(rt: &HostRuntime, words: &ArgMatches<'_>) -> u8 {
     let Some(start) = start_in(words) else {
         return complain(rt, "fault start", USAGE);
     };
+    let Some(profile) = profile_in(words) else {
+        return complain(rt, "fault profile", USAGE);
+    };
     let Some(scope) = scope_in(words) else {
         return complain(rt, "fault limit", USAGE);
     };
     let capture = words.get_str("CAPTURE").unwrap_or("");
     let mut files = Files::new(rt);
     if words.get_flag("arrival") {
-        return number(rt, &mut files, capture);
+        return number(rt, &mut files, profile, capture);
     }
-    let answer = order_files(&mut files, capture, start, scope);
+    let answer = order_files(&mut files, profile, capture, start, scope);
     if let Err(fault) = &answer {
         files.say(fault);
     }
@@ -177,8 +201,8 @@ fn order(rt: &HostRuntime, words: &ArgMatches<'_>) -> u8 {
 }
 
 /// The numbers of the requests in the order in which they came.
-fn number(rt: &HostRuntime, files: &mut Files<'_>, capture: &str) -> u8 {
-    let answer = write_of(files, capture, Output::Numbers);
+fn number(rt: &HostRuntime, files: &mut Files<'_>, profile: Profile, capture: &str) -> u8 {
+    let answer = write_of(files, capture, Output::Numbers(profile));
     if let Ok(false) = answer {
         tell(rt, "no order: the session was refused");
     }
@@ -187,12 +211,15 @@ fn number(rt: &HostRuntime, files: &mut Files<'_>, capture: &str) -> u8 {
 
 /// `nbdcheck show CAPTURE [--names]`.
 fn show(rt: &HostRuntime, words: &ArgMatches<'_>) -> u8 {
+    let Some(profile) = profile_in(words) else {
+        return complain(rt, "fault profile", USAGE);
+    };
     let capture = words.get_str("CAPTURE").unwrap_or("");
     let mut files = Files::new(rt);
     let output = if words.get_flag("names") {
-        Output::Names
+        Output::Names(profile)
     } else {
-        Output::Lines
+        Output::Lines(profile)
     };
     let answer = write_of(&mut files, capture, output);
     reported(&files, &answer, capture, "")

@@ -1,19 +1,43 @@
 //! What is written of the files of a run.
 
-use nbd_explain::{Answer, Ordered, run_arrival, run_explain, run_names, run_order};
+use nbd_explain::{Answer, Ordered, run_arrival_of, run_explain_of, run_names_of, run_order_of};
 use nbd_order::Scope;
 use nbd_search::{Limits, Progress};
 use nbd_tool::{
-    Files, FinalWriter, RunFault, StartWord, open_inputs, open_start, run_make, run_show, terminal,
+    Files, FinalWriter, RunFault, StartWord, open_inputs, open_start, run_check_of, run_make,
+    run_show_of, terminal,
 };
+use nbd_wire::Profile;
 use std::alloc::Global;
 use std::fs::File;
 use std::io;
 use std::io::{BufReader, BufWriter, Write};
 
+/// Opens the files in the order capture, order, image, and then checks the session in this profile.
+pub fn check_files(
+    files: &mut Files<'_>,
+    profile: Profile,
+    capture: &str,
+    order: &str,
+    start: StartWord<'_>,
+) -> Result<bool, RunFault> {
+    let (rt, alloc) = (files.rt, files.rt.alloc());
+    let inputs = open_inputs(files, capture, order, start)?;
+    let capture = BufReader::new(alloc, inputs.capture).map_err(|_| RunFault::Memory)?;
+    run_check_of(
+        alloc,
+        profile,
+        capture,
+        inputs.order,
+        inputs.start,
+        &mut io::writer(rt),
+    )
+}
+
 /// Opens the files as `check` does, and then explains.
 pub fn explain_files(
     files: &mut Files<'_>,
+    profile: Profile,
     capture: &str,
     order: &str,
     start: StartWord<'_>,
@@ -21,8 +45,9 @@ pub fn explain_files(
     let (rt, alloc) = (files.rt, files.rt.alloc());
     let inputs = open_inputs(files, capture, order, start)?;
     let capture = BufReader::new(alloc, inputs.capture).map_err(|_| RunFault::Memory)?;
-    run_explain(
+    run_explain_of(
         alloc,
+        profile,
         capture,
         Some(inputs.order),
         inputs.start,
@@ -35,6 +60,7 @@ pub fn explain_files(
 /// Opens the capture and then the image, if there is one, and explains the session without an order.
 pub fn explain_file(
     files: &mut Files<'_>,
+    profile: Profile,
     capture: &str,
     start: StartWord<'_>,
 ) -> Result<Answer, RunFault> {
@@ -42,8 +68,9 @@ pub fn explain_file(
     let capture = files.open_buffered(capture, RunFault::CaptureRead)?;
     let order: Option<File> = None;
     let start = open_start(files, start)?;
-    run_explain(
+    run_explain_of(
         alloc,
+        profile,
         capture,
         order,
         start,
@@ -56,6 +83,7 @@ pub fn explain_file(
 /// Opens the capture and then the image, if there is one, and looks for an order.
 pub fn order_files(
     files: &mut Files<'_>,
+    profile: Profile,
     capture: &str,
     start: StartWord<'_>,
     scope: Scope,
@@ -63,8 +91,9 @@ pub fn order_files(
     let (rt, alloc) = (files.rt, files.rt.alloc());
     let capture = files.open_buffered(capture, RunFault::CaptureRead)?;
     let start = open_start(files, start)?;
-    run_order(
+    run_order_of(
         alloc,
+        profile,
         capture,
         start,
         scope,
@@ -76,12 +105,12 @@ pub fn order_files(
 /// What is written of a file.
 #[derive(Clone, Copy)]
 pub enum Output {
-    /// The numbers of a capture's requests, in the order in which they came.
-    Numbers,
-    /// A capture's messages as lines of a script.
-    Lines,
-    /// A capture's messages in words.
-    Names,
+    /// The numbers of a capture's requests, in the order in which they came, in this profile.
+    Numbers(Profile),
+    /// A capture's messages as lines of a script, in this profile.
+    Lines(Profile),
+    /// A capture's messages in words, in this profile.
+    Names(Profile),
     /// The capture of a script.
     Capture,
 }
@@ -120,9 +149,9 @@ fn write_to<W: Write>(
     out: &mut W,
 ) -> Result<bool, RunFault> {
     match output {
-        Output::Numbers => run_arrival(alloc, input, out),
-        Output::Lines => run_show(alloc, input, out),
-        Output::Names => run_names(alloc, input, out),
+        Output::Numbers(profile) => run_arrival_of(alloc, profile, input, out),
+        Output::Lines(profile) => run_show_of(alloc, profile, input, out),
+        Output::Names(profile) => run_names_of(alloc, profile, input, out),
         Output::Capture => run_make(alloc, input, out).map(|()| true),
     }
 }

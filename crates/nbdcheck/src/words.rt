@@ -26,13 +26,18 @@ struct Word {
 #[derive(Clone, Copy)]
 enum Form {
     // The name of a file, which may be left out or not.
-    File { is_required: bool },
+    File {
+        is_required: bool,
+    },
     // An option alone.
     Flag,
     // An option and a number.
     Number,
-    // The option that names the start.
-    Start,
+    // An option and what is named so in help; which it is where it is not said.
+    Choice {
+        value: &'static str,
+        usual: &'static str,
+    },
 }
 
 const CAPTURE: Word = Word {
@@ -58,8 +63,21 @@ const ORDER_IF_ANY: Word = Word {
 
 const START: Word = Word {
     name: "start",
-    form: Form::Start,
+    form: Form::Choice {
+        value: "START",
+        usual: "unknown",
+    },
     help: "What the export held at first: unknown, zero or image:PATH",
+    excludes: &[],
+};
+
+const PROFILE: Word = Word {
+    name: "profile",
+    form: Form::Choice {
+        value: "PROFILE",
+        usual: "base",
+    },
+    help: "What the session is held to: base, or wide, which also follows metadata contexts",
     excludes: &[],
 };
 
@@ -110,25 +128,25 @@ const COMMANDS: &[Told] = &[
         name: "check",
         about: "Did both ends keep the protocol, and did every read return the right bytes?",
         help: CHECK_HELP,
-        words: &[CAPTURE, ORDER, START],
+        words: &[CAPTURE, ORDER, START, PROFILE],
     },
     Told {
         name: "explain",
         about: "Why is the answer no?",
         help: EXPLAIN_HELP,
-        words: &[CAPTURE, ORDER_IF_ANY, START],
+        words: &[CAPTURE, ORDER_IF_ANY, START, PROFILE],
     },
     Told {
         name: "order",
         about: "Finds an order of service that explains a capture",
         help: ORDER_HELP,
-        words: &[CAPTURE, START, WHOLE, ARRIVAL, STATES, STEPS],
+        words: &[CAPTURE, START, PROFILE, WHOLE, ARRIVAL, STATES, STEPS],
     },
     Told {
         name: "show",
         about: "Which messages does a capture hold?",
         help: SHOW_HELP,
-        words: &[CAPTURE, NAMES],
+        words: &[CAPTURE, NAMES, PROFILE],
     },
     Told {
         name: "make",
@@ -280,9 +298,9 @@ fn formed<'a>(argument: Arg<'a>, word: Word) -> Arg<'a> {
         Form::File { is_required } => argument.required(is_required),
         Form::Flag => argument.long(word.name).action(ArgAction::SetTrue),
         Form::Number => argument.long(word.name).value_name("NUMBER"),
-        Form::Start => argument
+        Form::Choice { value, usual } => argument
             .long(word.name)
-            .value_name("START")
-            .default_value("unknown"),
+            .value_name(value)
+            .default_value(usual),
     }
 }

@@ -1,10 +1,11 @@
 -- The text that is made of what looking for an order came to.
 use Rattle.std.specs.Prelude.{◌≡◌, ℕ, List, ◌++◌, Option, Result, Ok, Err, IfOk, IfErr}
 use Rattle.std.specs.Io.KnownBytes.{Appends}
+use Rattle.nbd_wire.specs.declared.profile.Profile.{Profile}
 use Rattle.nbd_wire.specs.protocol.Explains.{Start}
 use Rattle.nbd_wire.specs.protocol.Marks.{Item, pairs}
 use Rattle.nbd_wire.specs.protocol.Reports.{Report, report}
-use Rattle.nbd_wire.specs.protocol.Rules.{IsRun}
+use Rattle.nbd_wire.specs.protocol.Rules.{IsRunOf}
 use Rattle.nbd_session.specs.declared.fault.SessionFault.{SessionFault}
 use Rattle.nbd_session.specs.declared.fault.SessionFault.TheVariants.{Memory, Wire}
 use Rattle.nbd_session.specs.Refusals.{EndsIn}
@@ -37,9 +38,9 @@ pub record HasVerdictLine (told : Report) (entries : List Entry) (beginning : Be
   pub is_line : text ≡ found_lines verdict
   pub concludes : (initial : Start) → IsReadAs (size_of told.export) initial beginning
       → IsConclusion (Ok told) entries initial verdict
-  pub answers : (initial : Start) (items : List Item) → IsReadAs (size_of told.export) initial beginning → IsRun items
-      → IsReportOf items (Ok told)
-      → Answers (pairs items) entries initial verdict
+  pub answers : (profile : Profile) (initial : Start) (items : List Item)
+      → IsReadAs (size_of told.export) initial beginning → IsRunOf profile items → IsReportOf items (Ok told)
+      → Answers profile (pairs items) entries initial verdict
 
 -- the line of what was found: of an order that of the verdict on it, else that of `order`
 abbrev pub IsLineOf : Report → Found → Beginning → List ℕ → Type 0
@@ -64,10 +65,10 @@ Begins first text = (explanation : List ℕ) × (text ≡ first ++ explanation)
 abbrev pub OnWritten : List ℕ → (Option (List ℕ) → Option (List ℕ) → Type 0) → Type 0
 OnWritten text P = (old new : Option (List ℕ)) → Appends old new text → P old new
 
--- what a session over the chunks of a capture text came to at its end
-pub record IsFinishOf (known : Option (List ℕ)) (finished : Result Report SessionFault) : Type 0 where
+-- what a session of the profile over the chunks of a capture text came to at its end
+pub record IsFinishOf (profile : Profile) (known : Option (List ℕ)) (finished : Result Report SessionFault) : Type 0 where
   pub session : SessionView
-  pub over : IsOverText known session
+  pub over : IsOverText profile known session
   pub fault : fault_of finished ≡ fault_at_end session
   pub report : IfOk finished (IsReported session)
   pub wire : IfErr finished (EndsIn session)
@@ -78,9 +79,9 @@ pub record IsToldOn (finished : Result Report SessionFault) (entries : List Entr
   pub verdict : Verdict
   pub concludes : (initial : Start) → IsReadAs (room_in finished) initial beginning
       → IsConclusion finished entries initial verdict
-  pub answers : (initial : Start) (items : List Item) → IsReadAs (room_in finished) initial beginning → IsRun items
-      → IsReportOf items finished
-      → Answers (pairs items) entries initial verdict
+  pub answers : (profile : Profile) (initial : Start) (items : List Item)
+      → IsReadAs (room_in finished) initial beginning → IsRunOf profile items → IsReportOf items finished
+      → Answers profile (pairs items) entries initial verdict
   pub answer : IsAnswerTo verdict answered
   pub begins : Begins (line verdict) text
 
@@ -91,9 +92,9 @@ pub record IsToldOfFound (told : Report) (beginning : Beginning) (answered : Ans
   pub copied : (n : ℕ) (initial : Start) → IsReadAs n initial beginning → IsReadAs n initial kept
   pub is_found : (initial : Start) → IsReadAs (size_of told.export) initial beginning → IsFound told initial found
   pub fits : IsWanted Any found
-  pub says : (initial : Start) (items : List Item) → IsReadAs (size_of told.export) initial beginning → IsRun items
-      → report items ≡ told
-      → Says items initial found
+  pub says : (profile : Profile) (initial : Start) (items : List Item)
+      → IsReadAs (size_of told.export) initial beginning → IsRunOf profile items → report items ≡ told
+      → Says profile items initial found
   pub begins : BeginsWithLineOf told found kept text
   pub answer : answered ≡ answer_to found
 

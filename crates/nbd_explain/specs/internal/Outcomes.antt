@@ -1,10 +1,11 @@
 -- What `order` says of a session that has ended.
 use Rattle.std.specs.Prelude.{◌≡◌, ℕ, List, Option, Result, Ok, Err}
 use Rattle.nbd_wire.specs.declared.fault.WireFault.{WireFault}
+use Rattle.nbd_wire.specs.declared.profile.Profile.{Profile}
 use Rattle.nbd_wire.specs.protocol.Explains.{Start}
 use Rattle.nbd_wire.specs.protocol.Marks.{Item}
 use Rattle.nbd_wire.specs.protocol.Reports.{Report, report}
-use Rattle.nbd_wire.specs.protocol.Rules.{IsRun}
+use Rattle.nbd_wire.specs.protocol.Rules.{IsRunOf}
 use Rattle.nbd_session.specs.declared.fault.SessionFault.{SessionFault}
 use Rattle.nbd_session.specs.declared.fault.SessionFault.TheVariants.{Wire}
 use Rattle.nbd_judge.specs.Servable.{size_of}
@@ -26,9 +27,8 @@ pub data IsToldOf (beginning : Beginning) (wanted : Wanted) : Result Report Sess
   of_report : (told : Report) (f : Found) → ((initial : Start) → IsReadAs (size_of told.export) initial beginning
       → IsFound told initial f)
       → IsWanted wanted f
-      → ((initial : Start) (items : List Item) → IsReadAs (size_of told.export) initial beginning → IsRun items
-      → report items ≡ told
-      → Says items initial f)
+      → ((profile : Profile) (initial : Start) (items : List Item) → IsReadAs (size_of told.export) initial beginning
+      → IsRunOf profile items → report items ≡ told → Says profile items initial f)
       → IsToldOf beginning wanted (Ok told) (ordered_of f) (found_text f)
   of_refusal : (at : ℕ) (fault : WireFault) → IsToldOf beginning wanted (Err (Wire at fault)) Refuted
       (line (verdict.Wire at fault))

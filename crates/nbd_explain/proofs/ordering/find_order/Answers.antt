@@ -11,10 +11,10 @@ use Rattle.nbd_explain.proofs.OrderingLemmas.{counted_other, nothing_passes}
 use Rattle.nbd_explain.proofs.ordering.find_order.Goals as goal
 
 pub returns-in-Some-clause-says : goal.returns-in-Some-clause-says
-returns-in-Some-clause-says c = λ initial items is_read is_run same.
+returns-in-Some-clause-says c = λ profile initial items is_read is_run same.
     says_of c.found_is_so.ensures c.args.transcript.now initial (Image c.in-Longer.image c.in-Some.size)
     (counted_other c.args.transcript.now.export initial c.in-Longer.image c.in-Some.size c.in-Some.field-0-1 c.in-Some.ensures.export
-    (subst (IsReadAs (size_of c.args.transcript.now.export) initial) c.in-Longer.is is_read)) items is_run same
+    (subst (IsReadAs (size_of c.args.transcript.now.export) initial) c.in-Longer.is is_read)) profile items is_run same
 
 pub returns-in-None-clause-found : goal.returns-in-None-clause-found
 returns-in-None-clause-found c = λ initial is_read.
@@ -22,8 +22,8 @@ returns-in-None-clause-found c = λ initial is_read.
     (nothing_passes c.args.transcript.now initial c.export.ensures.facts (sym c.in-None.is ∙ c.export.ensures.export))
 
 pub returns-in-None-clause-says : goal.returns-in-None-clause-says
-returns-in-None-clause-says c = λ initial items is_read is_run same.
-    says_of c.found_is_so.ensures c.args.transcript.now initial (Order c.new.result) (returns-in-None-clause-found c initial is_read) items is_run same
+returns-in-None-clause-says c = λ profile initial items is_read is_run same.
+    says_of c.found_is_so.ensures c.args.transcript.now initial (Order c.new.result) (returns-in-None-clause-found c initial is_read) profile items is_run same
 
 pub returns-in-None-clause-wanted : goal.returns-in-None-clause-wanted
 returns-in-None-clause-wanted c =

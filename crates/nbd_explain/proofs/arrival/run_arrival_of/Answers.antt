@@ -2,7 +2,7 @@ use Rattle.nbd_explain.proofs.ExplainedLemmas.{arrives, arrives_not}
 use Rattle.std.proofs.Common.{subst, rules}
 use Rattle.std.specs.Io.KnownBytes.{Appends}
 use Rattle.nbd_explain.specs.Arrival.{number_lines}
-use Rattle.nbd_explain.proofs.arrival.run_arrival.Goals as goal
+use Rattle.nbd_explain.proofs.arrival.run_arrival_of.Goals as goal
 
 pub returns-in_ok-write_numbers-in-Ok-clause-written : goal.returns-in_ok-write_numbers-in-Ok-clause-written
 returns-in_ok-write_numbers-in-Ok-clause-written g c =
