@@ -12,7 +12,7 @@ impl Text {
             .say(extension(option))
             .say("\ninstead: ")
             .say(advice(option))
-            .say("\n")
+            .end()
     }
 }
 
