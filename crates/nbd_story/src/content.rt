@@ -67,7 +67,7 @@ impl Text {
         };
         text.part_served(entry, " ")
             .number("served by entry ", (place as u64).saturating_add(1))
-            .say("\n")
+            .end()
     }
 
     /// The part that an entry serves, before words; nothing where it serves its request atomically.
@@ -85,7 +85,7 @@ impl Text {
             .number(" for offset ", offset)
             .say(place_of(&came.reply.brief))
             .number("", came.place)
-            .say("\n")
+            .end()
     }
 
     // The byte that the export held at an offset when the entry was reached, and whose change that was.

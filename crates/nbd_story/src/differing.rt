@@ -115,7 +115,7 @@ impl Text {
         for offset in part.offset..end_of(part) {
             expected = expected.known(expected_byte(place, offset, sources));
         }
-        expected.say("\n")
+        expected.end()
     }
 
     // A byte, or two points of one that is not known.

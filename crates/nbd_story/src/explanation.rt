@@ -56,7 +56,7 @@ impl Text {
             .count(image, "byte")
             .say(", the export ")
             .count(size, "byte")
-            .say("\n")
+            .end()
     }
 
     /// Adds a rule, who broke it, and where it stands.
@@ -67,6 +67,6 @@ impl Text {
             .say(breaker)
             .say("\nsection: ")
             .say(rule.section)
-            .say("\n")
+            .end()
     }
 }

@@ -18,7 +18,7 @@ impl Text {
             .say("\ninstead: ")
             .say(wider(story.option, story.profile))
             .say(advice(story.option))
-            .say("\n")
+            .end()
     }
 
     /// Adds how a session is recorded without a request on block status.

@@ -111,7 +111,7 @@ impl Text {
     /// Adds what is wrong, where that is known.
     pub fn wrong(self, reason: Option<&str>) -> Text {
         match reason {
-            Some(reason) => self.say("wrong: ").say(reason).say("\n"),
+            Some(reason) => self.say("wrong: ").say(reason).end(),
             None => self,
         }
     }
@@ -133,7 +133,7 @@ impl Text {
         if has_range(head.command) && !ends_by(head.offset, u64::from(head.length), size) {
             self.say("wrong: its range passes the end of the export of ")
                 .count(size, "byte")
-                .say("\n")
+                .end()
         } else {
             self
         }

@@ -58,7 +58,7 @@ impl Text {
         match option {
             Some(told) => self
                 .told("option: ", told, story)
-                .say("\n")
+                .end()
                 .bad_option(story.option, story.data_of(told, head_lengths::CHOICE)),
             None => self,
         }
@@ -93,7 +93,7 @@ impl Text {
             self.number("wrong: at byte ", data.first)
                 .number(" the name has the length ", length)
                 .number(", and the bytes behind that are ", behind)
-                .say("\n")
+                .end()
         } else {
             self
         }
@@ -120,7 +120,7 @@ impl Text {
                 .number(" the count of infos is ", count)
                 .say(", of 2 bytes each")
                 .number(", and the bytes behind that are ", there - 2)
-                .say("\n")
+                .end()
         }
     }
 

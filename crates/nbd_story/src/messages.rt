@@ -20,7 +20,7 @@ pub fn told_line(alloc: Global, told: &Told, story: &Story) -> Result<String, Al
         Side::Client => text.outcome(story.request_in(told)),
         Side::Server => text,
     };
-    text.say("\n").finish()
+    text.end().finish()
 }
 
 impl Text {

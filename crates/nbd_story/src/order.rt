@@ -116,7 +116,7 @@ impl Text {
                 .number("request ", entry.request)
                 .say("; the capture has ")
                 .count(story.requests.len() as u64, "request")
-                .say("\n"),
+                .end(),
         }
     }
 
@@ -127,7 +127,7 @@ impl Text {
             .request(&request.head, Some(request.number))
             .number("; whole at byte ", request.last);
         match request.replied {
-            Some(first) => text.number(", first reply at byte ", first).say("\n"),
+            Some(first) => text.number(", first reply at byte ", first).end(),
             None => text.say(", no reply\n"),
         }
     }
@@ -150,18 +150,16 @@ impl Text {
     // How much of a range lies inside the export.
     fn range_in(self, range: Part, inside: Part, size: u64) -> Text {
         if inside.length == range.length {
-            self.say(", in the export of ")
-                .count(size, "byte")
-                .say("\n")
+            self.say(", in the export of ").count(size, "byte").end()
         } else if inside.length == 0 {
             self.say(", beyond the end of the export of ")
                 .count(size, "byte")
-                .say("\n")
+                .end()
         } else {
             self.say(", in the export of ")
                 .count(size, "byte")
                 .part(" only ", inside)
-                .say("\n")
+                .end()
         }
     }
 

@@ -35,7 +35,7 @@ impl Text {
             Some(byte) => self
                 .byte("start: ", byte)
                 .number(" at offset ", offset)
-                .say("\n"),
+                .end(),
             None => self,
         }
     }
@@ -54,7 +54,7 @@ impl Text {
 
     fn left(self, byte: Option<u8>) -> Text {
         match byte {
-            Some(byte) => self.byte("left ", byte).say("\n"),
+            Some(byte) => self.byte("left ", byte).end(),
             None => self.say("left a byte that is not known\n"),
         }
     }
@@ -76,7 +76,7 @@ impl Text {
                 .byte("got ", came.byte)
                 .say(place_of(&came.reply.brief))
                 .number("", came.place)
-                .say("\n"),
+                .end(),
             None => self.say("got no byte\n"),
         }
     }

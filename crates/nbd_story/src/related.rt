@@ -39,11 +39,11 @@ impl Text {
         match told.side {
             Side::Server => self
                 .asked("request: ", request)
-                .say("\n")
+                .end()
                 .reason(alloc, fault, told, request, story),
             _ if fault == WireFault::CookieInUse => self
                 .asked("outstanding: ", request)
-                .say("\n")
+                .end()
                 .without_done(request, story),
             _ => self,
         }
@@ -78,7 +78,7 @@ impl Text {
             Some(export) => self
                 .say("export: ")
                 .export(export)
-                .say("\n")
+                .end()
                 .improper(&request.head, export),
             None => self,
         }
@@ -96,7 +96,7 @@ impl Text {
             Some(request) => self
                 .asked("answered before: ", request)
                 .number("; its reply ended at byte ", request.finished.unwrap_or(0))
-                .say("\n"),
+                .end(),
             None => self,
         }
     }
@@ -107,7 +107,7 @@ impl Text {
         let mut listed = 0;
         for request in &story.requests {
             if request.finished.is_none() && listed < LISTED {
-                text = text.asked("outstanding: ", request).say("\n");
+                text = text.asked("outstanding: ", request).end();
                 listed += 1;
             }
         }
@@ -139,7 +139,7 @@ impl Text {
 
     fn content_before(self, told: Option<&Told>, story: &Story) -> Text {
         match told {
-            Some(told) => self.told("content before: ", told, story).say("\n"),
+            Some(told) => self.told("content before: ", told, story).end(),
             None => self,
         }
     }

@@ -24,7 +24,7 @@ impl Text {
         match sources.story.request(number) {
             Some(read) => text
                 .asked("message: ", read)
-                .say("\n")
+                .end()
                 .no_source_of(read, offset, sources),
             None => text,
         }
@@ -46,9 +46,7 @@ impl Text {
     // Why the byte is not that of the start.
     fn not_the_start(self, got: Got<'_>, sources: Sources<'_>) -> Text {
         match byte_at_first(sources.start, got.offset) {
-            Some(byte) if byte != got.came.byte => self
-                .byte("not the start: it had ", byte)
-                .say("\n"),
+            Some(byte) if byte != got.came.byte => self.byte("not the start: it had ", byte).end(),
             _ => self.changed_before(got, sources.story),
         }
     }
@@ -98,7 +96,7 @@ impl Text {
     fn not_from(self, change: &Request, got: Got<'_>, story: &Story) -> Text {
         let text = self.asked("not from: ", change);
         match byte_by(Some(change), got.offset, story) {
-            Some(byte) if byte != got.came.byte => text.byte("; it left ", byte).say("\n"),
+            Some(byte) if byte != got.came.byte => text.byte("; it left ", byte).end(),
             _ => text.overwritten(change_before(Some(change), got, story)),
         }
     }

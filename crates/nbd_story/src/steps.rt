@@ -30,7 +30,7 @@ impl Text {
                 .say(" from")
                 .possible(read, deduced, story)
                 .impossible(read, true, deduced, story)
-                .say("\n");
+                .end();
         }
         text
     }
@@ -151,7 +151,7 @@ impl Text {
             story,
         )
         .group("; so served after this READ: ", step.after, deduced, story)
-        .say("\n")
+        .end()
     }
 
     // Requests at these places, as bits, behind words, where there are some.
@@ -171,6 +171,6 @@ impl Text {
         self.got_by(read, deduced, story)
             .say(" from nothing")
             .impossible(read, false, deduced, story)
-            .say("\n")
+            .end()
     }
 }

@@ -42,6 +42,11 @@ impl Text {
         self
     }
 
+    /// Ends the line.
+    pub fn end(self) -> Text {
+        self.say("\n")
+    }
+
     /// Adds words and a number.
     pub fn number(mut self, words: &str, number: u64) -> Text {
         if !self.is_refused {

@@ -23,7 +23,7 @@ impl Text {
                 text = text.cell(byte, at == place);
             }
         }
-        text.say("\n")
+        text.end()
     }
 
     // A byte behind a space.

@@ -50,7 +50,7 @@ impl Text {
             .say(sentence)
             .say("\nsection: ")
             .say(section)
-            .say("\n")
+            .end()
     }
 
     // The message of the sender that was not complete, and where the capture is cut off that of each side.
@@ -93,12 +93,12 @@ impl Text {
     fn begun(self, told: &Told, story: &Story) -> Text {
         let there = story.recording.bytes_from(told.side, told.before).len() as u64;
         if told.length <= there {
-            self.told("message: ", told, story).say("\n")
+            self.told("message: ", told, story).end()
         } else {
             self.say("message: ")
                 .message(told, story)
                 .cut(told, there)
-                .say("\n")
+                .end()
         }
     }
 
@@ -119,14 +119,14 @@ impl Text {
                 story.recording.place(side, before),
                 story.recording.place(side, end),
             )
-            .say("\n")
+            .end()
             .say(expected)
     }
 
     // The message that came before the fault.
     fn last_told(self, story: &Story) -> Text {
         match story.told.last() {
-            Some(told) => self.told("before it: ", told, story).say("\n"),
+            Some(told) => self.told("before it: ", told, story).end(),
             None => self,
         }
     }

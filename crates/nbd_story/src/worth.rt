@@ -42,7 +42,7 @@ impl Text {
     pub fn further(self, option: &str) -> Text {
         self.say("further: 'nbdcheck order' with the same words and more ")
             .say(option)
-            .say("\n")
+            .end()
     }
 }
 

@@ -1,14 +1,20 @@
 //! The commands.
 
+ghost use Rattle.std.specs.Prelude.{◌≡◌, IsTrue};
+ghost use Rattle.nbd_order.specs.declared.finding.Wanted.TheVariants.{Any, Whole};
+ghost use Rattle.nbd_tool.specs.CommandLine.{exit_status};
+ghost use Rattle.nbd_explain.specs.Answering as answering;
+ghost use Rattle.nbd_explain.specs.Ordering as ordering;
+
 use crate::files::{Output, check_files, explain_file, explain_files, order_files, write_of};
 use crate::hints::{tell_of_capture, tell_of_fault};
 use crate::words::command;
 use clap::error::ErrorKind;
 use clap::{ArgMatches, Error};
-use nbd_explain::{explain_status, order_status};
+use nbd_explain::{Answer, Ordered, explain_status, order_status};
 use nbd_order::{Scope, Wanted};
 use nbd_search::Limits;
-use nbd_tool::{Files, RunFault, StartWord, complain, hint, start_of, tell};
+use nbd_tool::{Files, RunFault, StartWord, complain, exit_status, hint, start_of, tell};
 use nbd_wire::Profile;
 use std::{env, io};
 
@@ -84,17 +90,23 @@ fn profile_of(word: &str) -> Option<Profile> {
 
 /// Which orders are looked for, and what that may cost, as the words have it.
 fn scope_in(words: &ArgMatches<'_>) -> Option<Scope> {
-    let wanted = if words.get_flag("whole") {
-        Wanted::Whole
-    } else {
-        Wanted::Any
-    };
     let usual = Limits::usual();
     let limits = Limits {
         states: number_of(words.get_str("states"), usual.states)?,
         steps: number_of(words.get_str("steps"), usual.steps)?,
     };
-    Some(Scope { wanted, limits })
+    Some(Scope {
+        wanted: wanted_of(words.get_flag("whole")),
+        limits,
+    })
+}
+
+/// Which orders are looked for: of whole requests alone, or any.
+fn wanted_of(is_whole: bool) -> Wanted
+    ensures whole { IsTrue is_whole → result ≡ Whole }
+    ensures any { (IsTrue is_whole → ⊥) → result ≡ Any }
+{
+    if is_whole { Wanted::Whole } else { Wanted::Any }
 }
 
 /// The number that was said, or the usual one where none was; None where it is no number.
@@ -105,20 +117,27 @@ fn number_of(text: Option<&str>, usual: u64) -> Option<u64> {
     }
 }
 
-/// Says what there is to say of the inputs behind an answer, and answers its exit status.
-fn ended(rt: &HostRuntime, status: u8, fault: Option<&RunFault>, capture: &str, order: &str) -> u8 {
+/// Prints a fault, says what there is to say of the inputs, and answers the exit status.
+fn ended(files: &Files<'_>, status: u8, fault: Option<&RunFault>, capture: &str, order: &str) -> u8
+    ensures { result ≡ status }
+{
     match fault {
-        None => tell_of_capture(rt, capture, status == NO),
-        Some(fault) => tell_of_fault(rt, fault, capture, order),
+        None => tell_of_capture(files.rt, capture, status == NO),
+        Some(fault) => {
+            files.say(fault);
+            tell_of_fault(files.rt, fault, capture, order);
+        }
     }
     status
 }
 
-/// Prints a fault, says what there is to say of the inputs, and answers the exit status.
-fn reported(files: &Files<'_>, answer: &Result<bool, RunFault>, capture: &str, order: &str) -> u8 {
+/// The same of an answer that is yes or no.
+fn reported(files: &Files<'_>, answer: &Result<bool, RunFault>, capture: &str, order: &str) -> u8
+    ensures { result ≡ exit_status answer.now }
+{
     ended(
-        files.rt,
-        files.report(answer),
+        files,
+        exit_status(answer),
         answer.as_ref().err(),
         capture,
         order,
@@ -137,9 +156,16 @@ fn check(rt: &HostRuntime, words: &ArgMatches<'_>) -> u8 {
     let order = words.get_str("ORDER").unwrap_or("");
     let mut files = Files::new(rt);
     let answer = check_files(&mut files, profile, capture, order, start);
-    let status = reported(&files, &answer, capture, order);
+    checked(&files, &answer, capture, order)
+}
+
+/// Says what there is to say behind an answer of `check`, and answers the exit status.
+fn checked(files: &Files<'_>, answer: &Result<bool, RunFault>, capture: &str, order: &str) -> u8
+    ensures { result ≡ exit_status answer.now }
+{
+    let status = reported(files, answer, capture, order);
     if matches!(answer, Ok(false)) {
-        hint(rt, "'nbdcheck explain' with the same words says why");
+        hint(files.rt, "'nbdcheck explain' with the same words says why");
     }
     status
 }
@@ -153,22 +179,30 @@ fn explain(rt: &HostRuntime, words: &ArgMatches<'_>) -> u8 {
         return complain(rt, "fault profile", USAGE);
     };
     let capture = words.get_str("CAPTURE").unwrap_or("");
+    explain_from(rt, profile, capture, words.get_str("ORDER"), start)
+}
+
+fn explain_from(
+    rt: &HostRuntime,
+    profile: Profile,
+    capture: &str,
+    order: Option<&str>,
+    start: StartWord<'_>,
+) -> u8 {
     let mut files = Files::new(rt);
-    let order = words.get_str("ORDER");
     let answer = match order {
         Some(order) => explain_files(&mut files, profile, capture, order, start),
         None => explain_file(&mut files, profile, capture, start),
     };
-    if let Err(fault) = &answer {
-        files.say(fault);
-    }
-    ended(
-        rt,
-        explain_status(&answer),
-        answer.as_ref().err(),
-        capture,
-        order.unwrap_or(""),
-    )
+    explained(&files, &answer, capture, order.unwrap_or(""))
+}
+
+/// Says what there is to say behind an answer of `explain`, and answers the exit status.
+fn explained(files: &Files<'_>, answer: &Result<Answer, RunFault>, capture: &str, order: &str) -> u8
+    ensures { result ≡ answering.status_of answer.now }
+{
+    let status = explain_status(answer);
+    ended(files, status, answer.as_ref().err(), capture, order)
 }
 
 /// `nbdcheck order CAPTURE --start START`, or `nbdcheck order CAPTURE --arrival`.
@@ -183,30 +217,41 @@ fn order(rt: &HostRuntime, words: &ArgMatches<'_>) -> u8 {
         return complain(rt, "fault limit", USAGE);
     };
     let capture = words.get_str("CAPTURE").unwrap_or("");
-    let mut files = Files::new(rt);
     if words.get_flag("arrival") {
-        return number(rt, &mut files, profile, capture);
+        number(rt, profile, capture)
+    } else {
+        order_from(rt, profile, capture, start, scope)
     }
+}
+
+fn order_from(
+    rt: &HostRuntime,
+    profile: Profile,
+    capture: &str,
+    start: StartWord<'_>,
+    scope: Scope,
+) -> u8 {
+    let mut files = Files::new(rt);
     let answer = order_files(&mut files, profile, capture, start, scope);
-    if let Err(fault) = &answer {
-        files.say(fault);
-    }
-    ended(
-        rt,
-        order_status(&answer),
-        answer.as_ref().err(),
-        capture,
-        "",
-    )
+    ordered(&files, &answer, capture)
+}
+
+/// Says what there is to say behind an answer of `order`, and answers the exit status.
+fn ordered(files: &Files<'_>, answer: &Result<Ordered, RunFault>, capture: &str) -> u8
+    ensures { result ≡ ordering.status_of answer.now }
+{
+    let status = order_status(answer);
+    ended(files, status, answer.as_ref().err(), capture, "")
 }
 
 /// The numbers of the requests in the order in which they came.
-fn number(rt: &HostRuntime, files: &mut Files<'_>, profile: Profile, capture: &str) -> u8 {
-    let answer = write_of(files, capture, Output::Numbers(profile));
+fn number(rt: &HostRuntime, profile: Profile, capture: &str) -> u8 {
+    let mut files = Files::new(rt);
+    let answer = write_of(&mut files, capture, Output::Numbers(profile));
     if let Ok(false) = answer {
         tell(rt, "no order: the session was refused");
     }
-    reported(files, &answer, capture, "")
+    reported(&files, &answer, capture, "")
 }
 
 /// `nbdcheck show CAPTURE [--names]`.

@@ -1,8 +1,11 @@
 //! A second look at the files of a run, behind the answer. What is no regular file can be read once alone, and is left alone.
 
+ghost use Rattle.std.specs.Prelude.{◌≡◌, ◌-◌, IfSome, length};
+
 use nbd_capture::CaptureReader;
 use nbd_tool::READ_LIMIT;
 use nbd_wire::Side;
+use std::alloc::Global;
 use std::fs;
 use std::fs::File;
 use std::io::{BufRead, BufReader, Read};
@@ -43,7 +46,9 @@ fn begins_as_server(reader: CaptureReader<BufReader<File>>) -> bool {
 }
 
 // What is left of the wanted bytes behind those that came; None where others came.
-fn behind<'a>(wanted: &'a [u8], came: &[u8]) -> Option<&'a [u8]> {
+fn behind<'a>(wanted: &'a [u8], came: &[u8]) -> Option<&'a [u8]>
+    ensures { IfSome result (λ rest. length rest.now ≡ length wanted.now - length came.now) }
+{
     let count = wanted.len().min(came.len());
     if wanted[..count] == came[..count] {
         Some(&wanted[count..])
@@ -68,13 +73,30 @@ fn read_first(rt: &HostRuntime, path: &str, first: &mut [u8]) -> Option<usize> {
 
 /// The line of a file with this number, counted from 1, with the line feed that ends it; empty behind the end.
 pub fn line_of(rt: &HostRuntime, path: &str, number: u64) -> Option<Vec<u8>> {
-    let mut reader = reopened(rt, path)?;
-    for _ in 1..number {
-        reader.skip_until(b'\n').ok()?;
+    match reopened(rt, path) {
+        Some(mut reader) => line_in(rt.alloc(), &mut reader, number),
+        None => None,
     }
-    let mut line = Vec::new(rt.alloc());
-    reader.read_until(b'\n', &mut line).ok()?;
-    Some(line)
+}
+
+// The line with this number of those that are left.
+fn line_in(alloc: Global, reader: &mut BufReader<File>, number: u64) -> Option<Vec<u8>> {
+    let mut line = Vec::new(alloc);
+    if read_line(reader, number, &mut line) {
+        Some(line)
+    } else {
+        None
+    }
+}
+
+// Reads that line, and answers whether nothing failed.
+fn read_line(reader: &mut BufReader<File>, number: u64, line: &mut Vec<u8>) -> bool {
+    for _ in 1..number {
+        if reader.skip_until(b'\n').is_err() {
+            return false;
+        }
+    }
+    reader.read_until(b'\n', line).is_ok()
 }
 
 // Opens a regular file once more.

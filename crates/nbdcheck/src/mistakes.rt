@@ -1,5 +1,8 @@
 //! What is wrong with a line that is malformed.
 
+ghost use Rattle.std.specs.Prelude.{◌≡◌, ◌++◌, ◌∷◌, [], IfOk};
+ghost use Rattle.nbd_capture.specs.Lines.{line_feed};
+
 use std::str;
 
 /// What is wrong with a line, and at which of its bytes, counted from 1, where it is one.
@@ -22,7 +25,9 @@ pub fn order_mistake(line: &[u8]) -> Mistake {
 }
 
 // The line without the line feed, or what is wrong with its end, whatever stands in it.
-fn ended(line: &[u8]) -> Result<&[u8], &'static str> {
+fn ended(line: &[u8]) -> Result<&[u8], &'static str>
+    ensures { IfOk result (λ text. line.now ≡ text.now ++ line_feed ∷ []) }
+{
     match line {
         [.., b'\r', b'\n'] => Err("a carriage return ends the line"),
         [line @ .., b'\n'] => Ok(line),
