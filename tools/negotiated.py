@@ -48,6 +48,14 @@ def cut_queries(data):
     return None if rest else (name, count)
 
 
+def export_of(choice):
+    """The name of an export in an option that names one; else no byte."""
+    number, data = int.from_bytes(choice[8:12], "big"), choice[16:]
+    if number == 1:
+        return data
+    return (cut_name(data) or (b"",))[0] if number in (6, 7, 9, 10) else b""
+
+
 def is_proper(number, data):
     if number in (3, 8):
         return data == b""
@@ -189,12 +197,13 @@ def first_status(records, behind):
     sides = "".join(side * len(data) for side, data in records)
     data = b"".join(data for _, data in records)
     places = [at for at in range(behind, len(data)) if sides[at] == "C"]
-    while len(places) >= 28:
-        head = bytes(data[at] for at in places[:28])
+    first = 0
+    while first + 28 <= len(places):
+        head = bytes(data[at] for at in places[first : first + 28])
         command, length = int.from_bytes(head[6:8], "big"), int.from_bytes(head[24:], "big")
         if command == 7:
-            return places[27] + 1
-        places = [] if command == 2 else places[28 + (length if command == 1 else 0) :]
+            return places[first + 27] + 1
+        first += len(places) if command == 2 else 28 + (length if command == 1 else 0)
     return None
 
 
