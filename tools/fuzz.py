@@ -392,9 +392,15 @@ class Fuzz:
                 self.want(f"negotiated.py in {profile}", line, f"no at byte {told.place}: {told.fault}\n")
             elif place_of(line) and (not told.entered or place_of(line) <= told.behind):
                 raise Wrong(f"negotiated.py in {profile}: {told}, check {line!r}")
-            place = negotiated.first_status(records, told.behind) if told.contexts else None
-            if FOLLOWED == NEGOTIATION and place and (place_of(line) or place + 1) > place:
-                raise Wrong(f"negotiated.py in {profile}: OutOfProfile at {place}, check {line!r}")
+            if FOLLOWED == NEGOTIATION and told.entered:
+                self.compare_status(profile, negotiated.status_in_force(records, told), line)
+
+    def compare_status(self, profile, place, line):
+        """Behind the negotiation a line is OutOfProfile at a BLOCK_STATUS alone, which no line passes by."""
+        refused = place_of(line)
+        is_left_out = line.endswith(": OutOfProfile\n")
+        if is_left_out and refused != place or place and (not refused or refused > place):
+            raise Wrong(f"negotiated.py in {profile}: a BLOCK_STATUS in force at {place}, check {line!r}")
 
     def ask_show(self, capture, _, __):
         shown = self.show(capture)

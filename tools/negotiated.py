@@ -207,6 +207,11 @@ def first_status(records, behind):
     return None
 
 
+def status_in_force(records, found):
+    """Where the head of the first BLOCK_STATUS ends, while a context is in force; else None."""
+    return first_status(records, found.behind) if found.contexts else None
+
+
 def line(records, profile):
     """The line of `check` where the negotiation decides it, or where a BLOCK_STATUS is asked of contexts that are in force; else
     None: it is decided in transmission, by the order, or by the bytes."""
@@ -215,5 +220,5 @@ def line(records, profile):
         return f"no at byte {found.place}: {found.fault}\n"
     if not found.entered:
         return "yes requests 0 answered 0 improper 0\n"
-    place = first_status(records, found.behind) if found.contexts else None
+    place = status_in_force(records, found)
     return place and f"no at byte {place}: OutOfProfile\n"
