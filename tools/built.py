@@ -78,10 +78,11 @@ class Room:
         wrote = b"" if stdout else Path(self.out).read_bytes()
         return Ended(os.waitstatus_to_exitcode(status), wrote, Path(self.err).read_bytes())
 
-    def check(self, capture, order, start="zero", **how):
-        """`check` of these texts."""
+    def check(self, capture, order, start="zero", profile=None, **how):
+        """`check` of these texts, with a profile where one is named."""
         capture, order = self.put("capture", capture), self.put("order", order)
-        return self.run("check", capture, order, "--start", start, **how)
+        words = ["--profile", profile] if profile else []
+        return self.run("check", capture, order, "--start", start, *words, **how)
 
     def show(self, capture, **how):
         return self.run("show", self.put("capture", capture), **how)

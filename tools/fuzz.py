@@ -3,12 +3,13 @@
 
 The sessions are the good ones of examples/, of cases/ and of the tests. Mistakes are made in the bytes, lines and words of
 the text (digits, sides, line ends, cuts), in the messages, by way of `show` and `make` (messages dropped, doubled, swapped,
-fields changed), and in the order. Of every run is asked: an exit status that the command has, with an output and a standard
-error of its form; an end within ten seconds; and no more memory than 16 MiB and ten times the input (`explain` and `order`:
-64 MiB and forty times). And of
+fields changed), and in the order. Some sessions get options on metadata contexts, with answers that are right or odd. Of every
+run is asked: an exit status that the command has, with an output and a standard error of its form; an end within ten seconds;
+and no more memory than 16 MiB and ten times the input (`explain` and `order`: 64 MiB and forty times). And of
 
   check    the same answer as it stands, as records of one byte and as longest runs; where it is yes, a yes of `explain`, and no
-           proof that no order explains the session
+           proof that no order explains the session; in the profile `wide` the same answer as in `base`, unless that is
+           OutOfProfile at an answer to LIST_META_CONTEXT or SET_META_CONTEXT; in both what negotiated.py says of the negotiation
   show     the same lines in these forms; what it accepts is, made and shown again, the same; `--names` has as many lines
   explain  the status and the line of `check`; without an order, those of `order`; the same words in other records
   order    what it finds is accepted by `check`; `--arrival` has the number of each request, or says that the session was refused
@@ -24,9 +25,16 @@ import re
 from collections import Counter
 from pathlib import Path
 
+import negotiated
 from built import PROGRAM, Room, build
 from cases import makes, shows
-from messages import longest_runs, one_by_one, records_of, text
+from cases.contexts import (
+    ALLOCATION, DEPTH, FOLLOWED, NEGOTIATION, NEGOTIATION_TABLE, STATUS_TABLE, STATUSES, ZEROES, ack, error,
+)
+from messages import (
+    DISC, DONE, LIST_META_CONTEXT, META_CONTEXT, SET_META_CONTEXT, answer, context, extents, longest_runs,
+    one_by_one, option, queries, records_of, simple, status, text,
+)
 from test_cases import TABLES, joined
 from test_cuts import SESSIONS, examples
 from test_explain import ORDERLESS
@@ -38,11 +46,15 @@ WORDS = [b"0", b"1", b"2", b"01", b"-1", b"18446744073709551616", b"C", b"S", b"
 FAULTS = ("BadMagic|NotFixedNewstyle|BadClientFlags|OutOfTurn|WrongOption|BadReplyKind|OutOfProfile|BadReplyPayload|"
           "MissingExportInfo|BadExport|ExportTooLarge|CookieInUse|UnknownCookie|SimpleForbidden|ChunkForbidden|BadChunk|"
           "BadContent|IncompleteRead|SuccessOfImproper|BadDisconnect|Unfinished")
+# The faults of `wide` where a BLOCK_STATUS is followed.
+WIDE_FAULTS = FAULTS + ("|IncompleteStatus" if FOLLOWED in (STATUSES, ZEROES) else "")
 YES = r"yes requests \d+ answered \d+ improper \d+\n"
 WIRE = rf"no at byte \d+: ({FAULTS})\n"
 IMAGE = r"no image \d+ size \d+\n"
 NO = (rf"({WIRE}|{IMAGE}|no order entry \d+: (NoSuchRequest|Twice|Late|Missing|BadPart|NotCovered)\n|"
       r"no content request \d+ offset \d+\n)")
+# The same in `wide`.
+WIDE_NO = NO.replace(FAULTS, WIDE_FAULTS).replace("no content", "no (content|status)" if FOLLOWED == ZEROES else "no content")
 NONE = (rf"({WIRE}|{IMAGE}|no content request \d+ offset \d+ in any order\n|"
         r"no order explains requests \d+( \d+)+ at offset \d+\n)")
 GAVE_UP = r"gave up: too many (steps|states) at request \d+ offset \d+\n"
@@ -53,6 +65,7 @@ TOLD = r"([ -~]+\n)*"
 # The output of each command with each exit status that is an answer.
 FORMS = {
     "check": {0: YES, 1: NO},
+    "wide": {0: YES, 1: WIDE_NO},
     "show": {0: f"{MESSAGE}*ok\n", 1: f"{MESSAGE}*{WIRE}"},
     "names": {0: rf"([CS] [ -~]+\n)*ok\n", 1: rf"([CS] [ -~]+\n)*{WIRE}"},
     "explain": {0: YES, 1: f"{NO}{TOLD}"},
@@ -64,6 +77,7 @@ FORMS = {
 # The standard error of a text that is malformed.
 BAD_TEXTS = {
     "check": r"fault (capture|order) line \d+\n",
+    "wide": r"fault (capture|order) line \d+\n",
     "explain": r"fault (capture|order) line \d+\n",
     "make": r"fault script line \d+\n",
 }
@@ -92,6 +106,11 @@ def seeds():
         yield text(one.records), one.order.encode(), bytes(range(int(size))) if kind == "image" else one.start
 
 
+def seeds_with_contexts():
+    for told in STATUS_TABLE + NEGOTIATION_TABLE:
+        yield text(told.records), told.order.encode(), told.start
+
+
 def message_lines(shown):
     """What `show` wrote without its last line."""
     return b"".join(line + b"\n" for line in shown.out.split(b"\n")[:-2])
@@ -104,6 +123,21 @@ def first_line(found):
 def is_exchanged(capture):
     """Whether the client's first bytes in a capture are a server's."""
     return b"".join(data for side, data in records_of(capture) if side == "C").startswith(b"NBDMAGIC")
+
+
+def place_of(line):
+    """Where a session is refused by its bytes; None where it is not."""
+    found = re.fullmatch(r"no at byte (\d+): \w+\n", line)
+    return found and int(found[1])
+
+
+def is_left_out(records, line):
+    """Whether a line of `base` is OutOfProfile at an answer to LIST_META_CONTEXT or SET_META_CONTEXT."""
+    if not line.endswith(": OutOfProfile\n"):
+        return False
+    pairs = [(side, byte) for side, data in records for byte in data][: place_of(line)]
+    head = bytes(byte for side, byte in pairs[-20:] if side == "S")
+    return len(head) == 20 and int.from_bytes(head[8:12], "big") in (LIST_META_CONTEXT, SET_META_CONTEXT)
 
 
 def said(name, status, capture):
@@ -200,6 +234,44 @@ class Mutator:
             lines[at] = b" ".join(fields)
         return b"\n".join(lines)
 
+    def contexts(self, capture):
+        """The session with options on contexts before one of its own options, and at times a status in its transmission."""
+        try:
+            records = records_of(capture)
+        except ValueError:
+            return capture
+        places = [at for at, (side, data) in enumerate(records) if side == "C" and data[:8] == b"IHAVEOPT"]
+        if not places:
+            return capture
+        at = self.chance.choice(places)
+        name = negotiated.export_of(records[self.chance.choice(places[-2:])][1])
+        added = [one for _ in range(self.chance.choice([1, 1, 2, 3])) for one in self.option(name)]
+        statuses = self.status() if self.chance.random() < 0.5 else []
+        last = len(records) - (records[-1][1][6:8] == DISC.to_bytes(2, "big"))
+        return text(records[:at] + added + records[at:last] + statuses + records[last:])
+
+    def option(self, name):
+        """LIST_META_CONTEXT or SET_META_CONTEXT and its answers, which may be odd."""
+        chance, number = self.chance, self.chance.choice([LIST_META_CONTEXT, SET_META_CONTEXT, SET_META_CONTEXT])
+        wanted = chance.choice([(), (ALLOCATION,), (ALLOCATION,), (ALLOCATION, DEPTH), (ALLOCATION, DEPTH)])
+        data = queries(chance.choice([*[name] * 8, b"", b"disk"]), *wanted)
+        if chance.random() < 0.1:
+            data = chance.choice([data[:-1], data + b"x", data[: chance.randrange(len(data))]])
+        ids = chance.sample([0, 1, 2, 2**32 - 1], chance.choice([0, 1, 1, 1, 2, 3]) if wanted else chance.choice([0, 0, 0, 1]))
+        if chance.random() < 0.1:
+            ids += ids[:1]
+        told = [context(one, chance.choice([ALLOCATION, DEPTH, b""]), number) for one in ids]
+        if chance.random() < 0.05:
+            told.append(answer(number, chance.choice([2, 3, META_CONTEXT, 5, 2**31 - 1]), bytes(chance.randrange(4))))
+        end = chance.choice([[ack(number)]] * 14 + [[error(number)]] * 4 + [[answer(number, 1, b"x")], []])
+        return [option(number, data), *told, *end]
+
+    def status(self):
+        """A BLOCK_STATUS, and at times a reply."""
+        cookie, chance = 2**40, self.chance
+        reply = chance.choice([[], [simple(cookie, error=22)], [simple(cookie)], [extents(cookie, 1, (8, 2), flags=DONE)]])
+        return [status(cookie, 0, chance.choice([8, 8, 0, 9])), *reply]
+
     def value(self, name, value):
         if name == "padded":
             return self.chance.choice([b"0", b"1"])
@@ -261,6 +333,11 @@ class Fuzz:
         words = [self.room.put("capture", capture), self.room.put("order", order), "--start", start]
         return self.run(command, command, *words, capture=capture, order=order)
 
+    def wide(self, capture, order, start):
+        """`check` in the wider profile."""
+        words = [self.room.put("capture", capture), self.room.put("order", order), "--start", start, "--profile", "wide"]
+        return self.run("wide", "check", *words, capture=capture, order=order)
+
     def over(self, name, capture, *words):
         """A command over a capture alone."""
         return self.run(name, *words, self.room.put("capture", capture), capture=capture)
@@ -290,13 +367,40 @@ class Fuzz:
 
     def ask_check(self, capture, order, start):
         found = self.judged("check", capture, order, start)
-        if found.status != 3:
+        wide = self.wide(capture, order, start)
+        if found.status == 3:
+            self.want("check in both profiles", wide, found)
+        else:
             self.others(capture, lambda other: self.judged("check", other, order, start), found)
+            self.others(capture, lambda other: self.wide(other, order, start), wide)
+            self.compare(records_of(capture), found.out.decode(), wide.out.decode())
         if found.status == 0:
             searched = self.order(capture, start)
             if searched.status == 1:
                 raise Wrong(f"check {found.out!r}, order {searched.out!r}")
             self.want("explain of a yes", self.judged("explain", capture, order, start), found)
+
+    def compare(self, records, base, wide):
+        """The lines of both profiles, beside each other and beside a reader of negotiations."""
+        if not is_left_out(records, base):
+            self.want("check in wide and in base", wide, base)
+        elif (place_of(wide) or place_of(base)) < place_of(base):
+            raise Wrong(f"check in wide {wide!r}, in base {base!r}")
+        for profile, line in (("base", base), ("wide", wide)):
+            told = negotiated.read(records, profile)
+            if told.fault:
+                self.want(f"negotiated.py in {profile}", line, f"no at byte {told.place}: {told.fault}\n")
+            elif place_of(line) and (not told.entered or place_of(line) <= told.behind):
+                raise Wrong(f"negotiated.py in {profile}: {told}, check {line!r}")
+            if FOLLOWED == NEGOTIATION and told.entered:
+                self.compare_status(profile, negotiated.status_in_force(records, told), line)
+
+    def compare_status(self, profile, place, line):
+        """Behind the negotiation a line is OutOfProfile at a BLOCK_STATUS alone, which no line passes by."""
+        refused = place_of(line)
+        is_left_out = line.endswith(": OutOfProfile\n")
+        if is_left_out and refused != place or place and (not refused or refused > place):
+            raise Wrong(f"negotiated.py in {profile}: a BLOCK_STATUS in force at {place}, check {line!r}")
 
     def ask_show(self, capture, _, __):
         shown = self.show(capture)
@@ -339,10 +443,14 @@ class Fuzz:
         self.want("order --arrival of a refused session", arrived.status == 1, is_wire)
         self.others(capture, lambda other: self.order(other, start), found)
 
-    def session(self, capture, order):
-        """A session with one to four mistakes, in its text or in its messages."""
+    def session(self, capture, order, often):
+        """A session with one to four mistakes, in its text or in its messages; and so often one with options on contexts, which
+        are put in before the mistakes, if there are any, or behind them."""
         mutator = self.mutator
-        for _ in range(mutator.chance.choice([1, 1, 1, 2, 4])):
+        has_options = [mutator.chance.random() < often for _ in range(2)]
+        if has_options[0]:
+            capture = mutator.contexts(capture)
+        for _ in range(mutator.chance.choice([0, 0, 0, 1, 2] if any(has_options) else [1, 1, 1, 2, 4])):
             if mutator.chance.random() < 0.6:
                 shown = self.show(capture)
                 if shown.status < 2:
@@ -350,6 +458,8 @@ class Fuzz:
                     capture = made.out if made.status == 0 else capture
                     continue
             capture = mutator.bytes(capture)
+        if has_options[1]:
+            capture = mutator.contexts(capture)
         if mutator.chance.random() < 0.3:
             order = mutator.order(order)
         return capture, order
@@ -361,11 +471,13 @@ class Fuzz:
 
     def one(self, command, capture, order, start):
         """One session with mistakes, and what is asked of it."""
-        capture, order = self.session(capture, order)
+        capture, order = self.session(capture, order, OFTEN[command])
         getattr(self, f"ask_{command}")(capture, order, start)
 
 
 COMMANDS = ("check", "show", "explain", "order")
+# Of how many sessions of a command metadata contexts are a part: `check` alone has another answer than OutOfProfile for them.
+OFTEN = {"check": 0.4, "show": 0.1, "explain": 0.1, "order": 0.1}
 
 
 def keep(failures, name, room):
@@ -385,16 +497,17 @@ def main():
     words.add_argument("--failures", type=Path, default=Path("fuzz-failures"))
     asked = words.parse_args()
     build()
-    chance, known = random.Random(asked.seed), list(seeds())
+    chance, pools = random.Random(asked.seed), (list(seeds()), list(seeds_with_contexts()))
     # Long sessions are taken more seldom.
-    weights = [1 / (200 + len(capture)) for capture, _, _ in known]
+    weights = [[1 / (200 + len(capture)) for capture, _, _ in pool] for pool in pools]
     commands = [asked.command] if asked.command else COMMANDS
     failed = 0
     with Room(seconds=10) as room:
         fuzz = Fuzz(room, chance)
         for number in range(asked.count):
             command = commands[number % len(commands)]
-            capture, order, start = chance.choices(known, weights)[0]
+            pool = int(chance.random() < OFTEN[command] / 2)
+            capture, order, start = chance.choices(pools[pool], weights[pool])[0]
             start = fuzz.start(start)
             try:
                 fuzz.one(command, capture, order, start)

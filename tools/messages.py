@@ -7,8 +7,12 @@ import struct
 
 CLIENT, SERVER = "C", "S"
 
+EXPORT_NAME, ABORT, LIST, STARTTLS, INFO, GO, STRUCTURED_REPLY = 1, 2, 3, 5, 6, 7, 8
+LIST_META_CONTEXT, SET_META_CONTEXT, EXTENDED_HEADERS = 9, 10, 11
+ACK, SERVER_NAME, EXPORT_INFO, META_CONTEXT = 1, 2, 3, 4
 READ, WRITE, DISC, FLUSH, TRIM, CACHE, WRITE_ZEROES, BLOCK_STATUS = range(8)
-NONE, OFFSET_DATA, OFFSET_HOLE, ERROR, ERROR_OFFSET = 0, 1, 2, 0x8001, 0x8002
+REQ_ONE = 8
+NONE, OFFSET_DATA, OFFSET_HOLE, STATUS, ERROR, ERROR_OFFSET = 0, 1, 2, 5, 0x8001, 0x8002
 DONE = 1
 
 
@@ -31,6 +35,27 @@ def answer(number, kind, data=b""):
 
 def export_info(size=8, flags=0x6D):
     return struct.pack(">HQH", 0, size, flags)
+
+
+def named(name):
+    """A name behind its length."""
+    return struct.pack(">I", len(name)) + name
+
+
+def go_data(name=b""):
+    """The data of GO and INFO: the name of an export, and no kinds of info."""
+    return named(name) + bytes(2)
+
+
+def queries(name, *wanted, count=None):
+    """The data of LIST_META_CONTEXT and SET_META_CONTEXT: the name of an export, and queries behind their count."""
+    count = len(wanted) if count is None else count
+    return named(name) + struct.pack(">I", count) + b"".join(map(named, wanted))
+
+
+def context(number, name, to=SET_META_CONTEXT):
+    """An answer that names a metadata context by its id."""
+    return answer(to, META_CONTEXT, struct.pack(">I", number) + name)
 
 
 def request(command, cookie, offset, length, data=b"", flags=0):
@@ -60,6 +85,20 @@ def content(cookie, offset, data):
 
 def hole(cookie, offset, size):
     return chunk(cookie, OFFSET_HOLE, struct.pack(">QI", offset, size))
+
+
+def status(cookie, offset, length, flags=0):
+    return request(BLOCK_STATUS, cookie, offset, length, flags=flags)
+
+
+def extents(cookie, number, *parts, flags=0):
+    """A chunk on the context with this id: extents, each of a length and its flags."""
+    return chunk(cookie, STATUS, struct.pack(">I", number) + b"".join(struct.pack(">II", *part) for part in parts), flags)
+
+
+def failed(cookie, error=22):
+    """A chunk that ends a reply with an error, without a message."""
+    return chunk(cookie, ERROR, struct.pack(">IH", error, 0), DONE)
 
 
 def done(cookie):

@@ -7,8 +7,8 @@ answers are the same.
 
 from built import Ended, Room, Tally
 from cases import (
-    bad_lines, chunks, contents, damaged, infos, large_exports, large_numbers, makes, negotiation, offers, orders, parts,
-    pieces, refused_negotiation, shows, transmission, verdicts,
+    bad_lines, chunks, contents, contexts, damaged, infos, large_exports, large_numbers, makes, negotiation, offers, orders,
+    parts, pieces, refused_negotiation, shows, transmission, verdicts,
 )
 from cases.messages import BEGUN, READ_1
 from messages import damaged as inverted
@@ -54,7 +54,8 @@ def ended(line, hint=b""):
 def try_case(tally, room, case, capture):
     start = case.start if isinstance(case.start, str) else f"image:{room.put('image', case.start)}"
     for form, data in forms(capture).items():
-        tally.want(f"{case.name}{form}", room.check(data, case.order.encode(), start), ended(case.want, hint_of(data)))
+        found = room.check(data, case.order.encode(), start, profile=case.profile)
+        tally.want(f"{case.name}{form}", found, ended(case.want, hint_of(data)))
 
 
 def checks(tally, room):
@@ -63,6 +64,15 @@ def checks(tally, room):
         for case in table.CASES + table.REFUSED:
             try_case(tally, room, case, joined(case.capture))
         for case in table.REFUSED:
+            longer = case._replace(name=f"{case.name}, and one more READ")
+            try_case(tally, room, longer, joined([*case.capture, ONE_MORE_READ]))
+
+
+def with_contexts(tally, room):
+    """Sessions with metadata contexts in each profile; what the wider one refuses also with a READ and its reply behind it."""
+    for case in contexts.CASES:
+        try_case(tally, room, case, joined(case.capture))
+        if case.profile == "wide" and case.want.startswith("no at byte") and "Unfinished" not in case.want:
             longer = case._replace(name=f"{case.name}, and one more READ")
             try_case(tally, room, longer, joined([*case.capture, ONE_MORE_READ]))
 
@@ -127,7 +137,7 @@ def made_again(tally, room):
 
 def run(tally):
     with Room() as room:
-        for part in (checks, malformed, proper_requests, cut_sessions, damaged_sessions):
+        for part in (checks, with_contexts, malformed, proper_requests, cut_sessions, damaged_sessions):
             part(tally, room)
         for part in (shown_lines, made_captures, made_again):
             part(tally, room)

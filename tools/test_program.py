@@ -2,7 +2,7 @@
 """Runs the built program: its commands, sessions as data, cut off and damaged, all that can fail, inputs at size; and the
 scripts round it: the build, the installation, the conversions of recordings and of captures, the pages of sessions, and the relay that records.
 
-The last line is `N passed, M failed`. With names as words, runs these parts alone: build, cases, commands, conversions,
+The last line is `N passed, M failed`. With names as words, runs these parts alone: build, cases, commands, contexts, conversions,
 cuts, explain, install, names, order, picture, picture_pages, readme, record, record_answers, record_programs, refusals,
 search, sizes, texts, to_pcap.
 """
@@ -13,6 +13,7 @@ import time
 import test_build
 import test_cases
 import test_commands
+import test_contexts
 import test_conversions
 import test_cuts
 import test_explain
@@ -36,6 +37,7 @@ PARTS = {
     "build": test_build,
     "cases": test_cases,
     "commands": test_commands,
+    "contexts": test_contexts,
     "conversions": test_conversions,
     "cuts": test_cuts,
     "explain": test_explain,

@@ -2,5 +2,6 @@
 
 from collections import namedtuple
 
-# The start is `zero`, `unknown`, or the bytes of an image.
-Case = namedtuple("Case", "name capture order want start", defaults=["zero"])
+# The start is `zero`, `unknown`, or the bytes of an image. The profile is what stands behind `--profile`; without one the
+# option is not given.
+Case = namedtuple("Case", "name capture order want start profile", defaults=["zero", None])

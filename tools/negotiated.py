@@ -1,0 +1,224 @@
+"""A reader of negotiations for tests: a second opinion of what `check` says of one, and of the contexts that are in force behind
+it. It is written from the rules of the protocol, message after message, and shares no code with the program or with the tables.
+"""
+
+import struct
+from collections import namedtuple
+
+MAGIC, OPTION, ANSWER = b"NBDMAGIC", b"IHAVEOPT", 0x0003E889045565A9
+FOLLOWED = {"base": (3, 6, 7, 8), "wide": (3, 6, 7, 8, 9, 10)}
+MOST = 2**63 - 1
+
+# Where and with what the session was refused (None: it was not); whether transmission began; the ids of the contexts that are in
+# force; and the place behind what was read.
+Read = namedtuple("Read", "place fault entered contexts behind")
+
+
+class Refused(Exception):
+    """The session breaks a rule at this byte."""
+
+    def __init__(self, place, fault):
+        super().__init__(place, fault)
+        self.place, self.fault = place, fault
+
+
+class Over(Exception):
+    """The capture ends between two messages."""
+
+
+def cut_name(data):
+    """A name behind its length, and what follows it; None where it is not there whole."""
+    if len(data) < 4 or len(data) - 4 < int.from_bytes(data[:4], "big"):
+        return None
+    end = 4 + int.from_bytes(data[:4], "big")
+    return data[4:end], data[end:]
+
+
+def cut_queries(data):
+    """The name and the count of queries, where the data of LIST_META_CONTEXT or SET_META_CONTEXT has its form."""
+    name, rest = cut_name(data) or (None, b"")
+    if len(rest) < 4:
+        return None
+    count, rest = int.from_bytes(rest[:4], "big"), rest[4:]
+    for _ in range(count):
+        query = cut_name(rest)
+        if query is None:
+            return None
+        rest = query[1]
+    return None if rest else (name, count)
+
+
+def export_of(choice):
+    """The name of an export in an option that names one; else no byte."""
+    number, data = int.from_bytes(choice[8:12], "big"), choice[16:]
+    if number == 1:
+        return data
+    return (cut_name(data) or (b"",))[0] if number in (6, 7, 9, 10) else b""
+
+
+def is_proper(number, data):
+    if number in (3, 8):
+        return data == b""
+    if number in (6, 7):
+        _, rest = cut_name(data) or (None, b"")
+        return len(rest) >= 2 and len(rest) == 2 + 2 * int.from_bytes(rest[:2], "big")
+    return number in (9, 10) and cut_queries(data) is not None
+
+
+def has_form(kind, payload):
+    """Whether an answer's payload has the form of its kind."""
+    if kind == 2:
+        return cut_name(payload) is not None
+    if kind == 3:
+        info = int.from_bytes(payload[:2], "big")
+        is_long = len(payload) == {0: 12, 3: 14}.get(info, max(2, len(payload)))
+        return is_long and (info != 0 or payload[11] & 1 == 1)
+    return kind != 4 or len(payload) >= 4
+
+
+class Reader:
+    """A session up to its transmission, with what it has agreed on."""
+
+    def __init__(self, records, profile):
+        self.sides = "".join(side * len(data) for side, data in records)
+        self.data = b"".join(data for _, data in records)
+        self.at, self.profile = 0, profile
+        self.structured, self.padded = False, True
+        # The export and the ids of the last SET_META_CONTEXT, and whether it ended well.
+        self.export, self.ids, self.is_granted = None, [], False
+
+    def take(self, side, count, begins=True):
+        """So many bytes of a side whose turn it is."""
+        first = self.at
+        while self.at < first + count:
+            if self.at == len(self.data):
+                raise Over if begins and self.at == first else Refused(self.at, "Unfinished")
+            if self.sides[self.at] != side:
+                raise Refused(self.at + 1, "OutOfTurn")
+            self.at += 1
+        return self.data[first : self.at]
+
+    def need(self, is_so, fault):
+        if not is_so:
+            raise Refused(self.at, fault)
+
+    def flags(self):
+        head = self.take("S", 18)
+        self.need(head[:16] == MAGIC + OPTION, "BadMagic")
+        self.need(head[17] & 1, "NotFixedNewstyle")
+        taken = int.from_bytes(self.take("C", 4), "big")
+        self.need(taken & 1, "NotFixedNewstyle")
+        self.need(taken & ~(head[17] & 3) == 0, "BadClientFlags")
+        self.padded = taken & 2 == 0
+
+    def choices(self):
+        """Options and their answers, until one leads to transmission."""
+        while True:
+            head = self.take("C", 16)
+            self.need(head[:8] == OPTION, "BadMagic")
+            number, length = struct.unpack(">II", head[8:])
+            data = self.take("C", length, begins=False)
+            if number == 1:
+                return self.exported(data)
+            if number == 10:
+                name, _ = cut_name(data) or (None, b"")
+                self.export, self.ids, self.is_granted = name, [], False
+            if self.answers(number, data) and number == 7:
+                return cut_name(data)[0]
+
+    def exported(self, name):
+        size, flags = struct.unpack(">QH", self.take("S", 10))
+        self.need(flags & 1, "BadExport")
+        self.need(size <= MOST, "ExportTooLarge")
+        if self.padded:
+            self.need(self.take("S", 124, begins=False) == bytes(124), "BadExport")
+        return name
+
+    def answers(self, number, data):
+        """All answers to an option; whether the last is an ACK."""
+        info = None
+        while True:
+            kind, payload = self.answer(number, data, info)
+            if kind == 1:
+                self.structured |= number == 8
+                self.is_granted |= number == 10
+            if kind == 4 and number == 10:
+                self.ids.append(payload[:4])
+            if kind == 3 and payload[:2] == bytes(2):
+                info = int.from_bytes(payload[2:10], "big")
+            if number == 2:
+                self.take("nobody", 1)
+            if kind == 1 or kind >= 2**31:
+                return kind == 1
+
+    def answer(self, number, data, info):
+        magic, of, kind, length = struct.unpack(">QIII", self.take("S", 20))
+        self.need(magic == ANSWER, "BadMagic")
+        self.need(of == number, "WrongOption")
+        is_error, is_fine = kind >= 2**31, number == 2 or is_proper(number, data)
+        if not is_error:
+            self.kinds(number, data, kind)
+            self.need(kind != 1 or length == 0, "BadReplyPayload")
+            if kind == 1 and number in (6, 7) and is_fine:
+                self.need(info is not None, "MissingExportInfo")
+                self.need(number == 6 or info <= MOST, "ExportTooLarge")
+        payload = self.take("S", length, begins=False)
+        if not is_error:
+            self.need(has_form(kind, payload), "BadReplyPayload")
+            self.need(kind != 4 or number != 10 or payload[:4] not in self.ids, "BadReplyPayload")
+            self.need(is_fine, "SuccessOfImproper")
+        return kind, payload
+
+    def kinds(self, number, data, kind):
+        """The kinds of success that an option takes."""
+        takes = {2: [1], 3: [1, 2], 6: [1, 3], 7: [1, 3], 8: [1], 9: [1, 4], 10: [1, 4]}
+        if number == 10 and (cut_queries(data) or (b"", 1))[1] == 0:
+            takes[10] = [1]
+        self.need(number == 2 or number in FOLLOWED[self.profile], "OutOfProfile")
+        self.need(kind in takes[number], "BadReplyKind")
+
+
+def read(records, profile):
+    """What becomes of a session until its transmission begins."""
+    reader, name = Reader(records, profile), None
+    try:
+        reader.flags()
+        name = reader.choices()
+    except Refused as refused:
+        return Read(refused.place, refused.fault, False, [], refused.place)
+    except Over:
+        return Read(None, None, False, [], reader.at)
+    is_in_force = reader.is_granted and reader.structured and reader.export == name
+    return Read(None, None, True, reader.ids if is_in_force else [], reader.at)
+
+
+def first_status(records, behind):
+    """Where the head of the first BLOCK_STATUS ends, of the requests that begin behind this place; None without one."""
+    sides = "".join(side * len(data) for side, data in records)
+    data = b"".join(data for _, data in records)
+    places = [at for at in range(behind, len(data)) if sides[at] == "C"]
+    first = 0
+    while first + 28 <= len(places):
+        head = bytes(data[at] for at in places[first : first + 28])
+        command, length = int.from_bytes(head[6:8], "big"), int.from_bytes(head[24:], "big")
+        if command == 7:
+            return places[first + 27] + 1
+        first += len(places) if command == 2 else 28 + (length if command == 1 else 0)
+    return None
+
+
+def status_in_force(records, found):
+    """Where the head of the first BLOCK_STATUS ends, while a context is in force; else None."""
+    return first_status(records, found.behind) if found.contexts else None
+
+
+def line(records, profile):
+    """The line of `check` where the negotiation decides it, or where a BLOCK_STATUS is asked of contexts that are in force; else
+    None: it is decided in transmission, by the order, or by the bytes."""
+    found = read(records, profile)
+    if found.fault:
+        return f"no at byte {found.place}: {found.fault}\n"
+    if not found.entered:
+        return "yes requests 0 answered 0 improper 0\n"
+    place = status_in_force(records, found)
+    return place and f"no at byte {place}: OutOfProfile\n"

@@ -1,0 +1,190 @@
+"""Sessions with metadata contexts beside what cases/contexts.py says of them: where their messages end, what a reader of its own
+says (negotiated.py), and recorded sessions in both profiles.
+
+`test_contexts.py FOLDER` runs the recorded sessions of another folder: NAME.cap, .ord, .start, and NAME.out, the line in `wide`
+where contexts are followed whole.
+"""
+
+import sys
+from pathlib import Path
+
+import negotiated
+import test_cases
+from built import TOP, Room, Tally
+from cases.contexts import (
+    ALLOCATION, DEPTH, FOLLOWED, NEGOTIATION, NEGOTIATION_TABLE, ONE_CONTEXT, STATUS_TABLE, TWO_CONTEXTS, ack, allocation,
+    listing, setting, told_last,
+)
+from messages import REQ_ONE, context, failed, longest_runs, one_by_one, records_of, status
+
+TABLE = STATUS_TABLE + NEGOTIATION_TABLE
+# Words that stand in the bytes below.
+WORDS = {
+    "IHAVEOPT": "49484156454f5054", "ANSWER": "0003e889045565a9", "ALLOCATION": "626173653a616c6c6f636174696f6e",
+    "DEPTH": "71656d753a616c6c6f636174696f6e2d6465707468", "REQUEST": "25609513", "CHUNK": "668e33ef",
+}
+# Messages, and their bytes by hand.
+BYTES = [
+    (setting(ALLOCATION), "IHAVEOPT 0000000a 0000001b 00000000 00000001 0000000f ALLOCATION"),
+    (allocation(1), "ANSWER 0000000a 00000004 00000013 00000001 ALLOCATION"),
+    (ack(), "ANSWER 0000000a 00000001 00000000"),
+    (setting(), "IHAVEOPT 0000000a 00000008 00000000 00000000"),
+    (setting(ALLOCATION, DEPTH), "IHAVEOPT 0000000a 00000034 00000000 00000002 0000000f ALLOCATION 00000015 DEPTH"),
+    (context(2, DEPTH), "ANSWER 0000000a 00000004 00000019 00000002 DEPTH"),
+    (listing(b"base:"), "IHAVEOPT 00000009 00000011 00000000 00000001 00000005 626173653a"),
+    (status(1, 0, 8), "REQUEST 0000 0007 0000000000000001 0000000000000000 00000008"),
+    (status(1, 0, 4, REQ_ONE), "REQUEST 0008 0007 0000000000000001 0000000000000000 00000004"),
+    (told_last(1, 1, (8, 3)), "CHUNK 0001 0005 0000000000000001 0000000c 00000001 00000008 00000003"),
+    (told_last(1, 1, (3, 0), (5, 2)),
+     "CHUNK 0001 0005 0000000000000001 00000014 00000001 00000003 00000000 00000005 00000002"),
+    (failed(1), "CHUNK 0001 8001 0000000000000001 00000006 00000016 0000"),
+]
+# Where messages of sessions end, by hand: the last of these is the session's end.
+ENDS = {
+    "a hole that reads as zeroes": (18, 22, 38, 58, 101, 140, 160, 182, 214, 234, 262, 294),
+    "the 7 stands behind the zeroes": (262, 302),
+    "zeroes after a write": (264, 292, 324, 340),
+    "a write was answered before the status was asked": (264, 280, 308, 340),
+    "zeroes after a TRIM": (280, 308, 324, 352, 384),
+    "a status makes no byte known": (262, 294, 322, 358),
+    "the last extent passes the range": (262, 302),
+    "the second extent begins where the first ends": (262, 302),
+    "the first extent begins where the range does": (262, 302),
+    "extents that are shorter than the range": (262, 294),
+    "a READ is answered by a status": (262, 294),
+    "one extent": (262, 294),
+    "REQ_ONE on a READ": (262, 288),
+    "bit 1 of another context is no zero": (126, 165, 210, 230, 304, 332, 364, 396),
+    "a status that fails is not compared": (364, 390),
+    "a chunk without content ends the reply": (364, 396, 416),
+    "a status of no bytes fails": (262, 288),
+    "a status of no bytes succeeds without a context": (262, 282),
+    "a status of no bytes has no zeroes": (262, 294),
+    "one extent of a status of no bytes": (262, 294),
+    "a status past all exports fails behind its extents": (262, 302, 328),
+    "no context was asked for, and a status is answered": (160, 192),
+    "the contexts are of another export, and a status is answered": (105, 144, 164, 238, 266, 298),
+    "a second selection asks for nothing": (160, 184, 204, 278, 306, 338),
+    "a second selection fails": (160, 203, 242, 262, 336, 364, 396),
+    "the context of a second selection": (336, 364, 396),
+    "what is listed is not selected": (91, 130, 150, 224, 252, 284),
+    "an export that EXPORT_NAME names": (105, 144, 164, 184, 194, 222, 254),
+    "a context without structured replies": (22, 65, 104, 124),
+    "a context without structured replies, and an error answers a status": (198, 226, 242),
+    "structured replies behind the context": (140, 160, 234, 262, 294),
+    "the server refuses contexts": (65, 85),
+    "a list of contexts": (65, 104, 124),
+    "a context, though no query asked for one": (58, 82, 102),
+    "one id for two contexts": (126, 165, 210),
+    "a list of all contexts, each with the id 0": (82, 121, 166, 186),
+    "a byte behind the query": (102, 141),
+    "the name of an export in place of a context": (101, 121),
+    "served before the write": (262, 291, 323, 339),
+    "a part of a status that passes the export": (262, 288),
+}
+
+
+def ends_of(records):
+    places, at = [], 0
+    for _, data in records:
+        at += len(data)
+        places.append(at)
+    return places
+
+
+def messages(tally):
+    for (_, data), words in BYTES:
+        digits = "".join(WORDS.get(word, word) for word in words.split())
+        tally.want(words, data.hex(), digits)
+    tally.want("one context", ends_of(ONE_CONTEXT)[-1], 234)
+    tally.want("two contexts", ends_of(TWO_CONTEXTS)[-1], 304)
+    known = {told.name: ends_of(told.records) for told in TABLE}
+    tally.want("names", len(known), len(TABLE))
+    for name, places in ENDS.items():
+        tally.holds(f"{name}: ends", set(places) <= set(known[name]) and places[-1] == known[name][-1], known[name])
+
+
+def place_of(line):
+    return int(line.split()[3].rstrip(":")) if line.startswith("no at byte") else None
+
+
+def lines(tally):
+    """What the table says against what the reader says, and against itself."""
+    for told in TABLE:
+        for way in (list, one_by_one, longest_runs):
+            records = way(told.records)
+            base, wide = (negotiated.line(records, profile) for profile in ("base", "wide"))
+            tally.want(f"{told.name}, base", told.base, base or told.base)
+            tally.want(f"{told.name}, wide", told.early or told.wide, wide or told.early or told.wide)
+        # Where base follows the session, wide says the same.
+        if "OutOfProfile" not in told.base:
+            tally.want(f"{told.name}: both profiles", told.base, told.early or told.wide)
+        for line in (told.base, told.early or "", told.wide):
+            tally.holds(f"{told.name}: {line}", (place_of(line) or 0) <= ends_of(told.records)[-1])
+
+
+def reader(tally):
+    """The reader against the other cases, which have no context: it says the same in both profiles."""
+    for table in test_cases.TABLES:
+        for case in table.CASES + table.REFUSED:
+            records = records_of(test_cases.joined(case.capture))
+            base, wide = (negotiated.line(records, profile) for profile in ("base", "wide"))
+            tally.want(f"{case.name}, wide", wide, base)
+            if base and not case.order:
+                tally.want(case.name, base, case.want)
+
+
+def wanted(capture, is_whole):
+    """The lines of a recorded session in `base` and in `wide`. Of the sessions of another folder NAME.out is the one in `wide`
+    where contexts are followed whole."""
+    line, told = capture.with_suffix(".out").read_text(), capture.with_suffix(".wide")
+    if not is_whole:
+        return line, told.read_text() if told.exists() else line
+    records = records_of(capture.read_bytes())
+    base, wide = (negotiated.line(records, profile) for profile in ("base", "wide"))
+    is_early = FOLLOWED == NEGOTIATION or negotiated.read(records, "wide").fault
+    return base or line, wide if wide and is_early else line
+
+
+def recorded(tally, room, folder, is_whole):
+    for capture in sorted(Path(folder).glob("*.cap")):
+        kind, _, image = capture.with_suffix(".start").read_text().strip().partition(":")
+        start = f"image:{Path(folder, image)}" if image else kind
+        if image and not Path(folder, image).exists():
+            start = "unknown"
+        base, wide = wanted(capture, is_whole)
+        order, data = capture.with_suffix(".ord").read_bytes(), capture.read_bytes()
+        for profile, line in (("wide", wide), ("base", base), (None, base)):
+            name = f"{capture.name}, --profile {profile}"
+            for form, text in test_cases.forms(data).items():
+                if form in ("", ", as longest runs") or len(data) < 10000:
+                    tally.want(f"{name}{form}", room.check(text, order, start, profile=profile), test_cases.ended(line))
+
+
+def examples(tally):
+    """The lines of the sessions of examples/ against what the reader says."""
+    for capture in sorted((TOP / "examples").glob("*.cap")):
+        records, line = records_of(capture.read_bytes()), capture.with_suffix(".out").read_text()
+        base, wide = (negotiated.line(records, profile) for profile in ("base", "wide"))
+        told = capture.with_suffix(".wide")
+        tally.want(f"{capture.name}, base", line, base or line)
+        tally.want(f"{capture.name}: has a line of its own in wide", told.exists(), "OutOfProfile" in line)
+        if told.exists() and FOLLOWED == NEGOTIATION:
+            tally.want(f"{capture.name}, wide", told.read_text(), wide or told.read_text())
+
+
+def run(tally):
+    for part in (messages, lines, reader, examples):
+        part(tally)
+    with Room() as room:
+        recorded(tally, room, TOP / "examples", is_whole=False)
+
+
+if __name__ == "__main__":
+    told = Tally()
+    if sys.argv[1:]:
+        with Room() as here:
+            recorded(told, here, sys.argv[1], is_whole=True)
+    else:
+        run(told)
+    print(f"{told.passed} passed, {told.failed} failed")
