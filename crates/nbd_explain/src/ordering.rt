@@ -77,15 +77,7 @@ pub fn run_order<C: BufRead + Drop, I: Measured + Drop, W: Write>(
     ensures cause { IfErr result (IsOrderingCause (C.remaining capture) start) }
     ensures left { IfErr result (LeavesOrdered (W.contents out.old) (W.contents out.new)) }
 {
-    run_order_of(
-        alloc,
-        Profile::Base,
-        capture,
-        start,
-        scope,
-        out,
-        progress,
-    )
+    run_order_of(alloc, Profile::Base, capture, start, scope, out, progress)
 }
 
 /// Reads a capture text to its end, and then an image, if there is one, and writes an order of service that explains the session
