@@ -125,7 +125,8 @@ pub data IsOrdered (profile : Profile) (capture : List Pair) (initial : Start) (
 
 -- the same, where the start is known
 abbrev pub IsOrderedFrom : Profile → List Pair → Option Start → Wanted → (old new : Option (List ℕ)) → Ordered → Type 0
-IsOrderedFrom profile capture (Some initial) wanted old new ordered = IsOrdered profile capture initial wanted old new ordered
+IsOrderedFrom profile capture (Some initial) wanted old new ordered =
+    IsOrdered profile capture initial wanted old new ordered
 IsOrderedFrom profile capture None wanted old new ordered = Unit {0}
 
 -- the same of a capture text

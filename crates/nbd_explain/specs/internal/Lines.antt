@@ -66,7 +66,8 @@ abbrev pub OnWritten : List ℕ → (Option (List ℕ) → Option (List ℕ) →
 OnWritten text P = (old new : Option (List ℕ)) → Appends old new text → P old new
 
 -- what a session of the profile over the chunks of a capture text came to at its end
-pub record IsFinishOf (profile : Profile) (known : Option (List ℕ)) (finished : Result Report SessionFault) : Type 0 where
+pub record IsFinishOf (profile : Profile) (known : Option (List ℕ))
+    (finished : Result Report SessionFault) : Type 0 where
   pub session : SessionView
   pub over : IsOverText profile known session
   pub fault : fault_of finished ≡ fault_at_end session
