@@ -5,6 +5,6 @@
 pub enum Profile {
     /// What docs/PROFILE.md says.
     Base,
-    /// Base, with metadata contexts and block sizes.
+    /// Base, with the negotiation of metadata contexts.
     Wide,
 }
