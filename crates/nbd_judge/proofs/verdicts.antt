@@ -2,6 +2,7 @@ pub mod AnswerLemmas
 pub mod ChunkLemmas
 pub mod CountLemmas
 pub mod DecisionLemmas
+pub mod ProfileLemmas
 pub mod RefusalLemmas
 pub mod SingleLemmas
 pub mod SoundLemmas

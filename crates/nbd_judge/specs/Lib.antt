@@ -5,6 +5,7 @@ pub mod Conclusions
 pub mod Folding
 pub mod Images
 pub mod Orders
+pub mod Profiles
 pub mod Servable
 pub mod Uniqueness
 pub mod Verdicts

@@ -2,6 +2,7 @@
 
 ghost use Rattle.nbd_judge.specs.Conclusions.{VerdictsAnswerRuns};
 ghost use Rattle.nbd_judge.specs.Folding.{Folding};
+ghost use Rattle.nbd_judge.specs.Profiles.{VerdictsAgree};
 ghost use Rattle.nbd_judge.specs.Uniqueness.{OneAnswer, OneJudgement, OneVerdict, OneWireFault};
 
 use nbd_laws::laws::{explained_exactly, latest_moments, same_reports};
@@ -43,3 +44,9 @@ pub fn verdicts_answer_runs()
     latest_moments();
     same_reports();
 }
+
+/// A capture in which no answer of success to an option on metadata contexts comes has the same verdict in both
+/// profiles.
+pub fn verdicts_agree()
+    ensures { VerdictsAgree }
+{}

@@ -387,13 +387,13 @@ whole_agrees p q items h = record {
       (subst (λ c. IsWhole (with_profile q (since_from h.s (start_of p).core items)) c h.s (open_bytes h.s items)) (ends_agree p q items) (whole_with q h.whole));
 }
 
-none_agrees : (p q : Profile) (items : List Item) → (IsContextHead (ends_at start items).core.phase (open_bytes Server items) → ⊥) → HasNoneAtOf p items → HasNoneAtOf q items
+pub none_agrees : (p q : Profile) (items : List Item) → (IsContextHead (ends_at start items).core.phase (open_bytes Server items) → ⊥) → HasNoneAtOf p items → HasNoneAtOf q items
 none_agrees p q items none h = ((λ fault holds. h.0 fault (holds_agree q p items fault none holds)), (λ whole. h.1 (whole_agrees q p items whole)))
 
-clear_agrees : (p q : Profile) (items : List Item) → AnswersNoContexts items → IsClearOf p items → IsClearOf q items
+pub clear_agrees : (p q : Profile) (items : List Item) → AnswersNoContexts items → IsClearOf p items → IsClearOf q items
 clear_agrees p q items none clear before more s b e = none_agrees p q before (none before (Byte s b ∷ more) e) (clear before more s b e)
 
-split_agrees : (p q : Profile) (items : List Item) (ps : List Pair) (messages : List Message) → AnswersNoContexts items → IsSplitOf p items ps messages → IsSplitOf q items ps messages
+pub split_agrees : (p q : Profile) (items : List Item) (ps : List Pair) (messages : List Message) → AnswersNoContexts items → IsSplitOf p items ps messages → IsSplitOf q items ps messages
 split_agrees p q items ps messages none split = record {
   run = run_agrees p q items (open_bytes Client items) (open_bytes Server items) none split.run;
   are_pairs = split.are_pairs;

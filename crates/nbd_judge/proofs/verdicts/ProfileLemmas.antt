@@ -1,0 +1,181 @@
+-- A capture in which no answer of success on metadata contexts comes has the same verdict in both profiles.
+use Rattle.std.proofs.Common.{◌≡◌, ℕ, zero, suc, ◌<◌, ◌/◌, ◌^◌, List, [], ◌∷◌, ◌++◌, length, replicate, if◌then◌else◌, Bool, true, false, refl, sym, ◌∙◌, ap, subst, inl, inr, arith, append-nil}
+use Rattle.std.proofs.Math.Nat.{mod-lt}
+use Rattle.std.specs.Int.{byte_at, bytes_high_first}
+use Rattle.nbd_wire.specs.declared.entry.Entry.{Entry}
+use Rattle.nbd_wire.specs.declared.fault.WireFault.{WireFault}
+use Rattle.nbd_wire.specs.declared.head_lengths.TheConstants as head_lengths
+use Rattle.nbd_wire.specs.declared.magics.TheConstants as magics
+use Rattle.nbd_wire.specs.declared.message.Message.{Message}
+use Rattle.nbd_wire.specs.declared.message.Message.TheVariants.{Greeting, ClientFlags, Choice, Answer, Exported, Request, Simple, Chunk}
+use Rattle.nbd_wire.specs.declared.message.Side.{Side}
+use Rattle.nbd_wire.specs.declared.message.Side.TheVariants.{Client, Server}
+use Rattle.nbd_wire.specs.declared.profile.Profile.{Profile}
+use Rattle.nbd_wire.specs.protocol.Captures.{ArePairs, Pair}
+use Rattle.nbd_wire.specs.protocol.Encoding.{AreBytes, enc, head, tail}
+use Rattle.nbd_wire.specs.protocol.Explains.{Start}
+use Rattle.nbd_wire.specs.protocol.Marks.{Item, completed_messages, pairs}
+use Rattle.nbd_wire.specs.protocol.Reports.{Report, report}
+use Rattle.nbd_wire.specs.protocol.Rules.{IsRunBut, IsRunOf, Obeys}
+use Rattle.nbd_wire.specs.protocol.Sendable.{IsSendable}
+use Rattle.nbd_wire.specs.protocol.Splits.{IsPlaceOf, IsSplitOf, IsUnderWayOf, open_bytes}
+use Rattle.nbd_wire.specs.protocol.States.{State, start_of}
+use Rattle.nbd_laws.specs.Profiles.{AnswersNoContexts}
+use Rattle.nbd_laws.specs.internal.Concrete.{concrete}
+use Rattle.nbd_laws.specs.internal.Machine.{Both, fresh_of, get, reads}
+use Rattle.nbd_laws.proofs.judge.ExactLemmas.{exact}
+use Rattle.nbd_laws.proofs.judge.SoundLemmas.{sound}
+use Rattle.nbd_laws.proofs.machine.MachineLemmas.{Busy, Idle, Loose, Open, Walk, ended, final, loose, middle, opening, serving}
+use Rattle.nbd_laws.proofs.rows.MarkLemmas.{places_begin_no_run}
+use Rattle.nbd_laws.proofs.rows.RowJudgeLemmas.{telling}
+use Rattle.nbd_laws.proofs.runs.AgreeLemmas.{clear_agrees, none_agrees, places_agree, runs_agree, split_agrees}
+use Rattle.nbd_laws.proofs.runs.FollowLemmas.{each_with}
+use Rattle.nbd_laws.proofs.runs.PlaceLemmas.{are_prefix, but_last, place_read, read_no_place, under_way_read}
+use Rattle.nbd_laws.proofs.runs.RestLemmas.{rest_of_blocks}
+use Rattle.nbd_laws.proofs.runs.RunLemmas.{walk_of}
+use Rattle.nbd_laws.proofs.service.ExplainingLemmas.{explained_passes, passing_is_explained}
+use Rattle.nbd_laws.proofs.service.MomentLemmas.{orders_are_faultless}
+use Rattle.nbd_laws.proofs.service.ServiceLemmas.{same_reports}
+use Rattle.nbd_session.specs.Refusals.{IsOpenEndOf, IsRefusalOf, IsWireFaultOf}
+use Rattle.nbd_session.proofs.judge.RefusalLemmas.{completes_exactly}
+use Rattle.nbd_judge.specs.declared.verdict.Verdict.{Verdict}
+use Rattle.nbd_judge.specs.declared.verdict.Verdict.TheVariants.{Yes, Wire, Image, Order, Content}
+use Rattle.nbd_judge.specs.Captures.{HasVerdict}
+use Rattle.nbd_judge.specs.Conclusions.{Answers}
+use Rattle.nbd_judge.specs.Profiles.{TellsNoContexts, VerdictsAgree}
+use Rattle.nbd_judge.specs.Verdicts.{IsVerdict}
+use Rattle.nbd_judge.proofs.verdicts.AnswerLemmas.{answers_runs}
+
+both : (xs ys : List ℕ) → AreBytes xs → AreBytes ys → AreBytes (xs ++ ys)
+both [] ys h k = k
+both (x ∷ xs) ys h k = (h.0, both xs ys h.1 k)
+
+byte_below : (n x : ℕ) → byte_at n x < 256
+byte_below zero x = mod-lt x (omega arith)
+byte_below (suc n) x = mod-lt (x / 256 ^ suc n) (omega arith)
+
+number : (n x : ℕ) → AreBytes (bytes_high_first n x)
+number zero x = tt
+number (suc n) x = (byte_below n x, number n x)
+
+zeroes : (n : ℕ) → AreBytes (replicate n 0)
+zeroes zero = tt
+zeroes (suc n) = (omega arith, zeroes n)
+
+padding : (padded : Bool) (n : ℕ) → AreBytes (if padded then replicate n 0 else [])
+padding true n = zeroes n
+padding false n = tt
+
+-- numbers of so many bytes each, and what stands after them
+abbrev laid : List (ℕ × ℕ) → List ℕ → List ℕ
+laid [] rest = rest
+laid (field ∷ fields) rest = bytes_high_first field.0 field.1 ++ laid fields rest
+
+laid_bytes : (fields : List (ℕ × ℕ)) (rest : List ℕ) → AreBytes rest → AreBytes (laid fields rest)
+laid_bytes [] rest h = h
+laid_bytes (field ∷ fields) rest h = both (bytes_high_first field.0 field.1) (laid fields rest) (number field.0 field.1) (laid_bytes fields rest h)
+
+-- a message that may stand in a run is sent in bytes
+message_bytes : (m : Message) → IsSendable m → AreBytes (enc m)
+unfolding enc head tail IsSendable
+message_bytes (Greeting flags) h = laid_bytes ((8, magics.GREETING_MAGIC) ∷ (8, magics.OPTION_MAGIC) ∷ (2, flags) ∷ []) [] tt
+message_bytes (ClientFlags flags) h = laid_bytes ((4, flags) ∷ []) [] tt
+message_bytes (Choice id payload) h = laid_bytes ((8, magics.OPTION_MAGIC) ∷ (4, id) ∷ (4, length payload) ∷ []) payload h.1.1
+message_bytes (Answer option kind payload) h = laid_bytes ((8, magics.ANSWER_MAGIC) ∷ (4, option) ∷ (4, kind) ∷ (4, length payload) ∷ []) payload h.2.1
+message_bytes (Exported size flags padded) h = laid_bytes ((8, size) ∷ (2, flags) ∷ []) (tail (Exported size flags padded)) (padding padded head_lengths.PADDING)
+message_bytes (Request flags command cookie offset len payload) h = laid_bytes ((4, magics.REQUEST_MAGIC) ∷ (2, flags) ∷ (2, command) ∷ (8, cookie) ∷ (8, offset) ∷ (4, len) ∷ []) payload h.6
+message_bytes (Simple error cookie payload) h = laid_bytes ((4, magics.SIMPLE_MAGIC) ∷ (4, error) ∷ (8, cookie) ∷ []) payload h.2.1
+message_bytes (Chunk flags kind cookie payload) h = laid_bytes ((4, magics.CHUNK_MAGIC) ∷ (2, flags) ∷ (2, kind) ∷ (8, cookie) ∷ (4, length payload) ∷ []) payload h.3.1
+
+-- what is left of an open message are bytes
+abbrev LeavesBytes : Side → Open → Type 0
+LeavesBytes s (Busy m left) = AreBytes left
+LeavesBytes s Idle = Unit {0}
+LeavesBytes s Loose = Unit {0}
+
+walk_bytes : {o : Both Open} {items : List Item} → Walk ⊥ o items → (state : State) → Obeys state items → ((s : Side) → LeavesBytes s (get o s)) → ArePairs (pairs items)
+walk_bytes (ended c d) state ob are = tt
+walk_bytes (serving k w) state ob are = walk_bytes w _ ob.1 are
+walk_bytes {o} (opening s m b left is g f w) state ob are =
+    let sent : AreBytes (b ∷ left) = subst AreBytes g (message_bytes m ob.0.1) in
+    (sent.0, walk_bytes w _ ob.1.1 (each_with LeavesBytes o s (Busy m left) are sent.1))
+walk_bytes {o} (middle s m b left is f w) state ob are =
+    let sent : AreBytes (b ∷ left) = subst (LeavesBytes s) is (are s) in
+    (sent.0, walk_bytes w _ ob.1 (each_with LeavesBytes o s (Busy m left) are sent.1))
+walk_bytes {o} (final s m b is w) state ob are =
+    let sent : AreBytes (b ∷ []) = subst (LeavesBytes s) is (are s) in
+    (sent.0, walk_bytes w _ ob.1.1 (each_with LeavesBytes o s Idle are tt))
+walk_bytes (loose s b absent is w) state ob are = absurd absent
+
+-- a run is a split of its bytes
+run_is_split : (profile : Profile) (items : List Item) → IsRunOf profile items → IsSplitOf profile items (pairs items) (completed_messages items)
+run_is_split profile items run = record {
+  run = subst (λ l. IsRunBut profile items l (open_bytes Server items)) (sym (rest_of_blocks Client items [] run.marked.client_side))
+      (subst (λ l. IsRunBut profile items [] l) (sym (rest_of_blocks Server items [] run.marked.server_side)) run);
+  are_pairs = walk_bytes (walk_of run) (start_of profile) run.obeys (elim [ Client ↦ tt | Server ↦ tt ]);
+  has_pairs = refl;
+  has_messages = refl;
+}
+
+-- what the rules name as a place is a refusal
+place_refuses : (profile : Profile) (ps : List Pair) (messages : List Message) (fault : WireFault) → IsPlaceOf profile ps messages fault → IsRefusalOf profile ps messages fault
+place_refuses profile ps messages fault place = record {
+  place = place;
+  none = places_begin_no_run profile ps messages fault place;
+  before = λ prefix last parts.
+      (let r = place_read concrete sound exact telling ps messages fault place in
+      let same : r.prefix ≡ prefix = (but_last r.prefix prefix r.last last (sym r.parts ∙ parts)).0 in
+      completes_exactly prefix r.end messages (are_prefix prefix (last ∷ []) (subst ArePairs parts place.split.are_pairs)) (ap (reads concrete (fresh_of profile)) (sym same) ∙ r.reads_it) r.messages_are);
+}
+
+module _ (p q : Profile) (capture : List Pair) (tells : TellsNoContexts capture) where
+  none_told : (profile : Profile) (items : List Item) → IsRunOf profile items → pairs items ≡ capture → AnswersNoContexts items
+  none_told profile items run is = tells profile items (pairs items) [] (completed_messages items) (append-nil (pairs items) ∙ is) (run_is_split profile items run)
+
+  -- the verdict on a run
+  same_verdict : (order : List Entry) (initial : Start) (v : Verdict) → HasVerdict p capture order initial v → HasVerdict q capture order initial v
+  same_verdict order initial v h =
+      let run : IsRunOf q h.items = runs_agree p q h.items (none_told p h.items h.is_run h.has_pairs) h.is_run in
+      let here : IsVerdict (report h.items) order initial v = h.is_verdict h.items h.is_run h.has_pairs in
+      record {
+        items = h.items;
+        is_run = run;
+        has_pairs = h.has_pairs;
+        is_verdict = λ others is has. subst (λ (r : Report). IsVerdict r order initial v) (same_reports q h.items others run is (h.has_pairs ∙ sym has)) here;
+        answers = subst (λ ps. Answers q ps order initial v) h.has_pairs (answers_runs passing_is_explained explained_passes orders_are_faultless same_reports q h.items order initial v run here);
+      }
+
+  -- an end within a message
+  same_open_end : (messages : List Message) → IsOpenEndOf p capture messages → IsOpenEndOf q capture messages
+  same_open_end messages e =
+      let u : IsUnderWayOf p capture messages = e.accepted.under_way in
+      let none : AnswersNoContexts u.items = tells p u.items capture [] messages (append-nil capture) u.split in
+      let under : IsUnderWayOf q capture messages = record {
+        items = u.items;
+        split = split_agrees p q u.items capture messages none u.split;
+        clear = clear_agrees p q u.items none u.clear;
+        none_at = none_agrees p q u.items (none u.items [] (sym (append-nil u.items))) u.none_at;
+      } in
+      let r = under_way_read concrete sound exact telling capture messages under in
+      record {
+        accepted = record {
+          under_way = under;
+          placeless = λ prefix rest more fault parts place. read_no_place concrete sound exact telling prefix rest r.0 (ap (reads concrete (fresh_of q)) parts ∙ r.1) more fault place;
+          all = completes_exactly capture r.0 messages u.split.are_pairs r.1 r.2;
+        };
+        leaves_open = e.leaves_open;
+        none = λ items run has. e.none items (runs_agree q p items (none_told q items run has) run) has;
+      }
+
+  same_wire_fault : (messages : List Message) (at : ℕ) (fault : WireFault) → IsWireFaultOf p capture messages at fault → IsWireFaultOf q capture messages at fault
+  same_wire_fault messages at fault (inl r) =
+      let place : IsPlaceOf q r.prefix messages fault = places_agree p q r.prefix messages fault r.refusal.place (tells p r.refusal.place.items r.prefix r.rest messages r.parts r.refusal.place.split) in
+      inl (record { prefix = r.prefix; rest = r.rest; parts = r.parts; at_is = r.at_is; refusal = place_refuses q r.prefix messages fault place })
+  same_wire_fault messages at fault (inr e) = inr (e.0, e.1, same_open_end messages e.2)
+
+pub verdicts_agree : VerdictsAgree
+verdicts_agree p q capture order initial (Wire at fault) tells c = (c.0, same_wire_fault p q capture tells c.0 at fault c.1)
+verdicts_agree p q capture order initial (Yes of_requests of_answered of_improper) tells h = same_verdict p q capture tells order initial (Yes of_requests of_answered of_improper) h
+verdicts_agree p q capture order initial (Image image size) tells h = same_verdict p q capture tells order initial (Image image size) h
+verdicts_agree p q capture order initial (Order entry fault) tells h = same_verdict p q capture tells order initial (Order entry fault) h
+verdicts_agree p q capture order initial (Content request offset) tells h = same_verdict p q capture tells order initial (Content request offset) h
