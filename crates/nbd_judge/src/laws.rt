@@ -45,8 +45,8 @@ pub fn verdicts_answer_runs()
     same_reports();
 }
 
-/// A capture in which no answer of success to an option on metadata contexts comes has the same verdict in both
-/// profiles.
+/// A capture in which no head of an answer of success to an option on metadata contexts completes has the same verdict
+/// in both profiles.
 pub fn verdicts_agree()
     ensures { VerdictsAgree }
 {}
