@@ -11,7 +11,8 @@ use Rattle.nbd_laws.specs.Profiles.{AnswersNoContexts}
 use Rattle.nbd_judge.specs.Captures.{IsChecked}
 use Rattle.nbd_judge.specs.declared.verdict.Verdict.{Verdict}
 
--- in no split of a prefix of the capture does the head of an answer of success to an option on metadata contexts complete
+-- in no split of a prefix of the capture does the head of an answer of success to an option on metadata contexts
+-- complete
 abbrev pub TellsNoContexts : List Pair → Type 0
 TellsNoContexts capture = (profile : Profile) (items : List Item) (ps rest : List Pair) (messages : List Message)
     → ps ++ rest ≡ capture → IsSplitOf profile items ps messages → AnswersNoContexts items
