@@ -135,7 +135,7 @@ def profiles(tally, room):
     """The two profiles, the default, and words that are neither; each command that takes the option."""
     granted = begun()[:2] + [option(9, bytes(8)), answer(9, 1)]
     capture, order = room.put("capture", text(granted)), room.put("order", b"")
-    stopped, yes = b"no at byte 58: OutOfProfile\n", b"yes requests 0 answered 0 improper 0\n"
+    stopped, yes = b"no at byte 66: OutOfProfile\n", b"yes requests 0 answered 0 improper 0\n"
     # The status and the first line in the profile base, and those in wide.
     for asked, base, wide in (
         (["check", capture, order], (1, stopped), (0, yes)),
