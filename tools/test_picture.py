@@ -39,10 +39,11 @@ def run_script(*words, before=(), stdout=subprocess.PIPE, **how):
     return Ended(done.returncode, done.stdout, done.stderr.decode())
 
 
-def page_of(room, records, order=None, start="zero"):
+def page_of(room, records, order=None, start="zero", profile=None):
     """The page of a session."""
     capture = records if isinstance(records, bytes) else text(records)
     words = [room.put("s.cap", capture), *([] if order is None else [room.put("s.ord", order.encode())]), "--start", start]
+    words += [] if profile is None else ["--profile", profile]
     ended = run_script(*words)
     if ended.status != 0 or ended.err:
         raise AssertionError(ended)
@@ -155,11 +156,11 @@ def in_words(tally, room):
     """The byte that came and the write that was expected, as `explain` was judged to tell them."""
     came = re.compile(r"^came: (..) for offset (\d+),.* byte (\d+)$", re.MULTILINE)
     wrote = re.compile(r"^expected: (..), (?:by \w+ #(\d+),.* served by entry (\d+)|.*)$", re.MULTILINE)
-    for name, (records, order, start) in JUDGED.items():
+    for name, (records, order, start, profile) in JUDGED.items():
         told = (EXPLAINED / f"{name}.txt").read_text()
         if not told.startswith("no content "):
             continue
-        data = session(room, records, order, start_of(room, name, start))
+        data = session(room, records, order, start_of(room, name, start), profile)
         byte, offset, place = came.search(told).groups()
         _, number, entry = wrote.search(told).groups()
         found, [read_it] = data["guilt"], data["guilt"]["requests"]
