@@ -268,8 +268,8 @@ def statuses(tally, folder):
         lines = "".join(f"connection {number}: line {status}, {APART}\n" for number, status in ((1, first), (2, second)))
         tally.want(f"statuses {first} and {second}", ask(2, first, second), (wanted, lines, kept_lines(capture, other)))
     for asked, wanted in (
-        (["--start", "zero"], [f"explain {capture} --start zero"]),
-        ([], [f"explain {capture} --start unknown"]),
+        (["--start", "zero"], [f"explain {capture} --start zero --profile wide"]),
+        ([], [f"explain {capture} --start unknown --profile wide"]),
         (["--order", "o", "--profile", "p"], [f"explain {capture} o --start unknown --profile p"]),
     ):
         ask(1, 0, 0, *asked)

@@ -5,8 +5,8 @@ from collections import namedtuple
 
 from .addresses import Malformed, parse
 
-# The profile that nbdcheck is asked for where none is named: None for its own.
-PROFILE = None
+# The profile that nbdcheck is asked for where none is named: most clients ask for metadata contexts.
+PROFILE = "wide"
 
 USAGE = """nbdcheck-record --to ADDRESS [OPTIONS] -- CLIENT [WORD ...]
        nbdcheck-record --to ADDRESS --listen ADDRESS [OPTIONS]"""
