@@ -17,7 +17,7 @@ MIB = 2**20
 # A system's own programs stand before those of a python that was installed beside it.
 PATH = "/usr/bin:" + os.environ["PATH"]
 NONE = "yes requests 0 answered 0 improper 0"
-# What docs/PROFILE.md leaves out: a server granted a metadata context.
+# What docs/PROFILE.md leaves out: block status, of a client to whom a server granted a metadata context.
 OUT = "OutOfProfile"
 
 BYTES = "for k in range(4): h.pwrite(bytes([k + 1]) * 512, 300 * k)"
@@ -33,10 +33,12 @@ CLIENTS = {
     "nbdsh": (NBDSH, ["--arrival"], ["yes requests 5 answered 5 improper 0"]),
     "nbdinfo": (["nbdinfo", "--size", "{uri}"], [], [NONE]),
     "nbdcopy": ([*NBDCOPY, "--connections=1", "--request-size=262144"], [], ["yes requests 4 answered 4 improper 0"]),
-    "qemu-io": (QEMU_IO, [], OUT),
+    "nbdcopy of extents": (["nbdcopy", "{uri}", "null:", "--connections=1"], [], OUT),
+    "nbdinfo of contexts": (["nbdinfo", "{uri}"], [], ["yes requests "]),
+    "qemu-io": (QEMU_IO, [], ["yes requests "]),
     "fio": (FIO, [], [NONE, "yes requests "]),
 }
-# Servers that have no metadata context to grant, and so serve qemu's programs with no more than the profile has.
+# Servers that have no metadata context to grant.
 PLAIN = ("nbdkit --no-sr", "nbd-server")
 
 
@@ -154,7 +156,7 @@ def pairs(tally, folder):
         if not is_there(server.split()[0]):
             continue
         for client in CLIENTS:
-            if is_there(client):
+            if is_there(client.split()[0]):
                 with tempfile.TemporaryDirectory(prefix="nbdcheck-") as own, begin(own) as address:
                     judged(tally, server, client, address, own)
 
