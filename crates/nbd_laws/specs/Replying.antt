@@ -1,5 +1,7 @@
 -- What the replies to a request are.
-use Rattle.std.specs.Prelude.{◌≡◌, ◌⊎◌, ℕ, List, [], ◌∷◌, ◌++◌, Bool, true, false, Some, IsTrue}
+use Rattle.nbd_wire.specs.protocol.Replies.{IsStatus}
+use Rattle.nbd_wire.specs.protocol.Contexts.{Status}
+use Rattle.std.specs.Prelude.{◌≡◌, ◌⊎◌, ℕ, List, [], ◌∷◌, ◌++◌, Bool, true, false, Some, IsTrue, ≢}
 use Rattle.nbd_wire.specs.declared.chunks.TheConstants as chunks
 use Rattle.nbd_wire.specs.declared.commands.TheConstants as commands
 use Rattle.nbd_wire.specs.declared.message.Message.{Message}
@@ -8,26 +10,29 @@ use Rattle.nbd_wire.specs.declared.payloads.Failure.{Failure}
 use Rattle.nbd_wire.specs.declared.payloads.Piece.{Piece}
 use Rattle.nbd_wire.specs.declared.profile.Profile.{Profile}
 use Rattle.nbd_wire.specs.protocol.Marks.{Item}
-use Rattle.nbd_wire.specs.protocol.Payloads.{content_of, failure_of}
+use Rattle.nbd_wire.specs.protocol.Payloads.{content_of, failure_of, status_of}
 use Rattle.nbd_wire.specs.protocol.Reports.{operations_of}
-use Rattle.nbd_wire.specs.protocol.Operations.{Operation, ends_reply}
+use Rattle.nbd_wire.specs.protocol.Operations.{Operation, ends_reply, asks_status}
 use Rattle.nbd_wire.specs.protocol.Flags.{has}
 use Rattle.nbd_wire.specs.protocol.Pieces.{is_in}
 use Rattle.nbd_wire.specs.protocol.Rules.{IsRunOf, cookie_of, ends_at}
 use Rattle.nbd_wire.specs.protocol.States.{operation, start}
 
--- a chunk to this request: an empty one with DONE, content of a READ, or an error in its range
+-- a chunk to this request: an empty one with DONE, content of a READ, an error in its range, or the status of a context
+-- that is in force for a BLOCK_STATUS
 abbrev pub FitsRequest : Operation → (flags kind : ℕ) (payload : List ℕ) → Type 0
 FitsRequest e flags kind payload =
     (kind ≡ chunks.NONE) × (payload ≡ []) × IsTrue (has flags chunks.DONE)
     ⊎ ((piece : Piece) × (content_of kind payload ≡ Some piece) × (e.command ≡ commands.READ))
     ⊎ ((failure : Failure) × (failure_of kind payload ≡ Some failure)
     × ((x : ℕ) → failure.offset ≡ Some x → IsTrue (is_in e.offset e.length x)))
+    ⊎ (kind ≡ chunks.BLOCK_STATUS) × ((status : Status) × (status_of payload ≡ Some status) × IsStatus e status)
 
--- a simple reply comes alone, and not to a READ where structured replies are in force; a chunk needs them
+-- a simple reply comes alone, not to a READ where structured replies are in force, and not as the success of a
+-- BLOCK_STATUS of a context in force; a chunk needs structured replies
 abbrev pub IsReplyAfter : (structured : Bool) → Operation → (prefix : List Message) → Message → Type 0
 IsReplyAfter structured e prefix (Simple error cookie payload) =
-    (prefix ≡ []) × (e.command ≡ commands.READ → structured ≡ false)
+    (prefix ≡ []) × (e.command ≡ commands.READ → structured ≡ false) × (IsTrue (asks_status e) → error ≢ 0)
 IsReplyAfter structured e prefix (Chunk flags kind cookie payload) =
     (structured ≡ true) × FitsRequest e flags kind payload
 IsReplyAfter structured e prefix _ = ⊥

@@ -10,5 +10,6 @@ pub mod ListedFormLemmas
 pub mod ListedReadLemmas
 pub mod NumberLemmas
 pub mod QueryLemmas
+pub mod StatusLemmas
 pub mod ReadLemmas
 pub mod RoundTripLemmas

@@ -10,6 +10,7 @@ pub mod Marks
 pub mod Flags
 pub mod Pieces
 pub mod Operations
+pub mod Statuses
 pub mod Entries
 pub mod States
 pub mod Options

@@ -6,8 +6,9 @@
 ghost use Rattle.std.specs.Prelude.{◌≡◌};
 ghost use Rattle.std.specs.Option.{option_map};
 ghost use Rattle.nbd_wire.specs.codec.Contents.{piece_of};
-ghost use Rattle.nbd_wire.specs.protocol.Forms.{HasContentForm, HasFailureForm};
-ghost use Rattle.nbd_wire.specs.protocol.Payloads.{content_of, failure_of};
+ghost use Rattle.nbd_wire.specs.protocol.Contexts.{Status};
+ghost use Rattle.nbd_wire.specs.protocol.Forms.{HasContentForm, HasFailureForm, HasStatusForm};
+ghost use Rattle.nbd_wire.specs.protocol.Payloads.{content_of, extents_of, failure_of, has_empty, status_of};
 ghost use Rattle.nbd_wire.specs.codec.Reads.{Reads, ReadsAs};
 
 use crate::chunks::{ERROR, ERROR_OFFSET, OFFSET_DATA, OFFSET_HOLE};
@@ -20,6 +21,10 @@ const DATA: usize = 8;
 const HOLE_LENGTH: usize = 12;
 /// Where an error chunk's message begins, in bytes.
 const MESSAGE: usize = 6;
+/// Where the descriptors of a status chunk begin, in bytes, and the length of each.
+const DESCRIPTORS: usize = 4;
+
+const DESCRIPTOR_LENGTH: usize = 8;
 
 /// The bytes or the hole in a content chunk's payload.
 pub fn content_of(kind: u16, bytes: &[u8]) -> Option<Content<'_>>
@@ -98,4 +103,39 @@ pub fn failure_of(kind: u16, bytes: &[u8]) -> Option<Failure>
         }
         _ => None,
     }
+}
+
+/// The id of the context in a status chunk's payload, and its descriptors: one or more, each a length
+/// above 0 and flags, four bytes each.
+pub fn status_of(bytes: &[u8]) -> Option<(u32, &[u8])>
+    ensures form { ReadsAs {B = Status} (λ v. record { id = v.0; extents = extents_of v.1.now }) result
+        (λ status. HasStatusForm status bytes.now) }
+    ensures same { option_map (λ v. record { id = v.0; extents = extents_of v.1.now }) result ≡ status_of bytes.now }
+{
+    if bytes.len() < DESCRIPTORS + DESCRIPTOR_LENGTH
+        || (bytes.len() - DESCRIPTORS) % DESCRIPTOR_LENGTH != 0
+    {
+        return None;
+    }
+    let descriptors = &bytes[DESCRIPTORS..];
+    if is_one_empty(descriptors) {
+        return None;
+    }
+    Some((u32_at(bytes, 0), descriptors))
+}
+
+// Whether one of the descriptors is of no byte.
+fn is_one_empty(descriptors: &[u8]) -> bool
+    ensures { result ≡ has_empty (extents_of descriptors.now) }
+{
+    let mut rest = descriptors;
+    let mut left = rest.len() / DESCRIPTOR_LENGTH;
+    while left > 0 {
+        if u32_at(rest, 0) == 0 {
+            return true;
+        }
+        rest = &rest[DESCRIPTOR_LENGTH..];
+        left -= 1;
+    }
+    false
 }

@@ -10,6 +10,8 @@ pub const OFFSET_DATA: u16 = 1;
 
 pub const OFFSET_HOLE: u16 = 2;
 
+pub const BLOCK_STATUS: u16 = 5;
+
 pub const ERROR: u16 = 0x8001;
 
 pub const ERROR_OFFSET: u16 = 0x8002;

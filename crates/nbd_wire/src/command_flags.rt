@@ -6,4 +6,6 @@ pub const NO_HOLE: u16 = 1 << 1;
 
 pub const DF: u16 = 1 << 2;
 
+pub const REQ_ONE: u16 = 1 << 3;
+
 pub const FAST_ZERO: u16 = 1 << 4;

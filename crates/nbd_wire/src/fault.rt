@@ -32,14 +32,16 @@ pub enum WireFault {
     /// outstanding.
     UnknownCookie,
     /// A simple reply answers a READ where structured replies are in force, or a request that has
-    /// received a chunk.
+    /// received a chunk, or is a success of a BLOCK_STATUS where a context is in force.
     SimpleForbidden,
     /// A chunk comes where structured replies are not in force.
     ChunkForbidden,
     /// A chunk's type is unknown, or its payload does not have the form of its type.
     BadChunk,
     /// A content chunk answers no READ, leaves its READ's range, shares an offset with an earlier one, or
-    /// is the second of a proper READ with DF; or the offset of an error chunk leaves its request's range.
+    /// is the second of a proper READ with DF; a status chunk answers no BLOCK_STATUS, is of a context that is
+    /// not in force or had its status, or says more than its request's range and flags allow; or the offset of
+    /// an error chunk leaves its request's range.
     BadContent,
     /// A READ is finished with success before its range is covered.
     IncompleteRead,
@@ -47,6 +49,8 @@ pub enum WireFault {
     SuccessOfImproper,
     /// A DISC has an offset or a length.
     BadDisconnect,
+    /// A BLOCK_STATUS is finished with success before each context in force has its status.
+    IncompleteStatus,
     /// A message that started has not completed at the end.
     Unfinished,
 }

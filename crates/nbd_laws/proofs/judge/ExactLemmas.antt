@@ -61,9 +61,9 @@ abbrev Began : Phase → Core → Core → Message → Type 0
 Began (Transmission export) old now m = (side m ≡ Server → IsAppended old now × IsTrue (is_some (request_of_reply old m))) × (side m ≡ Client → now.disconnected ≡ false)
 Began phase old now m = Unit {0}
 
-request_taken : (core : Core) (b : Bool) (bytes : List ℕ) (m : Message) → b ≡ false → Accepts (request (in_force core) core bytes) m → IsTaken (request_unless b core bytes) core m
+request_taken : (core : Core) (b : Bool) (bytes : List ℕ) (m : Message) → b ≡ false → Accepts (request core bytes) m → IsTaken (request_unless b core bytes) core m
 request_taken core true bytes m e a = absurd (cc)
-request_taken core false bytes m e a = taken (request (in_force core) core bytes) core m a
+request_taken core false bytes m e a = taken (request core bytes) core m a
 
 taken_in : (phase : Phase) (old now : Core) (m : Message) → IsSendable m → Began phase old now m → MayComplete now phase m → IsTaken (decision phase old now (side m) (enc m)) now m
 unfolding MayComplete IsSendable
@@ -114,7 +114,7 @@ deciding_of Choosing Client old m p st = deciding Choosing Client old [] _ p ref
 deciding_of Naming Server old m p st = deciding Naming Server old [] _ p refl
 deciding_of Aborting Server old m p st = deciding Aborting Server old [] _ p refl
 deciding_of (Answering option given info) Server old m p st = deciding (Answering option given info) Server old [] _ p refl
-deciding_of (Transmission export) Client old m p st = deciding (Transmission export) Client old [] (request (in_force old) old []) p (ap (λ b. request_unless b old []) st.1)
+deciding_of (Transmission export) Client old m p st = deciding (Transmission export) Client old [] (request old []) p (ap (λ b. request_unless b old []) st.1)
 deciding_of (Transmission export) Server old m p st = deciding (Transmission export) Server old [] _ p refl
 deciding_of phase s old m p st = absurd (cc)
 

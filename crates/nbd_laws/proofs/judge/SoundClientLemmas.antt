@@ -45,10 +45,6 @@ may_ask : (c : Bool) (now : Core) (cookie offset len : ℕ) → (c && not ((offs
 may_ask true now cookie offset len e f = let h : ((offset == 0) ≡ true) × ((len == 0) ≡ true) = and_true _ _ (not_false _ e) in (eqb-true offset 0 h.0, eqb-true len 0 h.1)
 may_ask false now cookie offset len e f = no_some (target cookie now.entries) f
 
-none_in_force : (contexts : List Context) → is_none_in contexts ≡ true → contexts ≡ []
-none_in_force [] e = refl
-none_in_force (c ∷ contexts) e = absurd (cc)
-
 pub record IsAsked (now : Core) (export : Exporting) (bytes : List ℕ) (m : Message) : Type 0 where
   pub fit : IsFit now (Transmission export) Client bytes m
   pub is : request_of bytes ≡ m
@@ -61,20 +57,18 @@ request_sound now export false bytes m is_d a e =
     let command : ℕ = number_at 6 2 bytes in
     let offset : ℕ = number_at 16 8 bytes in
     let len : ℕ = number_at 24 4 bytes in
-    let w : IsWhole (request (in_force now) now bytes) bytes m = whole (request (in_force now) now bytes) bytes m e in
+    let w : IsWhole (request now bytes) bytes m = whole (request now bytes) bytes m e in
     let long : length bytes ≡ 28 + request_payload_length command len = w.long in
     let bad : Bool = (command == commands.DISC) && not ((offset == 0) && (len == 0)) in
-    let stopped : Bool = (command == commands.BLOCK_STATUS) && not (is_none_in (in_force now)) in
-    let mg : (number_at 0 4 bytes ≡ REQUEST_MAGIC) × (fault_if stopped OutOfProfile (fault_if bad BadDisconnect None) ≡ None) = magic_there _ _ _ w.at_head in
-    let st : (stopped ≡ false) × (fault_if bad BadDisconnect None ≡ None) = fault_none _ OutOfProfile _ mg.1 in
+    let mg : (number_at 0 4 bytes ≡ REQUEST_MAGIC) × (fault_if bad BadDisconnect None ≡ None) = magic_there _ _ _ w.at_head in
     let k : ((not (command == commands.DISC) && is_some (target (number_at 8 8 bytes) now.entries)) ≡ false) × (None ≡ None) = fault_none _ CookieInUse None w.at_last in
-    let j : (bad ≡ false) × (None ≡ None) = fault_none _ BadDisconnect None st.1 in
+    let j : (bad ≡ false) × (None ≡ None) = fault_none _ BadDisconnect None mg.1 in
     record {
       fit = subst (IsFit now (Transmission export) Client bytes) w.is (record {
         encodes = request_is bytes a (omega (arith, long)) mg.0;
         sided = refl;
         sendable = request_sendable bytes a long;
-        completes = (λ q. none_in_force (in_force now) (not_false _ (and_false _ _ st.0 (eq-eqb command commands.BLOCK_STATUS q))), may_ask (command == commands.DISC) now (number_at 8 8 bytes) offset len j.0 k.0);
+        completes = may_ask (command == commands.DISC) now (number_at 8 8 bytes) offset len j.0 k.0;
       });
       is = w.is;
       open_still = is_d;

@@ -1,6 +1,7 @@
 -- What the judge takes for a reply is one that the rules allow.
-use Rattle.std.proofs.Common.{◌≡◌, ℕ, ◌<◌, ◌≤◌, ◌+◌, ◌^◌, ◌==◌, List, [], ◌∷◌, length, drop, refl, sym, ◌∙◌, ap, subst, inl, inr, Option, Some, None, Bool, true, false, not, ◌&&◌, ◌||◌, if◌then◌else◌, eqb-true, eq-eqb, is_some, arith, length-drop, IsTrue, nat_le, nat_lt}
-use Rattle.std.proofs.lemmas.Bool.{leb-true, ltb-true}
+use Rattle.nbd_wire.specs.protocol.Statuses.{but_last}
+use Rattle.std.proofs.Common.{◌≡◌, ℕ, ◌<◌, ◌≤◌, ◌+◌, ◌^◌, ◌==◌, List, [], ◌∷◌, length, drop, refl, sym, ◌∙◌, ap, subst, inl, inr, Option, Some, None, Bool, true, false, not, ◌&&◌, ◌||◌, if◌then◌else◌, eqb-true, eq-eqb, is_some, arith, length-drop, IsTrue, nat_le, nat_lt, ≢}
+use Rattle.std.proofs.lemmas.Bool.{leb-true, ltb-true, ne_eqb}
 use Rattle.nbd_wire.specs.declared.chunks.TheConstants as chunks
 use Rattle.nbd_wire.specs.declared.command_flags.TheConstants as command_flags
 use Rattle.nbd_wire.specs.declared.commands.TheConstants as commands
@@ -11,18 +12,18 @@ use Rattle.nbd_wire.specs.declared.payloads.Failure.{Failure}
 use Rattle.nbd_wire.specs.declared.payloads.Piece.{Piece}
 use Rattle.nbd_wire.specs.protocol.Encoding.{enc, head, tail, AreBytes}
 use Rattle.nbd_wire.proofs.NumberLemmas.{with_number, number_at-lt, AreBytes-drop}
-use Rattle.nbd_wire.specs.protocol.Payloads.{number_at, content_of, failure_of}
-use Rattle.nbd_wire.specs.protocol.Replies.{IsChunk, IsContent, MayFinish, MayReply, simple_length}
-use Rattle.nbd_wire.specs.protocol.Operations.{Covers, Operation, Exporting, has_failed, is_proper, pieces}
+use Rattle.nbd_wire.specs.protocol.Payloads.{number_at, content_of, failure_of, status_of}
+use Rattle.nbd_wire.specs.protocol.Replies.{IsChunk, IsContent, MayFinish, MayReply, simple_length, IsStatus}
+use Rattle.nbd_wire.specs.protocol.Operations.{Covers, Operation, Exporting, has_failed, is_proper, pieces, asks_status}
 use Rattle.nbd_wire.specs.protocol.Flags.{has}
 use Rattle.nbd_wire.specs.protocol.Pieces.{is_in, piece_offset, piece_size}
 use Rattle.nbd_wire.specs.protocol.Rules.{MayComplete, request_of_reply}
 use Rattle.nbd_wire.specs.protocol.Sendable.{IsSendable}
 use Rattle.nbd_wire.specs.protocol.States.{Transmission, Core, target, operation, with_reply}
-use Rattle.nbd_wire.specs.declared.fault.WireFault.TheVariants.{BadMagic, UnknownCookie, SimpleForbidden, ChunkForbidden, BadChunk, BadContent, IncompleteRead, SuccessOfImproper}
+use Rattle.nbd_wire.specs.declared.fault.WireFault.TheVariants.{BadMagic, UnknownCookie, SimpleForbidden, ChunkForbidden, BadChunk, BadContent, IncompleteRead, SuccessOfImproper, IncompleteStatus}
 use Rattle.nbd_laws.specs.internal.Decisions.{fault_if}
 use Rattle.nbd_laws.specs.internal.Decisions.{is_none_yet}
-use Rattle.nbd_laws.specs.internal.JudgeTransmission.{begins, chunk_fault, chunk_of, chunk_to, content_fault, done_fault, operation_if, operation_of, finish_fault, fits_failure, fits_read, is_apart_from, is_inside, is_no_piece, no_reply, reply, reply_by, simple_of, simple_to, total}
+use Rattle.nbd_laws.specs.internal.JudgeTransmission.{begins, chunk_fault, chunk_of, chunk_to, content_fault, done_fault, operation_if, operation_of, finish_fault, fits_failure, fits_read, is_apart_from, is_inside, is_no_piece, no_reply, reply, reply_by, simple_of, simple_to, total, lacks_status, fits_status, status_if, is_none_in, fits_range}
 use Rattle.nbd_laws.proofs.judge.BoolLemmas.{not_false, not_true, or_false, or_true, and_true, and_false, fault_none}
 use Rattle.nbd_laws.specs.internal.Concrete.{read_by}
 use Rattle.nbd_laws.proofs.judge.CoverLemmas.{full_total_covers, apart_from-shares}
@@ -31,6 +32,7 @@ use Rattle.nbd_laws.proofs.machine.MachineLemmas.{Later}
 use Rattle.nbd_laws.proofs.judge.PhaseLemmas.{IsAppended, Later-appended, target-append}
 use Rattle.nbd_laws.proofs.judge.SoundNegotiationLemmas.{IsFit, IsWhole, no_length, whole}
 use Rattle.nbd_laws.proofs.judge.TidyLemmas.{IsTidy, AreTidy, tidy_entry, tidy_chunk}
+use Rattle.nbd_wire.specs.protocol.Contexts.{Context, Status, reach}
 
 pub record IsReplying (old now : Core) (export : Exporting) (bytes : List ℕ) (m : Message) : Type 0 where
   pub fit : IsFit now (Transmission export) Server bytes m
@@ -75,11 +77,12 @@ no_message [] e = refl
 no_message (m ∷ ms) e = absurd (cc)
 
 simple_may : (structured : Bool) (export : Exporting) (e : Operation) (bytes : List ℕ) → length bytes ≡ 16 + simple_length e (number_at 4 4 bytes) →
-    (not (is_none_yet e.replies) || ((e.command == commands.READ) && structured)) ≡ false → ((number_at 4 4 bytes == 0) && not (is_proper export e)) ≡ false → MayReply structured export e (simple_of bytes)
+    (not (is_none_yet e.replies) || (((e.command == commands.READ) && structured) || (asks_status e && (number_at 4 4 bytes == 0)))) ≡ false → ((number_at 4 4 bytes == 0) && not (is_proper export e)) ≡ false → MayReply structured export e (simple_of bytes)
 unfolding MayReply
 simple_may structured export e bytes l f g =
-    let h : (not (is_none_yet e.replies) ≡ false) × (((e.command == commands.READ) && structured) ≡ false) = or_false _ _ f in
-    (no_message e.replies (not_false _ h.0), (λ c. and_false _ _ h.1 (eq-eqb e.command commands.READ c)), omega (arith, length-drop 16 bytes, l), (λ z. not_false _ (and_false _ _ g (eq-eqb _ _ z))))
+    let h : (not (is_none_yet e.replies) ≡ false) × ((((e.command == commands.READ) && structured) || (asks_status e && (number_at 4 4 bytes == 0))) ≡ false) = or_false _ _ f in
+    let r : (((e.command == commands.READ) && structured) ≡ false) × ((asks_status e && (number_at 4 4 bytes == 0)) ≡ false) = or_false _ _ h.1 in
+    (no_message e.replies (not_false _ h.0), (λ c. and_false _ _ r.0 (eq-eqb e.command commands.READ c)), (λ s z. (let q : true ≡ false = sym (eq-eqb _ _ z) ∙ and_false _ _ r.1 s in absurd (cc))), omega (arith, length-drop 16 bytes, l), (λ z. not_false _ (and_false _ _ g (eq-eqb _ _ z))))
 
 -- a reply that may complete, of a request that was found
 reply_may : (old now : Core) (m : Message) (cookie : ℕ) (e : Operation) → request_of_reply old m ≡ target cookie old.entries → IsFound old now cookie e → IsTrue (is_some (request_of_reply old m))
@@ -143,9 +146,14 @@ covers e t s x i =
 finish_may : (export : Exporting) (e : Operation) (b : Bool) → has_failed e ≡ b → IsTidy e → finish_fault export e b (pieces e) ≡ None → MayFinish export e
 finish_may export e true is t h = inl is
 finish_may export e false is t h =
-    let a : (((e.command == commands.READ) && not (total (pieces e) == e.length)) ≡ false) × (fault_if (not (is_proper export e)) SuccessOfImproper None ≡ None) = fault_none _ IncompleteRead _ h in
-    let b : (not (is_proper export e) ≡ false) × (None ≡ None) = fault_none _ SuccessOfImproper None a.1 in
-    inr (not_false _ b.0, λ c. covers e t (eqb-true _ _ (not_false _ (and_false _ _ a.0 (eq-eqb e.command commands.READ c)))))
+    let a : (((e.command == commands.READ) && not (total (pieces e) == e.length)) ≡ false) × (fault_if (not (is_proper export e)) SuccessOfImproper (fault_if (lacks_status e) IncompleteStatus None) ≡ None) = fault_none _ IncompleteRead _ h in
+    let b : (not (is_proper export e) ≡ false) × (fault_if (lacks_status e) IncompleteStatus None ≡ None) = fault_none _ SuccessOfImproper _ a.1 in
+    let s : (lacks_status e ≡ false) × (None ≡ None) = fault_none _ IncompleteStatus None b.1 in
+    inr (
+      not_false _ b.0,
+      (λ c. covers e t (eqb-true _ _ (not_false _ (and_false _ _ a.0 (eq-eqb e.command commands.READ c))))),
+      λ c n. not_false _ (and_false _ _ (and_false _ _ s.0 (eq-eqb e.command commands.BLOCK_STATUS c)) (ap not (ne_eqb e.length 0 n))),
+    )
 
 done_may : (export : Exporting) (e : Operation) (b : Bool) → done_fault b export e ≡ None → IsTidy e → b ≡ true → MayFinish export e
 done_may export e true h t q = finish_may export e (has_failed e) refl t h
@@ -155,6 +163,44 @@ pub in_range : (e : Operation) (o : Option ℕ) → fits_failure e o ≡ true �
 in_range e None q x is = absurd (cc)
 in_range e (Some y) q x is = let r : y ≡ x = cc in subst (λ y. is_in e.offset e.length y ≡ true) r q
 
+-- what is told of status, where a context is in force
+pub record IsTold (contexts : List Context) (kind : ℕ) (payload : List ℕ) (status : Status) : Type 0 where
+  pub kind_is : kind ≡ chunks.BLOCK_STATUS
+  pub some_in_force : contexts ≢ []
+  pub is : status_of payload ≡ Some status
+
+pub told_if : (contexts : List Context) (kind : ℕ) (payload : List ℕ) (status : Status) → status_if contexts kind payload ≡ Some status → IsTold contexts kind payload status
+told_if contexts kind payload status e = go (kind == chunks.BLOCK_STATUS) refl contexts refl e
+  where
+    go : (b : Bool) → (kind == chunks.BLOCK_STATUS) ≡ b → (cs : List Context) → contexts ≡ cs → (if b && not (is_none_in cs) then status_of payload else None) ≡ Some status → IsTold contexts kind payload status
+    go true q [] n e = absurd (cc)
+    go true q (c ∷ cs) n e = record { kind_is = eqb-true kind chunks.BLOCK_STATUS q; some_in_force = λ h. (let r : c ∷ cs ≡ [] = sym n ∙ h in (cc)); is = e }
+    go false q cs n e = absurd (cc)
+
+pub status_if-some : (contexts : List Context) (kind : ℕ) (payload : List ℕ) (status : Status) → kind ≡ chunks.BLOCK_STATUS → contexts ≢ [] → status_of payload ≡ Some status → status_if contexts kind payload ≡ Some status
+status_if-some [] kind payload status k n is = absurd (n refl)
+status_if-some (c ∷ contexts) kind payload status k n is = ap (λ b. if b && true then status_of payload else None) (eq-eqb kind chunks.BLOCK_STATUS k) ∙ is
+
+pub fits_it : (e : Operation) (status : Status) → fits_status e status ≡ true → IsStatus e status
+fits_it e status h =
+    let a : ((e.command == commands.BLOCK_STATUS) ≡ true) × (_ ≡ true) = and_true (e.command == commands.BLOCK_STATUS) _ h in
+    let b : (has_id e.contexts status.id ≡ true) × (_ ≡ true) = and_true (has_id e.contexts status.id) _ a.1 in
+    let c : (not (tells (statuses e) status.id) ≡ true) × (((e.length == 0) || fits_range e status.extents) ≡ true) = and_true (not (tells (statuses e) status.id)) _ b.1 in (
+      eqb-true e.command commands.BLOCK_STATUS a.0,
+      b.0,
+      not_true _ c.0,
+      λ n. elim (or_true _ _ c.1) [ inl z ↦ absurd (n (eqb-true e.length 0 z)) | inr r ↦ in_its_range r ],
+    )
+  where
+    in_its_range : fits_range e status.extents ≡ true → (reach (but_last status.extents) < e.length) × (IsTrue (has e.flags command_flags.REQ_ONE) → (length status.extents ≡ 1) × (reach status.extents ≤ e.length))
+    in_its_range h =
+        let a : (not (nat_le e.length (reach (but_last status.extents))) ≡ true) × (_ ≡ true) = and_true (not (nat_le e.length (reach (but_last status.extents)))) _ h in
+        let short = leb-false e.length (reach (but_last status.extents)) (not_true _ a.0) in
+        (omega (arith, short), λ one. elim (or_true _ _ a.1) [
+          | inl n ↦ absurd (let q : true ≡ false = sym one ∙ not_true _ n in (cc))
+          | inr r ↦ (let b : ((length status.extents == 1) ≡ true) × (nat_le (reach status.extents) e.length ≡ true) = and_true (length status.extents == 1) _ r in (eqb-true (length status.extents) 1 b.0, leb-true (reach status.extents) e.length b.1))
+        ])
+
 -- a chunk's form, and what is left to judge of its reply's end
 pub form_of : (export : Exporting) (e f : Operation) (flags kind : ℕ) (payload : List ℕ) (z : Bool) → (kind == chunks.NONE) ≡ z → chunk_fault z export e f flags kind payload ≡ None →
     IsChunk export e flags kind payload × (done_fault (has flags chunks.DONE) export f ≡ None)
@@ -162,16 +208,20 @@ form_of export e f flags kind payload true z h =
     let a : ((not (length payload == 0) || not (has flags chunks.DONE)) ≡ false) × (done_fault (has flags chunks.DONE) export f ≡ None) = fault_none _ BadChunk _ h in
     let b : (not (length payload == 0) ≡ false) × (not (has flags chunks.DONE) ≡ false) = or_false _ _ a.0 in
     (inl (eqb-true _ _ z, no_length payload (eqb-true _ _ (not_false _ b.0)), not_false _ b.1), a.1)
-form_of export e f flags kind payload false z h = go (content_of kind payload) (failure_of kind payload) refl refl h
+form_of export e f flags kind payload false z h = go (content_of kind payload) (failure_of kind payload) (status_if e.contexts kind payload) refl refl refl h
   where
-    go : (c : Option Piece) (g : Option Failure) → content_of kind payload ≡ c → failure_of kind payload ≡ g →
-        content_fault export e c g (done_fault (has flags chunks.DONE) export f) ≡ None →
+    go : (c : Option Piece) (g : Option Failure) (s : Option Status) → content_of kind payload ≡ c → failure_of kind payload ≡ g → status_if e.contexts kind payload ≡ s →
+        content_fault export e c g s (done_fault (has flags chunks.DONE) export f) ≡ None →
         IsChunk export e flags kind payload × (done_fault (has flags chunks.DONE) export f ≡ None)
-    go (Some piece) g is_c is_g h = let a : (not (fits_read export e piece) ≡ false) × (_ ≡ None) = fault_none _ BadContent _ h in
+    go (Some piece) g s is_c is_g is_s h = let a : (not (fits_read export e piece) ≡ false) × (_ ≡ None) = fault_none _ BadContent _ h in
         (inr (inl (piece, is_c, fits export e piece (not_false _ a.0))), a.1)
-    go None (Some g) is_c is_g h = let a : (not (fits_failure e g.offset) ≡ false) × (_ ≡ None) = fault_none _ BadContent _ h in
-        (inr (inr (g, is_g, in_range e g.offset (not_false _ a.0))), a.1)
-    go None None is_c is_g h = absurd (cc)
+    go None (Some g) s is_c is_g is_s h = let a : (not (fits_failure e g.offset) ≡ false) × (_ ≡ None) = fault_none _ BadContent _ h in
+        (inr (inr (inl (g, is_g, in_range e g.offset (not_false _ a.0)))), a.1)
+    go None None (Some s) is_c is_g is_s h =
+        let a : (not (fits_status e s) ≡ false) × (_ ≡ None) = fault_none _ BadContent _ h in
+        let t : IsTold e.contexts kind payload s = told_if e.contexts kind payload s is_s in
+        (inr (inr (inr (t.kind_is, (s, t.is, fits_it e s (not_false _ a.0))))), a.1)
+    go None None None is_c is_g is_s h = absurd (cc)
 
 chunk_may : (structured : Bool) (export : Exporting) (e : Operation) (bytes : List ℕ) → structured ≡ true → IsChunk export e (number_at 4 2 bytes) (number_at 6 2 bytes) (drop 20 bytes) →
     (IsTrue (has (number_at 4 2 bytes) chunks.DONE) → MayFinish export (with_reply e (chunk_of bytes))) → MayReply structured export e (chunk_of bytes)

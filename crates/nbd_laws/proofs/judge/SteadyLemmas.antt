@@ -146,21 +146,20 @@ answer_fixed profile option proper takes info selection = record {
   };
 }
 
-request_same : (contexts : List Context) (c d : Core) (bytes more : List ℕ) → 28 ≤ length bytes → IsSameHead (request contexts c bytes) (request contexts d (bytes ++ more))
-request_same contexts c d bytes more l = record {
+request_same : (c d : Core) (bytes more : List ℕ) → 28 ≤ length bytes → IsSameHead (request c bytes) (request d (bytes ++ more))
+request_same c d bytes more l = record {
   head_length_is = refl;
-  head_fault_is = λ i. request_fault contexts (at 0 4 28 bytes more l (omega arith) i) (at 6 2 28 bytes more l (omega arith) i) (at 16 8 28 bytes more l (omega arith) i) (at 24 4 28 bytes more l (omega arith) i);
+  head_fault_is = λ i. request_fault (at 0 4 28 bytes more l (omega arith) i) (at 6 2 28 bytes more l (omega arith) i) (at 16 8 28 bytes more l (omega arith) i) (at 24 4 28 bytes more l (omega arith) i);
   payload_length_is = λ i. request_payload_length (at 6 2 28 bytes more l (omega arith) i) (at 24 4 28 bytes more l (omega arith) i);
 }
 
 in_requests : (old : Core) (export : Exporting) → old.phase ≡ Transmission export → old.disconnected ≡ false → IsDeciding Client old
 in_requests old export t d = record {
-  F = request (in_force old);
+  F = request;
   decides = λ now l bytes. (
       ap (λ p. decision p old now Client bytes) (Later-transmission l export t)
-      ∙ ap (λ b. request_unless b now bytes) (Later-disconnected l ∙ d)
-      ∙ ap (λ contexts. Some (request contexts now bytes)) (Later-in_force l export t));
-  steady = λ now l. fixed_steady Client now 28 (request (in_force old)) (omega arith) (λ c bytes. refl) (request_same (in_force old));
+      ∙ ap (λ b. request_unless b now bytes) (Later-disconnected l ∙ d));
+  steady = λ now l. fixed_steady Client now 28 (request) (omega arith) (λ c bytes. refl) request_same;
 }
 
 pub entry-append : (k : ℕ) (es more : List Operation) (e : Operation) → operation k es ≡ Some e → operation k (es ++ more) ≡ Some e
@@ -262,11 +261,11 @@ module _ (export : Exporting) (old now next : Core) (bytes more : List ℕ) wher
     payload_length_is = at 16 4 20 bytes more l (omega arith);
   }
 
-  simple_beyond : (o o' : Option Operation) → ((e : Operation) → o ≡ Some e → o' ≡ Some e) → next.structured ≡ now.structured → 16 ≤ length bytes → simple_fault now.structured o ≡ None → IsSameHead (simple_to export now o bytes) (simple_to export next o' (bytes ++ more))
+  simple_beyond : (o o' : Option Operation) → ((e : Operation) → o ≡ Some e → o' ≡ Some e) → next.structured ≡ now.structured → 16 ≤ length bytes → simple_fault now.structured o (number_at 4 4 bytes) ≡ None → IsSameHead (simple_to export now o bytes) (simple_to export next o' (bytes ++ more))
   simple_beyond None o' same st l clean = absurd (cc)
   simple_beyond (Some e) o' same st l clean = record {
     head_length_is = refl;
-    head_fault_is = λ i. simple_fault (st i) (same e refl i);
+    head_fault_is = λ i. simple_fault (st i) (same e refl i) (at 4 4 16 bytes more l (omega arith) i);
     payload_length_is = λ i. simple_payload_length (same e refl i) (at 4 4 16 bytes more l (omega arith) i);
   }
 
@@ -316,9 +315,10 @@ module _ (export : Exporting) (old now next : Core) (bytes more : List ℕ) wher
   chunk_back None o' same none st clean = absurd (let q : Some UnknownCookie ≡ None = ap (chunk_head_fault next.structured) (sym (none refl)) ∙ clean in (cc))
   chunk_back (Some e) o' same none st clean = (λ i. chunk_head_fault (sym st i) (sym (same e refl) i)) ∙ clean
 
-  simple_back : (o o' : Option Operation) → ((e : Operation) → o ≡ Some e → o' ≡ Some e) → (o ≡ None → o' ≡ None) → next.structured ≡ now.structured → simple_fault next.structured o' ≡ None → simple_fault now.structured o ≡ None
-  simple_back None o' same none st clean = absurd (let q : Some UnknownCookie ≡ None = ap (simple_fault next.structured) (sym (none refl)) ∙ clean in (cc))
-  simple_back (Some e) o' same none st clean = (λ i. simple_fault (sym st i) (sym (same e refl) i)) ∙ clean
+  simple_back : (o o' : Option Operation) → ((e : Operation) → o ≡ Some e → o' ≡ Some e) → (o ≡ None → o' ≡ None) → next.structured ≡ now.structured → 16 ≤ length bytes → simple_fault next.structured o' (number_at 4 4 (bytes ++ more)) ≡ None →
+      simple_fault now.structured o (number_at 4 4 bytes) ≡ None
+  simple_back None o' same none st long clean = absurd (let q : Some UnknownCookie ≡ None = ap (λ o. simple_fault next.structured o (number_at 4 4 (bytes ++ more))) (sym (none refl)) ∙ clean in (cc))
+  simple_back (Some e) o' same none st long clean = (λ i. simple_fault (sym st i) (sym (same e refl) i) (sym (at 4 4 16 bytes more long (omega arith)) i)) ∙ clean
 
   still_none : IsAppended old now → 16 ≤ length bytes → operation_of old now cookie_now ≡ None → operation_of old next cookie_next ≡ None
   still_none a long h = ap (operation_of old next) (at 8 8 16 bytes more long (omega arith)) ∙ none_stays old now next cookie_now a h
@@ -337,7 +337,7 @@ module _ (export : Exporting) (old now next : Core) (bytes more : List ℕ) wher
       let next_is : reply export old next (bytes ++ more) ≡ simple_to export next (operation_of old next cookie_next) (bytes ++ more) = is_simple_reply export old next (bytes ++ more) (no_chunk (bytes ++ more) s') s' in
       let long : 16 ≤ length bytes = subst (λ (d : Decision). d.head_length ≤ length bytes) now_is l in
       ap (λ (d : Decision). d.head_fault) now_is
-      ∙ simple_back (operation_of old now cookie_now) (operation_of old next cookie_next) (same_entry export old now next bytes more b long) (still_none a long) b.structured_is (sym (ap (λ (d : Decision). d.head_fault) next_is) ∙ clean)
+      ∙ simple_back (operation_of old now cookie_now) (operation_of old next cookie_next) (same_entry export old now next bytes more b long) (still_none a long) b.structured_is long (sym (ap (λ (d : Decision). d.head_fault) next_is) ∙ clean)
   reply_back a b (as_neither c s) l clean =
       let now_is : reply export old now bytes ≡ no_reply bytes = is_no_reply export old now bytes c s in
       let long : 4 ≤ length bytes = subst (λ (d : Decision). d.head_length ≤ length bytes) now_is l in

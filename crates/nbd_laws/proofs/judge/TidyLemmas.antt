@@ -63,6 +63,10 @@ no_content kind bytes f e = elim (failure_kind kind bytes f e) [
   | inr q ↦ subst (λ k. content_of k bytes ≡ None) (sym q) refl
 ]
 
+pub status_content : (kind : ℕ) (bytes : List ℕ) → kind ≡ chunks.BLOCK_STATUS → content_of kind bytes ≡ None
+unfolding content_of
+status_content kind bytes q = subst (λ k. content_of k bytes ≡ None) (sym q) refl
+
 pub none_content : (bytes : List ℕ) → content_of chunks.NONE bytes ≡ None
 unfolding content_of
 none_content bytes = refl
@@ -106,13 +110,16 @@ tidy_chunk export e flags kind cookie bytes t h = one_more e _ t (elim h [
   | inr r ↦ elim r [
     | inl (piece, is, fit) ↦ (let s : piece ∷ [] ≡ piece_of e.offset (Chunk flags kind cookie bytes) = sym (piece-some e.offset flags kind cookie bytes piece is) in
         subst (IsOneMore e) s (record { inside = inside_snoc e.offset e.length (pieces e) piece t.inside fit.1 fit.2; apart = apart_snoc (pieces e) piece t.apart fit.3 }))
-    | inr (f, is, x) ↦ nothing_more e _ t (piece-none e.offset flags kind cookie bytes (no_content kind bytes f is))
+    | inr o ↦ elim o [
+      | inl (f, is, x) ↦ nothing_more e _ t (piece-none e.offset flags kind cookie bytes (no_content kind bytes f is))
+      | inr (k, x) ↦ nothing_more e _ t (piece-none e.offset flags kind cookie bytes (status_content kind bytes k))
+    ]
   ]
 ])
 
 pub tidy_reply : (structured : Bool) (export : Exporting) (e : Operation) (m : Message) → IsTidy e → MayReply structured export e m → IsTidy (with_reply e m)
 unfolding MayReply
-tidy_reply structured export e (Simple error cookie bytes) t h = one_more e _ t (simple_more e error cookie bytes t h.0 (at_most ((e.command == commands.READ) && (error == 0)) h.2))
+tidy_reply structured export e (Simple error cookie bytes) t h = one_more e _ t (simple_more e error cookie bytes t h.0 (at_most ((e.command == commands.READ) && (error == 0)) h.3))
   where
     at_most : (b : Bool) → length bytes ≡ (if b then e.length else 0) → length bytes ≤ e.length
     at_most true q = omega (arith, q)

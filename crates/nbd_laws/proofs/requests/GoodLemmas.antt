@@ -9,6 +9,7 @@ use Rattle.nbd_wire.specs.declared.message.Message.TheVariants.{Request, Simple,
 use Rattle.nbd_wire.specs.declared.payloads.Failure.{Failure}
 use Rattle.nbd_wire.specs.declared.payloads.Piece.{Piece}
 use Rattle.nbd_wire.specs.declared.payloads.Piece.TheVariants.{Bytes}
+use Rattle.nbd_wire.specs.protocol.Contexts.{Context}
 use Rattle.nbd_wire.specs.protocol.Payloads.{content_of, failure_of, number_at}
 use Rattle.nbd_wire.specs.protocol.Replies.{IsChunk, MayReply, simple_length}
 use Rattle.nbd_wire.specs.protocol.Operations.{Covers, Operation, Exporting, Outcome, Success, Pending, any, ends_reply, has_failed, has_range, is_failing, is_finished, is_proper, outcome, pieces, pieces_of}
@@ -101,6 +102,11 @@ pub none_content : (kind : ℕ) (bytes : List ℕ) → kind ≡ chunks.NONE → 
 unfolding content_of
 none_content kind bytes q = subst (λ k. content_of k bytes ≡ None) (sym q) refl
 
+-- nor has a status
+pub status_content : (kind : ℕ) (bytes : List ℕ) → kind ≡ chunks.BLOCK_STATUS → content_of kind bytes ≡ None
+unfolding content_of
+status_content kind bytes q = subst (λ k. content_of k bytes ≡ None) (sym q) refl
+
 -- the pieces with those of one more reply
 pub pieces-with_reply : (e : Operation) (m : Message) → pieces (with_reply e m) ≡ pieces e ++ piece_of e.offset m
 pieces-with_reply e m = pieces-snoc e.offset e.replies m
@@ -134,7 +140,10 @@ kept_chunk export e flags kind cookie payload g h = elim h [
           reads = λ n. absurd (n fit.0);
           single = λ p d. subst (λ l. length (l ++ piece ∷ []) ≤ 1) (sym (fit.4 (and_both p d))) (le_refl 1);
         }))
-    | inr (f, is, x) ↦ same (no_piece e flags kind cookie payload (no_content kind payload f is))
+    | inr o ↦ elim o [
+      | inl (f, is, x) ↦ same (no_piece e flags kind cookie payload (no_content kind payload f is))
+      | inr (k, x) ↦ same (no_piece e flags kind cookie payload (status_content kind payload k))
+    ]
   ]
 ]
   where
@@ -155,7 +164,7 @@ good_chunk structured export e flags kind cookie payload g not_true_is_false h =
         let w : Succeeds (with_reply e (Chunk flags kind cookie payload)) = succeeds (with_reply e (Chunk flags kind cookie payload)) s in
         elim (h.2 (any-last ends_reply e.replies (Chunk flags kind cookie payload) not_true_is_false w.finished)) [
           | inl f ↦ absurd (let q : true ≡ false = sym f ∙ w.unfailed in (cc))
-          | inr r ↦ r
+          | inr r ↦ (r.0, r.1)
         ]
 
 -- a request with one simple reply
@@ -212,23 +221,23 @@ pub good_simple : (structured : Bool) (export : Exporting) (e : Operation) (erro
 unfolding MayReply piece_of is_proper
 good_simple structured export e error cookie payload g h =
     let k : Keeps export e (simple_piece e.offset payload ++ []) = simple_keeps export e payload
-    (let m : simple_length e error ≤ e.length = simple_most e error in let q : length payload ≡ simple_length e error = h.2 in omega arith)
-    (λ n. h.2 ∙ simple_none e error n) in
+    (let m : simple_length e error ≤ e.length = simple_most e error in let q : length payload ≡ simple_length e error = h.3 in omega arith)
+    (λ n. h.3 ∙ simple_none e error n) in
     let good : IsGood export (once e error cookie payload) = record {
       carried = g.carried;
       inside = k.inside;
       apart = k.apart;
       reads = k.reads;
       single = k.single;
-      success = λ s. h.3 (no_error e error cookie payload s);
-      covered = λ s c. simple_covers e payload (h.2 ∙ simple_all e error c (no_error e error cookie payload s));
+      success = λ s. h.4 (no_error e error cookie payload s);
+      covered = λ s c. simple_covers e payload (h.3 ∙ simple_all e error c (no_error e error cookie payload s));
     } in
     subst (λ rs. IsGood export (record e { replies = rs ++ Simple error cookie payload ∷ [] })) (sym h.0) good
 
-pub good_new : (export : Exporting) (flags command cookie offset len : ℕ) (payload : List ℕ) → IsSendable (Request flags command cookie offset len payload) →
-    IsGood export (record { flags = flags; command = command; cookie = cookie; offset = offset; length = len; payload = payload; replies = [] })
+pub good_new : (export : Exporting) (flags command cookie offset len : ℕ) (payload : List ℕ) (contexts : List Context) → IsSendable (Request flags command cookie offset len payload) →
+    IsGood export (record { flags = flags; command = command; cookie = cookie; offset = offset; length = len; payload = payload; contexts = contexts; replies = [] })
 unfolding IsSendable
-good_new export flags command cookie offset len payload sn = record {
+good_new export flags command cookie offset len payload contexts sn = record {
   carried = λ c. sn.5 ∙ ap (λ b. if b then len else 0) (eq-eqb command commands.WRITE c);
   inside = tt;
   apart = tt;

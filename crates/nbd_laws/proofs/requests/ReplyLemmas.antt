@@ -7,7 +7,7 @@ use Rattle.nbd_wire.specs.protocol.Replies.{MayReply}
 use Rattle.nbd_wire.specs.protocol.Reports.{operations_of}
 use Rattle.nbd_wire.specs.protocol.Operations.{Operation, Exporting, any, ends_reply, is_finished}
 use Rattle.nbd_wire.specs.protocol.Rules.{MayComplete, complete, cookie_of, ends_at, grants_structured, reply_to, core_with_request}
-use Rattle.nbd_wire.specs.protocol.States.{Core, Phase, Greet, Flags, Choosing, Naming, Aborting, Answering, Transmission, with_reply_at, operation, start, target, with_reply}
+use Rattle.nbd_wire.specs.protocol.States.{Core, Phase, Greet, Flags, Choosing, Naming, Aborting, Answering, Transmission, with_reply_at, operation, start, target, with_reply, in_force}
 use Rattle.nbd_laws.proofs.runs.PrefixLemmas.{InTransmission, asks, gives, replies, transmission_row}
 use Rattle.nbd_laws.specs.Reached.{IsReached, at_start, after_message}
 use Rattle.nbd_laws.proofs.requests.OutstandingLemmas.{IsFound, both_true, find}
@@ -117,7 +117,7 @@ found_cookie core cookie k e t is =
 
 simple_behind : (structured : Bool) (export : Exporting) (e : Operation) (error cookie : ℕ) (p : List ℕ) → MayReply structured export e (Simple error cookie p) → IsReplyAfter structured e e.replies (Simple error cookie p)
 unfolding MayReply
-simple_behind structured export e error cookie p h = (h.0, h.1)
+simple_behind structured export e error cookie p h = (h.0, h.1, h.2)
 
 chunk_behind : (structured : Bool) (export : Exporting) (e : Operation) (flags kind cookie : ℕ) (p : List ℕ) → MayReply structured export e (Chunk flags kind cookie p) → IsReplyAfter structured e e.replies (Chunk flags kind cookie p)
 unfolding MayReply
@@ -125,7 +125,7 @@ chunk_behind structured export e flags kind cookie p h = (
   h.0,
   elim h.1 [
     | inl q ↦ inl q
-    | inr r ↦ elim r [ inl c ↦ inr (inl (c.0, c.1, c.2.0)) | inr f ↦ inr (inr f) ]
+    | inr r ↦ elim r [ inl c ↦ inr (inl (c.0, c.1, c.2.0)) | inr o ↦ elim o [ inl f ↦ inr (inr (inl f)) | inr s ↦ inr (inr (inr s)) ] ]
   ],
 )
 
@@ -140,7 +140,7 @@ structured-reply_to None core m = refl
 whole_complete : (core : Core) (export : Exporting) (m : Message) → InTransmission core export m → EachIsWhole core.structured core.entries → EachIsWhole (complete core m).structured (complete core m).entries
 unfolding complete
 whole_complete core export m (asks flags command cookie offset len p h) w =
-    let e : Operation = record { flags = flags; command = command; cookie = cookie; offset = offset; length = len; payload = p; replies = [] } in
+    let e : Operation = record { flags = flags; command = command; cookie = cookie; offset = offset; length = len; payload = p; contexts = in_force core; replies = [] } in
     subst (λ b. EachIsWhole b (core_with_request (command == commands.DISC) core e).entries) (sym (structured-requested (command == commands.DISC) core e)) (each_requested (command == commands.DISC) core.structured core e refl w)
 whole_complete core export m (replies error cookie p (k, e, found, is, h)) w =
     subst (λ b. EachIsWhole b (reply_to (target cookie core.entries) core (Simple error cookie p)).entries) (sym (structured-reply_to (target cookie core.entries) core (Simple error cookie p)))

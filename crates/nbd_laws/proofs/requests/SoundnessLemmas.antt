@@ -21,7 +21,7 @@ use Rattle.nbd_wire.specs.protocol.Operations as requests
 use Rattle.nbd_wire.specs.protocol.Flags as requests_flags
 use Rattle.nbd_wire.specs.protocol.Rules.{MayComplete, request_of_reply, complete, ends_at, reply_to, core_with_request}
 use Rattle.nbd_wire.specs.protocol.Sendable.{IsSendable}
-use Rattle.nbd_wire.specs.protocol.States.{Core, Phase, Greet, Flags, Choosing, Naming, Aborting, Answering, Ended, Transmission, with_reply_at, operation, start, target, with_reply, export_in}
+use Rattle.nbd_wire.specs.protocol.States.{Core, Phase, Greet, Flags, Choosing, Naming, Aborting, Answering, Ended, Transmission, with_reply_at, operation, start, target, with_reply, export_in, in_force}
 use Rattle.nbd_laws.specs.Soundness.{IsSoundAsked, IsSoundReport, ReportsAreSound}
 use Rattle.nbd_laws.proofs.runs.PrefixLemmas.{InTransmission, asks, gives, phase-complete, replies, transmission_row}
 use Rattle.nbd_laws.proofs.requests.LaidLemmas.{are_laid}
@@ -59,7 +59,7 @@ good_requested false core export e g h = good_snoc export core.entries e g h
 
 good_transmitted : (core : Core) (export : Exporting) (m : Message) → InTransmission core export m → IsSendable m → AreGood export core.entries → AreGood export (complete core m).entries
 unfolding complete
-good_transmitted core export m (asks flags command cookie offset len p h) sn g = good_requested (command == commands.DISC) core export _ g (good_new export flags command cookie offset len p sn)
+good_transmitted core export m (asks flags command cookie offset len p h) sn g = good_requested (command == commands.DISC) core export _ g (good_new export flags command cookie offset len p (in_force core) sn)
 good_transmitted core export m (replies error cookie p (k, e, found, is, h)) sn g =
     good_reply_to core export cookie (Simple error cookie p) (target cookie core.entries) g k e found is (good_simple core.structured export e error cookie p (good_entry export k core.entries e g is) h)
 good_transmitted core export m (gives flags kind cookie p (k, e, found, is, h)) sn g =
@@ -199,7 +199,7 @@ proper_range export e h r =
     let b = both_true _ (requests_flags.has_only e.flags (requests.allowed_flags export.flags e.command)) a.0 in
     let c = both_true _ (not (requests.is_change e.command) || not (has export.flags transmission.READ_ONLY)) b.0 in
     let d = both_true _ (requests.is_offered export.flags e.command) c.0 in
-    let f = both_true (requests.is_known e.command) (not (has_range e.command) || nat_le (e.offset + e.length) export.size) d.0 in
+    let f = both_true (requests.is_known e) (not (has_range e.command) || nat_le (e.offset + e.length) export.size) d.0 in
     leb-true (e.offset + e.length) export.size (second (has_range e.command) (nat_le (e.offset + e.length) export.size) f.1 r)
   where
     second : (a b : Bool) → (not a || b) ≡ true → a ≡ true → b ≡ true

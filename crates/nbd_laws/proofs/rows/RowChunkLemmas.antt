@@ -1,34 +1,36 @@
 -- What is decided of a chunk, in the words of the table of faults.
+use Rattle.nbd_wire.specs.protocol.Statuses.{tells_all, statuses, tells}
+use Rattle.nbd_wire.specs.protocol.Contexts.{Status, has_id}
 use Rattle.std.proofs.Common.{◌≡◌, ℕ, zero, suc, ◌+◌, ◌<◌, ◌≤◌, ◌≢◌, ◌⊎◌, ◌==◌, List, [], ◌∷◌, length, drop, refl, sym, ◌∙◌, ap, subst, inl, inr, Option, Some, None, Bool, true, false, not, ◌&&◌, ◌||◌, IsTrue, is_some, arith, eqb-true, nat_le, nat_lt, if◌then◌else◌}
 use Rattle.std.proofs.lemmas.Bool.{eqb-false, leb-false, leb-true, le-leb, lt-ltb, ltb-true}
 use Rattle.nbd_wire.specs.declared.chunks.TheConstants as chunks
 use Rattle.nbd_wire.specs.declared.command_flags.TheConstants as command_flags
 use Rattle.nbd_wire.specs.declared.commands.TheConstants as commands
 use Rattle.nbd_wire.specs.declared.fault.WireFault.{WireFault}
-use Rattle.nbd_wire.specs.declared.fault.WireFault.TheVariants.{UnknownCookie, ChunkForbidden, BadChunk, BadContent, IncompleteRead, SuccessOfImproper}
+use Rattle.nbd_wire.specs.declared.fault.WireFault.TheVariants.{UnknownCookie, ChunkForbidden, BadChunk, BadContent, IncompleteRead, SuccessOfImproper, IncompleteStatus}
 use Rattle.nbd_wire.specs.declared.message.Side.TheVariants.{Server}
 use Rattle.nbd_wire.specs.declared.payloads.Failure.{Failure}
 use Rattle.nbd_wire.specs.declared.payloads.Piece.{Piece}
-use Rattle.nbd_wire.specs.protocol.Payloads.{content_of, failure_of, number_at}
-use Rattle.nbd_wire.specs.protocol.Replies.{IsChunk, IsContent}
+use Rattle.nbd_wire.specs.protocol.Payloads.{content_of, failure_of, number_at, status_of}
+use Rattle.nbd_wire.specs.protocol.Replies.{IsChunk, IsContent, IsStatus}
 use Rattle.nbd_wire.specs.protocol.Operations.{Operation, Exporting, has_failed, is_proper, pieces}
 use Rattle.nbd_wire.specs.protocol.Pieces.{byte_at, holds, is_in, piece_byte, piece_offset, piece_size}
 use Rattle.nbd_wire.specs.protocol.Flags.{has}
-use Rattle.nbd_wire.specs.protocol.Rows.{BeginsChunk, FinishesWell, HasForm, IsAnswered, IsBadContent, IsMisplaced, IsWholeIn, RowIn, chunk_in, rank}
+use Rattle.nbd_wire.specs.protocol.Rows.{BeginsChunk, FinishesWell, HasForm, IsAnswered, IsBadContent, IsMisplaced, IsWholeIn, RowIn, chunk_in, rank, IsStray}
 use Rattle.nbd_wire.specs.protocol.Rows.IsMisplaced.{to_no_read, before_range, after_range, overlaps, second}
 use Rattle.nbd_wire.specs.protocol.Rows.IsWholeIn.{whole_simple, whole_chunk}
-use Rattle.nbd_wire.specs.protocol.Rows.RowIn.{wrong_magic, neither_magic, not_fixed_newstyle, out_of_turn, wrong_option, bad_reply_kind, ack_with_payload, export_too_large, unknown_cookie, simple_forbidden, chunk_forbidden, bad_chunk, bad_content, incomplete_read, success_of_improper}
+use Rattle.nbd_wire.specs.protocol.Rows.RowIn.{wrong_magic, neither_magic, not_fixed_newstyle, out_of_turn, wrong_option, bad_reply_kind, ack_with_payload, export_too_large, unknown_cookie, simple_forbidden, chunk_forbidden, bad_chunk, bad_content, incomplete_read, success_of_improper, incomplete_status}
 use Rattle.nbd_wire.specs.protocol.States.{Core, Transmission, target, with_reply}
 use Rattle.nbd_laws.specs.internal.Decisions.{fault_if}
-use Rattle.nbd_laws.specs.internal.JudgeTransmission.{chunk_fault, chunk_head_fault, chunk_last_fault, chunk_to, content_fault, done_fault, operation_of, finish_fault, fits_failure, fits_read, is_apart, is_apart_from, is_inside, is_no_piece, total}
+use Rattle.nbd_laws.specs.internal.JudgeTransmission.{chunk_fault, chunk_head_fault, chunk_last_fault, chunk_to, content_fault, done_fault, operation_of, finish_fault, fits_failure, fits_read, is_apart, is_apart_from, is_inside, is_no_piece, total, status_if, fits_status}
 use Rattle.nbd_laws.proofs.judge.BoolLemmas.{and_true, not_false, not_true}
 use Rattle.nbd_laws.proofs.judge.CoverLemmas.{ArePositive, full_total_covers, covered_total, no_overlap}
 use Rattle.nbd_laws.proofs.judge.ExactTransmissionLemmas.{content_positive, pieces_positive}
 use Rattle.nbd_laws.proofs.judge.PhaseLemmas.{IsAppended}
-use Rattle.nbd_laws.proofs.judge.SoundServerLemmas.{fits, in_range}
+use Rattle.nbd_laws.proofs.judge.SoundServerLemmas.{fits, in_range, status_if-some, told_if, IsTold, fits_it}
 use Rattle.nbd_laws.proofs.rows.RowLemmas.{Above, IsLeast, IsTied, Link, above_if, above_none, above_with, least_if, least_none, least_same, least_then, least_with, least_without, link_and, link_eq, link_neg, link_or, link_same, link_true}
 use Rattle.nbd_laws.proofs.rows.RowRequestLemmas.{answered_is, is_answered, none_outstanding, not_both_kinds, outstanding_none}
-use Rattle.nbd_laws.proofs.judge.TidyLemmas.{IsTidy, failure_kind, no_content, none_content, tidy_chunk}
+use Rattle.nbd_laws.proofs.judge.TidyLemmas.{IsTidy, failure_kind, no_content, none_content, tidy_chunk, status_content}
 
 and_cases : (a b : Bool) → (a && b) ≡ false → (a ≡ false) ⊎ (a ≡ true) × (b ≡ false)
 and_cases true b e = inr (refl, e)
@@ -160,7 +162,8 @@ module _ (since now : Core) (export : Exporting) (bytes : List ℕ) where
   abbrev EndFault : Operation → WireFault → Type 0
   EndFault e f =
       (f ≡ IncompleteRead) × ((e.command ≡ commands.READ) × HasGap e (pieces (with_reply e (chunk_in bytes))))
-      ⊎ ((f ≡ SuccessOfImproper) × (IsTrue (is_proper export e) → ⊥) ⊎ ⊥)
+      ⊎ ((f ≡ SuccessOfImproper) × (IsTrue (is_proper export e) → ⊥)
+      ⊎ ((f ≡ IncompleteStatus) × ((e.command ≡ commands.BLOCK_STATUS) × ((e.length ≢ 0) × (IsTrue (tells_all (statuses (with_reply e (chunk_in bytes))) e.contexts) → ⊥))) ⊎ ⊥))
 
   abbrev DoneLast : Operation → WireFault → Type 0
   DoneLast e f = FinishesWell e bytes × EndFault e f
@@ -170,17 +173,17 @@ module _ (since now : Core) (export : Exporting) (bytes : List ℕ) where
 
   abbrev pub ChunkLast : Option Operation → WireFault → Type 0
   ChunkLast None f = 16 ≤ rank f
-  ChunkLast (Some e) f = (f ≡ BadChunk) × (HasForm flags kind payload → ⊥) ⊎ ContentLast e f
+  ChunkLast (Some e) f = (f ≡ BadChunk) × (HasForm e.contexts flags kind payload → ⊥) ⊎ ContentLast e f
 
   end_above : (n : ℕ) → n ≤ 18 → (e : Operation) → Above n (DoneLast e)
-  end_above n l e = above_with n (FinishesWell e bytes) (EndFault e) (above_if n IncompleteRead _ _ (omega (arith, l)) (above_if n SuccessOfImproper _ _ (omega (arith, l)) (above_none n)))
+  end_above n l e = above_with n (FinishesWell e bytes) (EndFault e) (above_if n IncompleteRead _ _ (omega (arith, l)) (above_if n SuccessOfImproper _ _ (omega (arith, l)) (above_if n IncompleteStatus _ _ (omega (arith, l)) (above_none n))))
 
   content_above : (n : ℕ) → n ≤ 17 → (e : Operation) → Above n (ContentLast e)
   content_above n l e = above_if n BadContent _ _ (omega (arith, l)) (end_above n (omega (arith, l)) e)
 
   last_above : (o : Option Operation) (f : WireFault) → ChunkLast o f → 16 ≤ rank f
   last_above None f h = h
-  last_above (Some e) f h = above_if 16 BadChunk (HasForm flags kind payload → ⊥) (ContentLast e) (omega arith) (content_above 16 (omega arith) e) f h
+  last_above (Some e) f h = above_if 16 BadChunk (HasForm e.contexts flags kind payload → ⊥) (ContentLast e) (omega arith) (content_above 16 (omega arith) e) f h
 
   -- at the end of a reply whose pieces are tidy
   module _ (e : Operation) (tidied : IsTidy (with_reply e (chunk_in bytes))) where
@@ -191,8 +194,10 @@ module _ (since now : Core) (export : Exporting) (bytes : List ℕ) where
     finish_least true w d = least_without (λ f. f.1 w)
     finish_least false w d = least_with (d, λ h. (let q : false ≡ true = sym w ∙ h in cc))
         (least_if IncompleteRead (link_and (link_eq e.command commands.READ) (gap_link joined tidied))
-        (least_if SuccessOfImproper (link_neg (link_same (link_true (is_proper export joined)) (λ h. sym (is_proper-with export e bytes) ∙ h) (λ h. is_proper-with export e bytes ∙ h))) least_none (above_none 19))
-        (above_if 18 SuccessOfImproper _ _ (omega arith) (above_none 18)))
+        (least_if SuccessOfImproper (link_neg (link_same (link_true (is_proper export joined)) (λ h. sym (is_proper-with export e bytes) ∙ h) (λ h. is_proper-with export e bytes ∙ h)))
+        (least_if IncompleteStatus (link_and (link_eq e.command commands.BLOCK_STATUS) (link_and (link_neg (link_eq e.length 0)) (link_neg (link_true (tells_all (statuses joined) e.contexts))))) least_none (above_none 22))
+        (above_if 19 IncompleteStatus _ _ (omega arith) (above_none 19)))
+        (above_if 18 SuccessOfImproper _ _ (omega arith) (above_if 18 IncompleteStatus _ _ (omega arith) (above_none 18))))
 
     done_least : (d : Bool) → has flags chunks.DONE ≡ d → IsLeast (done_fault d export joined) (DoneLast e)
     done_least true w = finish_least (has_failed joined) refl w
@@ -207,20 +212,24 @@ module _ (since now : Core) (export : Exporting) (bytes : List ℕ) where
       abbrev IsOpen : Type 0
       IsOpen = (length payload ≢ 0) ⊎ (IsTrue (has flags chunks.DONE) → ⊥)
 
-      no_form : IsOpen → HasForm flags kind payload → ⊥
+      no_status : kind ≡ chunks.BLOCK_STATUS → ⊥
+      no_status k = let w : chunks.NONE ≡ chunks.BLOCK_STATUS = sym none ∙ k in omega (arith, w)
+
+      no_form : IsOpen → HasForm e.contexts flags kind payload → ⊥
       no_form (inl n) (inl (k, p, d)) = n (ap length p)
       no_form (inr n) (inl (k, p, d)) = n d
       no_form o (inr (inl (piece, is))) = let q : None ≡ Some piece = sym (none_content payload) ∙ ap (λ k. content_of k payload) (sym none) ∙ is in absurd (cc)
-      no_form o (inr (inr (failure, is))) = no_failure kind payload none failure is
+      no_form o (inr (inr (inl (failure, is)))) = no_failure kind payload none failure is
+      no_form o (inr (inr (inr (k, t)))) = no_status k
 
-      open_of : (HasForm flags kind payload → ⊥) → IsOpen
+      open_of : (HasForm e.contexts flags kind payload → ⊥) → IsOpen
       open_of n = go (length payload == 0) refl
         where
           go : (b : Bool) → (length payload == 0) ≡ b → IsOpen
           go true q = inr (λ d. n (inl (none, nothing_left payload (eqb-true (length payload) 0 q), d)))
           go false q = inl (eqb-false (length payload) 0 q)
 
-      formed : ((HasForm flags kind payload → ⊥) → ⊥) → (payload ≡ []) × IsTrue (has flags chunks.DONE)
+      formed : ((HasForm e.contexts flags kind payload → ⊥) → ⊥) → (payload ≡ []) × IsTrue (has flags chunks.DONE)
       formed n = go (length payload == 0) refl (has flags chunks.DONE) refl
         where
           go : (b : Bool) → (length payload == 0) ≡ b → (d : Bool) → has flags chunks.DONE ≡ d → (payload ≡ []) × IsTrue (has flags chunks.DONE)
@@ -230,7 +239,8 @@ module _ (since now : Core) (export : Exporting) (bytes : List ℕ) where
 
       no_content_bad : IsBadContent export e kind payload → ⊥
       no_content_bad (inl (piece, is, m)) = let q : None ≡ Some piece = sym (none_content payload) ∙ ap (λ k. content_of k payload) (sym none) ∙ is in cc
-      no_content_bad (inr (failure, x, is, at, out)) = no_failure kind payload none failure is
+      no_content_bad (inr (inl (failure, x, is, at, out))) = no_failure kind payload none failure is
+      no_content_bad (inr (inr (k, t))) = no_status k
 
       none_least : IsLeast (chunk_fault true export e (with_reply e (chunk_in bytes)) flags kind payload) (ChunkLast (Some e))
       none_least = least_then BadChunk
@@ -249,7 +259,8 @@ module _ (since now : Core) (export : Exporting) (bytes : List ℕ) where
 
     which : (piece : Piece) → content_of kind payload ≡ Some piece → IsBadContent export e kind payload → IsMisplaced export e piece
     which piece is (inl (other, at, m)) = let q : Some other ≡ Some piece = sym at ∙ is in let s : other ≡ piece = cc in subst (IsMisplaced export e) s m
-    which piece is (inr (failure, x, at, o, out)) = absurd (let q : None ≡ Some piece = sym (no_content kind payload failure at) ∙ is in cc)
+    which piece is (inr (inr (k, t))) = absurd (let q : None ≡ Some piece = sym (status_content kind payload k) ∙ is in cc)
+    which piece is (inr (inl (failure, x, at, o, out))) = absurd (let q : None ≡ Some piece = sym (no_content kind payload failure at) ∙ is in cc)
 
     content_least : (piece : Piece) → content_of kind payload ≡ Some piece → IsLeast (fault_if (not (fits_read export e piece)) BadContent (done_fault (has flags chunks.DONE) export (with_reply e (chunk_in bytes)))) (ChunkLast (Some e))
     content_least piece is = least_same
@@ -278,31 +289,86 @@ module _ (since now : Core) (export : Exporting) (bytes : List ℕ) where
         go true q = in_range e failure.offset q x at
         go false q = absurd (n ((outside_link failure).yes (ap not q)))
 
+    no_status_failure : (failure : Failure) → kind ≡ chunks.BLOCK_STATUS → failure_of kind payload ≡ Some failure → ⊥
+    no_status_failure failure k q = elim (failure_kind kind payload failure q) [
+      | inl r ↦ (let w : chunks.BLOCK_STATUS ≡ chunks.ERROR = sym k ∙ r in omega (arith, w))
+      | inr r ↦ (let w : chunks.BLOCK_STATUS ≡ chunks.ERROR_OFFSET = sym k ∙ r in omega (arith, w))
+    ]
+
     what : (failure : Failure) → failure_of kind payload ≡ Some failure → IsBadContent export e kind payload → IsOutside failure
     what failure is (inl (piece, at, m)) = absurd (let q : None ≡ Some piece = sym (no_content kind payload failure is) ∙ at in cc)
-    what failure is (inr (other, x, at, o, out)) = let q : Some other ≡ Some failure = sym at ∙ is in let s : other ≡ failure = cc in (x, ap (λ (f : Failure). f.offset) (sym s) ∙ o, out)
+    what failure is (inr (inr (k, t))) = absurd (no_status_failure failure k is)
+    what failure is (inr (inl (other, x, at, o, out))) = let q : Some other ≡ Some failure = sym at ∙ is in let s : other ≡ failure = cc in (x, ap (λ (f : Failure). f.offset) (sym s) ∙ o, out)
 
     failure_least : (failure : Failure) → failure_of kind payload ≡ Some failure → IsLeast (fault_if (not (fits_failure e failure.offset)) BadContent (done_fault (has flags chunks.DONE) export (with_reply e (chunk_in bytes)))) (ChunkLast (Some e))
     failure_least failure is = least_same
-        (least_then BadContent (outside_link failure) (λ n. done_least e (tidy_with (inr (inr (failure, is, in_its_range failure n)))) (has flags chunks.DONE) refl) (end_above 17 (omega arith) e))
-        (λ g h. inr (elim h [ inl k ↦ inl (k.0, inr (failure, k.1.0, is, k.1.1, k.1.2)) | inr k ↦ inr k ]))
-        (λ g h. elim h [ inl k ↦ absurd (k.1 (inr (inr (failure, is)))) | inr k ↦ elim k [ inl m ↦ inl (m.0, what failure is m.1) | inr m ↦ inr m ] ])
+        (least_then BadContent (outside_link failure) (λ n. done_least e (tidy_with (inr (inr (inl (failure, is, in_its_range failure n))))) (has flags chunks.DONE) refl) (end_above 17 (omega arith) e))
+        (λ g h. inr (elim h [ inl k ↦ inl (k.0, inr (inl (failure, k.1.0, is, k.1.1, k.1.2))) | inr k ↦ inr k ]))
+        (λ g h. elim h [ inl k ↦ absurd (k.1 (inr (inr (inl (failure, is))))) | inr k ↦ elim k [ inl m ↦ inl (m.0, what failure is m.1) | inr m ↦ inr m ] ])
+
+    -- a status chunk
+    stray_link : (status : Status) → Link (IsStray e status) (not (fits_status e status))
+    stray_link status = record {
+      yes = λ q. go (e.command == commands.BLOCK_STATUS) (has_id e.contexts status.id) (tells (statuses e) status.id) (e.length == 0) (nat_le e.length (reach (but_last status.extents))) (has e.flags command_flags.REQ_ONE)
+          (length status.extents == 1) (nat_le (reach status.extents) e.length) refl refl refl refl refl refl refl refl (not_true _ q);
+      no = λ q s. fitting_no (fits_it e status (not_false _ q)) s;
+    }
+      where
+        go : (a b c z p o l u : Bool) → (e.command == commands.BLOCK_STATUS) ≡ a → has_id e.contexts status.id ≡ b → tells (statuses e) status.id ≡ c → (e.length == 0) ≡ z → nat_le e.length (reach (but_last status.extents)) ≡ p →
+            has e.flags command_flags.REQ_ONE ≡ o → (length status.extents == 1) ≡ l → nat_le (reach status.extents) e.length ≡ u → (a && (b && (not c && (z || (not p && (not o || (l && u))))))) ≡ false → IsStray e status
+        go false b c z p o l u qa qb qc qz qp qo ql qu h = to_no_status (eqb-false e.command commands.BLOCK_STATUS qa)
+        go true false c z p o l u qa qb qc qz qp qo ql qu h = not_in_force qb
+        go true true true z p o l u qa qb qc qz qp qo ql qu h = again qc
+        go true true false true p o l u qa qb qc qz qp qo ql qu h = absurd (cc)
+        go true true false false true o l u qa qb qc qz qp qo ql qu h = passes (eqb-false e.length 0 qz) (leb-true e.length (reach (but_last status.extents)) qp)
+        go true true false false false false l u qa qb qc qz qp qo ql qu h = absurd (cc)
+        go true true false false false true false u qa qb qc qz qp qo ql qu h = several (eqb-false e.length 0 qz) qo (eqb-false (length status.extents) 1 ql)
+        go true true false false false true true false qa qb qc qz qp qo ql qu h = longer (eqb-false e.length 0 qz) qo (let n = leb-false (reach status.extents) e.length qu in omega (arith, n))
+        go true true false false false true true true qa qb qc qz qp qo ql qu h = absurd (cc)
+
+        fitting_no : IsStatus e status → IsStray e status → ⊥
+        fitting_no ok (to_no_status n) = n ok.0
+        fitting_no ok (not_in_force n) = let q : true ≡ false = sym ok.1 ∙ n in cc
+        fitting_no ok (again t) = let q : true ≡ false = sym t ∙ ok.2 in cc
+        fitting_no ok (passes z l) = let r = ok.3 z in let s = r.0 in omega (arith, l, s)
+        fitting_no ok (several z o n) = n ((ok.3 z).1 o).0
+        fitting_no ok (longer z o l) = let r = (ok.3 z).1 o in let s = r.1 in omega (arith, l, s)
+
+    fitting_status : (status : Status) → (IsStray e status → ⊥) → IsStatus e status
+    fitting_status status n = go (fits_status e status) refl
+      where
+        go : (b : Bool) → fits_status e status ≡ b → IsStatus e status
+        go true q = fits_it e status q
+        go false q = absurd (n ((stray_link status).yes (ap not q)))
+
+    told : (status : Status) → kind ≡ chunks.BLOCK_STATUS → status_of payload ≡ Some status → IsBadContent export e kind payload → IsStray e status
+    told status k is (inl (piece, at, m)) = absurd (let q : None ≡ Some piece = sym (status_content kind payload k) ∙ at in cc)
+    told status k is (inr (inl (failure, x, at, o, out))) = absurd (no_status_failure failure k at)
+    told status k is (inr (inr (b, (other, at, m)))) = let q : Some other ≡ Some status = sym at ∙ is in let s : other ≡ status = cc in subst (IsStray e) s m
+
+    status_least : (status : Status) → IsTold e.contexts kind payload status → IsLeast (fault_if (not (fits_status e status)) BadContent (done_fault (has flags chunks.DONE) export (with_reply e (chunk_in bytes)))) (ChunkLast (Some e))
+    status_least status t = least_same
+        (least_then BadContent (stray_link status) (λ n. done_least e (tidy_with (inr (inr (inr (t.kind_is, (status, t.is, fitting_status status n)))))) (has flags chunks.DONE) refl) (end_above 17 (omega arith) e))
+        (λ g h. inr (elim h [ inl k ↦ inl (k.0, inr (inr (t.kind_is, (status, t.is, k.1)))) | inr k ↦ inr k ]))
+        (λ g h. elim h [ inl k ↦ absurd (k.1 (inr (inr (inr (t.kind_is, t.some_in_force, (status, t.is)))))) | inr k ↦ elim k [ inl m ↦ inl (m.0, told status t.kind_is t.is m.1) | inr m ↦ inr m ] ])
 
     -- a chunk of no known type or form
-    unformed : (kind ≡ chunks.NONE → ⊥) → content_of kind payload ≡ None → failure_of kind payload ≡ None → HasForm flags kind payload → ⊥
-    unformed n c f (inl h) = n h.0
-    unformed n c f (inr (inl h)) = let q : None ≡ Some h.0 = sym c ∙ h.1 in cc
-    unformed n c f (inr (inr h)) = let q : None ≡ Some h.0 = sym f ∙ h.1 in cc
+    unformed : (kind ≡ chunks.NONE → ⊥) → content_of kind payload ≡ None → failure_of kind payload ≡ None → status_if e.contexts kind payload ≡ None → HasForm e.contexts flags kind payload → ⊥
+    unformed n c f s (inl h) = n h.0
+    unformed n c f s (inr (inl h)) = let q : None ≡ Some h.0 = sym c ∙ h.1 in cc
+    unformed n c f s (inr (inr (inl h))) = let q : None ≡ Some h.0 = sym f ∙ h.1 in cc
+    unformed n c f s (inr (inr (inr (k, some, (status, is))))) = let q : None ≡ Some status = sym s ∙ status_if-some e.contexts kind payload status k some is in cc
 
-    form_least : (kind ≡ chunks.NONE → ⊥) → (c : Option Piece) → content_of kind payload ≡ c → (l : Option Failure) → failure_of kind payload ≡ l →
-        IsLeast (content_fault export e c l (done_fault (has flags chunks.DONE) export (with_reply e (chunk_in bytes)))) (ChunkLast (Some e))
-    form_least n (Some piece) c l f = content_least piece c
-    form_least n None c (Some failure) f = failure_least failure f
-    form_least n None c None f = least_then {c = true} {rest = None} BadChunk (record { yes = λ q. unformed n c f; no = λ q. absurd (cc) }) (λ m. absurd (m (unformed n c f))) (content_above 16 (omega arith) e)
+    form_least : (kind ≡ chunks.NONE → ⊥) → (c : Option Piece) → content_of kind payload ≡ c → (l : Option Failure) → failure_of kind payload ≡ l → (s : Option Status) → status_if e.contexts kind payload ≡ s →
+        IsLeast (content_fault export e c l s (done_fault (has flags chunks.DONE) export (with_reply e (chunk_in bytes)))) (ChunkLast (Some e))
+    form_least n (Some piece) c l f s q = content_least piece c
+    form_least n None c (Some failure) f s q = failure_least failure f
+    form_least n None c None f (Some status) q = status_least status (told_if e.contexts kind payload status q)
+    form_least n None c None f None s = least_then {c = true} {rest = None} BadChunk (record { yes = λ q. unformed n c f s; no = λ q. absurd (cc) }) (λ m. absurd (m (unformed n c f s))) (content_above 16 (omega arith) e)
 
     last_least : (z : Bool) → (kind == chunks.NONE) ≡ z → IsLeast (chunk_fault z export e (with_reply e (chunk_in bytes)) flags kind payload) (ChunkLast (Some e))
     last_least true z = none_least (eqb-true kind chunks.NONE z)
-    last_least false z = form_least (eqb-false kind chunks.NONE z) (content_of kind payload) refl (failure_of kind payload) refl
+    last_least false z = form_least (eqb-false kind chunks.NONE z) (content_of kind payload) refl (failure_of kind payload) refl (status_if e.contexts kind payload) refl
 
   same_entry : (d e : Operation) → operation_of since now cookie ≡ Some d → IsAnswered since now cookie e → d ≡ e
   same_entry d e q a = let w : Some d ≡ Some e = sym q ∙ answered_is since now export bytes e a in cc
@@ -323,10 +389,6 @@ module _ (since now : Core) (export : Exporting) (bytes : List ℕ) where
   last_in None e f q a h = absurd (let z : None ≡ Some e = sym q ∙ answered_is since now export bytes e a in cc)
   last_in (Some d) e f q a h = subst (λ x. ChunkLast (Some x) f) (sym (same_entry d e q a)) h
 
-  bad_in : (o : Option Operation) → (HasForm flags kind payload → ⊥) → ChunkLast o BadChunk
-  bad_in None n = omega arith
-  bad_in (Some d) n = inl (refl, n)
-
   chunk_rows : (o : Option Operation) → operation_of since now cookie ≡ o → BeginsChunk bytes → (f : WireFault) → RowIn since now bytes f (Transmission export) Server →
       (length bytes ≡ 20) × ChunkHead o f ⊎ (length bytes ≡ 20 + number_at 16 4 bytes) × ChunkLast o f
   chunk_rows o q c f (wrong_magic l n) = absurd n
@@ -341,9 +403,10 @@ module _ (since now : Core) (export : Exporting) (bytes : List ℕ) where
   chunk_rows o q c f (unknown_cookie (inr h) t) = inl (h.1, unknown_in o q t)
   chunk_rows o q c f (simple_forbidden e s l a w) = absurd (not_both_kinds since now export bytes s c)
   chunk_rows o q c f (chunk_forbidden b l n) = inl (l, forbidden_in o n)
-  chunk_rows o q c f (bad_chunk b w n) = inr (chunk_whole c w, bad_in o n)
+  chunk_rows o q c f (bad_chunk e b w a n) = inr (chunk_whole c w, last_in o e BadChunk q a (inl (refl, n)))
   chunk_rows o q c f (bad_content e b w a n) = inr (chunk_whole c w, last_in o e BadContent q a (inr (inl (refl, n))))
   chunk_rows o q c f (incomplete_read e x b w a n r i g) = inr (chunk_whole c w, last_in o e IncompleteRead q a (inr (inr (n, inl (refl, (r, (x, i, g)))))))
+  chunk_rows o q c f (incomplete_status e b w a n r z g) = inr (chunk_whole c w, last_in o e IncompleteStatus q a (inr (inr (n, inr (inr (inl (refl, (r, (z, g)))))))))
   chunk_rows o q c f (success_of_improper w (e, a, n, inl h)) = absurd (not_both_kinds since now export bytes h.0 c)
   chunk_rows o q c f (success_of_improper w (e, a, n, inr h)) = inr (chunk_whole c w, last_in o e SuccessOfImproper q a (inr (inr (h.1, inr (inl (refl, n))))))
 
@@ -364,13 +427,15 @@ module _ (since now : Core) (export : Exporting) (bytes : List ℕ) where
   chunk_last_is : (o : Option Operation) → operation_of since now cookie ≡ o → BeginsChunk bytes → chunk_head_fault now.structured o ≡ None → (f : WireFault) → ChunkLast o f → length bytes ≡ 20 + number_at 16 4 bytes →
       RowIn since now bytes f (Transmission export) Server
   chunk_last_is None q c clean f h l = absurd (cc)
-  chunk_last_is (Some e) q c clean f (inl h) l = subst (λ x. RowIn since now bytes x (Transmission export) Server) (sym h.0) (bad_chunk c (whole_chunk c l) h.1)
+  chunk_last_is (Some e) q c clean f (inl h) l = subst (λ x. RowIn since now bytes x (Transmission export) Server) (sym h.0) (bad_chunk e c (whole_chunk c l) (is_answered since now export bytes e q) h.1)
   chunk_last_is (Some e) q c clean f (inr (inl h)) l = subst (λ x. RowIn since now bytes x (Transmission export) Server) (sym h.0) (bad_content e c (whole_chunk c l) (is_answered since now export bytes e q) h.1)
   chunk_last_is (Some e) q c clean f (inr (inr (w, inl h))) l = subst (λ x. RowIn since now bytes x (Transmission export) Server) (sym h.0)
       (incomplete_read e h.1.1.0 c (whole_chunk c l) (is_answered since now export bytes e q) w h.1.0 h.1.1.1 h.1.1.2)
   chunk_last_is (Some e) q c clean f (inr (inr (w, inr (inl h)))) l = subst (λ x. RowIn since now bytes x (Transmission export) Server) (sym h.0)
       (success_of_improper (whole_chunk c l) (e, is_answered since now export bytes e q, h.1, inr (c, w)))
-  chunk_last_is (Some e) q c clean f (inr (inr (w, inr (inr h)))) l = absurd h
+  chunk_last_is (Some e) q c clean f (inr (inr (w, inr (inr (inl h))))) l = subst (λ x. RowIn since now bytes x (Transmission export) Server) (sym h.0)
+      (incomplete_status e c (whole_chunk c l) (is_answered since now export bytes e q) w h.1.0 h.1.1.0 h.1.1.1)
+  chunk_last_is (Some e) q c clean f (inr (inr (w, inr (inr (inr h))))) l = absurd h
 
   chunk_head : (o : Option Operation) → IsLeast (chunk_head_fault now.structured o) (ChunkHead o)
   chunk_head None = least_if {c = true} UnknownCookie (record { yes = λ e. tt; no = λ e. absurd (cc) }) (least_if ChunkForbidden (link_neg (link_true now.structured)) least_none (above_none 15)) (above_if 13 ChunkForbidden _ _ (omega arith) (above_none 13))

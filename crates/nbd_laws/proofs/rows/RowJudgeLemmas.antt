@@ -13,7 +13,7 @@ use Rattle.nbd_wire.specs.protocol.Operations.{Operation, Exporting}
 use Rattle.nbd_wire.specs.protocol.Flags.{has}
 use Rattle.nbd_wire.specs.protocol.Rows.{IsHead, IsOutOfTurn, IsWhole, IsWholeIn, Row, RowIn, rank}
 use Rattle.nbd_wire.specs.protocol.Rows.IsWholeIn.{whole_greeting, whole_flags, whole_choice, whole_export, whole_abort_answer, whole_answer, whole_request, whole_simple, whole_chunk}
-use Rattle.nbd_wire.specs.protocol.Rows.RowIn.{wrong_magic, neither_magic, not_fixed_newstyle, bad_client_flags, out_of_turn, wrong_option, bad_reply_kind, out_of_profile, status_in_force, ack_with_payload, bad_reply_payload, missing_export_info, no_has_flags, bad_padding, export_too_large, cookie_in_use, unknown_cookie, simple_forbidden, chunk_forbidden, bad_chunk, bad_content, incomplete_read, success_of_improper, bad_disconnect}
+use Rattle.nbd_wire.specs.protocol.Rows.RowIn.{wrong_magic, neither_magic, not_fixed_newstyle, bad_client_flags, out_of_turn, wrong_option, bad_reply_kind, out_of_profile, ack_with_payload, bad_reply_payload, missing_export_info, no_has_flags, bad_padding, export_too_large, cookie_in_use, unknown_cookie, simple_forbidden, chunk_forbidden, bad_chunk, bad_content, incomplete_read, incomplete_status, success_of_improper, bad_disconnect}
 use Rattle.nbd_wire.specs.protocol.States.{Core, Phase, Greet, Flags, Choosing, Naming, Aborting, Answering, Ended, Transmission, target, in_force}
 use Rattle.nbd_laws.specs.internal.Machine.{Bad, More}
 use Rattle.nbd_laws.proofs.machine.MachineLemmas.{Kept, Later, Later-trans, at_once, begun, kept}
@@ -140,9 +140,10 @@ module _ (since now : Core) (export : Exporting) (bytes : List ℕ) where
   no_reply_rows c s f (unknown_cookie (inr h) t) = let l = h.1 in absurd (begins_not CHUNK_MAGIC c (omega (arith, l)) h.0)
   no_reply_rows c s f (simple_forbidden e b l a w) = absurd (begins_not SIMPLE_MAGIC s (omega (arith, l)) b)
   no_reply_rows c s f (chunk_forbidden b l n) = absurd (begins_not CHUNK_MAGIC c (omega (arith, l)) b)
-  no_reply_rows c s f (bad_chunk b w n) = absurd (not_whole c s w)
+  no_reply_rows c s f (bad_chunk e b w a n) = absurd (not_whole c s w)
   no_reply_rows c s f (bad_content e b w a n) = absurd (not_whole c s w)
   no_reply_rows c s f (incomplete_read e x b w a n r i g) = absurd (not_whole c s w)
+  no_reply_rows c s f (incomplete_status e b w a n r z g) = absurd (not_whole c s w)
   no_reply_rows c s f (success_of_improper w i) = absurd (not_whole c s w)
 
   no_reply_is : begins CHUNK_MAGIC bytes ≡ false → begins SIMPLE_MAGIC bytes ≡ false → (f : WireFault) → NoReplyHead f → length bytes ≡ 4 → RowIn since now bytes f (Transmission export) Server
@@ -236,9 +237,9 @@ tells_in since now bytes (Transmission export) Client one behind t a = go now.di
         let none : request_unless now.disconnected now bytes ≡ None = ap (λ b. request_unless b now bytes) e in
         subst (λ o. Tells (λ f. RowIn since now bytes f (Transmission export) Client) (IsWholeIn since now bytes (Transmission export) Client) (reading_by_decision o bytes)) (sym none) (out_tells since now bytes (Transmission export) Client one none)
     go false e =
-        let some : request_unless now.disconnected now bytes ≡ Some (request (in_force now) now bytes) = ap (λ b. request_unless b now bytes) e in
+        let some : request_unless now.disconnected now bytes ≡ Some (request now bytes) = ap (λ b. request_unless b now bytes) e in
         subst (λ o. Tells (λ f. RowIn since now bytes f (Transmission export) Client) (IsWholeIn since now bytes (Transmission export) Client) (reading_by_decision o bytes)) (sym some)
-        (tied_tells _ _ bytes _ _ _ (request_tied since now export bytes e) (behind (request (in_force now) now bytes) some))
+        (tied_tells _ _ bytes _ _ _ (request_tied since now export bytes e) (behind (request now bytes) some))
 tells_in since now bytes (Transmission export) Server one behind t a = reply_tells since now export bytes (a refl export refl) t (λ d e. behind d (ap Some e)) (steady.bytes_are_begun bytes)
 
 -- the judge says this fault exactly where it is the lowest row that holds, whole exactly where the message is whole and no row holds, and else more
@@ -266,7 +267,6 @@ row_some since now bytes phase s f (out_of_turn l o) e = omega (arith, l, e)
 row_some since now bytes phase s f (wrong_option asked a l n) e = omega (arith, l, e)
 row_some since now bytes phase s f (bad_reply_kind a l su k) e = omega (arith, l, e)
 row_some since now bytes phase s f (out_of_profile a l su) e = omega (arith, l, e)
-row_some since now bytes phase s f (status_in_force l c n) e = omega (arith, l, e)
 row_some since now bytes phase s f (ack_with_payload asked a l k n) e = omega (arith, l, e)
 row_some since now bytes phase s f (bad_reply_payload w b) e = whole_some since now bytes phase s w e
 row_some since now bytes phase s f (missing_export_info o p l k) e = omega (arith, l, e)
@@ -277,9 +277,10 @@ row_some since now bytes phase s f (cookie_in_use k w n t) e = whole_some since 
 row_some since now bytes phase s f (unknown_cookie l t) e = let k = head_long phase s bytes l in omega (arith, k, e)
 row_some since now bytes phase s f (simple_forbidden d b l a w) e = omega (arith, l, e)
 row_some since now bytes phase s f (chunk_forbidden b l n) e = omega (arith, l, e)
-row_some since now bytes phase s f (bad_chunk b w n) e = whole_some since now bytes phase s w e
+row_some since now bytes phase s f (bad_chunk d b w a n) e = whole_some since now bytes phase s w e
 row_some since now bytes phase s f (bad_content d b w a n) e = whole_some since now bytes phase s w e
 row_some since now bytes phase s f (incomplete_read d x b w a n r i g) e = whole_some since now bytes phase s w e
+row_some since now bytes phase s f (incomplete_status d b w a n r z g) e = whole_some since now bytes phase s w e
 row_some since now bytes phase s f (success_of_improper w i) e = whole_some since now bytes phase s w e
 row_some since now bytes phase s f (bad_disconnect l c o) e = omega (arith, l, e)
 

@@ -7,10 +7,10 @@ use Rattle.nbd_wire.specs.declared.magics.TheConstants as magics
 use Rattle.nbd_wire.specs.declared.message.Message.{Message}
 use Rattle.nbd_wire.specs.declared.message.Side.TheVariants.{Client, Server}
 use Rattle.nbd_wire.specs.protocol.Payloads.{number_at}
-use Rattle.nbd_wire.specs.protocol.Operations.{Operation, Exporting, is_proper}
+use Rattle.nbd_wire.specs.protocol.Operations.{asks_status, Operation, Exporting, is_proper}
 use Rattle.nbd_wire.specs.protocol.Rows.{BeginsChunk, BeginsSimple, IsAnswered, IsWholeIn, RowIn, rank}
 use Rattle.nbd_wire.specs.protocol.Rows.IsWholeIn.{whole_request, whole_simple, whole_chunk}
-use Rattle.nbd_wire.specs.protocol.Rows.RowIn.{wrong_magic, neither_magic, not_fixed_newstyle, out_of_turn, wrong_option, bad_reply_kind, ack_with_payload, export_too_large, cookie_in_use, unknown_cookie, simple_forbidden, chunk_forbidden, bad_chunk, bad_content, incomplete_read, success_of_improper, bad_disconnect, status_in_force}
+use Rattle.nbd_wire.specs.protocol.Rows.RowIn.{wrong_magic, neither_magic, not_fixed_newstyle, out_of_turn, wrong_option, bad_reply_kind, ack_with_payload, export_too_large, cookie_in_use, unknown_cookie, simple_forbidden, chunk_forbidden, bad_chunk, bad_content, incomplete_read, success_of_improper, bad_disconnect, incomplete_status}
 use Rattle.nbd_wire.specs.protocol.States.{Core, Transmission, operation, target, in_force}
 use Rattle.nbd_laws.specs.internal.Decisions.{is_none_yet}
 use Rattle.nbd_laws.specs.internal.JudgeTransmission.{operation_if, operation_of, request, simple_fault, simple_last_fault, simple_payload_length, simple_to, is_none_in}
@@ -33,10 +33,6 @@ some_is None h = absurd (cc)
 is_one : (o : Option ℕ) (k : ℕ) → o ≡ Some k → IsTrue (is_some o)
 is_one o k e = ap is_some e
 
-contexts_link : (contexts : List Context) → Link (contexts ≢ []) (not (is_none_in contexts))
-contexts_link [] = record { yes = λ e. absurd (cc); no = λ e h. h refl }
-contexts_link (c ∷ contexts) = record { yes = λ e h. (cc); no = λ e. absurd (cc) }
-
 module _ (since now : Core) (export : Exporting) (bytes : List ℕ) where
   abbrev command : ℕ
   command = number_at 6 2 bytes
@@ -47,8 +43,7 @@ module _ (since now : Core) (export : Exporting) (bytes : List ℕ) where
   abbrev pub RequestHead : WireFault → Type 0
   RequestHead f =
       (f ≡ BadMagic) × (number_at 0 4 bytes ≢ magics.REQUEST_MAGIC)
-      ⊎ ((f ≡ OutOfProfile) × ((command ≡ commands.BLOCK_STATUS) × (in_force now ≢ []))
-      ⊎ ((f ≡ BadDisconnect) × ((command ≡ commands.DISC) × ((number_at 16 8 bytes ≡ 0) × (number_at 24 4 bytes ≡ 0) → ⊥)) ⊎ ⊥))
+      ⊎ ((f ≡ BadDisconnect) × ((command ≡ commands.DISC) × ((number_at 16 8 bytes ≡ 0) × (number_at 24 4 bytes ≡ 0) → ⊥)) ⊎ ⊥)
 
   abbrev pub RequestLast : WireFault → Type 0
   RequestLast f = (f ≡ CookieInUse) × ((command ≢ commands.DISC) × IsTrue (is_some (target cookie now.entries))) ⊎ ⊥
@@ -62,14 +57,12 @@ module _ (since now : Core) (export : Exporting) (bytes : List ℕ) where
   request_rows d f (not_fixed_newstyle l n) = absurd n
   request_rows d f (out_of_turn l o) = absurd (let q : false ≡ true = sym d ∙ o in cc)
   request_rows d f (cookie_in_use k w n t) = inr (request_whole w, inl (refl, (n, is_one (target cookie now.entries) k t)))
-  request_rows d f (status_in_force l c n) = inl (l, inr (inl (refl, (c, n))))
-  request_rows d f (bad_disconnect l c o) = inl (l, inr (inr (inl (refl, (c, λ h. elim o [ inl n ↦ n h.0 | inr n ↦ n h.1 ])))))
+  request_rows d f (bad_disconnect l c o) = inl (l, inr (inl (refl, (c, λ h. elim o [ inl n ↦ n h.0 | inr n ↦ n h.1 ]))))
 
   request_is : (f : WireFault) → RequestHead f → length bytes ≡ 28 → RowIn since now bytes f (Transmission export) Client
   request_is f (inl h) l = subst (λ x. RowIn since now bytes x (Transmission export) Client) (sym h.0) (wrong_magic l h.1)
-  request_is f (inr (inl h)) l = subst (λ x. RowIn since now bytes x (Transmission export) Client) (sym h.0) (status_in_force l h.1.0 h.1.1)
-  request_is f (inr (inr (inl h))) l = subst (λ x. RowIn since now bytes x (Transmission export) Client) (sym h.0) (bad_disconnect l h.1.0 (either (number_at 16 8 bytes) (number_at 24 4 bytes) h.1.1))
-  request_is f (inr (inr (inr h))) l = absurd h
+  request_is f (inr (inl h)) l = subst (λ x. RowIn since now bytes x (Transmission export) Client) (sym h.0) (bad_disconnect l h.1.0 (either (number_at 16 8 bytes) (number_at 24 4 bytes) h.1.1))
+  request_is f (inr (inr h)) l = absurd h
 
   request_last_is : (f : WireFault) → RequestLast f → length bytes ≡ 28 + (if command == commands.WRITE then number_at 24 4 bytes else 0) → RowIn since now bytes f (Transmission export) Client
   request_last_is f (inl h) l =
@@ -79,21 +72,18 @@ module _ (since now : Core) (export : Exporting) (bytes : List ℕ) where
 
   request_before : (f : WireFault) → RequestHead f → (g : WireFault) → rank g < rank f → RequestLast g → ⊥
   request_before f (inl h) g less (inl k) = let r = ap rank h.0 in let q = ap rank k.0 in omega (arith, r, q, less)
-  request_before f (inr (inl h)) g less (inl k) = let r = ap rank h.0 in let q = ap rank k.0 in omega (arith, r, q, less)
-  request_before f (inr (inr (inl h))) g less (inl k) = k.1.0 h.1.0
-  request_before f (inr (inr (inr h))) g less (inl k) = h
+  request_before f (inr (inl h)) g less (inl k) = k.1.0 h.1.0
+  request_before f (inr (inr h)) g less (inl k) = h
   request_before f h g less (inr k) = k
 
-  pub request_tied : now.disconnected ≡ false → IsTied (λ f. RowIn since now bytes f (Transmission export) Client) (IsWholeIn since now bytes (Transmission export) Client) (length bytes) (request (in_force now) now bytes) RequestHead RequestLast
+  pub request_tied : now.disconnected ≡ false → IsTied (λ f. RowIn since now bytes f (Transmission export) Client) (IsWholeIn since now bytes (Transmission export) Client) (length bytes) (request now bytes) RequestHead RequestLast
   request_tied d = record {
     rows = request_rows d;
     whole_is = request_whole;
     is_whole = λ c l. whole_request l;
     head = least_if BadMagic (link_neg (link_eq (number_at 0 4 bytes) magics.REQUEST_MAGIC))
-        (least_if OutOfProfile (link_and (link_eq command commands.BLOCK_STATUS) (contexts_link (in_force now)))
         (least_if BadDisconnect (link_and (link_eq command commands.DISC) (link_neg (link_and (link_eq (number_at 16 8 bytes) 0) (link_eq (number_at 24 4 bytes) 0)))) least_none (above_none 20))
-        (above_if 7 BadDisconnect _ _ (omega arith) (above_none 7)))
-        (above_if 1 OutOfProfile _ _ (omega arith) (above_if 1 BadDisconnect _ _ (omega arith) (above_none 1)));
+        (above_if 1 BadDisconnect _ _ (omega arith) (above_none 1));
     last = λ c l. least_if CookieInUse (link_and (link_neg (link_eq command commands.DISC)) (link_true (is_some (target cookie now.entries)))) least_none (above_none 12);
     head_is = request_is;
     last_is = λ c. request_last_is;
@@ -134,7 +124,7 @@ module _ (since now : Core) (export : Exporting) (bytes : List ℕ) where
 
   abbrev pub SimpleHead : Option Operation → WireFault → Type 0
   SimpleHead None f = (f ≡ UnknownCookie) × Unit {0} ⊎ ⊥
-  SimpleHead (Some e) f = (f ≡ SimpleForbidden) × ((e.replies ≢ []) ⊎ (e.command ≡ commands.READ) × IsTrue now.structured) ⊎ ⊥
+  SimpleHead (Some e) f = (f ≡ SimpleForbidden) × ((e.replies ≢ []) ⊎ (e.command ≡ commands.READ) × IsTrue now.structured ⊎ IsTrue (asks_status e) × (number_at 4 4 bytes ≡ 0)) ⊎ ⊥
 
   abbrev pub SimpleLast : Option Operation → WireFault → Type 0
   SimpleLast None f = ⊥
@@ -147,9 +137,10 @@ module _ (since now : Core) (export : Exporting) (bytes : List ℕ) where
   simple_whole o q s (whole_simple e b a l) = l ∙ ap (λ x. 16 + simple_payload_length x (number_at 4 4 bytes)) (sym (answered_is e a) ∙ q)
   simple_whole o q s (whole_chunk c l) = absurd (not_both_kinds s c)
 
-  forbidden_in : (o : Option Operation) (e : Operation) → operation_of since now cookie ≡ o → IsAnswered since now cookie e → (e.replies ≢ []) ⊎ (e.command ≡ commands.READ) × (now.structured ≡ true) → SimpleHead o SimpleForbidden
+  forbidden_in : (o : Option Operation) (e : Operation) → operation_of since now cookie ≡ o → IsAnswered since now cookie e →
+      (e.replies ≢ []) ⊎ (e.command ≡ commands.READ) × (now.structured ≡ true) ⊎ IsTrue (asks_status e) × (number_at 4 4 bytes ≡ 0) → SimpleHead o SimpleForbidden
   forbidden_in None e q a w = absurd (let z : None ≡ Some e = sym q ∙ answered_is e a in cc)
-  forbidden_in (Some d) e q a w = inl (refl, subst (λ (x : Operation). (x.replies ≢ []) ⊎ (x.command ≡ commands.READ) × IsTrue now.structured) (sym (same_entry d e q a)) w)
+  forbidden_in (Some d) e q a w = inl (refl, subst (λ (x : Operation). (x.replies ≢ []) ⊎ (x.command ≡ commands.READ) × IsTrue now.structured ⊎ IsTrue (asks_status x) × (number_at 4 4 bytes ≡ 0)) (sym (same_entry d e q a)) w)
 
   unknown_in : (o : Option Operation) → operation_of since now cookie ≡ o → target cookie since.entries ≡ None → SimpleHead o UnknownCookie
   unknown_in None q t = inl (refl, tt)
@@ -173,9 +164,10 @@ module _ (since now : Core) (export : Exporting) (bytes : List ℕ) where
   simple_rows o q s f (unknown_cookie (inr h) t) = absurd (not_both_kinds s h.0)
   simple_rows o q s f (simple_forbidden e b l a w) = inl (l, forbidden_in o e q a w)
   simple_rows o q s f (chunk_forbidden c l n) = absurd (not_both_kinds s c)
-  simple_rows o q s f (bad_chunk c w n) = absurd (not_both_kinds s c)
+  simple_rows o q s f (bad_chunk e c w a n) = absurd (not_both_kinds s c)
   simple_rows o q s f (bad_content e c w a n) = absurd (not_both_kinds s c)
   simple_rows o q s f (incomplete_read e x c w a n r i b) = absurd (not_both_kinds s c)
+  simple_rows o q s f (incomplete_status e c w a n r z b) = absurd (not_both_kinds s c)
   simple_rows o q s f (success_of_improper w (e, a, n, inl h)) = inr (simple_whole o q s w, improper_in o e q a h.1 n)
   simple_rows o q s f (success_of_improper w (e, a, n, inr h)) = absurd (not_both_kinds s h.0)
 
@@ -195,15 +187,16 @@ module _ (since now : Core) (export : Exporting) (bytes : List ℕ) where
   replies_link [] = record { yes = λ e. absurd (cc); no = λ e h. h refl }
   replies_link (m ∷ ms) = record { yes = λ e h. (cc); no = λ e. absurd (cc) }
 
-  simple_head : (o : Option Operation) → IsLeast (simple_fault now.structured o) (SimpleHead o)
+  simple_head : (o : Option Operation) → IsLeast (simple_fault now.structured o (number_at 4 4 bytes)) (SimpleHead o)
   simple_head None = least_if {c = true} UnknownCookie (record { yes = λ e. tt; no = λ e. absurd (cc) }) least_none (above_none 13)
-  simple_head (Some e) = least_if SimpleForbidden (link_or (replies_link e.replies) (link_and (link_eq e.command commands.READ) (link_true now.structured))) least_none (above_none 14)
+  simple_head (Some e) = least_if SimpleForbidden 
+      (link_or (replies_link e.replies) (link_or (link_and (link_eq e.command commands.READ) (link_true now.structured)) (link_and (link_true (asks_status e)) (link_eq (number_at 4 4 bytes) 0)))) least_none (above_none 14)
 
   simple_last : (o : Option Operation) → IsLeast (simple_last_fault export o (number_at 4 4 bytes)) (SimpleLast o)
   simple_last None = least_none
   simple_last (Some e) = least_if SuccessOfImproper (link_and (link_eq (number_at 4 4 bytes) 0) (link_neg (link_true (is_proper export e)))) least_none (above_none 19)
 
-  simple_is_whole : (o : Option Operation) → operation_of since now cookie ≡ o → BeginsSimple bytes → simple_fault now.structured o ≡ None → length bytes ≡ 16 + simple_payload_length o (number_at 4 4 bytes) → IsWholeIn since now bytes (Transmission export) Server
+  simple_is_whole : (o : Option Operation) → operation_of since now cookie ≡ o → BeginsSimple bytes → simple_fault now.structured o (number_at 4 4 bytes) ≡ None → length bytes ≡ 16 + simple_payload_length o (number_at 4 4 bytes) → IsWholeIn since now bytes (Transmission export) Server
   simple_is_whole None q s c l = absurd (cc)
   simple_is_whole (Some e) q s c l = whole_simple e s (is_answered e q) l
 

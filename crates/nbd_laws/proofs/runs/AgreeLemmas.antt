@@ -20,7 +20,7 @@ use Rattle.nbd_wire.specs.protocol.Encoding.{enc, head, tail}
 use Rattle.nbd_wire.specs.protocol.Operations.{Exporting, Operation}
 use Rattle.nbd_wire.specs.protocol.Options.{MayTell, turn}
 use Rattle.nbd_wire.specs.protocol.Payloads.{number_at}
-use Rattle.nbd_wire.specs.protocol.Rows.{IsNoError, answer_kind, IsAnswered, IsFollowed, IsImproperSuccess, IsOutOfTurn, IsWhole, IsWholeIn, Row, RowIn, wrong_magic, neither_magic, not_fixed_newstyle, bad_client_flags, out_of_turn, wrong_option, bad_reply_kind, out_of_profile, status_in_force, ack_with_payload, bad_reply_payload, missing_export_info, no_has_flags, bad_padding, export_too_large, cookie_in_use, unknown_cookie, simple_forbidden, chunk_forbidden, bad_chunk, bad_content, incomplete_read, success_of_improper, bad_disconnect, whole_greeting, whole_flags, whole_choice, whole_export, whole_abort_answer, whole_answer, whole_request, whole_simple, whole_chunk}
+use Rattle.nbd_wire.specs.protocol.Rows.{IsNoError, answer_kind, IsAnswered, IsFollowed, IsImproperSuccess, IsOutOfTurn, IsWhole, IsWholeIn, Row, RowIn, wrong_magic, neither_magic, not_fixed_newstyle, bad_client_flags, out_of_turn, wrong_option, bad_reply_kind, out_of_profile, ack_with_payload, bad_reply_payload, missing_export_info, no_has_flags, bad_padding, export_too_large, cookie_in_use, unknown_cookie, simple_forbidden, chunk_forbidden, bad_chunk, bad_content, incomplete_read, incomplete_status, success_of_improper, bad_disconnect, whole_greeting, whole_flags, whole_choice, whole_export, whole_abort_answer, whole_answer, whole_request, whole_simple, whole_chunk}
 use Rattle.nbd_wire.specs.protocol.Sendable.{IsSendable}
 use Rattle.nbd_wire.specs.protocol.Sides.{side, same_side}
 use Rattle.nbd_wire.specs.protocol.Splits.{open_bytes, HasNoneAtOf, HoldsAtOf, IsClearOf, IsSplitOf, IsWholeAtOf, completes_in, since_from}
@@ -63,7 +63,7 @@ may_with q core Naming (Exported size flags padded) wide ok = ok
 may_with q core Aborting (Answer option kind payload) wide ok = ok
 may_with q core (Answering asked given info) (Answer option kind payload) wide (is, inl may) = (is, inl may)
 may_with q core (Answering asked given info) (Answer option kind payload) wide (is, inr may) = (is, inr (wide (may.1.0, told core.selection asked kind given payload may.1), may.1))
-may_with q core (Transmission export) (Request flags command cookie offset len payload) wide ok = (ok.0, asks_with q (command == commands.DISC) core cookie offset len ok.1)
+may_with q core (Transmission export) (Request flags command cookie offset len payload) wide ok = asks_with q (command == commands.DISC) core cookie offset len ok
 may_with q core (Transmission export) (Simple error cookie payload) wide ok = ok
 may_with q core (Transmission export) (Chunk flags kind cookie payload) wide ok = ok
 may_with q core phase m wide ok = absurd ok
@@ -352,7 +352,6 @@ row_with q none (wrong_option asked is long other) = wrong_option asked is long 
 row_with {now = now} {bytes = bytes} q none (bad_reply_kind {phase = phase} followed long succeeds takes) = bad_reply_kind (followed_with now.profile q phase bytes (none refl) long succeeds followed) long succeeds takes
 row_with {now = now} {bytes = bytes} q none (out_of_profile {option = option} {payload = payload} {info = info} left long succeeds) =
     out_of_profile (λ f. left (followed_with q now.profile (Answering option payload info) bytes (none refl) long succeeds f)) long succeeds
-row_with q none (status_in_force long is some) = status_in_force long is some
 row_with q none (ack_with_payload asked is long ack more) = ack_with_payload asked is long ack more
 row_with q none (bad_reply_payload whole bad) = bad_reply_payload (whole_with q whole) bad
 row_with q none (missing_export_info is proper long ack) = missing_export_info is proper long ack
@@ -363,9 +362,10 @@ row_with q none (cookie_in_use k whole no_disc is) = cookie_in_use k (whole_with
 row_with q none (unknown_cookie head no_one) = unknown_cookie head no_one
 row_with q none (simple_forbidden e begins long a why) = simple_forbidden e begins long (answered_with q a) why
 row_with q none (chunk_forbidden begins long structured) = chunk_forbidden begins long structured
-row_with q none (bad_chunk begins whole bad) = bad_chunk begins (whole_with q whole) bad
+row_with q none (bad_chunk e begins whole a bad) = bad_chunk e begins (whole_with q whole) (answered_with q a) bad
 row_with q none (bad_content e begins whole a bad) = bad_content e begins (whole_with q whole) (answered_with q a) bad
 row_with q none (incomplete_read e x begins whole a finishes read inside missing) = incomplete_read e x begins (whole_with q whole) (answered_with q a) finishes read inside missing
+row_with q none (incomplete_status e begins whole a finishes status some missing) = incomplete_status e begins (whole_with q whole) (answered_with q a) finishes status some missing
 row_with {since = since} {now = now} {bytes = bytes} q none (success_of_improper {phase = phase} whole improper) = success_of_improper (whole_with q whole) (success_with q since now bytes phase improper)
 row_with q none (bad_disconnect long is more) = bad_disconnect long is more
 

@@ -3,7 +3,7 @@ use Rattle.std.proofs.Common.{◌≡◌, ℕ, ◌<◌, ◌≤◌, ◌⊎◌, ◌
 use Rattle.std.proofs.lemmas.Bool.{ltb-true, ltb-false}
 use Rattle.nbd_wire.specs.declared.profile.Profile.{Profile}
 use Rattle.nbd_wire.specs.declared.fault.WireFault.{WireFault}
-use Rattle.nbd_wire.specs.declared.fault.WireFault.TheVariants.{BadMagic, NotFixedNewstyle, BadClientFlags, OutOfTurn, WrongOption, BadReplyKind, OutOfProfile, BadReplyPayload, MissingExportInfo, BadExport, ExportTooLarge, CookieInUse, UnknownCookie, SimpleForbidden, ChunkForbidden, BadChunk, BadContent, IncompleteRead, SuccessOfImproper, BadDisconnect, Unfinished}
+use Rattle.nbd_wire.specs.declared.fault.WireFault.TheVariants.{BadMagic, NotFixedNewstyle, BadClientFlags, OutOfTurn, WrongOption, BadReplyKind, OutOfProfile, BadReplyPayload, MissingExportInfo, BadExport, ExportTooLarge, CookieInUse, UnknownCookie, SimpleForbidden, ChunkForbidden, BadChunk, BadContent, IncompleteRead, SuccessOfImproper, BadDisconnect, IncompleteStatus, Unfinished}
 use Rattle.nbd_wire.specs.declared.message.Message.{Message}
 use Rattle.nbd_wire.specs.declared.message.Side.{Side}
 use Rattle.nbd_wire.specs.declared.message.Side.TheVariants.{Client, Server}
@@ -28,7 +28,7 @@ unrank n =
     else if n == 6 then BadReplyKind else if n == 7 then OutOfProfile else if n == 8 then BadReplyPayload else if n == 9 then MissingExportInfo else if n == 10 then BadExport
     else if n == 11 then ExportTooLarge else if n == 12 then CookieInUse else if n == 13 then UnknownCookie else if n == 14 then SimpleForbidden else if n == 15 then ChunkForbidden
     else if n == 16 then BadChunk else if n == 17 then BadContent else if n == 18 then IncompleteRead else if n == 19 then SuccessOfImproper else if n == 20 then BadDisconnect
-    else Unfinished
+    else if n == 22 then IncompleteStatus else Unfinished
 
 unrank-rank : (f : WireFault) → unrank (rank f) ≡ f
 unfolding unrank
@@ -52,6 +52,7 @@ unrank-rank BadContent = refl
 unrank-rank IncompleteRead = refl
 unrank-rank SuccessOfImproper = refl
 unrank-rank BadDisconnect = refl
+unrank-rank IncompleteStatus = refl
 unrank-rank Unfinished = refl
 
 same_rank : (f g : WireFault) → rank f ≡ rank g → f ≡ g

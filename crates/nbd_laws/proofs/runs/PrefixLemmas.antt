@@ -227,7 +227,7 @@ pub data InTransmission (core : Core) (export : Exporting) : Message → Type 0 
 
 pub transmission_row : (core : Core) (export : Exporting) (m : Message) → MayComplete core (Transmission export) m → InTransmission core export m
 unfolding MayComplete
-transmission_row core export (Request flags command cookie offset len p) ok = asks flags command cookie offset len p ok.1
+transmission_row core export (Request flags command cookie offset len p) ok = asks flags command cookie offset len p ok
 transmission_row core export (Simple error cookie p) ok = replies error cookie p ok
 transmission_row core export (Chunk flags kind cookie p) ok = gives flags kind cookie p ok
 transmission_row core export m ok = absurd ok
@@ -304,7 +304,7 @@ simple_prefix now end export error error' cookie cookie' p p' left l t sn sn' (k
     let found_too : target cookie' end.entries ≡ Some k = subst (λ c. target c end.entries ≡ Some k) f.1 found in
     let kk : k' ≡ k = (let w : Some k' ≡ Some k = sym same.found ∙ found_too in cc) in
     let ee : e' ≡ e = (let w : Some e' ≡ Some e = sym same.is ∙ ap (λ j. operation j end.entries) kk ∙ is in cc) in
-    let n : length p ≡ length p' = h.2 ∙ ap (simple_length e) f.0 ∙ ap (λ x. simple_length x error') (sym ee) ∙ sym h'.2 in
+    let n : length p ≡ length p' = h.3 ∙ ap (simple_length e) f.0 ∙ ap (λ x. simple_length x error') (sym ee) ∙ sym h'.3 in
     let r : (p ≡ p') × (left ≡ []) = same_prefix p p' left n f.2 in
     (ap (λ x. Simple x cookie p) f.0 ∙ ap (λ x. Simple error' x p) f.1 ∙ ap (Simple error' cookie') r.0, r.1)
 

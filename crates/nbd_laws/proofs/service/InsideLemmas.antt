@@ -5,9 +5,9 @@ use Rattle.nbd_wire.specs.declared.entry.Entry.{Entry}
 use Rattle.nbd_wire.specs.declared.message.Message.{Message}
 use Rattle.nbd_wire.specs.declared.message.Message.TheVariants.{Greeting, ClientFlags, Choice, Answer, Exported, Simple, Chunk}
 use Rattle.nbd_wire.specs.protocol.Marks.{Item, Byte, Starts, Completes, Serves}
-use Rattle.nbd_wire.specs.protocol.Operations.{Exporting, Operation}
+use Rattle.nbd_wire.specs.protocol.Operations.{Exporting, Operation, is_proper}
 use Rattle.nbd_wire.specs.protocol.Rules.{MayComplete, Obeys, complete, core_with_request, inside_at, inside_operation, reply_to, request_of_reply}
-use Rattle.nbd_wire.specs.protocol.States.{Core, Phase, Greet, Flags, Choosing, Naming, Aborting, Answering, Transmission, export_in, operation, with_reply_at}
+use Rattle.nbd_wire.specs.protocol.States.{Core, Phase, Greet, Flags, Choosing, Naming, Aborting, Answering, Transmission, export_in, operation, with_reply, with_reply_at}
 use Rattle.nbd_laws.proofs.runs.PrefixLemmas.{InTransmission, asks, gives, in_transmission, phase-complete, replies, transmission_row}
 use Rattle.nbd_laws.proofs.runs.TraceLemmas.{length-complete}
 
@@ -53,11 +53,17 @@ settled_in core phase m q ok h = absurd ok
 pub settled_complete : (core : Core) (m : Message) → MayComplete core core.phase m → IsSettled core → IsSettled (complete core m)
 settled_complete core m ok h = settled_in core core.phase m refl ok h
 
+-- a reply changes nothing of whether its request is proper
+same_inside : (export : Option Exporting) (e : Operation) (m : Message) → inside_operation export (Some (with_reply e m)) ≡ inside_operation export (Some e)
+unfolding is_proper
+same_inside None e m = refl
+same_inside (Some export) e m = refl
+
 inside_replied : (export : Option Exporting) (j : ℕ) (m : Message) (es : List Operation) (k : ℕ) → inside_operation export (operation k (with_reply_at j m es)) ≡ inside_operation export (operation k es)
 inside_replied export j m [] k = refl
 inside_replied export zero m (e ∷ es) k = refl
 inside_replied export (suc zero) m (e ∷ es) zero = refl
-inside_replied export (suc zero) m (e ∷ es) (suc zero) = refl
+inside_replied export (suc zero) m (e ∷ es) (suc zero) = same_inside export e m
 inside_replied export (suc zero) m (e ∷ es) (suc (suc k)) = refl
 inside_replied export (suc (suc j)) m (e ∷ es) zero = refl
 inside_replied export (suc (suc j)) m (e ∷ es) (suc zero) = refl

@@ -3,7 +3,7 @@ use Rattle.std.proofs.Common.{◌≡◌, ℕ, zero, suc, ◌+◌, ◌<◌, ◌�
 use Rattle.std.proofs.lemmas.Bool.{eqb-false, leb-true, ltb-true}
 use Rattle.nbd_wire.specs.declared.entry.Entry.{Entry}
 use Rattle.nbd_wire.specs.declared.entry.Part.{Part}
-use Rattle.nbd_wire.specs.protocol.Entries.{IsWhollyServed, MayServe, Names, NamesWhole, inside, is_served}
+use Rattle.nbd_wire.specs.protocol.Entries.{IsWhollyServed, MayServe, Names, NamesWhole, inside, is_served, inside_of}
 use Rattle.nbd_wire.specs.declared.answers.TheConstants as answers
 use Rattle.nbd_wire.specs.declared.commands.TheConstants as commands
 use Rattle.nbd_wire.specs.declared.limits.TheConstants.{EXPORT_SIZE}
@@ -19,7 +19,7 @@ use Rattle.nbd_wire.specs.protocol.Encoding.{AreBytes}
 use Rattle.nbd_wire.specs.protocol.Contexts.{Context, Selection, has_id}
 use Rattle.nbd_wire.specs.protocol.Options.{IsFreshFor, IsInfo, MayAcknowledge, MayAnswer, MayTell, is_error, is_proper_option, takes_contexts, turn}
 use Rattle.nbd_wire.specs.protocol.Payloads.{info_of, is_listed, context_of}
-use Rattle.nbd_wire.specs.protocol.Operations.{Exporting, Operation, has_range}
+use Rattle.nbd_wire.specs.protocol.Operations.{Exporting, Operation, has_range, is_proper, proper_on}
 use Rattle.nbd_wire.specs.protocol.Flags.{has}
 use Rattle.nbd_wire.specs.protocol.Pieces.{is_in}
 use Rattle.nbd_wire.specs.protocol.Rules.{IsServedFor, MayStartIn, inside_at, inside_operation, request_of_reply, is_request}
@@ -205,7 +205,7 @@ true_is_in_parts (e ∷ es) k h n =
 
 -- an entry names the request, and what lies inside it is served
 abbrev pub served_inside : Option Exporting → Option Operation → List Entry → ℕ → Bool
-served_inside export (Some e) es k = names es k && all_in e.offset e.length (λ x. not (inside export e.command e.offset e.length x) || is_served es k x)
+served_inside export (Some e) es k = names es k && all_in e.offset e.length (λ x. not (inside_of (proper_on export e) export e.command e.offset e.length x) || is_served es k x)
 served_inside export None es k = names es k
 
 true_served : (export : Option Exporting) (o : Option Operation) (es : List Entry) (k : ℕ) → IsTrue (served_inside export o es k) → IsWhollyServed (inside_operation export o) es k
@@ -215,14 +215,15 @@ true_served (Some export) (Some e) es k h =
     record {
       named = true_names es k a.0;
       covered = λ x i.
-          (let b = both (has_range e.command) (is_in e.offset e.length x && nat_lt x export.size) i in
+          (let p = both (is_proper export e || not (e.command == commands.BLOCK_STATUS)) (inside (Some export) e.command e.offset e.length x) i in
+          let b = both (has_range e.command) (is_in e.offset e.length x && nat_lt x export.size) p.1 in
           let r = in_range e.offset e.length x (both (is_in e.offset e.length x) (nat_lt x export.size) b.1).0 in
-          then_too (inside (Some export) e.command e.offset e.length x) (is_served es k x)
-          (all_at e.offset e.length (λ x. not (inside (Some export) e.command e.offset e.length x) || is_served es k x) a.1 x r.0 r.1) i);
+          then_too (inside_of (is_proper export e) (Some export) e.command e.offset e.length x) (is_served es k x)
+          (all_at e.offset e.length (λ x. not (inside_of (is_proper export e) (Some export) e.command e.offset e.length x) || is_served es k x) a.1 x r.0 r.1) i);
     }
 true_served None (Some e) es k h =
     let a = both (names es k) _ h in
-    record { named = true_names es k a.0; covered = λ x i. absurd (let q : false ≡ true = i in cc) }
+    record { named = true_names es k a.0; covered = λ x i. absurd (let q : false ≡ true = (both (not (e.command == commands.BLOCK_STATUS)) false i).1 in cc) }
 
 abbrev pub served_for : Core → List Entry → Option ℕ → Bool
 served_for core es (Some k) = served_inside (export_in core.phase) (operation k core.entries) es k

@@ -47,7 +47,7 @@ may_complete core Aborting (Answer option kind payload) =
 may_complete core (Answering asked asked_with info) (Answer option kind payload) =
     (option == asked) && (may_answer asked asked_with info kind payload || (is_wide core.profile && may_tell core.selection asked asked_with kind payload))
 may_complete core (Transmission export) (Request flags command cookie offset len payload) =
-    (not (command == commands.BLOCK_STATUS) || is_none_in (in_force core)) && may_ask (command == commands.DISC) core cookie offset len
+    may_ask (command == commands.DISC) core cookie offset len
 may_complete core (Transmission export) (Simple error cookie payload) = answers_target core export (Simple error cookie payload) (target cookie core.entries)
 may_complete core (Transmission export) (Chunk flags kind cookie payload) = answers_target core export (Chunk flags kind cookie payload) (target cookie core.entries)
 may_complete core phase m = false
@@ -55,10 +55,6 @@ may_complete core phase m = false
 pub wide_is : (profile : Profile) → IsTrue (is_wide profile) → profile ≡ Wide
 wide_is Base h = absurd (let q : false ≡ true = h in cc)
 wide_is Wide h = refl
-
-pub none_in : (contexts : List Context) → IsTrue (is_none_in contexts) → contexts ≡ []
-none_in [] h = refl
-none_in (c ∷ contexts) h = absurd (let q : false ≡ true = h in cc)
 
 pub completes : (core : Core) (phase : Phase) (m : Message) → IsTrue (may_complete core phase m) → MayComplete core phase m
 unfolding MayComplete
@@ -89,10 +85,7 @@ completes core (Answering asked asked_with info) (Answer option kind payload) h 
       ],
     )
 completes core (Transmission export) (Request flags command cookie offset len payload) h =
-    let a = both (not (command == commands.BLOCK_STATUS) || is_none_in (in_force core)) _ h in (
-      λ q. none_in (in_force core) (then_too (command == commands.BLOCK_STATUS) (is_none_in (in_force core)) a.0 (eq-eqb command commands.BLOCK_STATUS q)),
-      asks (command == commands.DISC) core cookie offset len a.1,
-    )
+    asks (command == commands.DISC) core cookie offset len h
 completes core (Transmission export) (Simple error cookie payload) h = answers_one core export cookie (Simple error cookie payload) h
 completes core (Transmission export) (Chunk flags kind cookie payload) h = answers_one core export cookie (Chunk flags kind cookie payload) h
 completes core phase m h = absurd (cc)

@@ -14,7 +14,7 @@ use Rattle.nbd_laws.specs.internal.JudgeTransmission.{operation_counted, operati
 
 abbrev pub request_unless : (disconnected : Bool) → Core → List ℕ → Option Decision
 request_unless true now bytes = None
-request_unless false now bytes = Some (request (in_force now) now bytes)
+request_unless false now bytes = Some (request now bytes)
 
 -- by phase and side; none where the side may not send
 abbrev pub decision_with : Phase → (to : ℕ → Option Operation) → (now : Core) → Side → List ℕ → Option Decision

@@ -9,15 +9,16 @@ use Rattle.nbd_wire.specs.declared.message.Message.{Message}
 use Rattle.nbd_wire.specs.declared.message.Message.TheVariants.{Request, Simple, Chunk}
 use Rattle.nbd_wire.specs.declared.payloads.Failure.{Failure}
 use Rattle.nbd_wire.specs.declared.payloads.Piece.{Piece}
-use Rattle.nbd_wire.specs.protocol.Payloads.{number_at, content_of, failure_of}
+use Rattle.nbd_wire.specs.protocol.Payloads.{number_at, content_of, failure_of, status_of}
 use Rattle.nbd_wire.specs.protocol.Replies.{simple_length}
-use Rattle.nbd_wire.specs.protocol.Operations.{Exporting, Operation, has_failed, is_proper, pieces}
+use Rattle.nbd_wire.specs.protocol.Operations.{Exporting, Operation, asks_status, has_failed, is_proper, pieces}
 use Rattle.nbd_wire.specs.protocol.Flags.{has}
 use Rattle.nbd_wire.specs.protocol.Pieces.{is_in, piece_offset, piece_size}
-use Rattle.nbd_wire.specs.protocol.Contexts.{Context}
+use Rattle.nbd_wire.specs.protocol.Contexts.{Context, Extent, Status, has_id, reach}
+use Rattle.nbd_wire.specs.protocol.Statuses.{but_last, statuses, tells, tells_all}
 use Rattle.nbd_wire.specs.protocol.States.{Core, target, operation, with_reply}
 use Rattle.nbd_wire.specs.declared.fault.WireFault.{WireFault}
-use Rattle.nbd_wire.specs.declared.fault.WireFault.TheVariants.{BadMagic, OutOfProfile, CookieInUse, UnknownCookie, SimpleForbidden, ChunkForbidden, BadChunk, BadContent, IncompleteRead, SuccessOfImproper, BadDisconnect}
+use Rattle.nbd_wire.specs.declared.fault.WireFault.TheVariants.{BadMagic, CookieInUse, UnknownCookie, SimpleForbidden, ChunkForbidden, BadChunk, BadContent, IncompleteRead, SuccessOfImproper, BadDisconnect, IncompleteStatus}
 use Rattle.nbd_laws.specs.internal.Decisions.{is_none_yet}
 use Rattle.nbd_laws.specs.internal.Decisions.{Decision, fault_if}
 
@@ -25,12 +26,11 @@ abbrev pub is_none_in : List Context → Bool
 is_none_in [] = true
 is_none_in (c ∷ contexts) = false
 
--- at the head of a request, where these contexts are in force
-abbrev pub request_fault : List Context → (magic command offset len : ℕ) → Option WireFault
-request_fault contexts magic command offset len =
+-- at the head of a request
+abbrev pub request_fault : (magic command offset len : ℕ) → Option WireFault
+request_fault magic command offset len =
     fault_if (not (magic == REQUEST_MAGIC)) BadMagic
-    (fault_if ((command == commands.BLOCK_STATUS) && not (is_none_in contexts)) OutOfProfile
-    (fault_if ((command == commands.DISC) && not ((offset == 0) && (len == 0))) BadDisconnect None))
+    (fault_if ((command == commands.DISC) && not ((offset == 0) && (len == 0))) BadDisconnect None)
 
 -- how many bytes follow the head of a request
 abbrev pub request_payload_length : (command len : ℕ) → ℕ
@@ -44,11 +44,10 @@ abbrev pub request_of : List ℕ → Message
 request_of bytes = Request (number_at 4 2 bytes) (number_at 6 2 bytes) (number_at 8 8 bytes) (number_at 16 8 bytes)
     (number_at 24 4 bytes) (drop 28 bytes)
 
--- a request where these contexts are in force
-abbrev pub request : List Context → Core → List ℕ → Decision
-request contexts now bytes = record {
+abbrev pub request : Core → List ℕ → Decision
+request now bytes = record {
   head_length = 28;
-  head_fault = request_fault contexts (number_at 0 4 bytes) (number_at 6 2 bytes) (number_at 16 8 bytes)
+  head_fault = request_fault (number_at 0 4 bytes) (number_at 6 2 bytes) (number_at 16 8 bytes)
       (number_at 24 4 bytes);
   payload_length = request_payload_length (number_at 6 2 bytes) (number_at 24 4 bytes);
   last_fault = cookie_fault (number_at 6 2 bytes) (target (number_at 8 8 bytes) now.entries);
@@ -64,10 +63,10 @@ abbrev pub operation_of : (old now : Core) → (cookie : ℕ) → Option Operati
 operation_of old now cookie = operation_if (target cookie old.entries) now.entries
 
 -- at the head of a simple reply
-abbrev pub simple_fault : (structured : Bool) → Option Operation → Option WireFault
-simple_fault structured None = Some UnknownCookie
-simple_fault structured (Some e) = fault_if (not (is_none_yet e.replies)
-    || ((e.command == commands.READ) && structured)) SimpleForbidden None
+abbrev pub simple_fault : (structured : Bool) → Option Operation → (error : ℕ) → Option WireFault
+simple_fault structured None error = Some UnknownCookie
+simple_fault structured (Some e) error = fault_if (not (is_none_yet e.replies)
+    || (((e.command == commands.READ) && structured) || (asks_status e && (error == 0)))) SimpleForbidden None
 
 -- how many bytes follow the head of a simple reply
 abbrev pub simple_payload_length : Option Operation → (error : ℕ) → ℕ
@@ -85,7 +84,7 @@ simple_of bytes = Simple (number_at 4 4 bytes) (number_at 8 8 bytes) (drop 16 by
 abbrev pub simple_to : Exporting → Core → Option Operation → List ℕ → Decision
 simple_to export now to bytes = record {
   head_length = 16;
-  head_fault = simple_fault now.structured to;
+  head_fault = simple_fault now.structured to (number_at 4 4 bytes);
   payload_length = simple_payload_length to (number_at 4 4 bytes);
   last_fault = simple_last_fault export to (number_at 4 4 bytes);
   message = simple_of bytes;
@@ -126,19 +125,44 @@ abbrev pub fits_failure : Operation → Option ℕ → Bool
 fits_failure e None = true
 fits_failure e (Some x) = is_in e.offset e.length x
 
+-- the extents lie in the range of the request as they may
+abbrev pub fits_range : Operation → List Extent → Bool
+fits_range e extents =
+    not (nat_le e.length (reach (but_last extents)))
+    && (not (has e.flags command_flags.REQ_ONE) || ((length extents == 1) && nat_le (reach extents) e.length))
+
+-- the status may join those of the request
+abbrev pub fits_status : Operation → Status → Bool
+fits_status e status =
+    (e.command == commands.BLOCK_STATUS)
+    && (has_id e.contexts status.id
+    && (not (tells (statuses e) status.id)
+    && ((e.length == 0) || fits_range e status.extents)))
+
+-- what a chunk says of status, where these contexts are in force
+abbrev pub status_if : List Context → (kind : ℕ) → List ℕ → Option Status
+status_if contexts kind payload =
+    if (kind == chunks.BLOCK_STATUS) && not (is_none_in contexts) then status_of payload else None
+
 -- at the last byte of a chunk that is no NONE, by its payload; `next` is the fault after these
-abbrev pub content_fault : Exporting → Operation → Option Piece → Option Failure → (next : Option WireFault)
-    → Option WireFault
-content_fault export e (Some piece) failure next = fault_if (not (fits_read export e piece)) BadContent next
-content_fault export e None (Some failure) next = fault_if (not (fits_failure e failure.offset)) BadContent next
-content_fault export e None None next = Some BadChunk
+abbrev pub content_fault : Exporting → Operation → Option Piece → Option Failure → Option Status
+    → (next : Option WireFault) → Option WireFault
+content_fault export e (Some piece) failure status next = fault_if (not (fits_read export e piece)) BadContent next
+content_fault export e None (Some failure) status next = fault_if (not (fits_failure e failure.offset)) BadContent next
+content_fault export e None None (Some status) next = fault_if (not (fits_status e status)) BadContent next
+content_fault export e None None None next = Some BadChunk
+
+-- a BLOCK_STATUS of a range that is not empty lacks the status of a context in force
+abbrev pub lacks_status : Operation → Bool
+lacks_status e =
+    (e.command == commands.BLOCK_STATUS) && (not (e.length == 0) && not (tells_all (statuses e) e.contexts))
 
 -- at the end of a reply that gave these pieces; one that states a failure may end as it is
 abbrev pub finish_fault : Exporting → Operation → (failed : Bool) → List Piece → Option WireFault
 finish_fault export e true ps = None
 finish_fault export e false ps =
     fault_if ((e.command == commands.READ) && not (total ps == e.length)) IncompleteRead
-    (fault_if (not (is_proper export e)) SuccessOfImproper None)
+    (fault_if (not (is_proper export e)) SuccessOfImproper (fault_if (lacks_status e) IncompleteStatus None))
 
 abbrev pub done_fault : (done : Bool) → Exporting → Operation → Option WireFault
 done_fault false export e = None
@@ -151,7 +175,7 @@ chunk_fault true export e with_chunk flags kind payload =
     fault_if (not (length payload == 0) || not (has flags chunks.DONE)) BadChunk
     (done_fault (has flags chunks.DONE) export with_chunk)
 chunk_fault false export e with_chunk flags kind payload =
-    content_fault export e (content_of kind payload) (failure_of kind payload)
+    content_fault export e (content_of kind payload) (failure_of kind payload) (status_if e.contexts kind payload)
     (done_fault (has flags chunks.DONE) export with_chunk)
 
 -- at the head of a chunk

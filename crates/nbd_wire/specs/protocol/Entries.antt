@@ -1,5 +1,6 @@
 -- Entries of an order of service, and what of its request each of them serves (this project's choice).
-use Rattle.std.specs.Prelude.{ℕ, List, [], ◌∷◌, ◌≡◌, ◌⊎◌, ◌==◌, ◌&&◌, ◌||◌, Bool, true, false, nat_lt, Option, Some, None, IsTrue, map}
+use Rattle.std.specs.Prelude.{ℕ, List, [], ◌∷◌, ◌≡◌, ◌⊎◌, ◌==◌, ◌&&◌, ◌||◌, Bool, true, false, not, nat_lt, Option, Some, None, IsTrue, map}
+use Rattle.nbd_wire.specs.declared.commands.TheConstants as commands
 use Rattle.nbd_wire.specs.declared.entry.Entry.{Entry}
 use Rattle.nbd_wire.specs.declared.entry.Part.{Part}
 use Rattle.nbd_wire.specs.protocol.Operations.{Exporting, has_range}
@@ -42,6 +43,11 @@ is_served (e ∷ entries) k x = ((e.request == k) && in_part e.part x) || is_ser
 abbrev pub inside : Option Exporting → (command offset length : ℕ) → ℕ → Bool
 inside (Some export) command offset len x = has_range command && (is_in offset len x && nat_lt x export.size)
 inside None command offset len x = false
+
+-- the same, where a BLOCK_STATUS that is not proper has nothing inside (this project's choice)
+abbrev pub inside_of : (proper : Bool) → Option Exporting → (command offset length : ℕ) → ℕ → Bool
+inside_of proper export command offset len x =
+    (proper || not (command == commands.BLOCK_STATUS)) && inside export command offset len x
 
 -- request k, inside which these offsets lie, is wholly served: an entry names it, and each of the offsets is served
 pub record IsWhollyServed (within : ℕ → Bool) (entries : List Entry) (k : ℕ) : Type 0 where

@@ -8,7 +8,7 @@ use Rattle.nbd_wire.specs.declared.payloads.Info.TheVariants.{Export, BlockSize,
 use Rattle.nbd_wire.specs.declared.payloads.Piece.{Piece}
 use Rattle.nbd_wire.specs.declared.payloads.Piece.TheVariants.{Bytes, Hole}
 use Rattle.nbd_wire.specs.declared.payloads.Failure.{Failure}
-use Rattle.nbd_wire.specs.protocol.Contexts.{Context}
+use Rattle.nbd_wire.specs.protocol.Contexts.{Context, Extent, Status}
 
 -- INFO: a type and what belongs to it; other types than EXPORT and BLOCK_SIZE may go on as they like (proto.md, "Option
 -- reply types")
@@ -71,3 +71,15 @@ HasFailureForm kind failure bytes =
     (0 < failure.error) × (failure.error < 2 ^ 32)
     × ((message : List ℕ) × (rest : List ℕ) × (length message < 2 ^ 16) × GoesOn kind failure.offset rest
     × (bytes ≡ big_bytes 4 failure.error ++ big_bytes 2 (length message) ++ message ++ rest))
+
+-- descriptors, one after the other: a length and flags each
+abbrev pub with_extents : List Extent → List ℕ
+with_extents [] = []
+with_extents (x ∷ extents) = big_bytes 4 x.length ++ big_bytes 4 x.flags ++ with_extents extents
+
+-- BLOCK_STATUS: an id, and one or more descriptors, each of at least one byte (proto.md, "Structured reply types")
+unfoldable pub HasStatusForm : Status → List ℕ → Type 0
+HasStatusForm status bytes =
+    (status.id < 2 ^ 32) × (status.extents ≢ [])
+    × All (λ (x : Extent). (0 < x.length) × (x.length < 2 ^ 32) × (x.flags < 2 ^ 32)) status.extents
+    × (bytes ≡ big_bytes 4 status.id ++ with_extents status.extents)

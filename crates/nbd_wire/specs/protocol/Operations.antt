@@ -1,5 +1,5 @@
 -- A numbered request, its replies, and what became of it.
-use Rattle.std.specs.Prelude.{ℕ, List, [], ◌∷◌, ◌++◌, ◌+◌, Bool, true, false, not, ◌&&◌, ◌||◌, ◌==◌, nat_le, if◌then◌else◌, IsTrue, is_some}
+use Rattle.std.specs.Prelude.{ℕ, List, [], ◌∷◌, ◌++◌, ◌+◌, Bool, true, false, Option, Some, None, length, not, ◌&&◌, ◌||◌, ◌==◌, nat_le, if◌then◌else◌, IsTrue, is_some}
 use Rattle.nbd_wire.specs.declared.message.Message.{Message}
 use Rattle.nbd_wire.specs.declared.message.Message.TheVariants.{Simple, Chunk}
 use Rattle.nbd_wire.specs.declared.payloads.Piece.{Piece}
@@ -7,6 +7,7 @@ use Rattle.nbd_wire.specs.declared.chunks.TheConstants as chunks
 use Rattle.nbd_wire.specs.declared.command_flags.TheConstants as command_flags
 use Rattle.nbd_wire.specs.declared.commands.TheConstants as commands
 use Rattle.nbd_wire.specs.declared.transmission.TheConstants as transmission
+use Rattle.nbd_wire.specs.protocol.Contexts.{Context}
 use Rattle.nbd_wire.specs.protocol.Flags.{has, has_only}
 use Rattle.nbd_wire.specs.protocol.Pieces.{piece_of, is_in, byte_at}
 
@@ -15,7 +16,8 @@ pub record Exporting : Type 0 where
   pub size : ℕ
   pub flags : ℕ
 
--- a numbered request, and the messages that completed in answer to it, in order
+-- a numbered request, the metadata contexts that were in force for it, and the messages that completed in answer to it,
+-- in order
 pub record Operation : Type 0 where
   pub flags : ℕ
   pub command : ℕ
@@ -23,6 +25,7 @@ pub record Operation : Type 0 where
   pub offset : ℕ
   pub length : ℕ
   pub payload : List ℕ
+  pub contexts : List Context
   pub replies : List Message
 
 -- an error chunk (proto.md, "Structured reply types")
@@ -75,17 +78,24 @@ pieces e = pieces_of e.offset e.replies
 abbrev pub Covers : Operation → List Piece → Type 0
 Covers e pieces = (x : ℕ) → IsTrue (is_in e.offset e.length x) → IsTrue (is_some (byte_at pieces x))
 
--- the type of a numbered request is one that this project follows (proto.md, "Request types", without BLOCK_STATUS)
-abbrev pub is_known : ℕ → Bool
-is_known command =
-    (command == commands.READ) || (command == commands.WRITE) || (command == commands.FLUSH)
-    || (command == commands.TRIM) || (command == commands.CACHE) || (command == commands.WRITE_ZEROES)
+-- a BLOCK_STATUS where a context is in force (proto.md, "Metadata querying")
+abbrev pub asks_status : Operation → Bool
+asks_status e = (e.command == commands.BLOCK_STATUS) && not (length e.contexts == 0)
+
+-- the type of a numbered request is one that this project follows; BLOCK_STATUS is one only where a context is in force
+-- (proto.md, "Request types", "Metadata querying")
+abbrev pub is_known : Operation → Bool
+is_known e =
+    (e.command == commands.READ) || (e.command == commands.WRITE) || (e.command == commands.FLUSH)
+    || (e.command == commands.TRIM) || (e.command == commands.CACHE) || (e.command == commands.WRITE_ZEROES)
+    || asks_status e
 
 -- the types whose offset and length are a range of the export (proto.md, "Request types")
 abbrev pub has_range : ℕ → Bool
 has_range command =
     (command == commands.READ) || (command == commands.WRITE)
     || (command == commands.TRIM) || (command == commands.CACHE) || (command == commands.WRITE_ZEROES)
+    || (command == commands.BLOCK_STATUS)
 
 -- the types that change the export (proto.md, "Request types")
 abbrev pub is_change : ℕ → Bool
@@ -110,15 +120,21 @@ allowed_flags export command =
     + mask_if (command == commands.WRITE_ZEROES) command_flags.NO_HOLE
     + mask_if ((command == commands.READ) && has export transmission.SEND_DF) command_flags.DF
     + mask_if ((command == commands.WRITE_ZEROES) && has export transmission.SEND_FAST_ZERO) command_flags.FAST_ZERO
+    + mask_if (command == commands.BLOCK_STATUS) command_flags.REQ_ONE
 
 -- a request that a client should send: of a known type, its range inside the export, offered, no
 -- change of a read-only export, with allowed flags, and a FLUSH with offset 0 and length 0 (proto.md,
 -- "Transmission flags", "Command flags", "Request types")
 unfoldable pub is_proper : Exporting → Operation → Bool
 is_proper export e =
-    is_known e.command
+    is_known e
     && (not (has_range e.command) || nat_le (e.offset + e.length) export.size)
     && is_offered export.flags e.command
     && (not (is_change e.command) || not (has export.flags transmission.READ_ONLY))
     && has_only e.flags (allowed_flags export.flags e.command)
     && (not (e.command == commands.FLUSH) || ((e.offset == 0) && (e.length == 0)))
+
+-- proper on the export, if there is one
+abbrev pub proper_on : Option Exporting → Operation → Bool
+proper_on (Some export) e = is_proper export e
+proper_on None e = false

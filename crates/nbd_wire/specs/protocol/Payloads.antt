@@ -1,11 +1,12 @@
 -- What the payloads of options, of option replies and of chunks state. Numbers are big-endian.
-use Rattle.std.specs.Prelude.{ℕ, zero, suc, List, [], Option, Some, None, length, ◌==◌, ◌&&◌, ◌+◌, ◌*◌, not, nat_le, if◌then◌else◌, take, drop, Bool}
+use Rattle.std.specs.Prelude.{ℕ, zero, suc, List, [], Option, Some, None, length, ◌∷◌, ◌==◌, ◌&&◌, ◌||◌, ◌+◌, ◌*◌, ◌/◌, ◌%◌, not, nat_le, if◌then◌else◌, take, drop, Bool}
+use Rattle.std.specs.List.{list_any}
 use Rattle.nbd_wire.specs.declared.payloads.Info.{Info}
 use Rattle.nbd_wire.specs.declared.payloads.Info.TheVariants.{Export, BlockSize, Other}
 use Rattle.nbd_wire.specs.declared.payloads.Piece.{Piece}
 use Rattle.nbd_wire.specs.declared.payloads.Piece.TheVariants.{Bytes, Hole}
 use Rattle.nbd_wire.specs.declared.payloads.Failure.{Failure}
-use Rattle.nbd_wire.specs.protocol.Contexts.{Context}
+use Rattle.nbd_wire.specs.protocol.Contexts.{Context, Extent, Status}
 use Rattle.byteorder.specs.Endian.{big_number}
 use Rattle.nbd_wire.specs.declared.chunks.TheConstants as chunks
 use Rattle.nbd_wire.specs.declared.infos.TheConstants as infos
@@ -87,3 +88,25 @@ failure_of kind bytes =
     else if (kind == chunks.ERROR_OFFSET) && nat_le (14 + text) (length bytes) then Some
     (record { error = error; offset = Some (number_at (6 + text) 8 bytes) })
     else None
+
+-- so many descriptors, each a length and flags
+abbrev pub extents_in : ℕ → List ℕ → List Extent
+extents_in zero bytes = []
+extents_in (suc n) bytes =
+    record { length = number_at 0 4 bytes; flags = number_at 4 4 bytes } ∷ extents_in n (drop 8 bytes)
+
+-- the descriptors that these bytes are, eight bytes each
+abbrev pub extents_of : List ℕ → List Extent
+extents_of bytes = extents_in (length bytes / 8) bytes
+
+-- one of the extents speaks of no byte
+abbrev pub has_empty : List Extent → Bool
+has_empty extents = list_any (λ (x : Extent). x.length == 0) extents
+
+-- a BLOCK_STATUS chunk: an id, and one or more descriptors to the end, of which none is empty (proto.md, "Structured
+-- reply types")
+unfoldable pub status_of : List ℕ → Option Status
+status_of bytes =
+    let rest : List ℕ = drop 4 bytes in
+    if not (nat_le 12 (length bytes)) || not (length rest % 8 == 0) || has_empty (extents_of rest) then None
+    else Some (record { id = number_at 0 4 bytes; extents = extents_of rest })

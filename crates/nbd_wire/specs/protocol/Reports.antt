@@ -3,8 +3,8 @@ use Rattle.std.specs.Prelude.{ℕ, zero, suc, List, [], ◌∷◌, ◌==◌, Boo
 use Rattle.nbd_wire.specs.declared.message.Side.TheVariants.{Client, Server}
 use Rattle.nbd_wire.specs.declared.payloads.Piece.{Piece}
 use Rattle.nbd_wire.specs.protocol.Marks.{Item, Byte, Starts, Completes, Serves}
-use Rattle.nbd_wire.specs.protocol.Entries.{inside}
-use Rattle.nbd_wire.specs.protocol.Operations.{Operation, Exporting, Outcome, is_proper, outcome, pieces}
+use Rattle.nbd_wire.specs.protocol.Entries.{inside_of}
+use Rattle.nbd_wire.specs.protocol.Operations.{Operation, Exporting, Outcome, outcome, pieces, proper_on}
 use Rattle.nbd_wire.specs.protocol.Rules.{request_of_reply, complete, ends_at}
 use Rattle.nbd_wire.specs.protocol.States.{Core, export_in, start}
 
@@ -58,11 +58,6 @@ pub record Report : Type 0 where
   pub export : Option Exporting
   pub asked : List Asked
 
--- proper on the export, if there is one
-abbrev pub proper_on : Option Exporting → Operation → Bool
-proper_on (Some export) e = is_proper export e
-proper_on None e = false
-
 -- a request as a report states it
 abbrev pub asked_of : Option Exporting → Option ℕ → Operation → Asked
 asked_of export known_at e = record {
@@ -107,7 +102,7 @@ known_in r k = known_of (asked_at k r.asked)
 
 -- the offsets inside a request on an export, if there is one
 abbrev pub inside_asked : Option Exporting → Option Asked → ℕ → Bool
-inside_asked export (Some a) = inside export a.command a.offset a.length
+inside_asked export (Some a) = inside_of a.proper export a.command a.offset a.length
 inside_asked export None = λ x. false
 
 -- the offsets inside request k of the report

@@ -3,13 +3,13 @@
 -- those of one side, `since` is what had completed before the first of them, and `now` what has completed when the last
 -- of them has come. A row says how many open bytes there are where it is seen, and which rule they break. Names in
 -- quotes are sections of proto.md.
-use Rattle.std.specs.Prelude.{ℕ, List, [], ◌≡◌, ◌≢◌, ◌+◌, ◌<◌, ◌⊎◌, ◌==◌, true, false, if◌then◌else◌, Option, Some, None, length, drop, replicate, IsTrue, is_some}
+use Rattle.std.specs.Prelude.{ℕ, List, [], ◌≡◌, ◌≢◌, ◌+◌, ◌<◌, ◌≤◌, ◌⊎◌, ◌==◌, true, false, if◌then◌else◌, Option, Some, None, length, drop, replicate, IsTrue, is_some}
 use Rattle.nbd_wire.specs.declared.answers.TheConstants as answers
 use Rattle.nbd_wire.specs.declared.chunks.TheConstants as chunks
 use Rattle.nbd_wire.specs.declared.command_flags.TheConstants as command_flags
 use Rattle.nbd_wire.specs.declared.commands.TheConstants as commands
 use Rattle.nbd_wire.specs.declared.fault.WireFault.{WireFault}
-use Rattle.nbd_wire.specs.declared.fault.WireFault.TheVariants.{BadMagic, NotFixedNewstyle, BadClientFlags, OutOfTurn, WrongOption, BadReplyKind, OutOfProfile, BadReplyPayload, MissingExportInfo, BadExport, ExportTooLarge, CookieInUse, UnknownCookie, SimpleForbidden, ChunkForbidden, BadChunk, BadContent, IncompleteRead, SuccessOfImproper, BadDisconnect, Unfinished}
+use Rattle.nbd_wire.specs.declared.fault.WireFault.TheVariants.{BadMagic, NotFixedNewstyle, BadClientFlags, OutOfTurn, WrongOption, BadReplyKind, OutOfProfile, BadReplyPayload, MissingExportInfo, BadExport, ExportTooLarge, CookieInUse, UnknownCookie, SimpleForbidden, ChunkForbidden, BadChunk, BadContent, IncompleteRead, SuccessOfImproper, BadDisconnect, Unfinished, IncompleteStatus}
 use Rattle.nbd_wire.specs.declared.handshake.TheConstants as handshake
 use Rattle.nbd_wire.specs.declared.head_lengths.TheConstants as head_lengths
 use Rattle.nbd_wire.specs.declared.magics.TheConstants as magics
@@ -24,13 +24,14 @@ use Rattle.nbd_wire.specs.declared.transmission.TheConstants as transmission
 use Rattle.nbd_wire.specs.protocol.Options.{FitsLimit, IsFreshFor, IsInfo, is_error, is_proper_option, takes_contexts, turn}
 use Rattle.nbd_wire.specs.declared.profile.Profile.{Profile}
 use Rattle.nbd_wire.specs.declared.profile.Profile.TheVariants.{Wide}
-use Rattle.nbd_wire.specs.protocol.Contexts.{Context, Selection}
-use Rattle.nbd_wire.specs.protocol.Payloads.{content_of, context_of, failure_of, is_listed, number_at}
+use Rattle.nbd_wire.specs.protocol.Contexts.{Context, Selection, Status, has_id, reach}
+use Rattle.nbd_wire.specs.protocol.Payloads.{content_of, context_of, failure_of, is_listed, number_at, status_of}
 use Rattle.nbd_wire.specs.protocol.Replies.{simple_length}
-use Rattle.nbd_wire.specs.protocol.Operations.{Operation, Exporting, has_failed, is_proper, pieces}
+use Rattle.nbd_wire.specs.protocol.Operations.{Operation, Exporting, asks_status, has_failed, is_proper, pieces}
 use Rattle.nbd_wire.specs.protocol.Pieces.{byte_at, holds, is_in, piece_offset, piece_size}
 use Rattle.nbd_wire.specs.protocol.Flags.{has, has_only}
-use Rattle.nbd_wire.specs.protocol.States.{Core, Phase, Greet, Flags, Choosing, Naming, Aborting, Answering, Transmission, in_force, operation, target, with_reply}
+use Rattle.nbd_wire.specs.protocol.States.{Core, Phase, Greet, Flags, Choosing, Naming, Aborting, Answering, Transmission, operation, target, with_reply}
+use Rattle.nbd_wire.specs.protocol.Statuses.{but_last, statuses, tells, tells_all}
 
 -- the number of a fault in the table; Unfinished has no row
 abbrev pub rank : WireFault → ℕ
@@ -55,6 +56,7 @@ rank IncompleteRead = 18
 rank SuccessOfImproper = 19
 rank BadDisconnect = 20
 rank Unfinished = 21
+rank IncompleteStatus = 22
 
 -- the flag, named by its mask, is not set
 abbrev pub Lacks : (flags mask : ℕ) → Type 0
@@ -263,12 +265,14 @@ IsTooLarge phase bytes = ⊥
 abbrev pub chunk_in : List ℕ → Message
 chunk_in bytes = Chunk (chunk_flags bytes) (chunk_type bytes) (cookie_of bytes) (chunk_payload bytes)
 
--- the payload of a chunk has the form of its type, and NONE has DONE
-abbrev pub HasForm : (flags kind : ℕ) (payload : List ℕ) → Type 0
-HasForm flags kind payload =
+-- where these contexts are in force, the payload of a chunk has the form of its type, and NONE has DONE; BLOCK_STATUS is
+-- a type only where a context is in force
+abbrev pub HasForm : List Context → (flags kind : ℕ) (payload : List ℕ) → Type 0
+HasForm contexts flags kind payload =
     (kind ≡ chunks.NONE) × (payload ≡ []) × IsTrue (has flags chunks.DONE)
     ⊎ ((piece : Piece) × (content_of kind payload ≡ Some piece))
     ⊎ ((failure : Failure) × (failure_of kind payload ≡ Some failure))
+    ⊎ (kind ≡ chunks.BLOCK_STATUS) × (contexts ≢ []) × ((status : Status) × (status_of payload ≡ Some status))
 
 -- a content chunk answers no READ, leaves its range, shares an offset with an earlier one, or is a second one to a
 -- proper READ with DF
@@ -280,12 +284,26 @@ pub data IsMisplaced (export : Exporting) (e : Operation) (piece : Piece) : Type
   second : IsTrue (is_proper export e) → IsTrue (has e.flags command_flags.DF) → pieces e ≢ []
       → IsMisplaced export e piece
 
--- a content chunk that does not fit its request, or an error chunk whose offset lies outside its request's range
+-- a status chunk answers no BLOCK_STATUS, is of a context that is not in force or that an earlier chunk is of, or to a
+-- range that is not empty says more than it may: of what stands behind the last byte before its last extent begins, or
+-- with REQ_ONE in several extents or of more than the range
+pub data IsStray (e : Operation) (status : Status) : Type 0 where
+  to_no_status : e.command ≢ commands.BLOCK_STATUS → IsStray e status
+  not_in_force : has_id e.contexts status.id ≡ false → IsStray e status
+  again : tells (statuses e) status.id ≡ true → IsStray e status
+  passes : e.length ≢ 0 → e.length ≤ reach (but_last status.extents) → IsStray e status
+  several : e.length ≢ 0 → IsTrue (has e.flags command_flags.REQ_ONE) → length status.extents ≢ 1 → IsStray e status
+  longer : e.length ≢ 0 → IsTrue (has e.flags command_flags.REQ_ONE) → e.length < reach status.extents
+      → IsStray e status
+
+-- a content or status chunk that does not fit its request, or an error chunk whose offset lies outside its request's
+-- range
 abbrev pub IsBadContent : Exporting → Operation → (kind : ℕ) (payload : List ℕ) → Type 0
 IsBadContent export e kind payload =
     ((piece : Piece) × (content_of kind payload ≡ Some piece) × IsMisplaced export e piece)
     ⊎ ((failure : Failure) × (x : ℕ) × (failure_of kind payload ≡ Some failure) × (failure.offset ≡ Some x)
     × (IsTrue (is_in e.offset e.length x) → ⊥))
+    ⊎ (kind ≡ chunks.BLOCK_STATUS) × ((status : Status) × (status_of payload ≡ Some status) × IsStray e status)
 
 -- the reply to a request is finished by a chunk with DONE and holds no error chunk
 abbrev pub FinishesWell : Operation → List ℕ → Type 0
@@ -333,11 +351,6 @@ pub data RowIn (since now : Core) (bytes : List ℕ) : WireFault → Phase → S
       → (IsFollowed now.profile (Answering option payload info) → ⊥) → length bytes ≡ head_lengths.ANSWER
       → IsNoError (answer_kind bytes)
       → RowIn since now bytes OutOfProfile (Answering option payload info) Server
-  -- at the head of a request: BLOCK_STATUS where a context is in force, which is not followed yet (this project's
-  -- choice)
-  status_in_force : {export : Exporting} → length bytes ≡ head_lengths.REQUEST
-      → request_type bytes ≡ commands.BLOCK_STATUS → in_force now ≢ []
-      → RowIn since now bytes OutOfProfile (Transmission export) Client
   -- at the head of an ACK: it has a payload (proto.md, "Option reply types")
   ack_with_payload : {phase : Phase} (asked : ℕ) → IsAsked phase asked → length bytes ≡ head_lengths.ANSWER
       → answer_kind bytes ≡ answers.ACK → answer_length bytes ≢ 0 → RowIn since now bytes BadReplyPayload phase Server
@@ -369,19 +382,21 @@ pub data RowIn (since now : Core) (bytes : List ℕ) : WireFault → Phase → S
   -- the start of the reply decides is this project's choice)
   unknown_cookie : {export : Exporting} → IsHead (Transmission export) Server bytes
       → target (cookie_of bytes) since.entries ≡ None → RowIn since now bytes UnknownCookie (Transmission export) Server
-  -- at the head of a simple reply: to a READ under structured replies, or to a request that has received a chunk
-  -- (proto.md, "Simple reply message")
+  -- at the head of a simple reply: to a READ under structured replies, one of success to a BLOCK_STATUS where a context
+  -- is in force, or to a request that has received a chunk (proto.md, "Simple reply message", "Request types")
   simple_forbidden : {export : Exporting} (e : Operation) → BeginsSimple bytes → length bytes ≡ head_lengths.SIMPLE
       → IsAnswered since now (cookie_of bytes) e
       → (e.replies ≢ []) ⊎ (e.command ≡ commands.READ) × (now.structured ≡ true)
+      ⊎ IsTrue (asks_status e) × (simple_error bytes ≡ 0)
       → RowIn since now bytes SimpleForbidden (Transmission export) Server
   -- at the head of a chunk: structured replies are not in force (proto.md, "Structured reply chunk message")
   chunk_forbidden : {export : Exporting} → BeginsChunk bytes → length bytes ≡ head_lengths.CHUNK
       → now.structured ≡ false → RowIn since now bytes ChunkForbidden (Transmission export) Server
   -- at the last byte of a chunk: an unknown type, or a payload without its form (proto.md, "Structured reply types";
   -- that every unknown type and form is refused is this project's choice)
-  bad_chunk : {export : Exporting} → BeginsChunk bytes → IsWholeIn since now bytes (Transmission export) Server
-      → (HasForm (chunk_flags bytes) (chunk_type bytes) (chunk_payload bytes) → ⊥)
+  bad_chunk : {export : Exporting} (e : Operation) → BeginsChunk bytes
+      → IsWholeIn since now bytes (Transmission export) Server → IsAnswered since now (cookie_of bytes) e
+      → (HasForm e.contexts (chunk_flags bytes) (chunk_type bytes) (chunk_payload bytes) → ⊥)
       → RowIn since now bytes BadChunk (Transmission export) Server
   -- at the last byte of a chunk: it does not fit its request (proto.md, "Structured reply types", "Request types";
   -- which chunks fit an improper request, and when DF counts, is this project's choice)
@@ -397,6 +412,14 @@ pub data RowIn (since now : Core) (bytes : List ℕ) : WireFault → Phase → S
       → e.command ≡ commands.READ → IsTrue (is_in e.offset e.length x)
       → byte_at (pieces (with_reply e (chunk_in bytes))) x ≡ None
       → RowIn since now bytes IncompleteRead (Transmission export) Server
+  -- at the last byte of a chunk with DONE to a BLOCK_STATUS of a range that is not empty, without an error chunk: a
+  -- context in force has no status in the reply (proto.md, "Request types", "Structured reply types")
+  incomplete_status : {export : Exporting} (e : Operation) → BeginsChunk bytes
+      → IsWholeIn since now bytes (Transmission export) Server → IsAnswered since now (cookie_of bytes) e
+      → FinishesWell e bytes
+      → e.command ≡ commands.BLOCK_STATUS → e.length ≢ 0
+      → (IsTrue (tells_all (statuses (with_reply e (chunk_in bytes))) e.contexts) → ⊥)
+      → RowIn since now bytes IncompleteStatus (Transmission export) Server
   -- at the last byte: a success for what is improper (this project's choice)
   success_of_improper : {phase : Phase} → IsWholeIn since now bytes phase Server
       → IsImproperSuccess since now phase bytes → RowIn since now bytes SuccessOfImproper phase Server

@@ -12,10 +12,10 @@ use Rattle.nbd_wire.specs.declared.transmission.TheConstants as transmission
 use Rattle.nbd_wire.specs.declared.profile.Profile.{Profile}
 use Rattle.nbd_wire.specs.declared.profile.Profile.TheVariants.{Base, Wide}
 use Rattle.nbd_wire.specs.protocol.Marks.{Item, Byte, Starts, Completes, Serves, IsMarkedBut}
-use Rattle.nbd_wire.specs.protocol.Entries.{IsWhollyServed, MayServe, inside}
+use Rattle.nbd_wire.specs.protocol.Entries.{IsWhollyServed, MayServe, inside_of}
 use Rattle.nbd_wire.specs.protocol.Options.{FitsLimit, MayAnswer, MayTell, agrees, is_error, next_phase, selection_after, selection_at, turn}
 use Rattle.nbd_wire.specs.protocol.Replies.{MayReply}
-use Rattle.nbd_wire.specs.protocol.Operations.{Operation, Exporting}
+use Rattle.nbd_wire.specs.protocol.Operations.{Operation, Exporting, proper_on}
 use Rattle.nbd_wire.specs.protocol.Flags.{has, has_only}
 use Rattle.nbd_wire.specs.protocol.Sendable.{IsSendable}
 use Rattle.nbd_wire.specs.protocol.Sides.{side}
@@ -79,11 +79,6 @@ abbrev pub MayAsk : (is_disc : Bool) → Core → (cookie offset len : ℕ) → 
 MayAsk true core cookie offset len = (offset ≡ 0) × (len ≡ 0)
 MayAsk false core cookie offset len = target cookie core.entries ≡ None
 
--- the type of a request is not BLOCK_STATUS where a context is in force, which is not followed yet (this project's
--- choice)
-abbrev pub IsFollowedIn : Core → (command : ℕ) → Type 0
-IsFollowedIn core command = command ≡ commands.BLOCK_STATUS → in_force core ≡ []
-
 -- a reply answers the outstanding request with its cookie, and may stand in that request's reply
 abbrev pub AnswersOne : Core → Exporting → (cookie : ℕ) → Message → Type 0
 AnswersOne core export cookie m =
@@ -102,7 +97,7 @@ MayComplete core (Answering asked asked_with info) (Answer option kind payload) 
     × (MayAnswer asked asked_with info kind payload
     ⊎ (core.profile ≡ Wide) × MayTell core.selection asked asked_with kind payload)
 MayComplete core (Transmission export) (Request flags command cookie offset len payload) =
-    IsFollowedIn core command × MayAsk (command == commands.DISC) core cookie offset len
+    MayAsk (command == commands.DISC) core cookie offset len
 MayComplete core (Transmission export) (Simple error cookie payload) =
     AnswersOne core export cookie (Simple error cookie payload)
 MayComplete core (Transmission export) (Chunk flags kind cookie payload) =
@@ -156,6 +151,7 @@ complete core (Request flags command cookie offset len payload) =
       offset = offset;
       length = len;
       payload = payload;
+      contexts = in_force core;
       replies = [];
     })
 complete core (Simple error cookie payload) = core_with_reply core (Simple error cookie payload)
@@ -163,7 +159,7 @@ complete core (Chunk flags kind cookie payload) = core_with_reply core (Chunk fl
 
 -- the offsets inside a request on an export, if there is one
 abbrev pub inside_operation : Option Exporting → Option Operation → ℕ → Bool
-inside_operation export (Some e) = inside export e.command e.offset e.length
+inside_operation export (Some e) = inside_of (proper_on export e) export e.command e.offset e.length
 inside_operation export None = λ x. false
 
 -- the offsets inside request k
