@@ -1,7 +1,7 @@
 -- What the replies to a request are.
 use Rattle.nbd_wire.specs.protocol.Replies.{IsStatus}
 use Rattle.nbd_wire.specs.protocol.Contexts.{Status}
-use Rattle.std.specs.Prelude.{◌≡◌, ◌⊎◌, ℕ, List, [], ◌∷◌, ◌++◌, Bool, true, false, Some, IsTrue, ≢}
+use Rattle.std.specs.Prelude.{◌≡◌, ◌⊎◌, ℕ, List, [], ◌∷◌, ◌++◌, Bool, true, false, Some, IsTrue, ◌≢◌}
 use Rattle.nbd_wire.specs.declared.chunks.TheConstants as chunks
 use Rattle.nbd_wire.specs.declared.commands.TheConstants as commands
 use Rattle.nbd_wire.specs.declared.message.Message.{Message}
@@ -34,7 +34,7 @@ abbrev pub IsReplyAfter : (structured : Bool) → Operation → (prefix : List M
 IsReplyAfter structured e prefix (Simple error cookie payload) =
     (prefix ≡ []) × (e.command ≡ commands.READ → structured ≡ false) × (IsTrue (asks_status e) → error ≢ 0)
 IsReplyAfter structured e prefix (Chunk flags kind cookie payload) =
-    (structured ≡ true) × FitsRequest e flags kind payload
+    (structured ≡ true) × FitsRequest (record e { replies = prefix }) flags kind payload
 IsReplyAfter structured e prefix _ = ⊥
 
 -- a reply between others: it has the request's cookie, and none comes after the one that ends the reply

@@ -4,11 +4,11 @@ ghost use Rattle.std.specs.Prelude.{[], ◌∷◌};
 ghost use Rattle.nbd_wire.specs.protocol.Captures.{flat};
 ghost use Rattle.nbd_wire.specs.protocol.Splits.{IsPlace, IsPlaceOf};
 ghost use Rattle.nbd_wire.specs.declared.profile.Profile.TheVariants.{Base, Wide};
-ghost use Rattle.nbd_wire.specs.declared.fault.WireFault.TheVariants.{BadMagic, NotFixedNewstyle, BadClientFlags, OutOfTurn, OutOfProfile, UnknownCookie, BadDisconnect};
+ghost use Rattle.nbd_wire.specs.declared.fault.WireFault.TheVariants.{BadMagic, NotFixedNewstyle, BadClientFlags, OutOfTurn, OutOfProfile, UnknownCookie, BadDisconnect, IncompleteStatus};
 ghost use Rattle.nbd_wire.specs.declared.message.Message.TheVariants.{Greeting};
 ghost use Rattle.nbd_laws.specs.captures.Openings.{hasty_client};
 ghost use Rattle.nbd_laws.specs.captures.Refused as refused;
-ghost use Rattle.nbd_laws.specs.captures.Messages.{context_messages, opening_messages, selected_messages};
+ghost use Rattle.nbd_laws.specs.captures.Messages.{context_messages, opening_messages, status_asked_messages};
 
 /// The client speaks first.
 pub fn client_first()
@@ -46,8 +46,9 @@ pub fn long_disconnect()
     ensures { IsPlace (flat refused.long_disconnect) opening_messages BadDisconnect }
 {}
 
-/// A metadata context is told: Base refuses it at its head. Wide goes on, and refuses a BLOCK_STATUS where it is in force.
-pub fn contexts_out_of_profile()
+/// A metadata context is told: Base refuses it at its head. Wide goes on, and refuses a BLOCK_STATUS that succeeds
+/// without a status of it.
+pub fn contexts_of_profiles()
     ensures base { IsPlaceOf Base (flat refused.context_head) context_messages OutOfProfile }
-    ensures wide { IsPlaceOf Wide (flat refused.status_in_force) selected_messages OutOfProfile }
+    ensures wide { IsPlaceOf Wide (flat refused.status_missing) status_asked_messages IncompleteStatus }
 {}

@@ -1,5 +1,5 @@
 -- The judge takes each message of transmission that the rules allow.
-use Rattle.nbd_wire.specs.protocol.Statuses.{tells_all, statuses}
+use Rattle.nbd_wire.specs.protocol.Statuses.{tells_all, statuses, but_last}
 use Rattle.std.proofs.Common.{◌≡◌, ℕ, ◌<◌, ◌≤◌, ◌≢◌, ◌⊎◌, ◌+◌, ◌^◌, ◌==◌, List, [], ◌∷◌, ◌++◌, length, drop, refl, sym, ◌∙◌, ap, subst, inl, inr, Option, Some, None, Bool, true, false, not, ◌&&◌, ◌||◌, if◌then◌else◌, nat_le, eqb-true, eq-eqb, is_some, arith, IsTrue, length-drop}
 use Rattle.std.proofs.lemmas.Bool.{eqb-false, le-leb, leb-true, lt-ltb, ne_eqb, lt-leb}
 use Rattle.byteorder.specs.Numbers.{big_number-reads_back}

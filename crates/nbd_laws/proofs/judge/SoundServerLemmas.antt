@@ -1,6 +1,6 @@
 -- What the judge takes for a reply is one that the rules allow.
-use Rattle.nbd_wire.specs.protocol.Statuses.{but_last}
-use Rattle.std.proofs.Common.{◌≡◌, ℕ, ◌<◌, ◌≤◌, ◌+◌, ◌^◌, ◌==◌, List, [], ◌∷◌, length, drop, refl, sym, ◌∙◌, ap, subst, inl, inr, Option, Some, None, Bool, true, false, not, ◌&&◌, ◌||◌, if◌then◌else◌, eqb-true, eq-eqb, is_some, arith, length-drop, IsTrue, nat_le, nat_lt, ≢}
+use Rattle.nbd_wire.specs.protocol.Statuses.{but_last, tells, statuses}
+use Rattle.std.proofs.Common.{◌≡◌, ℕ, ◌<◌, ◌≤◌, ◌+◌, ◌^◌, ◌==◌, List, [], ◌∷◌, length, drop, refl, sym, ◌∙◌, ap, subst, inl, inr, Option, Some, None, Bool, true, false, not, ◌&&◌, ◌||◌, if◌then◌else◌, eqb-true, eq-eqb, is_some, arith, length-drop, IsTrue, nat_le, nat_lt, ◌≢◌, leb-false}
 use Rattle.std.proofs.lemmas.Bool.{leb-true, ltb-true, ne_eqb}
 use Rattle.nbd_wire.specs.declared.chunks.TheConstants as chunks
 use Rattle.nbd_wire.specs.declared.command_flags.TheConstants as command_flags
@@ -32,7 +32,7 @@ use Rattle.nbd_laws.proofs.machine.MachineLemmas.{Later}
 use Rattle.nbd_laws.proofs.judge.PhaseLemmas.{IsAppended, Later-appended, target-append}
 use Rattle.nbd_laws.proofs.judge.SoundNegotiationLemmas.{IsFit, IsWhole, no_length, whole}
 use Rattle.nbd_laws.proofs.judge.TidyLemmas.{IsTidy, AreTidy, tidy_entry, tidy_chunk}
-use Rattle.nbd_wire.specs.protocol.Contexts.{Context, Status, reach}
+use Rattle.nbd_wire.specs.protocol.Contexts.{Context, Status, reach, has_id}
 
 pub record IsReplying (old now : Core) (export : Exporting) (bytes : List ℕ) (m : Message) : Type 0 where
   pub fit : IsFit now (Transmission export) Server bytes m

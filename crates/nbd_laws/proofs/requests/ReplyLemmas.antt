@@ -85,7 +85,7 @@ each_answered structured (suc zero) m (x ∷ es) e w h r =
     ((λ prefix back n p. (let b : IsReplyBetween structured x prefix n back = r' w.0 prefix back n p in record { cookie = b.cookie; ends = b.ends; fits = moved structured x m prefix n b.fits })), w.1)
   where
     moved : (structured : Bool) (x : Operation) (m : Message) (prefix : List Message) (n : Message) → IsReplyAfter structured x prefix n → IsReplyAfter structured (with_reply x m) prefix n
-    moved structured x m prefix (Simple error cookie payload) h = h
+    moved structured x m prefix (Simple error cookie payload) h = (h.0, h.1, λ q. h.2 q)
     moved structured x m prefix (Chunk flags kind cookie payload) h = h
     moved structured x m prefix (Greeting flags) h = h
     moved structured x m prefix (ClientFlags flags) h = h

@@ -1,6 +1,6 @@
 -- What is decided of a chunk, in the words of the table of faults.
-use Rattle.nbd_wire.specs.protocol.Statuses.{tells_all, statuses, tells}
-use Rattle.nbd_wire.specs.protocol.Contexts.{Status, has_id}
+use Rattle.nbd_wire.specs.protocol.Statuses.{tells_all, statuses, tells, but_last}
+use Rattle.nbd_wire.specs.protocol.Contexts.{Status, has_id, reach}
 use Rattle.std.proofs.Common.{◌≡◌, ℕ, zero, suc, ◌+◌, ◌<◌, ◌≤◌, ◌≢◌, ◌⊎◌, ◌==◌, List, [], ◌∷◌, length, drop, refl, sym, ◌∙◌, ap, subst, inl, inr, Option, Some, None, Bool, true, false, not, ◌&&◌, ◌||◌, IsTrue, is_some, arith, eqb-true, nat_le, nat_lt, if◌then◌else◌}
 use Rattle.std.proofs.lemmas.Bool.{eqb-false, leb-false, leb-true, le-leb, lt-ltb, ltb-true}
 use Rattle.nbd_wire.specs.declared.chunks.TheConstants as chunks
@@ -16,7 +16,7 @@ use Rattle.nbd_wire.specs.protocol.Replies.{IsChunk, IsContent, IsStatus}
 use Rattle.nbd_wire.specs.protocol.Operations.{Operation, Exporting, has_failed, is_proper, pieces}
 use Rattle.nbd_wire.specs.protocol.Pieces.{byte_at, holds, is_in, piece_byte, piece_offset, piece_size}
 use Rattle.nbd_wire.specs.protocol.Flags.{has}
-use Rattle.nbd_wire.specs.protocol.Rows.{BeginsChunk, FinishesWell, HasForm, IsAnswered, IsBadContent, IsMisplaced, IsWholeIn, RowIn, chunk_in, rank, IsStray}
+use Rattle.nbd_wire.specs.protocol.Rows.{longer, BeginsChunk, FinishesWell, HasForm, IsAnswered, IsBadContent, IsMisplaced, IsWholeIn, RowIn, chunk_in, rank, IsStray, to_no_status, not_in_force, again, passes, several, longer}
 use Rattle.nbd_wire.specs.protocol.Rows.IsMisplaced.{to_no_read, before_range, after_range, overlaps, second}
 use Rattle.nbd_wire.specs.protocol.Rows.IsWholeIn.{whole_simple, whole_chunk}
 use Rattle.nbd_wire.specs.protocol.Rows.RowIn.{wrong_magic, neither_magic, not_fixed_newstyle, out_of_turn, wrong_option, bad_reply_kind, ack_with_payload, export_too_large, unknown_cookie, simple_forbidden, chunk_forbidden, bad_chunk, bad_content, incomplete_read, success_of_improper, incomplete_status}
@@ -220,7 +220,7 @@ module _ (since now : Core) (export : Exporting) (bytes : List ℕ) where
       no_form (inr n) (inl (k, p, d)) = n d
       no_form o (inr (inl (piece, is))) = let q : None ≡ Some piece = sym (none_content payload) ∙ ap (λ k. content_of k payload) (sym none) ∙ is in absurd (cc)
       no_form o (inr (inr (inl (failure, is)))) = no_failure kind payload none failure is
-      no_form o (inr (inr (inr (k, t)))) = no_status k
+      no_form o (inr (inr (inr (k, some, t)))) = no_status k
 
       open_of : (HasForm e.contexts flags kind payload → ⊥) → IsOpen
       open_of n = go (length payload == 0) refl

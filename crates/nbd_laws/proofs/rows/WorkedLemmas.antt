@@ -2,7 +2,7 @@
 use Rattle.std.proofs.Common.{◌≡◌, ℕ, List, [], ◌∷◌, ◌++◌, take, refl, sym, ◌∙◌, ap, subst, Option, Some, None, Result, Ok, Err, Bool, true, ◌&&◌, nat_lt}
 use Rattle.std.proofs.lemmas.Bool.{ltb-true}
 use Rattle.nbd_wire.specs.declared.fault.WireFault.{WireFault}
-use Rattle.nbd_wire.specs.declared.fault.WireFault.TheVariants.{BadMagic, NotFixedNewstyle, BadClientFlags, OutOfTurn, OutOfProfile, UnknownCookie, BadDisconnect}
+use Rattle.nbd_wire.specs.declared.fault.WireFault.TheVariants.{BadMagic, NotFixedNewstyle, BadClientFlags, OutOfTurn, OutOfProfile, UnknownCookie, BadDisconnect, IncompleteStatus}
 use Rattle.nbd_wire.specs.declared.message.Message.{Message}
 use Rattle.nbd_wire.specs.declared.message.Message.TheVariants.{Greeting}
 use Rattle.nbd_wire.specs.declared.message.Side.TheVariants.{Client, Server}
@@ -10,7 +10,7 @@ use Rattle.nbd_wire.specs.declared.profile.Profile.{Profile}
 use Rattle.nbd_wire.specs.declared.profile.Profile.TheVariants.{Base, Wide}
 use Rattle.nbd_wire.specs.protocol.Captures.{ArePairs, Pair, flat}
 use Rattle.nbd_wire.specs.protocol.Options.{is_proper_option, next_phase}
-use Rattle.nbd_wire.specs.protocol.Payloads.{content_of, context_of, failure_of, queries_of, info_of, is_go, is_listed}
+use Rattle.nbd_wire.specs.protocol.Payloads.{content_of, context_of, failure_of, queries_of, info_of, is_go, is_listed, status_of}
 use Rattle.nbd_wire.specs.protocol.Operations.{ends_reply, is_failing, is_proper}
 use Rattle.nbd_wire.specs.protocol.Flags.{has, has_only}
 use Rattle.nbd_wire.specs.protocol.Pieces.{piece_of}
@@ -23,7 +23,7 @@ use Rattle.nbd_laws.proofs.runs.PlacingLemmas.{place_law}
 use Rattle.nbd_laws.proofs.runs.PlaceLemmas.{are_prefix, are_last}
 use Rattle.nbd_laws.specs.internal.Concrete.{concrete}
 use Rattle.nbd_laws.specs.captures.Refused as refused
-use Rattle.nbd_laws.specs.captures.Messages.{context_messages, opening_messages, selected_messages}
+use Rattle.nbd_laws.specs.captures.Messages.{context_messages, opening_messages, status_asked_messages}
 use Rattle.nbd_laws.proofs.judge.BlockLemmas.{reads-append}
 use Rattle.nbd_laws.proofs.judge.BoolLemmas.{and_true}
 use Rattle.nbd_laws.proofs.judge.SoundLemmas.{sound}
@@ -104,6 +104,6 @@ pub context_in_base : IsPlaceOf Base (flat refused.context_head) context_message
 unfolding complete next_phase target has has_only is_proper is_proper_option queries_of context_of info_of is_listed is_go content_of failure_of ends_reply is_failing piece_of
 context_in_base = at_of Base (flat refused.context_head) 120 (record { from = Server; byte = 19 }) context_messages OutOfProfile refl refl refl refl
 
-pub status_in_wide : IsPlaceOf Wide (flat refused.status_in_force) selected_messages OutOfProfile
-unfolding complete next_phase target has has_only is_proper is_proper_option queries_of context_of info_of is_listed is_go content_of failure_of ends_reply is_failing piece_of
-status_in_wide = at_of Wide (flat refused.status_in_force) 261 (record { from = Client; byte = 8 }) selected_messages OutOfProfile refl refl refl refl
+pub status_missing : IsPlaceOf Wide (flat refused.status_missing) status_asked_messages IncompleteStatus
+unfolding complete next_phase target has has_only is_proper is_proper_option queries_of context_of info_of is_listed is_go content_of failure_of status_of ends_reply is_failing piece_of
+status_missing = at_of Wide (flat refused.status_missing) 281 (record { from = Server; byte = 0 }) status_asked_messages IncompleteStatus refl refl refl refl

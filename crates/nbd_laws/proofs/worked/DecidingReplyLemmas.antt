@@ -2,7 +2,7 @@
 use Rattle.nbd_laws.proofs.judge.SoundServerLemmas.{fits_it}
 use Rattle.nbd_laws.specs.internal.JudgeTransmission.{lacks_status, fits_status}
 use Rattle.nbd_wire.specs.protocol.Contexts.{Status}
-use Rattle.std.proofs.Common.{◌≡◌, ℕ, ◌+◌, ◌==◌, ◌&&◌, ◌||◌, not, nat_le, List, length, refl, subst, inl, inr, Option, Some, None, Bool, true, false, IsTrue, is_some, is_none, eqb-true, eq-eqb, ap, sym, ∙}
+use Rattle.std.proofs.Common.{◌≡◌, ℕ, ◌+◌, ◌==◌, ◌&&◌, ◌||◌, not, nat_le, List, length, refl, subst, inl, inr, Option, Some, None, Bool, true, false, IsTrue, is_some, is_none, eqb-true, eq-eqb, ap, sym, ◌∙◌}
 use Rattle.std.proofs.lemmas.Bool.{leb-true, ne_eqb}
 use Rattle.nbd_wire.specs.declared.chunks.TheConstants as chunks
 use Rattle.nbd_wire.specs.declared.command_flags.TheConstants as command_flags

@@ -2,8 +2,9 @@
 use Rattle.std.specs.Prelude.{◌∷◌, ◌++◌, [], List}
 use Rattle.byteorder.specs.Endian.{big_bytes}
 use Rattle.nbd_wire.specs.declared.answers.TheConstants as answers
+use Rattle.nbd_wire.specs.declared.commands.TheConstants as commands
 use Rattle.nbd_wire.specs.declared.message.Message.{Message}
-use Rattle.nbd_wire.specs.declared.message.Message.TheVariants.{Answer, Choice, ClientFlags, Greeting}
+use Rattle.nbd_wire.specs.declared.message.Message.TheVariants.{Answer, Choice, ClientFlags, Greeting, Request}
 use Rattle.nbd_wire.specs.declared.options.TheConstants as options
 
 -- a negotiation by GO of an export of 8 bytes
@@ -36,3 +37,7 @@ selected_messages =
     ∷ Answer options.GO answers.INFO (big_bytes 12 0x00000000000000000008006d)
     ∷ Answer options.GO answers.ACK []
     ∷ []
+
+-- and a BLOCK_STATUS
+abbrev pub status_asked_messages : List Message
+status_asked_messages = selected_messages ++ Request 0 commands.BLOCK_STATUS 1 0 8 [] ∷ []

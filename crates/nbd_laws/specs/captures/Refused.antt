@@ -43,6 +43,9 @@ context_head =
     ∷ server 20 0x0003e889045565a90000000a0000000400000013
     ∷ []
 
--- a BLOCK_STATUS where a context is in force
-abbrev pub status_in_force : Chunks
-status_in_force = context_selected ++ client 28 0x25609513000000070000000000000001000000000000000000000008 ∷ []
+-- a BLOCK_STATUS where a context is in force, answered without a status
+abbrev pub status_missing : Chunks
+status_missing = context_selected
+    ++ client 28 0x25609513000000070000000000000001000000000000000000000008
+    ∷ server 20 0x668e33ef00010000000000000000000100000000
+    ∷ []
