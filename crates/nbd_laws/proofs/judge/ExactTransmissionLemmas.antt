@@ -26,7 +26,7 @@ use Rattle.nbd_wire.specs.declared.fault.WireFault.{WireFault}
 use Rattle.nbd_wire.specs.declared.fault.WireFault.TheVariants.{BadChunk, BadContent, BadDisconnect, ChunkForbidden, CookieInUse, IncompleteRead, SimpleForbidden, SuccessOfImproper, OutOfProfile, IncompleteStatus}
 use Rattle.nbd_laws.specs.internal.Decisions.{Decision, fault_if}
 use Rattle.nbd_laws.specs.internal.Decisions.{is_none_yet}
-use Rattle.nbd_laws.specs.internal.JudgeTransmission.{begins, chunk_fault, chunk_of, chunk_to, content_fault, cookie_fault, done_fault, finish_fault, fits_failure, fits_read, is_no_piece, request, request_fault, request_payload_length, simple_fault, simple_last_fault, simple_to, total, is_none_in, status_if, fits_status, fits_range}
+use Rattle.nbd_laws.specs.internal.JudgeTransmission.{begins, chunk_fault, chunk_of, chunk_to, content_fault, cookie_fault, done_fault, finish_fault, fits_failure, fits_read, is_no_piece, request, request_fault, request_payload_length, simple_fault, simple_last_fault, simple_to, total, status_if, fits_status, fits_range}
 use Rattle.nbd_laws.proofs.judge.CoverLemmas.{ArePositive, covered_total, shares-apart_from}
 use Rattle.nbd_laws.proofs.judge.ExactNegotiationLemmas.{Accepts, HasHead, HasLast, no_fault_if, not_so}
 use Rattle.nbd_laws.proofs.judge.TidyLemmas.{IsTidy, failure_kind, no_content, none_content, tidy_reply, status_content}
@@ -236,9 +236,9 @@ failure_fits : (e : Operation) (o : Option ℕ) → ((x : ℕ) → o ≡ Some x 
 failure_fits e None h = refl
 failure_fits e (Some x) h = h x refl
 
-some_there : (contexts : List Context) (id : ℕ) → has_id contexts id ≡ true → is_none_in contexts ≡ false
+some_there : (contexts : List Context) (id : ℕ) → has_id contexts id ≡ true → (length contexts == 0) ≡ false
 some_there [] id h = absurd (cc)
-some_there (c ∷ contexts) id h = refl
+some_there (c ∷ contexts) id h = ne_eqb (length (c ∷ contexts)) 0 (λ q. omega arith)
 
 -- what is a status of the request passes the test
 told_fits : (e : Operation) (status : Status) → IsStatus e status → fits_status e status ≡ true
@@ -262,7 +262,7 @@ module _ (export : Exporting) (e f : Operation) (flags kind : ℕ) (payload : Li
 
   told_if : (status : Status) → kind ≡ chunks.BLOCK_STATUS → status_of payload ≡ Some status → IsStatus e status → status_if e.contexts kind payload ≡ Some status
   told_if status k is ok =
-      ap (λ b. if b && not (is_none_in e.contexts) then status_of payload else None) (eq-eqb kind chunks.BLOCK_STATUS k)
+      ap (λ b. if b && not (length e.contexts == 0) then status_of payload else None) (eq-eqb kind chunks.BLOCK_STATUS k)
       ∙ ap (λ b. if not b then status_of payload else None) (some_there e.contexts status.id ok.1) ∙ is
 
   no_status_failure : (failure : Failure) → kind ≡ chunks.BLOCK_STATUS → failure_of kind payload ≡ Some failure → ⊥

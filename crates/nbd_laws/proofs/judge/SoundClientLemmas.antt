@@ -14,7 +14,7 @@ use Rattle.nbd_wire.specs.protocol.States.{Transmission, Core, target, in_force}
 use Rattle.nbd_wire.specs.declared.fault.WireFault.TheVariants.{CookieInUse, BadDisconnect, OutOfProfile}
 use Rattle.nbd_laws.specs.internal.Decisions.{fault_if}
 use Rattle.nbd_laws.specs.internal.Judge.{request_unless}
-use Rattle.nbd_laws.specs.internal.JudgeTransmission.{request, request_payload_length, request_of, is_none_in}
+use Rattle.nbd_laws.specs.internal.JudgeTransmission.{request, request_payload_length, request_of}
 use Rattle.nbd_laws.proofs.judge.BoolLemmas.{not_false, and_true, fault_none, and_false}
 use Rattle.nbd_laws.specs.internal.Concrete.{reading_by_decision}
 use Rattle.nbd_laws.specs.internal.Machine.{Whole}

@@ -23,7 +23,7 @@ use Rattle.nbd_wire.specs.protocol.States.{Transmission, Core, target, operation
 use Rattle.nbd_wire.specs.declared.fault.WireFault.TheVariants.{BadMagic, UnknownCookie, SimpleForbidden, ChunkForbidden, BadChunk, BadContent, IncompleteRead, SuccessOfImproper, IncompleteStatus}
 use Rattle.nbd_laws.specs.internal.Decisions.{fault_if}
 use Rattle.nbd_laws.specs.internal.Decisions.{is_none_yet}
-use Rattle.nbd_laws.specs.internal.JudgeTransmission.{begins, chunk_fault, chunk_of, chunk_to, content_fault, done_fault, operation_if, operation_of, finish_fault, fits_failure, fits_read, is_apart_from, is_inside, is_no_piece, no_reply, reply, reply_by, simple_of, simple_to, total, lacks_status, fits_status, status_if, is_none_in, fits_range}
+use Rattle.nbd_laws.specs.internal.JudgeTransmission.{begins, chunk_fault, chunk_of, chunk_to, content_fault, done_fault, operation_if, operation_of, finish_fault, fits_failure, fits_read, is_apart_from, is_inside, is_no_piece, no_reply, reply, reply_by, simple_of, simple_to, total, lacks_status, fits_status, status_if, fits_range}
 use Rattle.nbd_laws.proofs.judge.BoolLemmas.{not_false, not_true, or_false, or_true, and_true, and_false, fault_none}
 use Rattle.nbd_laws.specs.internal.Concrete.{read_by}
 use Rattle.nbd_laws.proofs.judge.CoverLemmas.{full_total_covers, apart_from-shares}
@@ -172,14 +172,16 @@ pub record IsTold (contexts : List Context) (kind : ℕ) (payload : List ℕ) (s
 pub told_if : (contexts : List Context) (kind : ℕ) (payload : List ℕ) (status : Status) → status_if contexts kind payload ≡ Some status → IsTold contexts kind payload status
 told_if contexts kind payload status e = go (kind == chunks.BLOCK_STATUS) refl contexts refl e
   where
-    go : (b : Bool) → (kind == chunks.BLOCK_STATUS) ≡ b → (cs : List Context) → contexts ≡ cs → (if b && not (is_none_in cs) then status_of payload else None) ≡ Some status → IsTold contexts kind payload status
+    go : (b : Bool) → (kind == chunks.BLOCK_STATUS) ≡ b → (cs : List Context) → contexts ≡ cs → (if b && not (length cs == 0) then status_of payload else None) ≡ Some status → IsTold contexts kind payload status
     go true q [] n e = absurd (cc)
-    go true q (c ∷ cs) n e = record { kind_is = eqb-true kind chunks.BLOCK_STATUS q; some_in_force = λ h. (let r : c ∷ cs ≡ [] = sym n ∙ h in (cc)); is = e }
+    go true q (c ∷ cs) n e = record { kind_is = eqb-true kind chunks.BLOCK_STATUS q; some_in_force = λ h. (let r : c ∷ cs ≡ [] = sym n ∙ h in (cc)); is = sym (ap (λ b. if not b then status_of payload else None) (ne_eqb (length (c ∷ cs)) 0 (λ q. omega arith))) ∙ e }
     go false q cs n e = absurd (cc)
 
 pub status_if-some : (contexts : List Context) (kind : ℕ) (payload : List ℕ) (status : Status) → kind ≡ chunks.BLOCK_STATUS → contexts ≢ [] → status_of payload ≡ Some status → status_if contexts kind payload ≡ Some status
 status_if-some [] kind payload status k n is = absurd (n refl)
-status_if-some (c ∷ contexts) kind payload status k n is = ap (λ b. if b && true then status_of payload else None) (eq-eqb kind chunks.BLOCK_STATUS k) ∙ is
+status_if-some (c ∷ contexts) kind payload status k n is =
+    ap (λ b. if b && not (length (c ∷ contexts) == 0) then status_of payload else None) (eq-eqb kind chunks.BLOCK_STATUS k)
+    ∙ ap (λ b. if not b then status_of payload else None) (ne_eqb (length (c ∷ contexts)) 0 (λ q. omega arith)) ∙ is
 
 pub fits_it : (e : Operation) (status : Status) → fits_status e status ≡ true → IsStatus e status
 fits_it e status h =

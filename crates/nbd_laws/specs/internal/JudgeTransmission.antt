@@ -22,10 +22,6 @@ use Rattle.nbd_wire.specs.declared.fault.WireFault.TheVariants.{BadMagic, Cookie
 use Rattle.nbd_laws.specs.internal.Decisions.{is_none_yet}
 use Rattle.nbd_laws.specs.internal.Decisions.{Decision, fault_if}
 
-abbrev pub is_none_in : List Context → Bool
-is_none_in [] = true
-is_none_in (c ∷ contexts) = false
-
 -- at the head of a request
 abbrev pub request_fault : (magic command offset len : ℕ) → Option WireFault
 request_fault magic command offset len =
@@ -142,7 +138,7 @@ fits_status e status =
 -- what a chunk says of status, where these contexts are in force
 abbrev pub status_if : List Context → (kind : ℕ) → List ℕ → Option Status
 status_if contexts kind payload =
-    if (kind == chunks.BLOCK_STATUS) && not (is_none_in contexts) then status_of payload else None
+    if (kind == chunks.BLOCK_STATUS) && not (length contexts == 0) then status_of payload else None
 
 -- at the last byte of a chunk that is no NONE, by its payload; `next` is the fault after these
 abbrev pub content_fault : Exporting → Operation → Option Piece → Option Failure → Option Status
