@@ -7,7 +7,8 @@ use Rattle.nbd_wire.specs.declared.message.Message.{Message}
 use Rattle.nbd_wire.specs.protocol.Operations.{Operation, Exporting, ends_reply, is_finished}
 use Rattle.nbd_wire.specs.protocol.Rules.{cookie_of, core_with_reply, reply_to, target_of}
 use Rattle.nbd_wire.specs.protocol.States as definitions
-use Rattle.nbd_wire.specs.protocol.States.{Core, Transmission, with_reply_at, operation, target, with_reply, export_in}
+use Rattle.nbd_wire.specs.protocol.Contexts.{Context}
+use Rattle.nbd_wire.specs.protocol.States.{Core, Transmission, with_reply_at, operation, target, with_reply, export_in, in_force}
 use Rattle.nbd_state.specs.declared.asked.Exchange.{Exchange}
 use Rattle.nbd_state.specs.declared.state.Export.{Export}
 use Rattle.nbd_state.specs.declared.state.Phase.TheVariants as shown
@@ -16,7 +17,7 @@ use Rattle.nbd_state.specs.internal.Completing.{AddsUnanswered}
 use Rattle.nbd_laws.specs.internal.Decisions.{is_none_yet}
 use Rattle.nbd_state.specs.Showing.{IsShown, exporting}
 use Rattle.nbd_laws.specs.Reached.{IsReached}
-use Rattle.nbd_state.specs.Shows.{AreShown, HasSelection, Shows, export_shown, phase_shown, place_of}
+use Rattle.nbd_state.specs.Shows.{AreAskedWith, AreShown, HasSelection, Shows, export_shown, phase_shown, place_of}
 use Rattle.nbd_state.proofs.PlacedLemmas.{IsPlaced, are_shown_in, place_shows_operation, shown_length}
 use Rattle.nbd_laws.proofs.requests.SoundnessLemmas.{open_target}
 use Rattle.nbd_state.proofs.TargetLemmas.{distinct_reached, target_replied, target_requested}
@@ -42,6 +43,30 @@ none_shown o p (e ∷ es) [] n s = absurd (let h : length (e ∷ es) ≡ length 
 none_shown (Some export) p (e ∷ es) (x ∷ xs) n s = absurd (cc)
 none_shown None p (e ∷ es) (x ∷ xs) n s = absurd s
 
+-- before transmission none was asked
+none_asked : (o : Option Exporting) (contexts : List Context) (es : List Operation) (xs : List Exchange) → o ≡ None → AreShown o es xs → AreAskedWith contexts es
+none_asked o contexts [] xs n s = tt
+none_asked o contexts (e ∷ es) [] n s = absurd (let h : length (e ∷ es) ≡ length {A = Exchange} [] = shown_length o (e ∷ es) [] s in omega arith)
+none_asked (Some export) contexts (e ∷ es) (x ∷ xs) n s = absurd (cc)
+none_asked None contexts (e ∷ es) (x ∷ xs) n s = absurd s
+
+asked_snoc : (contexts : List Context) (es : List Operation) (e : Operation) → AreAskedWith contexts es → e.contexts ≡ contexts → AreAskedWith contexts (es ++ e ∷ [])
+asked_snoc contexts [] e a q = (q, tt)
+asked_snoc contexts (d ∷ es) e a q = (a.0, asked_snoc contexts es e a.1 q)
+
+asked_answered : (contexts : List Context) (k : ℕ) (m : Message) (es : List Operation) → AreAskedWith contexts es → AreAskedWith contexts (with_reply_at k m es)
+asked_answered contexts k m [] a = tt
+asked_answered contexts zero m (e ∷ es) a = a
+asked_answered contexts (suc zero) m (e ∷ es) a = a
+asked_answered contexts (suc (suc k)) m (e ∷ es) a = (a.0, asked_answered contexts (suc k) m es a.1)
+
+-- the contexts of one of them are these
+pub asked_at : (contexts : List Context) (k : ℕ) (es : List Operation) (e : Operation) → AreAskedWith contexts es → operation k es ≡ Some e → e.contexts ≡ contexts
+asked_at contexts k [] e a q = absurd (cc)
+asked_at contexts zero (d ∷ es) e a q = absurd (cc)
+asked_at contexts (suc zero) (d ∷ es) e a q = let r : d ≡ e = cc in ap (λ (x : Operation). x.contexts) (sym r) ∙ a.0
+asked_at contexts (suc (suc k)) (d ∷ es) e a q = asked_at contexts (suc k) es e a.1 q
+
 place_if : (b : Bool) (t : Option ℕ) → (if b then None else place_of t) ≡ place_of (if b then None else t)
 place_if true t = refl
 place_if false t = refl
@@ -63,16 +88,18 @@ negotiation_is_shown old new core next s n entries exchanges outstanding profile
   selection_is = selection;
   agreed_is = agreed;
   disconnected_is = disconnected;
+  asked_with = subst (AreAskedWith (in_force next)) (sym entries) (none_asked (export_in core.phase) (in_force next) core.entries old.exchanges.items n s.are_shown);
   are_shown = subst (λ es. AreShown (export_in next.phase) es new.exchanges.items) (sym entries)
       (subst (λ v. AreShown (export_in next.phase) core.entries v.items) (sym exchanges) (none_shown (export_in core.phase) (export_in next.phase) core.entries old.exchanges.items n s.are_shown));
   places = λ cookie. ap (λ o. get nat_cmp o cookie) outstanding ∙ s.places cookie ∙ ap (λ es. place_of (target cookie es)) (sym entries);
 }
 
 -- one more request
-pub requested_shows : (old new : State) (core : Core) (export : Exporting) (e : Operation) (x : Exchange) → Shows old core → core.phase ≡ Transmission export → e.replies ≡ [] → target e.cookie core.entries ≡ None → IsShown export e x →
+pub requested_shows : (old new : State) (core : Core) (export : Exporting) (e : Operation) (x : Exchange) → Shows old core → core.phase ≡ Transmission export → e.replies ≡ [] → e.contexts ≡ in_force core → target e.cookie core.entries ≡ None → IsShown export e x →
     new.exchanges.items ≡ old.exchanges.items ++ x ∷ [] → ((q : ℕ) → get nat_cmp new.outstanding q ≡ (if e.cookie == q then Some (length old.exchanges.items) else get nat_cmp old.outstanding q)) →
     new ≡ record old { exchanges = new.exchanges; outstanding = new.outstanding } → Shows new (record core { entries = core.entries ++ e ∷ [] })
-requested_shows old new core export e x s p r t h items places kept = record {
+requested_shows old new core export e x s p r asked t h items places kept = record {
+  asked_with = asked_snoc (in_force core) core.entries e s.asked_with asked;
   profile_is = ap (λ (z : State). z.profile) kept ∙ s.profile_is;
   phase_is = ap (λ (z : State). z.phase) kept ∙ s.phase_is;
   offered_is = ap (λ (z : State). z.offered) kept ∙ s.offered_is;
@@ -109,6 +136,7 @@ replied_shows old mid new core export cookie place m x y r s p c g i step kept l
 
     shows : Shows new (record core { entries = with_reply_at (suc place) m core.entries })
     shows = record {
+      asked_with = asked_answered (in_force core) (suc place) m core.entries s.asked_with;
       profile_is = ap (λ (z : State). z.profile) made ∙ ap (λ (z : State). z.profile) kept ∙ s.profile_is;
       phase_is = ap (λ (z : State). z.phase) made ∙ ap (λ (z : State). z.phase) kept ∙ s.phase_is;
       offered_is = ap (λ (z : State). z.offered) made ∙ ap (λ (z : State). z.offered) kept ∙ s.offered_is;
@@ -160,6 +188,11 @@ at_end [] x y zero q = inr (omega arith, (cc))
 at_end [] x y (suc place) q = absurd (cc)
 at_end (z ∷ xs) x y zero q = inl q
 at_end (z ∷ xs) x y (suc place) q = elim (at_end xs x y place q) [ inl a ↦ inl a | inr b ↦ inr (let l : length xs ≤ place = b.0 in (omega (arith, l), b.1)) ]
+
+-- contexts of which there is one or none
+pub some_contexts : (b : Bool) → (contexts : List Context) × (b ≡ not (length contexts == 0))
+some_contexts true = (record { id = 0; name = [] } ∷ [], refl)
+some_contexts false = ([], refl)
 
 pub added_unanswered : (export : Exporting) (e : Operation) (x : Exchange) (old new : List Exchange) → e.replies ≡ [] → IsShown export e x → new ≡ old ++ x ∷ [] → AddsUnanswered old new
 added_unanswered export e x old new r s is place y q =

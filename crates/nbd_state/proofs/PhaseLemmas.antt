@@ -128,7 +128,7 @@ asked_in core Naming flags command cookie offset len payload ok = absurd ok
 asked_in core Aborting flags command cookie offset len payload ok = absurd ok
 asked_in core (Answering asked given info) flags command cookie offset len payload ok = absurd ok
 asked_in core Ended flags command cookie offset len payload ok = absurd ok
-asked_in core (Transmission export) flags command cookie offset len payload ok = (export, refl, ok.1)
+asked_in core (Transmission export) flags command cookie offset len payload ok = (export, refl, ok)
 
 pub simple_in : (core : Core) (p : Phase) (error cookie : ℕ) (payload : List ℕ) → MayComplete core p (Simple error cookie payload) →
     (export : Exporting) × (p ≡ Transmission export) × AnswersOne core export cookie (Simple error cookie payload)

@@ -1,8 +1,15 @@
 -- An exchange after one more reply message.
-use Rattle.std.proofs.Common.{◌≡◌, ℕ, List, [], ◌∷◌, ◌++◌, refl, sym, ◌∙◌, ap, Bool, true, false, not, ◌||◌, if◌then◌else◌, Option, Some, None, is_some, Result, Ok, Err, IfOk}
+use Rattle.std.proofs.Common.{◌≡◌, ℕ, List, [], ◌∷◌, ◌++◌, ◌==◌, append_assoc, append-nil, refl, sym, ◌∙◌, ap, Bool, true, false, not, ◌||◌, if◌then◌else◌, Option, Some, None, is_some, Result, Ok, Err, IfOk, nat_lt, Equal, eqb-true, Less, ltb-true, Greater, ltb-false, arith}
 use Rattle.nbd_wire.specs.declared.message.Message.{Message}
 use Rattle.nbd_wire.specs.protocol.Operations.{Operation, Exporting, ends_reply, has_failed, is_failing, is_finished, outcome, pieces}
+use Rattle.std.specs.BTreeSet.{BTreeSet, contains}
+use Rattle.std.specs.BTreeMap.{is_at}
+use Rattle.std.specs.Cmp.{nat_cmp_is}
+use Rattle.std.specs.Ordering.{is_eq, nat_cmp}
+use Rattle.std.proofs.lemmas.Bool.{eqb-false}
+use Rattle.nbd_wire.specs.protocol.Contexts.{Status}
 use Rattle.nbd_wire.specs.protocol.Pieces.{piece_of}
+use Rattle.nbd_wire.specs.protocol.Statuses.{status_in, statuses, statuses_of, tells}
 use Rattle.nbd_wire.specs.protocol.Operations as definitions
 use Rattle.nbd_wire.specs.protocol.States.{with_reply}
 use Rattle.nbd_state.specs.declared.asked.Exchange.{Exchange}
@@ -38,8 +45,9 @@ pub exchange_shows_reply : (export : Exporting) (e : Operation) (m : Message) (x
     y.failed ≡ (x.failed || fails) →
     y.asked.outcome ≡ (if ends then (if y.failed then Failure else Success) else x.asked.outcome) →
     y.asked.pieces.items ≡ x.asked.pieces.items ++ piece_of e.offset m →
+    (is_finished (with_reply e m) ≡ false → (id : ℕ) → contains nat_cmp y.told id ≡ tells (statuses (with_reply e m)) id) →
     IsShown export (with_reply e m) y
-exchange_shows_reply export e m x y ends fails known s u n f k known_is failed_is outcome_is pieces_are =
+exchange_shows_reply export e m x y ends fails known s u n f k known_is failed_is outcome_is pieces_are told_are =
     let failed : has_failed (with_reply e m) ≡ y.failed =
     any-snoc is_failing e.replies m ∙ ap (λ b. b || is_failing m) (sym s.failed) ∙ ap (λ b. x.failed || b) f ∙ sym failed_is in
     let finished : is_finished (with_reply e m) ≡ ends = any-snoc ends_reply e.replies m ∙ ap (λ b. b || ends_reply m) u ∙ n in
@@ -54,6 +62,7 @@ exchange_shows_reply export e m x y ends fails known s u n f k known_is failed_i
       replied = ap is_some known_is ∙ some x.asked.known_at ∙ sym (ap not (none e.replies));
       outcome_is = ap outcome_of outcome_is ∙ outcome-of x.asked.outcome e m ends y.failed s.outcome_is u finished failed;
       failed = sym failed;
+      told_are = told_are;
       pieces_are = pieces_are ∙ ap (λ l. l ++ piece_of e.offset m) s.pieces_are ∙ sym (pieces-snoc e.offset e.replies m);
     }
   where
@@ -64,6 +73,49 @@ exchange_shows_reply export e m x y ends fails known s u n f k known_is failed_i
     none : (ms : List Message) → is_none_yet (ms ++ m ∷ []) ≡ false
     none [] = refl
     none (n ∷ ms) = refl
+
+pub at-same : (k q : ℕ) → is_at (nat_cmp k) q ≡ (k == q)
+at-same k q = go (k == q) (nat_lt k q) refl refl
+  where
+    go : (same less : Bool) → (k == q) ≡ same → nat_lt k q ≡ less → is_at (nat_cmp k) q ≡ same
+    go true less s l = ap is_eq (sym (nat_cmp_is k q Equal (eqb-true k q s)))
+    go false true s l = ap is_eq (sym (nat_cmp_is k q Less (ltb-true k q l)))
+    go false false s l = ap is_eq (sym (nat_cmp_is k q Greater (let n = eqb-false k q s in let m = ltb-false k q l in omega (arith, n, m))))
+
+statuses-snoc : (ms : List Message) (m : Message) → statuses_of (ms ++ m ∷ []) ≡ statuses_of ms ++ status_in m
+statuses-snoc [] m = append-nil (status_in m)
+statuses-snoc (n ∷ ms) m = ap (λ l. status_in n ++ l) (statuses-snoc ms m) ∙ sym (append_assoc (status_in n) (statuses_of ms) (status_in m))
+
+tells-snoc : (ss : List Status) (s : Status) (id : ℕ) → tells (ss ++ s ∷ []) id ≡ (if s.id == id then true else tells ss id)
+tells-snoc [] s id = go (s.id == id)
+  where
+    go : (b : Bool) → (b || false) ≡ (if b then true else false)
+    go true = refl
+    go false = refl
+tells-snoc (t ∷ ss) s id = ap (λ b. (t.id == id) || b) (tells-snoc ss s id) ∙ go (t.id == id) (s.id == id)
+  where
+    go : (a b : Bool) → (a || (if b then true else tells ss id)) ≡ (if b then true else (a || tells ss id))
+    go true true = refl
+    go true false = refl
+    go false b = refl
+
+module _ (export : Exporting) (e : Operation) (m : Message) (x : Exchange) (ends : Bool) (s : IsShown export e x) (u : is_finished e ≡ false) (n : ends_reply m ≡ ends) where
+  not_yet : is_finished (with_reply e m) ≡ false → ends ≡ false
+  not_yet f = sym (any-snoc ends_reply e.replies m ∙ ap (λ b. b || ends_reply m) u ∙ n) ∙ f
+
+  -- a message without a status leaves the ids
+  pub told_kept : (told : BTreeSet ℕ) → status_in m ≡ [] → (ends ≡ false → told ≡ x.told) → is_finished (with_reply e m) ≡ false → (id : ℕ) → contains nat_cmp told id ≡ tells (statuses (with_reply e m)) id
+  told_kept told none kept f id =
+      ap (λ t. contains nat_cmp t id) (kept (not_yet f)) ∙ s.told_are u id
+      ∙ ap (λ ss. tells ss id) (sym (statuses-snoc e.replies m ∙ ap (λ l. statuses e ++ l) none ∙ append-nil (statuses e)))
+
+  -- a status adds its id
+  pub told_more : (told more : BTreeSet ℕ) (status : Status) → status_in m ≡ status ∷ [] → ((id : ℕ) → contains nat_cmp more id ≡ (if status.id == id then true else contains nat_cmp x.told id)) → (ends ≡ false → told ≡ more) →
+      is_finished (with_reply e m) ≡ false → (id : ℕ) → contains nat_cmp told id ≡ tells (statuses (with_reply e m)) id
+  told_more told more status is added kept f id =
+      ap (λ t. contains nat_cmp t id) (kept (not_yet f)) ∙ added id ∙ ap (λ b. if status.id == id then true else b) (s.told_are u id)
+      ∙ sym (tells-snoc (statuses e) status id)
+      ∙ ap (λ ss. tells ss id) (sym (statuses-snoc e.replies m ∙ ap (λ l. statuses e ++ l) is))
 
 -- what follows from what an Ok gives
 pub weaken : {A E : Type 0} {P Q : A → Type 0} (r : Result A E) → ((x : A) → P x → Q x) → IfOk r P → IfOk r Q

@@ -5,10 +5,10 @@ use Rattle.std.specs.BTreeSet.{contains}
 use Rattle.std.specs.Ordering.{nat_cmp}
 use Rattle.nbd_wire.specs.protocol.Options.{is_proper_option, takes_contexts}
 use Rattle.nbd_wire.specs.protocol.Contexts as contexts
-use Rattle.nbd_wire.specs.protocol.Contexts.{has_id}
+use Rattle.nbd_wire.specs.protocol.Contexts.{Context, has_id}
 use Rattle.nbd_wire.specs.protocol.Operations.{Operation, Exporting}
 use Rattle.nbd_wire.specs.protocol.States as definitions
-use Rattle.nbd_wire.specs.protocol.States.{Core, start, target, export_in}
+use Rattle.nbd_wire.specs.protocol.States.{Core, start, target, export_in, in_force}
 use Rattle.nbd_state.specs.declared.asked.Exchange.{Exchange}
 use Rattle.nbd_state.specs.declared.selection.Selection.{Selection}
 use Rattle.nbd_state.specs.declared.state.Export.{Export}
@@ -50,6 +50,11 @@ AreShown export [] [] = Unit {0}
 AreShown (Some export) (e ∷ entries) (x ∷ exchanges) = IsShown export e x × AreShown (Some export) entries exchanges
 AreShown export entries exchanges = ⊥
 
+-- each of the requests was asked where these contexts were in force
+abbrev pub AreAskedWith : List Context → List Operation → Type 0
+AreAskedWith contexts [] = Unit {0}
+AreAskedWith contexts (e ∷ entries) = (e.contexts ≡ contexts) × AreAskedWith contexts entries
+
 -- the place, from 0, of the request with this number
 abbrev pub place_of : Option ℕ → Option ℕ
 place_of (Some k) = Some (k - 1)
@@ -71,6 +76,7 @@ pub record Shows (state : State) (core : Core) : Type 0 where
   pub selection_is : HasSelection state.selection core.selection
   pub agreed_is : state.agreed ≡ core.agreed
   pub disconnected_is : state.disconnected ≡ core.disconnected
+  pub asked_with : AreAskedWith (in_force core) core.entries
   pub are_shown : AreShown (export_in core.phase) core.entries state.exchanges.items
   pub places : (cookie : ℕ) → get nat_cmp state.outstanding cookie ≡ place_of (target cookie core.entries)
 

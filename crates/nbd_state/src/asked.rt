@@ -4,6 +4,7 @@ ghost use Rattle.nbd_state.specs.Indexes.{Indexes};
 
 use crate::index::SpanIndex;
 use nbd_wire::{Bytes, Piece};
+use std::collections::BTreeSet;
 
 /// What became of a request.
 #[derive(Clone, Copy, PartialEq, Eq, Drop)]
@@ -42,6 +43,8 @@ pub struct Exchange {
     pub asked: Asked,
     /// A reply message told a failure.
     pub failed: bool,
+    /// The ids of the metadata contexts that have a status chunk in the reply, until it ends.
+    pub told: BTreeSet<u32>,
     // The pieces by their offsets, from the second one on and until the reply ends.
     pub(crate) index: SpanIndex,
     // What lies apart from the pieces that the index holds, where it holds any, lies apart from all.

@@ -12,7 +12,7 @@ ghost use Rattle.nbd_wire.specs.protocol.Operations.{Exporting};
 ghost use Rattle.nbd_wire.specs.protocol.Rules.{MayComplete, complete, grants_structured, core_with_reply, core_with_request};
 ghost use Rattle.nbd_wire.specs.protocol.Sendable.{IsSendable};
 ghost use Rattle.nbd_wire.specs.protocol.States as definitions;
-ghost use Rattle.nbd_wire.specs.protocol.States.{Core, start_of, target};
+ghost use Rattle.nbd_wire.specs.protocol.States.{Core, in_force, start_of, target};
 ghost use Rattle.nbd_state.specs.internal.Showing.{operation_of_head};
 ghost use Rattle.nbd_state.specs.internal.Completing.{AddsUnanswered, IsTransmitting, TellsOne};
 ghost use Rattle.nbd_state.specs.Completions.{Answers, MayTake, core_from};
@@ -145,7 +145,7 @@ impl State {
             core.phase ≡ definitions.Transmission export → ((head.now.command == commands.DISC) ≡ false →
             target head.now.cookie core.entries ≡ None) →
             Shows self.new (core_with_request (head.now.command == commands.DISC) core
-            (operation_of_head head.now payload.now []))) }
+            (operation_of_head head.now payload.now (in_force core) []))) }
         ensures adds { OnOk result (AddsUnanswered self.old.exchanges.items self.new.exchanges.items) }
         ensures profile { self.new.profile ≡ self.old.profile }
     {
@@ -155,7 +155,8 @@ impl State {
         }
         match self.phase {
             Phase::Transmission(export) => {
-                self.add(head.cookie, Exchange::new(alloc, export, head, payload)?)
+                let exchange = Exchange::new(alloc, export, self.has_contexts(), head, payload)?;
+                self.add(head.cookie, exchange)
             }
             _ => unreachable!(),
         }

@@ -1,9 +1,11 @@
 //! Whether a client should send a request (proto.md, "Request types", "Command flags",
 //! "Transmission flags").
 
-ghost use Rattle.std.specs.Prelude.{◌≡◌, ◌+◌, ◌==◌, ◌&&◌, ◌||◌, ℕ, List, not, nat_le};
+ghost use Rattle.std.specs.Prelude.{◌≡◌, ◌+◌, ◌==◌, ◌&&◌, ◌||◌, ℕ, List, length, not, nat_le};
 ghost use Rattle.nbd_wire.specs.declared.message.Message.{Message};
+ghost use Rattle.nbd_wire.specs.protocol.Contexts.{Context};
 ghost use Rattle.nbd_wire.specs.protocol.Operations as operations;
+ghost use Rattle.nbd_wire.specs.protocol.Operations.{Operation};
 ghost use Rattle.nbd_state.specs.Showing.{exporting};
 ghost use Rattle.nbd_state.specs.internal.Showing.{operation_of_head};
 
@@ -11,13 +13,14 @@ use crate::state::Export;
 use nbd_wire::flags::{has, has_only};
 use nbd_wire::{RequestHead, command_flags, commands, transmission};
 
-/// Whether a client should send this request to the export.
+/// Whether a client should send this request to the export; a BLOCK_STATUS, where a metadata context is in force.
 #[tactic(auto, unfolding(nbd_wire::specs::protocol::Operations::is_proper))]
-pub(crate) fn is_proper(export: Export, request: &RequestHead) -> bool
-    ensures { (payload : List ℕ) (replies : List Message) →
-        result ≡ operations.is_proper (exporting export) (operation_of_head request.now payload replies) }
+pub(crate) fn is_proper(export: Export, has_contexts: bool, request: &RequestHead) -> bool
+    ensures { (payload : List ℕ) (contexts : List Context) (replies : List Message) →
+        has_contexts ≡ not (length contexts == 0) →
+        result ≡ operations.is_proper (exporting export) (operation_of_head request.now payload contexts replies) }
 {
-    is_known(request.command)
+    is_known(request.command, has_contexts)
         && is_in_range(export.size, request)
         && is_offered(export.flags, request.command)
         && !(is_change(request.command) && has(export.flags, transmission::READ_ONLY))
@@ -29,10 +32,14 @@ pub(crate) fn is_proper(export: Export, request: &RequestHead) -> bool
 }
 
 // The type of a numbered request is known.
-fn is_known(command: u16) -> bool
-    ensures { result ≡ operations.is_known command }
+fn is_known(command: u16, has_contexts: bool) -> bool
+    ensures { (e : Operation) → e.command ≡ command → has_contexts ≡ not (length e.contexts == 0) →
+        result ≡ operations.is_known e }
 {
-    command == commands::FLUSH || has_range(command)
+    match command {
+        commands::BLOCK_STATUS => has_contexts,
+        _ => command == commands::FLUSH || has_range(command),
+    }
 }
 
 /// Whether the offset and length of requests of this type are a range of the export.
@@ -44,6 +51,7 @@ pub fn has_range(command: u16) -> bool
         || command == commands::TRIM
         || command == commands::CACHE
         || command == commands::WRITE_ZEROES
+        || command == commands::BLOCK_STATUS
 }
 
 /// Requests of this type change the export.
@@ -86,6 +94,7 @@ fn allowed_flags(flags: u16, command: u16) -> u16
     ensures { result ≡ operations.allowed_flags flags command }
 {
     let (is_read, is_zeroes) = (command == commands::READ, command == commands::WRITE_ZEROES);
+    let is_status = command == commands::BLOCK_STATUS;
     let has_fast = has(flags, transmission::SEND_FAST_ZERO);
     mask_if(has(flags, transmission::SEND_FUA), command_flags::FUA)
         | mask_if(is_zeroes, command_flags::NO_HOLE)
@@ -94,6 +103,7 @@ fn allowed_flags(flags: u16, command: u16) -> u16
             command_flags::DF,
         )
         | mask_if(is_zeroes && has_fast, command_flags::FAST_ZERO)
+        | mask_if(is_status, command_flags::REQ_ONE)
 }
 
 // The mask, or no flag.

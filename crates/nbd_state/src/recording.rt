@@ -1,15 +1,18 @@
 //! What the messages of transmission do to a request under way.
 
-ghost use Rattle.std.specs.Prelude.{◌≡◌, ◌≤◌, ◌++◌, ℕ, false, IfErr, IfOk, OnErr, [], if◌then◌else◌, is_some};
+ghost use Rattle.std.specs.Prelude.{◌≡◌, ◌≤◌, ◌==◌, ◌++◌, ◌∷◌, ℕ, List, false, not, IfErr, IfOk, OnErr, MatchOption, [], if◌then◌else◌, is_some, length};
 ghost use Rattle.std.specs.Vec.{vec_capacity, vec_len};
 ghost use Rattle.nbd_wire.specs.declared.message.Message.{Message};
 ghost use Rattle.nbd_wire.specs.declared.message.Message.TheVariants.{Chunk, Simple};
 ghost use Rattle.nbd_wire.specs.codec.Contents.{piece_of};
+ghost use Rattle.nbd_wire.specs.declared.chunks.TheConstants as chunks;
+ghost use Rattle.nbd_wire.specs.protocol.Contexts.{Context, Status};
 ghost use Rattle.nbd_wire.specs.protocol.Payloads as payloads;
 ghost use Rattle.nbd_wire.specs.protocol.Pieces as pieces;
 ghost use Rattle.nbd_wire.specs.protocol.Operations.{Operation, Exporting, ends_reply, is_error_chunk, is_failing, is_finished};
 ghost use Rattle.nbd_wire.specs.protocol.Pieces.{chunk_piece};
 ghost use Rattle.nbd_wire.specs.protocol.States.{with_reply};
+ghost use Rattle.nbd_wire.specs.protocol.Statuses.{status_in};
 ghost use Rattle.nbd_state.specs.declared.asked.Outcome.TheVariants.{Failure, Success};
 ghost use Rattle.std.specs.Option.{option_copied};
 ghost use Rattle.nbd_state.specs.Indexes.{Indexes};
@@ -21,19 +24,23 @@ use crate::index::SpanIndex;
 use crate::proper::is_proper;
 use crate::state::Export;
 use nbd_wire::flags::has;
-use nbd_wire::{Bytes, Content, Piece, RequestHead, chunks, content_of};
+use nbd_wire::{Bytes, Content, Piece, RequestHead, chunks, content_of, status_of};
 use std::alloc::{AllocError, Global};
+use std::collections::BTreeSet;
 use std::mem;
 
 impl Exchange {
-    /// A request that has just completed. An `Err` says that memory ran out.
+    /// A request that has just completed; whether a metadata context is in force. An `Err` says that memory ran
+    /// out.
     pub(crate) fn new(
         alloc: Global,
         export: Export,
+        has_contexts: bool,
         head: &RequestHead,
         payload: &[u8],
     ) -> Result<Exchange, AllocError>
-        ensures { IfOk result (λ x. IsShown (exporting export) (operation_of_head head.now payload.now []) x) }
+        ensures { IfOk result (λ x. (contexts : List Context) → has_contexts ≡ not (length contexts == 0) →
+            IsShown (exporting export) (operation_of_head head.now payload.now contexts []) x) }
     {
         let payload = Bytes::new(Vec::from_slice(alloc, payload)?);
         let asked = Asked {
@@ -43,7 +50,7 @@ impl Exchange {
             offset: head.offset,
             length: head.length,
             payload,
-            proper: is_proper(export, head),
+            proper: is_proper(export, has_contexts, head),
             known_at: None,
             outcome: Outcome::Pending,
             pieces: Vec::new(alloc),
@@ -51,6 +58,7 @@ impl Exchange {
         Ok(Exchange {
             asked,
             failed: false,
+            told: BTreeSet::new(alloc),
             index: SpanIndex::new(alloc),
         })
     }
@@ -98,17 +106,35 @@ impl Exchange {
             IsShown export e self.old → IsShown export e self.new) }
         ensures kept { IfErr result (λ _. self.new.asked.known_at ≡ self.old.asked.known_at) }
     {
+        let ends = has(flags, chunks::DONE);
+        if let Some(id) = told_in(kind, payload) {
+            return self.take_status(id, known, ends);
+        }
         let piece = content_piece(alloc, kind, payload)?;
-        self.take(
-            alloc,
-            piece,
-            known,
-            has(flags, chunks::DONE),
-            is_error_chunk(kind),
-        )
+        self.take(alloc, piece, known, ends, is_error_chunk(kind))
     }
 
-    // A reply message gave this piece, if any; the last one ends the reply.
+    // A status chunk of the context with this id; it may end the reply.
+    fn take_status(&mut self, id: u32, known: u64, ends: bool) -> Result<(), AllocError>
+        ensures shown { IfOk result (λ _. (export : Exporting) (e : Operation) (m : Message) (status : Status) →
+            IsShown export e self.old → is_finished e ≡ false → ends_reply m ≡ ends → is_failing m ≡ false →
+            pieces.piece_of e.offset m ≡ [] → status_in m ≡ status ∷ [] → status.id ≡ id →
+            IsShown export (with_reply e m) self.new) }
+        ensures first { IfOk result
+            (λ _. self.new.asked.known_at ≡ (if is_some self.old.asked.known_at then self.old.asked.known_at
+            else Some known)) }
+        ensures unchanged { IfErr result (λ _. (export : Exporting) (e : Operation) →
+            IsShown export e self.old → IsShown export e self.new) }
+        ensures kept { IfErr result (λ _. self.new.asked.known_at ≡ self.old.asked.known_at) }
+    {
+        self.told.insert(id)?;
+        clear_if(&mut self.told, ends);
+        self.asked.known_at = first(self.asked.known_at, known);
+        self.asked.outcome = outcome_after(self.asked.outcome, ends, self.failed);
+        Ok(())
+    }
+
+    // A reply message without a status gave this piece, if any; the last one ends the reply.
     fn take(
         &mut self,
         alloc: Global,
@@ -119,7 +145,8 @@ impl Exchange {
     ) -> Result<(), AllocError>
         ensures shown { IfOk result (λ _. (export : Exporting) (e : Operation) (m : Message) →
             IsShown export e self.old → is_finished e ≡ false → ends_reply m ≡ ends → is_failing m ≡ fails →
-            pieces.piece_of e.offset m ≡ chunk_piece piece → IsShown export (with_reply e m) self.new) }
+            pieces.piece_of e.offset m ≡ chunk_piece piece → status_in m ≡ [] →
+            IsShown export (with_reply e m) self.new) }
         ensures first { IfOk result
             (λ _. self.new.asked.known_at ≡ (if is_some self.old.asked.known_at then self.old.asked.known_at
             else Some known)) }
@@ -130,11 +157,34 @@ impl Exchange {
         let index = mem::replace(&mut self.index, SpanIndex::new(alloc));
         let index = index_after(alloc, index, &self.asked.pieces, piece.as_ref(), ends)?;
         push_if(&mut self.asked.pieces, piece)?;
+        clear_if(&mut self.told, ends);
         self.index = index;
         self.failed |= fails;
         self.asked.known_at = first(self.asked.known_at, known);
         self.asked.outcome = outcome_after(self.asked.outcome, ends, self.failed);
         Ok(())
+    }
+}
+
+// The id of the context in a status chunk.
+fn told_in(kind: u16, payload: &[u8]) -> Option<u32>
+    ensures { (flags cookie : ℕ) → MatchOption result (status_in (Chunk flags kind cookie payload.now) ≡ [])
+        (λ id. (status : Status) × (kind ≡ chunks.BLOCK_STATUS)
+        × (status_in (Chunk flags kind cookie payload.now) ≡ status ∷ []) × (status.id ≡ id)) }
+{
+    if kind != chunks::BLOCK_STATUS {
+        return None;
+    }
+    let (id, _) = status_of(payload)?;
+    Some(id)
+}
+
+// Where the reply ends, nothing more is told.
+fn clear_if(told: &mut BTreeSet<u32>, ends: bool)
+    ensures { ends ≡ false → told.new ≡ told.old }
+{
+    if ends {
+        told.clear();
     }
 }
 

@@ -1,14 +1,14 @@
 //! What SET_META_CONTEXT selects (proto.md, "Option types", "Metadata querying").
 
-ghost use Rattle.std.specs.Prelude.{◌≡◌, [], List, false, OnOk};
+ghost use Rattle.std.specs.Prelude.{◌≡◌, ◌==◌, ℕ, [], List, false, OnOk, length};
 ghost use Rattle.std.specs.BTreeSet.{contains};
 ghost use Rattle.std.specs.Ordering.{nat_cmp};
 ghost use Rattle.nbd_wire.specs.protocol.Contexts as contexts;
-ghost use Rattle.nbd_wire.specs.protocol.Contexts.{has_id, no_selection};
+ghost use Rattle.nbd_wire.specs.protocol.Contexts.{Status, has_id, no_selection};
 ghost use Rattle.nbd_wire.specs.protocol.Options.{agrees, selection_after, selection_at, selection_told, with_context};
 ghost use Rattle.nbd_wire.specs.protocol.Payloads.{context_of};
 ghost use Rattle.nbd_wire.specs.protocol.States as definitions;
-ghost use Rattle.nbd_laws.specs.internal.JudgeTransmission.{is_none_in};
+ghost use Rattle.nbd_wire.specs.protocol.Statuses.{tells, tells_all};
 ghost use Rattle.nbd_state.specs.Shows.{HasSelection, phase_shown};
 
 use crate::state::{Chosen, Phase};
@@ -50,9 +50,18 @@ impl Selection {
     /// Whether no context was selected.
     pub fn is_empty(&self) -> bool
         ensures { (selection : contexts.Selection) → HasSelection self.now selection →
-            result ≡ is_none_in selection.contexts }
+            result ≡ (length selection.contexts == 0) }
     {
         self.ids.is_empty()
+    }
+
+    /// Whether each of the contexts has one of these ids.
+    pub(crate) fn are_in(&self, told: &BTreeSet<u32>) -> bool
+        ensures { (selection : contexts.Selection) (statuses : List Status) → HasSelection self.now selection →
+            ((id : ℕ) → contains nat_cmp told.now id ≡ tells statuses id) →
+            result ≡ tells_all statuses selection.contexts }
+    {
+        self.ids.is_subset(told)
     }
 
     /// Whether an option that is chosen leads, if it is granted, into transmission with this selection.

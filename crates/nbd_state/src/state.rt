@@ -5,7 +5,7 @@ use crate::selection::Selection;
 use crate::transcript::Transcript;
 use nbd_wire::Profile;
 use std::alloc::Global;
-use std::collections::BTreeMap;
+use std::collections::{BTreeMap, BTreeSet};
 
 /// An export as the server described it: its size in bytes and its transmission flags.
 #[derive(Clone, Copy, PartialEq, Eq, Drop)]
@@ -71,8 +71,11 @@ pub struct State {
 
 impl State {
     ghost use Rattle.nbd_wire.specs.protocol.States.{Core, in_force, start, start_of};
-    ghost use Rattle.nbd_laws.specs.internal.JudgeTransmission.{is_none_in};
-    ghost use Rattle.std.specs.Prelude.{◌≡◌, not};
+    ghost use Rattle.std.specs.BTreeSet.{contains};
+    ghost use Rattle.std.specs.Ordering.{nat_cmp};
+    ghost use Rattle.std.specs.Prelude.{◌≡◌, ◌==◌, ℕ, List, length, not};
+    ghost use Rattle.nbd_wire.specs.protocol.Contexts.{Status, has_id};
+    ghost use Rattle.nbd_wire.specs.protocol.Statuses.{tells, tells_all};
     ghost use Rattle.nbd_state.specs.Shows.{Shows};
     ghost use Rattle.nbd_laws.specs.Soundness.{IsSoundReport};
     ghost use Rattle.nbd_state.specs.Transcripts.{export_of, transcript_report};
@@ -105,9 +108,26 @@ impl State {
 
     /// Whether a metadata context is in force (proto.md, "Metadata querying").
     pub fn has_contexts(&self) -> bool
-        ensures { (core : Core) → Shows self.now core → result ≡ not (is_none_in (in_force core)) }
+        ensures { (core : Core) → Shows self.now core → result ≡ not (length (in_force core) == 0) }
     {
         self.agreed && !self.selection.is_empty()
+    }
+
+    /// Whether the metadata context with this id is in force (proto.md, "Metadata querying").
+    pub fn is_in_force(&self, id: u32) -> bool
+        ensures { (core : Core) → Shows self.now core → result ≡ has_id (in_force core) id }
+    {
+        self.agreed && self.selection.has_id(id)
+    }
+
+    /// Whether each metadata context in force has one of these ids. The cost is linear in the number of contexts in
+    /// force and of ids.
+    pub fn are_told(&self, told: &BTreeSet<u32>) -> bool
+        ensures { (core : Core) (statuses : List Status) → Shows self.now core →
+            ((id : ℕ) → contains nat_cmp told.now id ≡ tells statuses id) →
+            result ≡ tells_all statuses (in_force core) }
+    {
+        !self.agreed || self.selection.are_in(told)
     }
 
     /// What a session that ends here states: its export, if it reached transmission, and its numbered

@@ -23,6 +23,15 @@ one_fewer (suc left) rest l n =
     let less : suc left - 1 ≡ left = omega arith in
     ap (λ k. has_empty (extents_in k (drop 8 rest))) less ∙ ap (λ b. b || has_empty (extents_in left (drop 8 rest))) (sym (ne_eqb (number_at 0 4 rest) 0 n))
 
+-- bytes that are too short hold no descriptor, others the first and those behind it
+pub extents-none : (bytes : List ℕ) → length bytes < 8 → extents_of bytes ≡ []
+extents-none bytes l = ap (λ n. extents_in n bytes) (let none : length bytes / 8 ≡ 0 = omega (arith, l) in none)
+
+pub extents-first : (bytes : List ℕ) → 8 ≤ length bytes → extents_of bytes ≡ record { length = number_at 0 4 bytes; flags = number_at 4 4 bytes } ∷ extents_of (drop 8 bytes)
+extents-first bytes l =
+    let n : length bytes / 8 ≡ suc (length (drop 8 bytes) / 8) = omega (arith, l, length-drop 8 bytes) in
+    ap (λ k. extents_in k bytes) n
+
 abbrev Fit : Extent → Type 0
 Fit x = (0 < x.length) × (x.length < 2 ^ 32) × (x.flags < 2 ^ 32)
 

@@ -3,9 +3,9 @@
 //! A reader is given a chunk's type and its whole payload. It returns `Some` exactly where the
 //! payload has a form of that type, and takes no memory.
 
-ghost use Rattle.std.specs.Prelude.{◌≡◌};
+ghost use Rattle.std.specs.Prelude.{◌≡◌, ◌∷◌, [], MatchOption};
 ghost use Rattle.std.specs.Option.{option_map};
-ghost use Rattle.nbd_wire.specs.codec.Contents.{piece_of};
+ghost use Rattle.nbd_wire.specs.codec.Contents.{extent_of, piece_of};
 ghost use Rattle.nbd_wire.specs.protocol.Contexts.{Status};
 ghost use Rattle.nbd_wire.specs.protocol.Forms.{HasContentForm, HasFailureForm, HasStatusForm};
 ghost use Rattle.nbd_wire.specs.protocol.Payloads.{content_of, extents_of, failure_of, has_empty, status_of};
@@ -13,7 +13,7 @@ ghost use Rattle.nbd_wire.specs.codec.Reads.{Reads, ReadsAs};
 
 use crate::chunks::{ERROR, ERROR_OFFSET, OFFSET_DATA, OFFSET_HOLE};
 use crate::numbers::{u16_at, u32_at, u64_at};
-use crate::{Content, Failure};
+use crate::{Content, Extent, Failure};
 
 /// Where an OFFSET_DATA chunk's data begin, in bytes; they are not empty.
 const DATA: usize = 8;
@@ -122,6 +122,21 @@ pub fn status_of(bytes: &[u8]) -> Option<(u32, &[u8])>
         return None;
     }
     Some((u32_at(bytes, 0), descriptors))
+}
+
+/// The first of the descriptors that these bytes are, and the bytes of the others.
+pub fn first_extent(descriptors: &[u8]) -> Option<(Extent, &[u8])>
+    ensures { MatchOption result (extents_of descriptors.now ≡ [])
+        (λ v. extents_of descriptors.now ≡ extent_of v.0 ∷ extents_of v.1.now) }
+{
+    if descriptors.len() < DESCRIPTOR_LENGTH {
+        return None;
+    }
+    let first = Extent {
+        length: u32_at(descriptors, 0),
+        flags: u32_at(descriptors, 4),
+    };
+    Some((first, &descriptors[DESCRIPTOR_LENGTH..]))
 }
 
 // Whether one of the descriptors is of no byte.

@@ -33,7 +33,7 @@ pub mod sides;
 pub mod transmission;
 
 pub use bytes::Bytes;
-pub use chunk_payloads::{content_of, failure_of};
+pub use chunk_payloads::{content_of, failure_of, first_extent, status_of};
 pub use encoding::append;
 pub use entry::{Entry, Part};
 pub use fault::WireFault;
@@ -45,7 +45,7 @@ pub use heads::transmission::{
 };
 pub use message::{Message, Side};
 pub use option_payloads::{context_of, go_of, info_of, listed_of, name_in, queries_of};
-pub use payloads::{Content, Failure, Info, Piece};
+pub use payloads::{Content, Extent, Failure, Info, Piece};
 pub use profile::Profile;
 pub use sides::{fits, side_of};
 

@@ -47,6 +47,15 @@ pub enum Content<'a> {
     },
 }
 
+/// One descriptor of a status chunk (proto.md, "Structured reply types").
+#[derive(Clone, Copy, PartialEq, Eq, Drop)]
+pub struct Extent {
+    /// How many bytes it speaks of.
+    pub length: u32,
+    /// What it says of them, masks of the module `states` where the context is `base:allocation`.
+    pub flags: u32,
+}
+
 /// A piece of what a READ was answered, as `Content` that owns its bytes.
 #[derive(Drop)]
 pub enum Piece {

@@ -8,5 +8,5 @@ use Rattle.nbd_state.proofs.asked.Exchange.take_simple.Goals as goal
 pub returns-clause-shown : goal.returns-clause-shown
 unfolding ends_reply is_failing piece_of
 returns-clause-shown c = weaken c.take.result (λ x shown export e cookie s u.
-    shown export e (Simple c.args.error cookie c.args.payload.now) s u refl refl (sym (c.in_ok-piece.ensures ∙ ap (λ o. simple_piece o c.args.payload.now) s.offset)))
+    shown export e (Simple c.args.error cookie c.args.payload.now) s u refl refl (sym (c.in_ok-piece.ensures ∙ ap (λ o. simple_piece o c.args.payload.now) s.offset)) refl)
     c.take.ensures.shown

@@ -2,6 +2,7 @@ use Rattle.std.proofs.Common.{◌∙◌, ◌==◌, ◌&&◌, [], ap, refl, subst
 use Rattle.nbd_wire.specs.declared.commands.TheConstants as commands
 use Rattle.nbd_wire.specs.declared.message.Message.TheVariants.{Answer, Chunk, Request, Simple}
 use Rattle.nbd_wire.specs.protocol.Options.{agrees, choice_phase, next_phase, selection_after, selection_at}
+use Rattle.nbd_wire.specs.protocol.States.{in_force}
 use Rattle.nbd_wire.specs.protocol.Rules.{MayAsk, MayComplete, complete, cookie_of, core_with_reply, core_with_request}
 use Rattle.nbd_state.specs.Completions.{MayTake}
 use Rattle.nbd_state.specs.Shows.{HasSelection, Shows, phase_shown}
@@ -85,7 +86,7 @@ returns-in-Request-clause-shown c = on c.request.result (λ f core r s sn ok.
     let a = asked_in core core.phase c.in-Request.flags c.in-Request.command c.in-Request.cookie c.in-Request.offset c.in-Request.length c.in-Request.payload may in
     shows_same core c.args.message.now (Request c.in-Request.flags c.in-Request.command c.in-Request.cookie c.in-Request.offset c.in-Request.length c.in-Request.payload) c.in-Request.is
     (subst (λ p. Shows c.request.new.self (core_with_request (c.in-Request.command == commands.DISC) core
-    (record { flags = c.in-Request.flags; command = c.in-Request.command; cookie = c.in-Request.cookie; offset = c.in-Request.offset; length = c.in-Request.length; payload = p; replies = [] })))
+    (record { flags = c.in-Request.flags; command = c.in-Request.command; cookie = c.in-Request.cookie; offset = c.in-Request.offset; length = c.in-Request.length; payload = p; contexts = in_force core; replies = [] })))
     c.as_slice.ensures (f core a.0 s a.1 (λ d. subst (λ b. MayAsk b core c.in-Request.cookie c.in-Request.offset c.in-Request.length) d a.2))))
     c.request.ensures.shown
 

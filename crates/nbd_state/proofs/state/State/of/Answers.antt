@@ -13,6 +13,7 @@ returns c = record {
   selection_is = c.none.ensures;
   agreed_is = refl;
   disconnected_is = refl;
+  asked_with = search rules;
   are_shown = search rules;
   places = search rules;
 }
