@@ -3,39 +3,27 @@
 ghost use Rattle.std.specs.Prelude.{◌≡◌, ◌==◌, ◌&&◌, ◌++◌, not, ℕ, List, IfErr, IfOk, Some, length};
 ghost use Rattle.nbd_wire.specs.declared.commands.TheConstants as commands;
 ghost use Rattle.nbd_wire.specs.protocol.States.{Core};
-ghost use Rattle.nbd_wire.specs.protocol.Contexts.{Context};
-ghost use Rattle.nbd_laws.specs.internal.JudgeTransmission.{is_none_in, request};
+ghost use Rattle.nbd_laws.specs.internal.JudgeTransmission.{request};
 ghost use Rattle.nbd_session.specs.internal.Expecting.{IsPlaced, expected_decision};
 
 use crate::expected::Expected;
 use nbd_wire::{RequestHead, WireFault, commands, request_head};
 
-/// A request, by its head; whether a metadata context is in force.
-pub(crate) fn request(head: &[u8], with_contexts: bool) -> Result<Expected, WireFault>
+/// A request, by its head.
+pub(crate) fn request(head: &[u8]) -> Result<Expected, WireFault>
     requires { length head.now ≡ 28 }
-    ensures expected { IfOk result (λ expected. (now : Core) (contexts : List Context) (payload : List ℕ) →
-        with_contexts ≡ not (is_none_in contexts) → request contexts now (head.now ++ payload) ≡ expected_decision now expected 28 payload) }
+    ensures expected { IfOk result (λ expected. (now : Core) (payload : List ℕ) →
+        request now (head.now ++ payload) ≡ expected_decision now expected 28 payload) }
     ensures placed { IfOk result (λ expected. (core : Core) → IsPlaced core expected) }
-    ensures refused { IfErr result (λ fault. (now : Core) (contexts : List Context) →
-        with_contexts ≡ not (is_none_in contexts) → (request contexts now head.now).head_fault ≡ Some fault) }
+    ensures refused { IfErr result (λ fault. (now : Core) → (request now head.now).head_fault ≡ Some fault) }
 {
     let Some(head) = request_head(head) else {
         return Err(WireFault::BadMagic);
     };
-    if is_stopped(&head, with_contexts) {
-        return Err(WireFault::OutOfProfile);
-    }
     if is_bad_disconnect(&head) {
         return Err(WireFault::BadDisconnect);
     }
     Ok(Expected::Request(head))
-}
-
-// BLOCK_STATUS where a metadata context is in force, which is not followed yet.
-fn is_stopped(head: &RequestHead, with_contexts: bool) -> bool
-    ensures { result ≡ ((head.now.command == commands.BLOCK_STATUS) && with_contexts) }
-{
-    head.command == commands::BLOCK_STATUS && with_contexts
 }
 
 // A DISC with an offset or a length.

@@ -17,6 +17,7 @@ use Rattle.nbd_state.specs.declared.asked.Outcome.{Outcome}
 use Rattle.nbd_state.specs.declared.asked.Outcome.TheVariants.{Success, Failure}
 use Rattle.nbd_laws.specs.internal.Decisions.{is_none_yet}
 use Rattle.nbd_state.specs.Showing.{IsShown, outcome_of}
+use Rattle.nbd_state.specs.Shows.{TellsThese}
 use Rattle.nbd_state.proofs.ReplyLemmas.{any-snoc, proper-same}
 use Rattle.nbd_laws.proofs.requests.LaidLemmas.{pieces-snoc}
 
@@ -102,6 +103,19 @@ tells-snoc (t ∷ ss) s id = ap (λ b. (t.id == id) || b) (tells-snoc ss s id) �
 module _ (export : Exporting) (e : Operation) (m : Message) (x : Exchange) (ends : Bool) (s : IsShown export e x) (u : is_finished e ≡ false) (n : ends_reply m ≡ ends) where
   not_yet : is_finished (with_reply e m) ≡ false → ends ≡ false
   not_yet f = sym (any-snoc ends_reply e.replies m ∙ ap (λ b. b || ends_reply m) u ∙ n) ∙ f
+
+  -- what is told with the message
+  pub told_without : status_in m ≡ [] → TellsThese (statuses (with_reply e m)) x.told None
+  told_without none i = ap (λ ss. tells ss i) (statuses-snoc e.replies m ∙ ap (λ l. statuses e ++ l) none ∙ append-nil (statuses e)) ∙ sym (s.told_are u i)
+
+  pub told_with : (status : Status) → status_in m ≡ status ∷ [] → TellsThese (statuses (with_reply e m)) x.told (Some status.id)
+  told_with status is i =
+      ap (λ ss. tells ss i) (statuses-snoc e.replies m ∙ ap (λ l. statuses e ++ l) is) ∙ tells-snoc (statuses e) status i
+      ∙ ap (λ b. if status.id == i then true else b) (sym (s.told_are u i)) ∙ go (status.id == i)
+    where
+      go : (b : Bool) → (if b then true else contains nat_cmp x.told i) ≡ (b || contains nat_cmp x.told i)
+      go true = refl
+      go false = refl
 
   -- a message without a status leaves the ids
   pub told_kept : (told : BTreeSet ℕ) → status_in m ≡ [] → (ends ≡ false → told ≡ x.told) → is_finished (with_reply e m) ≡ false → (id : ℕ) → contains nat_cmp told id ≡ tells (statuses (with_reply e m)) id

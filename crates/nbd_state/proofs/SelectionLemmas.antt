@@ -1,8 +1,12 @@
 -- Whether contexts were selected.
-use Rattle.std.proofs.Common.{◌≡◌, ℕ, ◌<◌, ◌==◌, ◌&&◌, ◌||◌, List, [], ◌∷◌, length, refl, sym, ◌∙◌, ap, subst, Bool, true, false, IsTrue, arith, slice_index_or}
+use Rattle.std.proofs.Common.{◌≡◌, ℕ, ◌<◌, ◌==◌, ◌&&◌, ◌||◌, List, [], ◌∷◌, length, refl, sym, ◌∙◌, ap, subst, Bool, true, false, IsTrue, arith, slice_index_or, Option}
 use Rattle.std.proofs.lemmas.Bool.{eq-eqb, eqb-true, ne_eqb, cond-true}
 use Rattle.std.proofs.lemmas.Map.Views.{All-set_contains}
-use Rattle.std.specs.BTreeSet.{BTreeSet, IsSubset, btree_set_len, contains}
+use Rattle.std.specs.BTreeMap.{is_at}
+use Rattle.std.specs.BTreeSet.{BTreeSet, btree_set_len, contains}
+use Rattle.std.specs.List.{list_all, list_any}
+use Rattle.nbd_state.specs.Shows.{TellsThese, is_this}
+use Rattle.nbd_state.proofs.RecordingLemmas.{at-same}
 use Rattle.std.specs.Ordering.{nat_cmp}
 use Rattle.std.proofs.lemmas.Cmp.{nat_cmp_total}
 use Rattle.nbd_laws.proofs.judge.BoolLemmas.{and_true}
@@ -55,11 +59,41 @@ told_each statuses (c ∷ contexts) f =
     or_right true = refl
     or_right false = refl
 
-pub all_told : (ids told : BTreeSet ℕ) (contexts : List Context) (statuses : List Status) (is : Bool) → ((id : ℕ) → contains nat_cmp ids id ≡ has_id contexts id) → ((id : ℕ) → contains nat_cmp told id ≡ tells statuses id) →
-    (IsTrue is → IsSubset nat_cmp ids told) → (IsSubset nat_cmp ids told → IsTrue is) → is ≡ tells_all statuses contexts
-all_told ids told contexts statuses is these those to from = go is (tells_all statuses contexts) refl refl
+-- a key of the set is one that it has
+has_key : (k : ℕ) (keys : List ℕ) → list_any (is_at (nat_cmp k)) (k ∷ keys) ≡ true
+has_key k keys = ap (λ b. b || list_any (is_at (nat_cmp k)) keys) (at-same k k ∙ eq-eqb k k refl)
+
+-- a test of each key holds of what the set has, and the other way round
+all_keys : (test : ℕ → Bool) (keys : List ℕ) (i : ℕ) → list_all test keys ≡ true → list_any (is_at (nat_cmp i)) keys ≡ true → test i ≡ true
+all_keys test [] i a h = absurd (cc)
+all_keys test (k ∷ keys) i a h = go (i == k) refl (λ r. all_keys test keys i both.1 r)
   where
-    go : (b t : Bool) → is ≡ b → tells_all statuses contexts ≡ t → is ≡ tells_all statuses contexts
-    go true t q r = q ∙ sym (told_each statuses contexts (λ id h. sym (those id) ∙ to q id (these id ∙ h)))
-    go false true q r = absurd (let w : false ≡ true = sym q ∙ from (λ id h. those id ∙ each_told statuses contexts id r (sym (these id) ∙ h)) in cc)
-    go false false q r = q ∙ sym r
+    both : (test k ≡ true) × (list_all test keys ≡ true)
+    both = and_true (test k) (list_all test keys) a
+
+    go : (b : Bool) → (i == k) ≡ b → (list_any (is_at (nat_cmp i)) keys ≡ true → test i ≡ true) → test i ≡ true
+    go true q later = subst (λ j. test j ≡ true) (sym (eqb-true i k q)) both.0
+    go false q later = later (sym (ap (λ b. b || list_any (is_at (nat_cmp i)) keys) (at-same i k ∙ q)) ∙ h)
+
+keys_all : (test : ℕ → Bool) (keys : List ℕ) → ((i : ℕ) → list_any (is_at (nat_cmp i)) keys ≡ true → test i ≡ true) → list_all test keys ≡ true
+keys_all test [] f = refl
+keys_all test (k ∷ keys) f =
+    ap (λ b. b && list_all test keys) (f k (has_key k keys))
+    ∙ keys_all test keys (λ i h. f i (ap (λ b. is_at (nat_cmp i) k || b) h ∙ or_right (is_at (nat_cmp i) k)))
+  where
+    or_right : (b : Bool) → (b || true) ≡ true
+    or_right true = refl
+    or_right false = refl
+
+pub all_told : (ids told : BTreeSet ℕ) (id : Option ℕ) (contexts : List Context) (statuses : List Status) → ((i : ℕ) → contains nat_cmp ids i ≡ has_id contexts i) → TellsThese statuses told id →
+    list_all (λ i. is_this id i || contains nat_cmp told i) ids.keys ≡ tells_all statuses contexts
+all_told ids told id contexts statuses these those = go (list_all test ids.keys) (tells_all statuses contexts) refl refl
+  where
+    test : ℕ → Bool
+    test i = is_this id i || contains nat_cmp told i
+
+    go : (a t : Bool) → list_all test ids.keys ≡ a → tells_all statuses contexts ≡ t → a ≡ t
+    go true true q r = refl
+    go true false q r = absurd (let w : false ≡ true = sym r ∙ told_each statuses contexts (λ i h. those i ∙ all_keys test ids.keys i q (these i ∙ h)) in cc)
+    go false true q r = absurd (let w : false ≡ true = sym q ∙ keys_all test ids.keys (λ i h. sym (those i) ∙ each_told statuses contexts i r (sym (these i) ∙ h)) in cc)
+    go false false q r = refl

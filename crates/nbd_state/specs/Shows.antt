@@ -1,11 +1,12 @@
 -- How the program's state shows what the completed messages have led to.
-use Rattle.std.specs.Prelude.{◌≡◌, ℕ, ◌+◌, ◌-◌, List, [], ◌∷◌, Option, Some, None, slice_get}
+use Rattle.std.specs.Prelude.{◌≡◌, ℕ, ◌+◌, ◌-◌, ◌==◌, ◌||◌, Bool, false, List, [], ◌∷◌, Option, Some, None, slice_get}
 use Rattle.std.specs.BTreeMap.{get}
-use Rattle.std.specs.BTreeSet.{contains}
+use Rattle.std.specs.BTreeSet.{BTreeSet, contains}
 use Rattle.std.specs.Ordering.{nat_cmp}
 use Rattle.nbd_wire.specs.protocol.Options.{is_proper_option, takes_contexts}
 use Rattle.nbd_wire.specs.protocol.Contexts as contexts
-use Rattle.nbd_wire.specs.protocol.Contexts.{Context, has_id}
+use Rattle.nbd_wire.specs.protocol.Contexts.{Context, Status, has_id}
+use Rattle.nbd_wire.specs.protocol.Statuses.{tells}
 use Rattle.nbd_wire.specs.protocol.Operations.{Operation, Exporting}
 use Rattle.nbd_wire.specs.protocol.States as definitions
 use Rattle.nbd_wire.specs.protocol.States.{Core, start, target, export_in, in_force}
@@ -65,6 +66,15 @@ pub record HasSelection (shown : Selection) (selection : contexts.Selection) : T
   pub export_name_is : shown.export_name.items ≡ selection.export_name
   pub ids_are : (id : ℕ) → contains nat_cmp shown.ids id ≡ has_id selection.contexts id
   pub granted_is : shown.granted ≡ selection.granted
+
+-- it is this one
+abbrev pub is_this : Option ℕ → ℕ → Bool
+is_this (Some id) i = id == i
+is_this None i = false
+
+-- the statuses are of the contexts with these ids, and of the one with this, if any
+abbrev pub TellsThese : List Status → BTreeSet ℕ → Option ℕ → Type 0
+TellsThese statuses told id = (i : ℕ) → tells statuses i ≡ (is_this id i || contains nat_cmp told i)
 
 -- the state shows the core
 pub record Shows (state : State) (core : Core) : Type 0 where

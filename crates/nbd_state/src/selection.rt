@@ -1,6 +1,6 @@
 //! What SET_META_CONTEXT selects (proto.md, "Option types", "Metadata querying").
 
-ghost use Rattle.std.specs.Prelude.{◌≡◌, ◌==◌, ℕ, [], List, false, OnOk, length};
+ghost use Rattle.std.specs.Prelude.{◌≡◌, ◌==◌, [], List, false, OnOk, length};
 ghost use Rattle.std.specs.BTreeSet.{contains};
 ghost use Rattle.std.specs.Ordering.{nat_cmp};
 ghost use Rattle.nbd_wire.specs.protocol.Contexts as contexts;
@@ -8,8 +8,8 @@ ghost use Rattle.nbd_wire.specs.protocol.Contexts.{Status, has_id, no_selection}
 ghost use Rattle.nbd_wire.specs.protocol.Options.{agrees, selection_after, selection_at, selection_told, with_context};
 ghost use Rattle.nbd_wire.specs.protocol.Payloads.{context_of};
 ghost use Rattle.nbd_wire.specs.protocol.States as definitions;
-ghost use Rattle.nbd_wire.specs.protocol.Statuses.{tells, tells_all};
-ghost use Rattle.nbd_state.specs.Shows.{HasSelection, phase_shown};
+ghost use Rattle.nbd_wire.specs.protocol.Statuses.{tells_all};
+ghost use Rattle.nbd_state.specs.Shows.{HasSelection, TellsThese, phase_shown};
 
 use crate::state::{Chosen, Phase};
 use nbd_wire::{answers, context_of, name_in, options};
@@ -55,13 +55,12 @@ impl Selection {
         self.ids.is_empty()
     }
 
-    /// Whether each of the contexts has one of these ids.
-    pub(crate) fn are_in(&self, told: &BTreeSet<u32>) -> bool
+    /// Whether each of the contexts has one of these ids, or this one.
+    pub(crate) fn are_told(&self, told: &BTreeSet<u32>, id: Option<u32>) -> bool
         ensures { (selection : contexts.Selection) (statuses : List Status) → HasSelection self.now selection →
-            ((id : ℕ) → contains nat_cmp told.now id ≡ tells statuses id) →
-            result ≡ tells_all statuses selection.contexts }
+            TellsThese statuses told.now id → result ≡ tells_all statuses selection.contexts }
     {
-        self.ids.is_subset(told)
+        self.ids.iter().all(|i| id == Some(*i) || told.contains(i))
     }
 
     /// Whether an option that is chosen leads, if it is granted, into transmission with this selection.

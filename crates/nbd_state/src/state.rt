@@ -71,12 +71,10 @@ pub struct State {
 
 impl State {
     ghost use Rattle.nbd_wire.specs.protocol.States.{Core, in_force, start, start_of};
-    ghost use Rattle.std.specs.BTreeSet.{contains};
-    ghost use Rattle.std.specs.Ordering.{nat_cmp};
-    ghost use Rattle.std.specs.Prelude.{◌≡◌, ◌==◌, ℕ, List, length, not};
+    ghost use Rattle.std.specs.Prelude.{◌≡◌, ◌==◌, List, length, not};
     ghost use Rattle.nbd_wire.specs.protocol.Contexts.{Status, has_id};
-    ghost use Rattle.nbd_wire.specs.protocol.Statuses.{tells, tells_all};
-    ghost use Rattle.nbd_state.specs.Shows.{Shows};
+    ghost use Rattle.nbd_wire.specs.protocol.Statuses.{tells_all};
+    ghost use Rattle.nbd_state.specs.Shows.{Shows, TellsThese};
     ghost use Rattle.nbd_laws.specs.Soundness.{IsSoundReport};
     ghost use Rattle.nbd_state.specs.Transcripts.{export_of, transcript_report};
 
@@ -120,14 +118,13 @@ impl State {
         self.agreed && self.selection.has_id(id)
     }
 
-    /// Whether each metadata context in force has one of these ids. The cost is linear in the number of contexts in
-    /// force and of ids.
-    pub fn are_told(&self, told: &BTreeSet<u32>) -> bool
-        ensures { (core : Core) (statuses : List Status) → Shows self.now core →
-            ((id : ℕ) → contains nat_cmp told.now id ≡ tells statuses id) →
+    /// Whether each metadata context in force has one of these ids, or this one. The cost is the number of contexts
+    /// in force times the logarithm of the number of ids.
+    pub fn are_told(&self, told: &BTreeSet<u32>, id: Option<u32>) -> bool
+        ensures { (core : Core) (statuses : List Status) → Shows self.now core → TellsThese statuses told.now id →
             result ≡ tells_all statuses (in_force core) }
     {
-        !self.agreed || self.selection.are_in(told)
+        !self.agreed || self.selection.are_told(told, id)
     }
 
     /// What a session that ends here states: its export, if it reached transmission, and its numbered
