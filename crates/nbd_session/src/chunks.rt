@@ -1,43 +1,51 @@
 //! Chunks of structured replies (proto.md, "Structured reply chunk message", "Structured reply flags",
 //! "Structured reply types").
 
-ghost use Rattle.std.specs.Prelude.{◌≡◌, ◌+◌, ◌==◌, ◌&&◌, ◌||◌, ℕ, Option, length, not};
+ghost use Rattle.std.specs.Prelude.{◌≡◌, ◌+◌, ◌==◌, ◌&&◌, ◌||◌, ℕ, List, None, Option, false, length, not};
 ghost use Rattle.nbd_wire.specs.declared.chunks.TheConstants as chunks;
 ghost use Rattle.nbd_wire.specs.declared.payloads.Piece.{Piece};
 ghost use Rattle.nbd_wire.specs.declared.command_flags.TheConstants as command_flags;
 ghost use Rattle.nbd_wire.specs.protocol.Flags as flags;
-ghost use Rattle.nbd_wire.specs.protocol.Operations.{Operation, Exporting, has_failed, is_proper, pieces};
-ghost use Rattle.nbd_wire.specs.protocol.States.{with_reply};
+ghost use Rattle.nbd_wire.specs.protocol.Contexts.{Status};
+ghost use Rattle.nbd_wire.specs.protocol.Operations.{Operation, Exporting, has_failed, is_finished, is_proper, pieces};
+ghost use Rattle.nbd_wire.specs.protocol.States.{Core, in_force, with_reply};
 ghost use Rattle.nbd_wire.specs.declared.message.Message.TheVariants.{Chunk};
 ghost use Rattle.nbd_wire.specs.declared.fault.WireFault.TheVariants.{BadChunk, BadContent};
-ghost use Rattle.nbd_session.specs.internal.Asking.{done_by, finish_by};
+ghost use Rattle.nbd_session.specs.internal.Asking.{done_by, finish_by, lacks_by};
 ghost use Rattle.nbd_state.specs.Showing.{IsShown};
+ghost use Rattle.nbd_state.specs.Shows.{Shows, TellsThese};
 ghost use Rattle.nbd_state.specs.Spans.{span_of};
 ghost use Rattle.nbd_laws.specs.internal.Decisions.{fault_if};
 ghost use Rattle.nbd_laws.specs.internal.JudgeTransmission.{chunk_fault, fits_read, fits_failure, total};
 
 use crate::spans::{bytes_in, content_span, is_inside};
-use nbd_state::{Asked, Exchange, Span};
+use crate::statuses::status_fault;
+use nbd_state::{Asked, Exchange, Span, State};
 use nbd_wire::flags::has;
 use nbd_wire::{WireFault, chunks, command_flags, commands, content_of, failure_of};
 
 /// Why a whole chunk may not stand in the reply to its request.
 pub(crate) fn chunk_fault(
+    state: &State,
     flags: u16,
     kind: u16,
     payload: &[u8],
     exchange: &Exchange,
 ) -> Option<WireFault>
-    ensures { (export : Exporting) (e : Operation) (cookie : ℕ) → IsShown export e exchange.now →
+    ensures { (core : Core) (export : Exporting) (e : Operation) (cookie : ℕ) → Shows state.now core →
+        e.contexts ≡ in_force core → IsShown export e exchange.now → is_finished e ≡ false →
         result ≡ chunk_fault (kind == chunks.NONE) export e
         (with_reply e (Chunk flags kind cookie payload.now)) flags kind payload.now }
 {
+    if kind == chunks::BLOCK_STATUS {
+        return status_fault(state, flags, payload, exchange);
+    }
     let done = has(flags, chunks::DONE);
     if kind == chunks::NONE {
-        return none_fault(payload, done, exchange);
+        return none_fault(state, payload, done, exchange);
     }
     if let Some(content) = content_of(kind, payload) {
-        return content_fault(content_span(&content), done, exchange);
+        return content_fault(state, content_span(&content), done, exchange);
     }
     let Some(failure) = failure_of(kind, payload) else {
         return Some(WireFault::BadChunk);
@@ -50,31 +58,34 @@ pub(crate) fn chunk_fault(
 }
 
 // A chunk without content is empty, and ends its reply.
-fn none_fault(payload: &[u8], done: bool, exchange: &Exchange) -> Option<WireFault>
-    ensures { (export : Exporting) (e : Operation) → IsShown export e exchange.now →
+fn none_fault(state: &State, payload: &[u8], done: bool, exchange: &Exchange) -> Option<WireFault>
+    ensures { (core : Core) (export : Exporting) (e : Operation) (statuses : List Status) → Shows state.now core →
+        e.contexts ≡ in_force core → IsShown export e exchange.now → TellsThese statuses exchange.now.told None →
         result ≡ fault_if (not (length payload.now == 0) || not done) BadChunk
-        (done_by done (finish_by e.command e.length (is_proper export e) (has_failed e) (total (pieces e)))) }
+        (done_by done (finish_by e.command e.length (is_proper export e) (has_failed e) (total (pieces e))
+        (lacks_by e.command e.length statuses e.contexts))) }
 {
     if !payload.is_empty() || !done {
         Some(WireFault::BadChunk)
     } else {
-        finish_fault(exchange, 0)
+        finish_fault(state, exchange, 0, None)
     }
 }
 
 // Content fits its request, and so does the end of the reply that it is the last of.
-fn content_fault(span: Span, done: bool, exchange: &Exchange) -> Option<WireFault>
-    ensures { (export : Exporting) (e : Operation) (piece : Piece) → IsShown export e exchange.now →
-        span_of piece ≡ span →
+fn content_fault(state: &State, span: Span, done: bool, exchange: &Exchange) -> Option<WireFault>
+    ensures { (core : Core) (export : Exporting) (e : Operation) (piece : Piece) (statuses : List Status) →
+        Shows state.now core → e.contexts ≡ in_force core → IsShown export e exchange.now →
+        TellsThese statuses exchange.now.told None → span_of piece ≡ span →
         result ≡ fault_if (not (fits_read export e piece)) BadContent
         (done_by done (finish_by e.command e.length (is_proper export e) (has_failed e)
-        (total (pieces e) + span.size))) }
+        (total (pieces e) + span.size) (lacks_by e.command e.length statuses e.contexts))) }
 {
     if !fits_read(span, exchange) {
         return Some(WireFault::BadContent);
     }
     if done {
-        finish_fault(exchange, span.size)
+        finish_fault(state, exchange, span.size, None)
     } else {
         None
     }
@@ -111,11 +122,19 @@ fn fits_failure(offset: Option<u64>, asked: &Asked) -> bool
     }
 }
 
-// A reply that ends after so many more bytes of content states a failure, or it is the reply to a
-// proper request, whose range it gives whole.
-fn finish_fault(exchange: &Exchange, more: u64) -> Option<WireFault>
-    ensures { (export : Exporting) (e : Operation) → IsShown export e exchange.now →
-        result ≡ finish_by e.command e.length (is_proper export e) (has_failed e) (total (pieces e) + more) }
+/// A reply that ends after so many more bytes of content, or after the status of the context with this id, states a
+/// failure, or it is the reply to a proper request, whose range it gives whole, and each context in force has its
+/// status.
+pub(crate) fn finish_fault(
+    state: &State,
+    exchange: &Exchange,
+    more: u64,
+    id: Option<u32>,
+) -> Option<WireFault>
+    ensures { (core : Core) (export : Exporting) (e : Operation) (statuses : List Status) → Shows state.now core →
+        e.contexts ≡ in_force core → IsShown export e exchange.now → TellsThese statuses exchange.now.told id →
+        result ≡ finish_by e.command e.length (is_proper export e) (has_failed e) (total (pieces e) + more)
+        (lacks_by e.command e.length statuses e.contexts) }
 {
     let asked = &exchange.asked;
     if exchange.failed {
@@ -126,9 +145,24 @@ fn finish_fault(exchange: &Exchange, more: u64) -> Option<WireFault>
     {
         return Some(WireFault::IncompleteRead);
     }
-    if asked.proper {
-        None
-    } else {
-        Some(WireFault::SuccessOfImproper)
+    if !asked.proper {
+        return Some(WireFault::SuccessOfImproper);
     }
+    if lacks_status(state, exchange, id) {
+        return Some(WireFault::IncompleteStatus);
+    }
+    None
+}
+
+// A BLOCK_STATUS of a range that is not empty lacks the status of a context in force, even with that of this id.
+fn lacks_status(state: &State, exchange: &Exchange, id: Option<u32>) -> bool
+    ensures { (core : Core) (e : Operation) (statuses : List Status) → Shows state.now core →
+        e.contexts ≡ in_force core → e.command ≡ exchange.now.asked.command → e.length ≡ exchange.now.asked.length →
+        TellsThese statuses exchange.now.told id →
+        result ≡ lacks_by e.command e.length statuses e.contexts }
+{
+    let asked = &exchange.asked;
+    asked.command == commands::BLOCK_STATUS
+        && asked.length != 0
+        && !state.are_told(&exchange.told, id)
 }

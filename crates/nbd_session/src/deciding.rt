@@ -115,7 +115,7 @@ fn decide_client(state: &State, head: &[u8]) -> Result<Expected, WireFault>
     match state.phase {
         Phase::Flags => client_flags(head, state.offered),
         Phase::Choosing => choice(head),
-        Phase::Transmission(_) => request(head, state.has_contexts()),
+        Phase::Transmission(_) => request(head),
         _ => unreachable!(),
     }
 }

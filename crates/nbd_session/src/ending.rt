@@ -17,7 +17,7 @@ use nbd_wire::{WireFault, commands};
 
 /// The fault at the last byte of a message with this payload.
 pub(crate) fn last_fault(state: &State, expected: &Expected, payload: &[u8]) -> Option<WireFault>
-    requires { StandsIn state.now.exchanges.items expected.now }
+    requires { StandsIn state.now expected.now }
     ensures { (core : Core) → Shows state.now core → result ≡ last_fault_by core.phase core expected.now payload.now }
 {
     match expected {
@@ -34,7 +34,8 @@ pub(crate) fn last_fault(state: &State, expected: &Expected, payload: &[u8]) -> 
         }
         Expected::Simple { head, place, .. } => success_fault(head.error, &state.exchanges[*place]),
         Expected::Chunk { head, place } => {
-            chunk_fault(head.flags, head.kind, payload, &state.exchanges[*place])
+            let exchange = &state.exchanges[*place];
+            chunk_fault(state, head.flags, head.kind, payload, exchange)
         }
         _ => None,
     }

@@ -15,6 +15,7 @@ mod replies;
 mod requests;
 mod session;
 mod spans;
+mod statuses;
 mod stretches;
 #[cfg(test)]
 mod tests;

@@ -1,11 +1,12 @@
 //! Replies (proto.md, "Simple reply message", "Structured reply chunk message"), each by its head.
 
-ghost use Rattle.std.specs.Prelude.{◌≡◌, ◌==◌, ◌&&◌, ◌||◌, ◌++◌, ℕ, List, IfErr, IfOk, None, Some, if◌then◌else◌, is_some, length};
+ghost use Rattle.std.specs.Prelude.{◌≡◌, ◌==◌, ◌&&◌, ◌||◌, ◌++◌, ℕ, List, IfErr, IfOk, None, Some, if◌then◌else◌, length};
 ghost use Rattle.nbd_wire.specs.declared.commands.TheConstants as commands;
 ghost use Rattle.nbd_wire.specs.protocol.Operations.{Exporting};
 ghost use Rattle.nbd_wire.specs.protocol.States.{Core};
 ghost use Rattle.nbd_wire.specs.protocol.States as definitions;
 ghost use Rattle.nbd_laws.specs.internal.JudgeTransmission.{chunk_head_fault, operation_counted, reply_with, simple_fault};
+ghost use Rattle.nbd_session.specs.internal.Asking.{is_simple_forbidden};
 ghost use Rattle.nbd_session.specs.internal.Expecting.{IsChunkOf, IsPlaced, IsPlaceOf, IsReplyHead, IsSimpleOf, expected_decision};
 ghost use Rattle.nbd_state.specs.Shows.{Shows};
 
@@ -40,7 +41,7 @@ fn simple(state: &State, head: SimpleHead, counted: u64) -> Result<Expected, Wir
         IsSimpleOf export core (operation_counted counted core head.cookie) head.error head.cookie expected) }
     ensures refused { IfErr result (λ fault. (core : Core) (export : Exporting) → Shows state.now core →
         core.phase ≡ definitions.Transmission export →
-        simple_fault core.structured (operation_counted counted core head.cookie) ≡ Some fault) }
+        simple_fault core.structured (operation_counted counted core head.cookie) head.error ≡ Some fault) }
 {
     let Some(place) = place_of(state, head.cookie, counted) else {
         return Err(WireFault::UnknownCookie);
@@ -48,7 +49,7 @@ fn simple(state: &State, head: SimpleHead, counted: u64) -> Result<Expected, Wir
     let Some(exchange) = state.exchanges.get(place) else {
         return Err(WireFault::UnknownCookie);
     };
-    if is_simple_forbidden(&exchange.asked, state.structured) {
+    if is_simple_forbidden(state, &exchange.asked, head.error) {
         return Err(WireFault::SimpleForbidden);
     }
     let length = simple_length(&exchange.asked, head.error);
@@ -91,11 +92,14 @@ fn place_of(state: &State, cookie: u64, counted: u64) -> Option<usize>
     }
 }
 
-// A chunk came before, or it answers a READ where structured replies are in force.
-fn is_simple_forbidden(asked: &Asked, structured: bool) -> bool
-    ensures { result ≡ (is_some asked.now.known_at || ((asked.now.command == commands.READ) && structured)) }
+// A chunk came before, or it answers a READ where structured replies are in force, or it is the success of a
+// BLOCK_STATUS where a metadata context is.
+fn is_simple_forbidden(state: &State, asked: &Asked, error: u32) -> bool
+    ensures { (core : Core) → Shows state.now core → result ≡ is_simple_forbidden core asked.now error }
 {
-    asked.known_at.is_some() || asked.command == commands::READ && structured
+    asked.known_at.is_some()
+        || asked.command == commands::READ && state.structured
+        || error == 0 && asked.command == commands::BLOCK_STATUS && state.has_contexts()
 }
 
 // How many bytes follow the head: those that a READ has read.

@@ -1,9 +1,14 @@
 -- What the last byte of a message shows to be wrong, where the exchanges show the requests.
-use Rattle.std.proofs.Common.{◌≡◌, ◌<◌, ◌+◌, ℕ, zero, suc, List, [], ◌∷◌, length, refl, sym, ◌∙◌, ap, subst, Option, Some, None, arith, add-one, slice_get, slice_index_or}
+use Rattle.std.proofs.Common.{◌≡◌, ◌<◌, ◌+◌, ℕ, zero, suc, List, [], ◌∷◌, length, refl, sym, ◌∙◌, ap, subst, Option, Some, None, false, arith, add-one, slice_get, slice_index_or}
 use Rattle.std.proofs.lemmas.Option.{slice_get_read, same_Some}
-use Rattle.nbd_wire.specs.protocol.Operations.{Operation, Exporting}
+use Rattle.std.specs.BTreeMap.{get}
+use Rattle.std.specs.Ordering.{nat_cmp}
+use Rattle.nbd_laws.proofs.requests.SoundnessLemmas.{open_target}
+use Rattle.nbd_state.proofs.CompletionLemmas.{asked_at}
+use Rattle.nbd_state.proofs.PlacedLemmas.{place_shows_operation}
+use Rattle.nbd_wire.specs.protocol.Operations.{Operation, Exporting, is_finished}
 use Rattle.nbd_wire.specs.protocol.States as definitions
-use Rattle.nbd_wire.specs.protocol.States.{Core, Transmission, operation, export_in}
+use Rattle.nbd_wire.specs.protocol.States.{Core, Transmission, in_force, operation, export_in}
 use Rattle.nbd_state.specs.declared.asked.Exchange.{Exchange}
 use Rattle.nbd_state.specs.declared.state.State.{State}
 use Rattle.nbd_state.specs.Showing.{IsShown}
@@ -75,11 +80,15 @@ module _ (state : State) (core : Core) (place : ℕ) (s : Shows state core) (l :
       ∙ ap (λ to. simple_last_fault a.export to head.error) (sym a.numbered)
       ∙ ap (λ (p : definitions.Phase). last_fault_by p core (Simple head place len) payload) (sym a.phase_is)
 
-  pub chunk_end : (head : ChunkHead) (payload : List ℕ) (r : Option WireFault) →
-      ((export : Exporting) (e : Operation) → IsShown export e x → r ≡ chunk_fault_to export (Some e) head.flags head.kind head.cookie payload) →
+  pub chunk_end : (head : ChunkHead) → get nat_cmp state.outstanding head.cookie ≡ Some place → (payload : List ℕ) (r : Option WireFault) →
+      ((export : Exporting) (e : Operation) → e.contexts ≡ in_force core → IsShown export e x → is_finished e ≡ false → r ≡ chunk_fault_to export (Some e) head.flags head.kind head.cookie payload) →
       r ≡ last_fault_by core.phase core (Chunk head place) payload
-  chunk_end head payload r o =
+  chunk_end head g payload r o =
       let a = exchange_shown_at state core place s l in
-      o a.export a.e (read_at a)
+      let b = place_shows_operation state core a.export head.cookie place s a.phase_is g in
+      let numbered : operation (place + 1) core.entries ≡ Some b.e = ap (λ n. operation n core.entries) (add-one place) ∙ b.numbered in
+      let same : b.e ≡ a.e = same_Some _ _ (sym numbered ∙ a.numbered) in
+      o a.export a.e (asked_at (in_force core) (place + 1) core.entries a.e s.asked_with a.numbered) (read_at a)
+      (subst (λ (e : Operation). is_finished e ≡ false) same (open_target core head.cookie (suc place) b.e b.found b.numbered))
       ∙ ap (λ to. chunk_fault_to a.export to head.flags head.kind head.cookie payload) (sym a.numbered)
       ∙ ap (λ (p : definitions.Phase). last_fault_by p core (Chunk head place) payload) (sym a.phase_is)

@@ -1,5 +1,5 @@
 -- A reply whose head has come.
-use Rattle.std.proofs.Common.{◌≡◌, ℕ, zero, suc, ◌<◌, [], ◌∷◌, ◌==◌, ◌&&◌, ◌||◌, ◌++◌, not, List, length, drop, arith, nat_le, inl, inr, Result, Ok, Err, IfOk, IfErr, refl, sym, ◌∙◌, ap, subst, Option, Some, None, Bool, true, false, is_some, if◌then◌else◌, slice_get}
+use Rattle.std.proofs.Common.{◌≡◌, ℕ, zero, suc, ◌+◌, ◌<◌, [], ◌∷◌, ◌==◌, ◌&&◌, ◌||◌, ◌++◌, not, List, length, drop, arith, nat_le, inl, inr, Result, Ok, Err, IfOk, IfErr, refl, sym, ◌∙◌, ap, subst, Option, Some, None, Bool, true, false, is_some, if◌then◌else◌, slice_get}
 use Rattle.nbd_wire.specs.declared.commands.TheConstants as commands
 use Rattle.nbd_wire.specs.declared.fault.WireFault.{WireFault}
 use Rattle.nbd_wire.specs.declared.fault.WireFault.TheVariants.{SimpleForbidden, ChunkForbidden}
@@ -8,13 +8,16 @@ use Rattle.nbd_wire.specs.declared.message.Message.TheVariants as messages
 use Rattle.nbd_wire.specs.protocol.Payloads.{number_at}
 use Rattle.nbd_wire.specs.declared.heads.transmission.ChunkHead.{ChunkHead}
 use Rattle.nbd_wire.specs.declared.heads.transmission.SimpleHead.{SimpleHead}
-use Rattle.nbd_wire.specs.protocol.Operations.{Exporting, Operation}
-use Rattle.nbd_wire.specs.protocol.States.{Core, Transmission, operation, target}
+use Rattle.nbd_wire.specs.protocol.Operations.{Exporting, Operation, asks_status}
+use Rattle.nbd_wire.specs.protocol.States.{Core, Transmission, in_force, operation, target}
 use Rattle.nbd_laws.proofs.requests.OutstandingLemmas.{find}
 use Rattle.nbd_laws.specs.internal.Decisions.{Decision, fault_if, is_none_yet}
 use Rattle.nbd_laws.specs.internal.JudgeTransmission.{begins, chunk_head_fault, chunk_last_fault, chunk_to, operation_counted, reply_by, reply_with, simple_fault, simple_last_fault, simple_payload_length, simple_to}
 use Rattle.nbd_laws.proofs.judge.SteadyLemmas.{begun_true, no_chunk}
 use Rattle.nbd_state.specs.Showing.{IsShown}
+use Rattle.nbd_state.specs.Shows.{AreAskedWith}
+use Rattle.nbd_state.proofs.CompletionLemmas.{asked_at}
+use Rattle.nbd_session.specs.internal.Asking.{is_simple_forbidden}
 use Rattle.nbd_state.specs.declared.asked.Exchange.{Exchange}
 use Rattle.nbd_session.specs.declared.expected.Expected.{Expected}
 use Rattle.nbd_session.specs.declared.expected.Expected.TheVariants.{Simple, Chunk}
@@ -36,21 +39,33 @@ operation_within (x ∷ es) (suc k) e h = let l : k < length es = operation_with
 pub placed_within : (es : List Operation) (cookie place : ℕ) → target cookie es ≡ Some (suc place) → place < length es
 placed_within es cookie place t = let f = find cookie es (suc place) t in operation_within es place f.found f.numbered
 
--- whether a simple reply is forbidden, by the exchange
-abbrev pub forbidden : (structured : Bool) → Exchange → Bool
-forbidden structured x = is_some x.asked.known_at || ((x.asked.command == commands.READ) && structured)
+module _ (export : Exporting) (core : Core) (counted place : ℕ) (exchanges : List Exchange) (x : Exchange) (stands : slice_get exchanges place ≡ Some x) (asked_with : AreAskedWith (in_force core) core.entries) where
+  -- whether a simple reply is forbidden, by the exchange
+  same_test : (h : SimpleHead) (found : IsPlaceOf export core counted h.cookie exchanges (Some place)) → IsShown export found.0 x →
+      (not (is_none_yet found.0.replies) || (((found.0.command == commands.READ) && core.structured) || (asks_status found.0 && (h.error == 0)))) ≡ is_simple_forbidden core x.asked h.error
+  same_test h found shown =
+      let contexts : found.0.contexts ≡ in_force core = asked_at (in_force core) (place + 1) core.entries found.0 asked_with found.3 in
+      (λ i. sym shown.replied i || (((sym shown.command i == commands.READ) && core.structured)
+      || (((sym shown.command i == commands.BLOCK_STATUS) && not (length (contexts i) == 0)) && (h.error == 0))))
 
-module _ (export : Exporting) (core : Core) (counted place : ℕ) (exchanges : List Exchange) (x : Exchange) (stands : slice_get exchanges place ≡ Some x) where
-  pub simple_of : (h : SimpleHead) (len : ℕ) → IsPlaceOf export core counted h.cookie exchanges (Some place) → forbidden core.structured x ≡ false →
+  shown_here : (h : SimpleHead) (found : IsPlaceOf export core counted h.cookie exchanges (Some place)) → IsShown export found.0 x
+  shown_here h found =
+      let same : found.1 ≡ x = (let q : Some found.1 ≡ Some x = sym found.4 ∙ stands in cc) in
+      subst (IsShown export found.0) same found.5
+
+  pub forbidden_of : (h : SimpleHead) (found : IsPlaceOf export core counted h.cookie exchanges (Some place)) → is_simple_forbidden core x.asked h.error ≡ true →
+      simple_fault core.structured (operation_counted counted core h.cookie) h.error ≡ Some SimpleForbidden
+  forbidden_of h found is =
+      ap (λ to. simple_fault core.structured to h.error) found.2 ∙ ap (λ b. fault_if b SimpleForbidden None) (same_test h found (shown_here h found) ∙ is)
+
+  pub simple_of : (h : SimpleHead) (len : ℕ) → IsPlaceOf export core counted h.cookie exchanges (Some place) → is_simple_forbidden core x.asked h.error ≡ false →
       len ≡ (if (x.asked.command == commands.READ) && (h.error == 0) then x.asked.length else 0) → IsSimpleOf export core (operation_counted counted core h.cookie) h.error h.cookie (Simple h place len)
   simple_of h len found free is =
       let e : Operation = found.0 in
-      let same : found.1 ≡ x = (let q : Some found.1 ≡ Some x = sym found.4 ∙ stands in cc) in
-      let shown : IsShown export e x = subst (IsShown export e) same found.5 in
-      let no : (not (is_none_yet e.replies) || ((e.command == commands.READ) && core.structured)) ≡ false =
-      (λ i. sym shown.replied i || ((sym shown.command i == commands.READ) && core.structured)) ∙ free in
+      let shown : IsShown export e x = shown_here h found in
+      let no = same_test h found shown ∙ free in
       record {
-        no_fault = ap (simple_fault core.structured) found.2 ∙ ap (λ b. fault_if b SimpleForbidden None) no;
+        no_fault = ap (λ to. simple_fault core.structured to h.error) found.2 ∙ ap (λ b. fault_if b SimpleForbidden None) no;
         length_is = is ∙ (λ i. if (shown.command i == commands.READ) && (h.error == 0) then shown.length i else 0) ∙ sym (ap (λ to. simple_payload_length to h.error) found.2);
         last_is = λ payload. ap (λ to. simple_last_fault export to h.error) (found.3 ∙ sym found.2);
         message_is = λ payload. refl;
@@ -71,8 +86,8 @@ module _ (export : Exporting) (core : Core) (counted : ℕ) (head : List ℕ) (h
   by_simple : (bytes : List ℕ) → begins SIMPLE_MAGIC bytes ≡ true → reply_with export (operation_counted counted core) core bytes ≡ simple_to export core (operation_counted counted core (number_at 8 8 bytes)) bytes
   by_simple bytes b = (λ i. reply_by (no_chunk bytes b i) (b i) export core (operation_counted counted core (number_at 8 8 bytes)) bytes)
 
-  pub simple_refused : (fault : WireFault) → simple_fault core.structured (operation_counted counted core h.cookie) ≡ Some fault → (reply_with export (operation_counted counted core) core head).head_fault ≡ Some fault
-  simple_refused fault bad = ap (λ (d : Decision). d.head_fault) (by_simple head begun) ∙ ap (λ (g : SimpleHead). simple_fault core.structured (operation_counted counted core g.cookie)) (sym is) ∙ bad
+  pub simple_refused : (fault : WireFault) → simple_fault core.structured (operation_counted counted core h.cookie) h.error ≡ Some fault → (reply_with export (operation_counted counted core) core head).head_fault ≡ Some fault
+  simple_refused fault bad = ap (λ (d : Decision). d.head_fault) (by_simple head begun) ∙ ap (λ (g : SimpleHead). simple_fault core.structured (operation_counted counted core g.cookie) g.error) (sym is) ∙ bad
 
   pub simple_decision : (payload : List ℕ) (x : Expected) → core.phase ≡ Transmission export → IsSimpleOf export core (operation_counted counted core h.cookie) h.error h.cookie x →
       reply_with export (operation_counted counted core) core (head ++ payload) ≡ expected_decision core x 16 payload
@@ -81,7 +96,7 @@ module _ (export : Exporting) (core : Core) (counted : ℕ) (head : List ℕ) (h
       let cookie : number_at 8 8 (head ++ payload) ≡ h.cookie = at 8 8 (omega arith) ∙ ap (λ (g : SimpleHead). g.cookie) (sym is) in
       let error : number_at 4 4 (head ++ payload) ≡ h.error = at 4 4 (omega arith) ∙ ap (λ (g : SimpleHead). g.error) (sym is) in
       let to : operation_counted counted core (number_at 8 8 (head ++ payload)) ≡ operation_counted counted core h.cookie = ap (operation_counted counted core) cookie in
-      let fault = ap (simple_fault core.structured) to ∙ o.no_fault in
+      let fault = (λ i. simple_fault core.structured (to i) (error i)) ∙ o.no_fault in
       let more = (λ i. simple_payload_length (to i) (error i)) ∙ sym o.length_is in
       let last = (λ i. simple_last_fault export (to i) (error i)) ∙ sym (ap (λ p. last_fault_by p core x payload) phase ∙ o.last_is payload) in
       let message = (λ i. messages.Simple (error i) (cookie i) (after_head 16 head payload len i)) ∙ sym (o.message_is payload) in

@@ -32,22 +32,23 @@ use Rattle.nbd_session.proofs.steps.HoldingLemmas.{holding_expected, incoming_he
 use Rattle.nbd_session.proofs.steps.SettleLemmas.{IsRead, settled_more, shut_wire}
 use Rattle.nbd_session.proofs.steps.StepLemmas.{decided_held}
 
+-- the place that a reply's head has decided is the one that the state has
+placed_in : (state : State) (core : Core) → Shows state core → (own cookie place : ℕ) → target own core.entries ≡ Some (suc place) → Some own ≡ Some cookie → get nat_cmp state.outstanding cookie ≡ Some place
+placed_in state core s own cookie place t c =
+    let same : own ≡ cookie = same_Some _ _ c in
+    s.places cookie ∙ ap (λ k. place_of (target k core.entries)) (sym same) ∙ ap place_of t ∙ ap Some (let e : suc place - 1 ≡ place = omega arith in e)
+
 -- the request that a reply answers has its exchange
-pub stands_in : (state : State) (core : Core) → Shows state core → (x : Expected) → IsPlaced core x → StandsIn state.exchanges.items x
+pub stands_in : (state : State) (core : Core) → Shows state core → (x : Expected) → IsPlaced core x → StandsIn state x
 stands_in state core s (expectations.Simple head place len) t = let l = placed_within core.entries head.cookie place t in omega (arith, l, shown_length _ core.entries state.exchanges.items s.are_shown)
-stands_in state core s (expectations.Chunk head place) t = let l = placed_within core.entries head.cookie place t in omega (arith, l, shown_length _ core.entries state.exchanges.items s.are_shown)
+stands_in state core s (expectations.Chunk head place) t =
+    let l = placed_within core.entries head.cookie place t in (omega (arith, l, shown_length _ core.entries state.exchanges.items s.are_shown), placed_in state core s head.cookie head.cookie place t refl)
 stands_in state core s (expectations.Greeting flags) l = tt
 stands_in state core s (expectations.ClientFlags flags) l = tt
 stands_in state core s (expectations.Choice head) l = tt
 stands_in state core s (expectations.Answer head proper) l = tt
 stands_in state core s (expectations.Exported size flags padded) l = tt
 stands_in state core s (expectations.Request head) l = tt
-
--- the place that a reply's head has decided is the one that the state has
-placed_in : (state : State) (core : Core) → Shows state core → (own cookie place : ℕ) → target own core.entries ≡ Some (suc place) → Some own ≡ Some cookie → get nat_cmp state.outstanding cookie ≡ Some place
-placed_in state core s own cookie place t c =
-    let same : own ≡ cookie = same_Some _ _ c in
-    s.places cookie ∙ ap (λ k. place_of (target k core.entries)) (sym same) ∙ ap place_of t ∙ ap Some (let e : suc place - 1 ≡ place = omega arith in e)
 
 pub answers_at : (state : State) (core : Core) → Shows state core → (x : Expected) (payload : List ℕ) → IsPlaced core x → Answers state (message_of x payload) (place_answered x)
 answers_at state core s (expectations.Simple head place len) payload t cookie c = placed_in state core s head.cookie cookie place t c

@@ -9,13 +9,13 @@ use Rattle.nbd_wire.specs.declared.message.Side.TheVariants.{Client, Server}
 use Rattle.nbd_wire.specs.declared.fault.WireFault.TheVariants.{BadMagic, UnknownCookie}
 use Rattle.nbd_wire.specs.protocol.Operations.{Exporting, Operation}
 use Rattle.nbd_wire.specs.protocol.Payloads.{number_at}
-use Rattle.nbd_wire.specs.protocol.States.{Core, Transmission, operation, target, in_force}
+use Rattle.nbd_wire.specs.protocol.States.{Core, Transmission, operation, target}
 use Rattle.nbd_laws.specs.internal.Concrete.{concrete}
 use Rattle.nbd_laws.specs.internal.Decisions.{Decision, awaited_length_by}
 use Rattle.nbd_laws.specs.internal.Judge.{awaited_length, decision, request_unless}
 use Rattle.nbd_laws.specs.internal.JudgeTransmission.{begins, chunk_head_fault, chunk_last_fault, chunk_of, cookie_fault, operation_if, operation_of, reply, reply_by, request, request_of, simple_fault, simple_last_fault, simple_of, simple_payload_length}
 use Rattle.nbd_laws.proofs.judge.AwaitedLemmas.{decision_of}
-use Rattle.nbd_laws.proofs.judge.PhaseLemmas.{IsAppended, Later-appended, Later-disconnected, Later-in_force, Later-transmission, Later-turn, target-append}
+use Rattle.nbd_laws.proofs.judge.PhaseLemmas.{IsAppended, Later-appended, Later-disconnected, Later-transmission, Later-turn, target-append}
 use Rattle.nbd_laws.proofs.judge.SoundLemmas.{kept_later, turn_of_reading}
 use Rattle.nbd_laws.proofs.judge.SteadyLemmas.{IsBegun, IsDeciding, as_chunk, as_neither, as_simple, bytes_are_begun, deciding, entry-append, is_chunk_reply, is_no_reply, is_simple_reply}
 use Rattle.nbd_laws.proofs.machine.MachineLemmas.{Held, Later, Later-trans, at_once, none_held, old-empty, old-filled, some_held}
@@ -29,7 +29,6 @@ use Rattle.nbd_session.specs.internal.Known.{IsCome, IsExpected, IsKnown, IsShor
 use Rattle.nbd_session.proofs.expecting.KnownLemmas.{expected_awaited}
 use Rattle.nbd_session.proofs.expecting.ReplyLemmas.{placed_within}
 use Rattle.nbd_wire.specs.declared.heads.negotiation.AnswerHead.{AnswerHead}
-use Rattle.nbd_wire.specs.protocol.Contexts.{Context}
 
 -- where something is decided of a rest, it goes on as it began
 pub deciding_rest : {core : Core} {s : Side} {rest : Rest} → Held concrete core s rest → (bytes : List ℕ) (d : Decision) → decision core.phase (old_of core rest) core s bytes ≡ Some d →
@@ -93,19 +92,19 @@ placed_stays core next a (expectations.Exported size flags padded) l = tt
 placed_stays core next a (expectations.Request head) l = tt
 
 -- a request looks at what is outstanding at its last byte alone
-request_stays : (contexts : List Context) (core next : Core) (bytes payload : List ℕ) (h : ℕ) (x : Expected) → request contexts core bytes ≡ expected_decision core x h payload → request contexts next bytes ≡ expected_decision next x h payload
-request_stays contexts core next bytes payload h (expectations.Request r) e =
+request_stays : (core next : Core) (bytes payload : List ℕ) (h : ℕ) (x : Expected) → request core bytes ≡ expected_decision core x h payload → request next bytes ≡ expected_decision next x h payload
+request_stays core next bytes payload h (expectations.Request r) e =
     let m : request_of bytes ≡ messages.Request r.flags r.command r.cookie r.offset r.length payload = ap (λ (d : Decision). d.message) e in
     let c : number_at 6 2 bytes ≡ r.command = cc in
     let k : number_at 8 8 bytes ≡ r.cookie = cc in
     λ i. record { head_length = (e i).head_length; head_fault = (e i).head_fault; payload_length = (e i).payload_length; last_fault = cookie_fault (c i) (target (k i) next.entries); message = (e i).message }
-request_stays contexts core next bytes payload h (expectations.Greeting flags) e = absurd (let m : request_of bytes ≡ messages.Greeting flags = ap (λ (d : Decision). d.message) e in cc)
-request_stays contexts core next bytes payload h (expectations.ClientFlags flags) e = absurd (let m : request_of bytes ≡ messages.ClientFlags flags = ap (λ (d : Decision). d.message) e in cc)
-request_stays contexts core next bytes payload h (expectations.Choice head) e = absurd (let m : request_of bytes ≡ messages.Choice head.id payload = ap (λ (d : Decision). d.message) e in cc)
-request_stays contexts core next bytes payload h (expectations.Answer head proper) e = absurd (let m : request_of bytes ≡ messages.Answer head.option head.kind payload = ap (λ (d : Decision). d.message) e in cc)
-request_stays contexts core next bytes payload h (expectations.Exported size flags padded) e = absurd (let m : request_of bytes ≡ messages.Exported size flags padded = ap (λ (d : Decision). d.message) e in cc)
-request_stays contexts core next bytes payload h (expectations.Simple head place len) e = absurd (let m : request_of bytes ≡ messages.Simple head.error head.cookie payload = ap (λ (d : Decision). d.message) e in cc)
-request_stays contexts core next bytes payload h (expectations.Chunk head place) e = absurd (let m : request_of bytes ≡ messages.Chunk head.flags head.kind head.cookie payload = ap (λ (d : Decision). d.message) e in cc)
+request_stays core next bytes payload h (expectations.Greeting flags) e = absurd (let m : request_of bytes ≡ messages.Greeting flags = ap (λ (d : Decision). d.message) e in cc)
+request_stays core next bytes payload h (expectations.ClientFlags flags) e = absurd (let m : request_of bytes ≡ messages.ClientFlags flags = ap (λ (d : Decision). d.message) e in cc)
+request_stays core next bytes payload h (expectations.Choice head) e = absurd (let m : request_of bytes ≡ messages.Choice head.id payload = ap (λ (d : Decision). d.message) e in cc)
+request_stays core next bytes payload h (expectations.Answer head proper) e = absurd (let m : request_of bytes ≡ messages.Answer head.option head.kind payload = ap (λ (d : Decision). d.message) e in cc)
+request_stays core next bytes payload h (expectations.Exported size flags padded) e = absurd (let m : request_of bytes ≡ messages.Exported size flags padded = ap (λ (d : Decision). d.message) e in cc)
+request_stays core next bytes payload h (expectations.Simple head place len) e = absurd (let m : request_of bytes ≡ messages.Simple head.error head.cookie payload = ap (λ (d : Decision). d.message) e in cc)
+request_stays core next bytes payload h (expectations.Chunk head place) e = absurd (let m : request_of bytes ≡ messages.Chunk head.flags head.kind head.cookie payload = ap (λ (d : Decision). d.message) e in cc)
 
 module _ (export : Exporting) (old core next : Core) (bytes : List ℕ) (a : IsAppended core next) where
   abbrev cookie : ℕ
@@ -122,9 +121,9 @@ module _ (export : Exporting) (old core next : Core) (bytes : List ℕ) (a : IsA
   found_chunk (Some e) h = (e, refl)
   found_chunk None h = absurd (let q : Some UnknownCookie ≡ None = h in cc)
 
-  found_simple : (o : Option Operation) → simple_fault core.structured o ≡ None → (e : Operation) × (o ≡ Some e)
-  found_simple (Some e) h = (e, refl)
-  found_simple None h = absurd (let q : Some UnknownCookie ≡ None = h in cc)
+  found_simple : (o : Option Operation) (error : ℕ) → simple_fault core.structured o error ≡ None → (e : Operation) × (o ≡ Some e)
+  found_simple (Some e) error h = (e, refl)
+  found_simple None error h = absurd (let q : Some UnknownCookie ≡ None = h in cc)
 
   -- what is decided of a reply without a fault in its head does not change as requests are added
   reply_stays : IsBegun bytes → (reply export old core bytes).head_fault ≡ None → reply export old next bytes ≡ reply export old core bytes
@@ -137,10 +136,10 @@ module _ (export : Exporting) (old core next : Core) (bytes : List ℕ) (a : IsA
       ∙ sym is
   reply_stays (as_simple c s) clean =
       let is = is_simple_reply export old core bytes c s in
-      let f = found_simple (operation_of old core cookie) (sym (ap (λ (d : Decision). d.head_fault) is) ∙ clean) in
+      let f = found_simple (operation_of old core cookie) (number_at 4 4 bytes) (sym (ap (λ (d : Decision). d.head_fault) is) ∙ clean) in
       let o = same_operation f.0 f.1 in
       is_simple_reply export old next bytes c s
-      ∙ (λ i. record { head_length = 16; head_fault = simple_fault (a.structured_is i) (o i); payload_length = simple_payload_length (o i) (number_at 4 4 bytes); last_fault = simple_last_fault export (o i) (number_at 4 4 bytes); message = simple_of bytes })
+      ∙ (λ i. record { head_length = 16; head_fault = simple_fault (a.structured_is i) (o i) (number_at 4 4 bytes); payload_length = simple_payload_length (o i) (number_at 4 4 bytes); last_fault = simple_last_fault export (o i) (number_at 4 4 bytes); message = simple_of bytes })
       ∙ sym is
   reply_stays (as_neither c s) clean = absurd (let q : Some BadMagic ≡ None = sym (ap (λ (d : Decision). d.head_fault) (is_no_reply export old core bytes c s)) ∙ clean in cc)
 
@@ -188,13 +187,13 @@ module _ (old core next : Core) (export : Exporting) (before : core.phase ≡ Tr
           ∙ ap Some (reply_stays export old core next b a (bytes_are_begun b) (ap (λ (d : Decision). d.head_fault) e) ∙ e
           ∙ (λ i. record { head_length = length head; head_fault = None; payload_length = payload_length_of x; last_fault = last i; message = message_of x payload }))
 
-  expected_request : next.disconnected ≡ core.disconnected → in_force next ≡ in_force core → IsPlaced next x → IsExpected (decision core.phase old core Client) core head x → IsExpected (decision next.phase old next Client) next head x
-  expected_request disconnected contexts placed known = record { filled = known.filled; placed = placed; is = is }
+  expected_request : next.disconnected ≡ core.disconnected → IsPlaced next x → IsExpected (decision core.phase old core Client) core head x → IsExpected (decision next.phase old next Client) next head x
+  expected_request disconnected placed known = record { filled = known.filled; placed = placed; is = is }
     where
       by : (b : Bool) (payload : List ℕ) → request_unless b core (head ++ payload) ≡ Some (expected_decision core x (length head) payload) → request_unless b next (head ++ payload) ≡ Some (expected_decision next x (length head) payload)
       by true payload e = absurd (cc)
       by false payload e =
-          ap (λ cs. Some (request cs next (head ++ payload))) contexts ∙ ap Some (request_stays (in_force core) core next (head ++ payload) payload (length head) x (same_Some _ _ e))
+          ap Some (request_stays core next (head ++ payload) payload (length head) x (same_Some _ _ e))
 
       is : (payload : List ℕ) → decision next.phase old next Client (head ++ payload) ≡ Some (expected_decision next x (length head) payload)
       is payload =
@@ -203,25 +202,25 @@ module _ (old core next : Core) (export : Exporting) (before : core.phase ≡ Tr
           ∙ by core.disconnected payload (sym (ap (λ p. decision p old core Client (head ++ payload)) before) ∙ known.is payload)
 
 -- a request answers no request
-placed_request : (contexts : List Context) (core next : Core) (bytes payload : List ℕ) (h : ℕ) (x : Expected) → request contexts core bytes ≡ expected_decision core x h payload → IsPlaced next x
-placed_request contexts core next bytes payload h (expectations.Simple head place len) e = absurd (let m : request_of bytes ≡ messages.Simple head.error head.cookie payload = ap (λ (d : Decision). d.message) e in cc)
-placed_request contexts core next bytes payload h (expectations.Chunk head place) e = absurd (let m : request_of bytes ≡ messages.Chunk head.flags head.kind head.cookie payload = ap (λ (d : Decision). d.message) e in cc)
-placed_request contexts core next bytes payload h (expectations.Greeting flags) e = tt
-placed_request contexts core next bytes payload h (expectations.ClientFlags flags) e = tt
-placed_request contexts core next bytes payload h (expectations.Choice head) e = tt
-placed_request contexts core next bytes payload h (expectations.Answer head proper) e = tt
-placed_request contexts core next bytes payload h (expectations.Exported size flags padded) e = tt
-placed_request contexts core next bytes payload h (expectations.Request head) e = tt
+placed_request : (core next : Core) (bytes payload : List ℕ) (h : ℕ) (x : Expected) → request core bytes ≡ expected_decision core x h payload → IsPlaced next x
+placed_request core next bytes payload h (expectations.Simple head place len) e = absurd (let m : request_of bytes ≡ messages.Simple head.error head.cookie payload = ap (λ (d : Decision). d.message) e in cc)
+placed_request core next bytes payload h (expectations.Chunk head place) e = absurd (let m : request_of bytes ≡ messages.Chunk head.flags head.kind head.cookie payload = ap (λ (d : Decision). d.message) e in cc)
+placed_request core next bytes payload h (expectations.Greeting flags) e = tt
+placed_request core next bytes payload h (expectations.ClientFlags flags) e = tt
+placed_request core next bytes payload h (expectations.Choice head) e = tt
+placed_request core next bytes payload h (expectations.Answer head proper) e = tt
+placed_request core next bytes payload h (expectations.Exported size flags padded) e = tt
+placed_request core next bytes payload h (expectations.Request head) e = tt
 
 by_side : (s : Side) (old core next : Core) (export : Exporting) (head : List ℕ) (x : Expected) → Later s core next → core.phase ≡ Transmission export → next.phase ≡ Transmission export →
     IsExpected (decision core.phase old core s) core head x → IsExpected (decision next.phase old next s) next head x
 by_side Server old core next export head x l before after known = expected_reply old core next export before after head x (Later-appended l export before) known
 by_side Client old core next export head x l before after known =
-    expected_request old core next export before after head x (Later-disconnected l) (Later-in_force l export before) (go core.disconnected (sym (ap (λ p. decision p old core Client (head ++ [])) before) ∙ known.is [])) known
+    expected_request old core next export before after head x (Later-disconnected l) (go core.disconnected (sym (ap (λ p. decision p old core Client (head ++ [])) before) ∙ known.is [])) known
   where
     go : (b : Bool) → request_unless b core (head ++ []) ≡ Some (expected_decision core x (length head) []) → IsPlaced next x
     go true e = absurd (cc)
-    go false e = placed_request (in_force core) core next (head ++ []) [] (length head) x (same_Some _ _ e)
+    go false e = placed_request core next (head ++ []) [] (length head) x (same_Some _ _ e)
 
 -- what a whole head says stays
 pub expected_stays : {core : Core} {s : Side} {rest : Rest} → Held concrete core s rest → IsFilled rest.bytes → (next : Core) → Later s core next → (head : List ℕ) (x : Expected) →

@@ -1,6 +1,8 @@
 -- What is expected of a message whose head has come: which message it is with the bytes after its head, how many those
 -- are, and what its last byte shows to be wrong.
 use Rattle.std.specs.Prelude.{◌≡◌, ◌⊎◌, ◌<◌, ◌≤◌, ◌+◌, ◌==◌, ◌++◌, ℕ, suc, List, Bool, true, false, Option, Some, None, length, if◌then◌else◌, slice_get}
+use Rattle.std.specs.BTreeMap.{get}
+use Rattle.std.specs.Ordering.{nat_cmp}
 use Rattle.nbd_wire.specs.declared.chunks.TheConstants as chunks
 use Rattle.nbd_wire.specs.declared.fault.WireFault.{WireFault}
 use Rattle.nbd_wire.specs.declared.fault.WireFault.TheVariants.{BadMagic}
@@ -83,10 +85,11 @@ IsPlaced core (Chunk head place) = target head.cookie core.entries ≡ Some (suc
 IsPlaced core expected = Unit {0}
 
 -- the request that a reply answers has its exchange
-abbrev pub StandsIn : List Exchange → Expected → Type 0
-StandsIn exchanges (Simple head place len) = place < length exchanges
-StandsIn exchanges (Chunk head place) = place < length exchanges
-StandsIn exchanges expected = Unit {0}
+abbrev pub StandsIn : State → Expected → Type 0
+StandsIn state (Simple head place len) = place < length state.exchanges.items
+StandsIn state (Chunk head place) =
+    (place < length state.exchanges.items) × (get nat_cmp state.outstanding head.cookie ≡ Some place)
+StandsIn state expected = Unit {0}
 
 -- the place of the request that a reply answers
 abbrev pub place_answered : Expected → ℕ
@@ -121,7 +124,7 @@ IsPlaceOf export core counted cookie exchanges (Some place) =
 -- what is decided of a simple reply with these fields, to the request that it names
 pub record IsSimpleOf (export : Exporting) (core : Core) (to : Option Operation) (error cookie : ℕ)
     (expected : Expected) : Type 0 where
-  pub no_fault : simple_fault core.structured to ≡ None
+  pub no_fault : simple_fault core.structured to error ≡ None
   pub length_is : payload_length_of expected ≡ simple_payload_length to error
   pub last_is : (payload : List ℕ) → last_fault_by (Transmission export) core expected payload
       ≡ simple_last_fault export to error

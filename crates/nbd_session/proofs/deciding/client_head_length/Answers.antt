@@ -5,7 +5,6 @@ use Rattle.nbd_laws.specs.internal.Judge.{request_unless}
 use Rattle.nbd_laws.specs.internal.JudgeNegotiation.{choice, client_flags}
 use Rattle.nbd_laws.specs.internal.JudgeTransmission.{request}
 use Rattle.nbd_session.proofs.expecting.PhaseLemmas.{choosing_of, decided_in, flags_of, head_in, transmission_of}
-use Rattle.nbd_wire.specs.protocol.States.{in_force}
 use Rattle.nbd_session.proofs.deciding.client_head_length.Goals as goal
 
 pub returns-in-Flags-clause-known : goal.returns-in-Flags-clause-known
@@ -19,5 +18,5 @@ returns-in-Choosing-clause-known c = λ head. head_in c.args.state.now Client he
 pub returns-in-Transmission-clause-known : goal.returns-in-Transmission-clause-known
 returns-in-Transmission-clause-known c = λ head. head_in c.args.state.now Client head 28 _ c.in-Transmission.is
     (λ core counted s. let t = transmission_of core.phase _ (sym c.in-Transmission.is ∙ s.phase_is) in
-    decided_in counted core Client head (definitions.Transmission t.0) (request (in_force core) core head) t.1 (ap (λ b. request_unless b core head) (sym s.disconnected_is ∙ c.if-not-state.true)))
+    decided_in counted core Client head (definitions.Transmission t.0) (request core head) t.1 (ap (λ b. request_unless b core head) (sym s.disconnected_is ∙ c.if-not-state.true)))
     (λ e. (c.if-not-state.true, e))

@@ -1,7 +1,6 @@
 use Rattle.std.proofs.Common.{◌≡◌, length, refl, sym, ◌∙◌, ap, subst}
 use Rattle.nbd_wire.specs.declared.message.Side.TheVariants.{Client}
 use Rattle.nbd_wire.specs.protocol.States as definitions
-use Rattle.nbd_wire.specs.protocol.States.{in_force}
 use Rattle.nbd_laws.specs.internal.Judge.{request_unless}
 use Rattle.nbd_laws.specs.internal.JudgeNegotiation.{choice, client_flags}
 use Rattle.nbd_laws.specs.internal.JudgeTransmission.{request}
@@ -29,5 +28,5 @@ returns-in-Transmission-clause-refused c =
     let whole = subst (λ (p : Phase). whole_head_by p c.args.state.now.disconnected Client c.args.head.now) c.in-Transmission.is c.requires in
     if_err c.request.result _ _ c.request.ensures.refused
     (λ fault bad core counted s. let t = transmission_of core.phase _ (sym c.in-Transmission.is ∙ s.phase_is) in
-    refused_in counted core Client c.args.head.now fault (definitions.Transmission t.0) (request (in_force core) core c.args.head.now) t.1
-    (ap (λ b. request_unless b core c.args.head.now) (sym s.disconnected_is ∙ whole.0)) (sym whole.1) (bad core (in_force core) (c.has_contexts.ensures core s)))
+    refused_in counted core Client c.args.head.now fault (definitions.Transmission t.0) (request core c.args.head.now) t.1
+    (ap (λ b. request_unless b core c.args.head.now) (sym s.disconnected_is ∙ whole.0)) (sym whole.1) (bad core))

@@ -1,0 +1,13 @@
+use Rattle.std.proofs.Common.{◌≡◌, ◌∷◌, length}
+use Rattle.nbd_wire.specs.codec.Contents.{extent_of}
+use Rattle.nbd_wire.specs.protocol.Payloads.{extents_of}
+use Rattle.nbd_session.proofs.judge.ExtentLemmas.{Within}
+use Rattle.nbd_session.proofs.statuses.last_begins_within.Given as goal
+
+-- what is left answers for the whole
+abbrev pub invariant-loop-next : goal.invariant-loop-next
+invariant-loop-next l =
+    Within l.fn.size (extents_of l.fn.descriptors) ≡ Within l.left (extent_of l.extent ∷ extents_of l.rest)
+
+abbrev pub decreases-loop-next : goal.decreases-loop-next
+decreases-loop-next l = length (extents_of l.rest)

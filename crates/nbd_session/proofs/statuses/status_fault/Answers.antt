@@ -1,0 +1,52 @@
+use Rattle.std.proofs.Common.{◌≡◌, ◌+◌, ◌==◌, ◌∙◌, ap, arith, false, length, not, refl, sym, true}
+use Rattle.nbd_wire.specs.declared.chunks.TheConstants as chunks
+use Rattle.nbd_wire.specs.declared.message.Message.TheVariants.{Chunk}
+use Rattle.std.specs.Prelude.{option_to_list}
+use Rattle.nbd_wire.specs.protocol.Contexts.{Status}
+use Rattle.nbd_wire.specs.protocol.Flags.{has}
+use Rattle.nbd_wire.specs.protocol.Operations.{Operation, ends_reply, has_failed, is_proper, pieces}
+use Rattle.nbd_wire.specs.protocol.Payloads.{extents_of}
+use Rattle.nbd_wire.specs.protocol.States.{Core, in_force, with_reply}
+use Rattle.nbd_wire.specs.protocol.Statuses.{statuses}
+use Rattle.nbd_laws.specs.internal.JudgeTransmission.{total}
+use Rattle.nbd_laws.proofs.judge.BoolLemmas.{not_false, not_true}
+use Rattle.nbd_session.specs.internal.Asking.{done_by, finish_by}
+use Rattle.nbd_state.proofs.RecordingLemmas.{told_with}
+use Rattle.nbd_session.proofs.judge.ChunkFaultLemmas.{lacks, malformed_status, right_status, unknown_status, wrong_status}
+use Rattle.nbd_session.proofs.statuses.status_fault.Goals as goal
+
+pub returns-then-not-has_contexts : goal.returns-then-not-has_contexts
+returns-then-not-has_contexts c = λ core export e cookie s q shown u.
+    sym (unknown_status export e c.args.flags cookie c.args.payload.now (ap (λ cs. length cs == 0) q ∙ not_false _ (sym (c.has_contexts.ensures core s) ∙ c.if-not-has_contexts.true)))
+
+pub returns-in_default : goal.returns-in_default
+returns-in_default c = λ core export e cookie s q shown u.
+    sym (malformed_status export e c.args.flags cookie c.args.payload.now (sym c.in_default.ensures.same))
+
+pub returns-then-not-fits_status : goal.returns-then-not-fits_status
+returns-then-not-fits_status c = λ core export e cookie s q shown u.
+    let status : Status = record { id = c.in-Some.id; extents = extents_of c.in-Some.descriptors.now } in
+    sym (wrong_status export e c.args.flags cookie c.args.payload.now status (ap (λ cs. length cs == 0) q ∙ not_true _ (sym (c.has_contexts.ensures core s) ∙ c.if-not-has_contexts.false)) (sym c.in-Some.ensures.same)
+    (sym (c.fits_status.ensures core export e s q shown u) ∙ c.if-not-fits_status.true))
+
+pub returns-then-has : goal.returns-then-has
+unfolding ends_reply
+returns-then-has c = λ core export e cookie s q shown u.
+    let payload = c.args.payload.now in
+    let status : Status = record { id = c.in-Some.id; extents = extents_of c.in-Some.descriptors.now } in
+    let w : Operation = with_reply e (Chunk c.args.flags chunks.BLOCK_STATUS cookie payload) in
+    c.finish_fault.ensures core export e (statuses w) s q shown
+    (told_with export e (Chunk c.args.flags chunks.BLOCK_STATUS cookie payload) c.args.exchange.now (has c.args.flags chunks.DONE) shown u refl status (ap option_to_list (sym c.in-Some.ensures.same)))
+    ∙ ap (λ n. finish_by e.command e.length (is_proper export e) (has_failed e) n (lacks w)) (omega arith)
+    ∙ ap (λ d. done_by d (finish_by e.command e.length (is_proper export e) (has_failed e) (total (pieces e)) (lacks w))) (sym (sym c.has.ensures ∙ c.if-has.true))
+    ∙ sym (right_status export e c.args.flags cookie payload status (ap (λ cs. length cs == 0) q ∙ not_true _ (sym (c.has_contexts.ensures core s) ∙ c.if-not-has_contexts.false)) (sym c.in-Some.ensures.same)
+    (sym (c.fits_status.ensures core export e s q shown u) ∙ c.if-not-fits_status.false))
+
+pub returns-else-has : goal.returns-else-has
+returns-else-has c = λ core export e cookie s q shown u.
+    let payload = c.args.payload.now in
+    let status : Status = record { id = c.in-Some.id; extents = extents_of c.in-Some.descriptors.now } in
+    let w : Operation = with_reply e (Chunk c.args.flags chunks.BLOCK_STATUS cookie payload) in
+    ap (λ d. done_by d (finish_by e.command e.length (is_proper export e) (has_failed e) (total (pieces e)) (lacks w))) (sym (sym c.has.ensures ∙ c.if-has.false))
+    ∙ sym (right_status export e c.args.flags cookie payload status (ap (λ cs. length cs == 0) q ∙ not_true _ (sym (c.has_contexts.ensures core s) ∙ c.if-not-has_contexts.false)) (sym c.in-Some.ensures.same)
+    (sym (c.fits_status.ensures core export e s q shown u) ∙ c.if-not-fits_status.false))
