@@ -14,7 +14,7 @@ use crate::OrderFault;
 use crate::least::{exceeds, lesser};
 use crate::service::Service;
 use nbd_session::{Asked, Transcript};
-use nbd_state::{Span, has_range};
+use nbd_state::Span;
 use nbd_wire::Entry;
 use std::alloc::{AllocError, Global};
 use std::mem;
@@ -76,7 +76,8 @@ fn none_served(alloc: Global, count: usize) -> Result<Vec<Service>, AllocError>
     Ok(table)
 }
 
-// What of a request's range lies in the export; nothing where its type has no range.
+// What of a request's range lies in the export; nothing where its type has no range, and of a BLOCK_STATUS that is not
+// proper.
 fn inside(transcript: &Transcript, one: &Asked) -> Span
     ensures { result ≡ span_of_asked transcript.now.export (report_of_request one.now) }
 {
@@ -84,7 +85,7 @@ fn inside(transcript: &Transcript, one: &Asked) -> Span
         Some((size, _)) => size,
         None => 0,
     };
-    if has_range(one.command) && one.offset < size {
+    if one.has_inside() && one.offset < size {
         Span {
             offset: one.offset,
             size: u64::from(one.length).min(size - one.offset),

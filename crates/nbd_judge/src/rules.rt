@@ -72,19 +72,21 @@ fn sentence_of(fault: WireFault) -> &'static str {
         WireFault::UnknownCookie =>
             "A reply has the cookie of an outstanding request, all of whose bytes had come before the reply began.",
         WireFault::SimpleForbidden =>
-            "With structured replies a READ is answered by chunks; so is a request that has received one.",
+            "With structured replies a READ is answered by chunks, and the success of a BLOCK_STATUS; so is a request that has received one.",
         WireFault::ChunkForbidden =>
             "A chunk is sent only where structured replies were negotiated.",
         WireFault::BadChunk =>
             "A chunk is of a known type, and its payload has the form of this type; one of type NONE has DONE.",
         WireFault::BadContent =>
-            "Content answers a READ, lies in its range and shares no byte with content before it, and a READ with DF gets one piece; an error's offset lies in the range.",
+            "Content answers a READ, lies in its range and shares no byte with content before it, and a READ with DF gets one piece; an error's offset lies in the range; a status answers a BLOCK_STATUS, is the only one of a metadata context in force, and its last extent alone may pass the range.",
         WireFault::IncompleteRead =>
             "The reply to a READ that succeeds has every byte of its range.",
         WireFault::SuccessOfImproper =>
             "An option or a request that the client should not have sent is answered by an error.",
         WireFault::BadDisconnect => "DISC has neither an offset nor a length.",
         WireFault::Unfinished => "The capture has each message that began to its last byte.",
+        WireFault::IncompleteStatus =>
+            "The reply to a BLOCK_STATUS that succeeds has the status of each metadata context in force.",
     }
 }
 
@@ -110,7 +112,8 @@ fn section_of(fault: WireFault) -> &'static str {
         WireFault::ChunkForbidden => "proto.md, \"Structured reply chunk message\"",
         WireFault::BadChunk => "proto.md, \"Structured reply types\"",
         WireFault::BadContent => "proto.md, \"Structured reply types\", \"Request types\"",
-        WireFault::IncompleteRead | WireFault::BadDisconnect => "proto.md, \"Request types\"",
+        WireFault::IncompleteRead | WireFault::BadDisconnect | WireFault::IncompleteStatus =>
+            "proto.md, \"Request types\"",
     }
 }
 

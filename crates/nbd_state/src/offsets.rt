@@ -1,12 +1,14 @@
 //! What a request leaves or reads at one offset of the export.
 
-ghost use Rattle.std.specs.Prelude.{◌≡◌, MatchOption, true, false};
+ghost use Rattle.std.specs.Prelude.{◌≡◌, ◌==◌, ◌&&◌, ◌||◌, MatchOption, true, false, not};
+ghost use Rattle.nbd_wire.specs.declared.commands.TheConstants as commands;
+ghost use Rattle.nbd_wire.specs.protocol.Operations.{has_range};
 ghost use Rattle.nbd_state.specs.Transcripts.{report_of_request};
 ghost use Rattle.nbd_wire.specs.protocol.ExportBytes as bytes;
 ghost use Rattle.nbd_wire.specs.protocol.Pieces.{byte_at, holds, is_in, piece_byte};
 
 use crate::asked::{Asked, Outcome};
-use crate::proper::is_change;
+use crate::proper::{has_range, is_change};
 use nbd_wire::{Piece, commands};
 
 impl Asked {
@@ -25,6 +27,15 @@ impl Asked {
         ensures { result ≡ is_in self.now.offset self.now.length offset }
     {
         self.offset <= offset && offset - self.offset < u64::from(self.length)
+    }
+
+    /// Whether what lies in its range, as far as the export goes, lies inside it: its type has a range, and it is no
+    /// BLOCK_STATUS that is not proper (this project's choice).
+    pub fn has_inside(&self) -> bool
+        ensures { result ≡ ((self.now.proper || not (self.now.command == commands.BLOCK_STATUS))
+            && has_range self.now.command) }
+    {
+        (self.proper || self.command != commands::BLOCK_STATUS) && has_range(self.command)
     }
 
     /// Whether it is a WRITE, TRIM or WRITE_ZEROES with the offset in its range.

@@ -1,10 +1,11 @@
 -- The table of what an order serves of each request.
 use Rattle.std.proofs.lemmas.Option.{slice_get_within}
 use Rattle.nbd_wire.specs.protocol.Verdicts.{IsFaultless}
-use Rattle.std.proofs.Common.{MatchOption, is_some, ◌≡◌, ℕ, zero, suc, ◌+◌, ◌-◌, ◌<◌, ◌≤◌, ◌==◌, ◌&&◌, ◌⊎◌, inl, inr, List, [], ◌∷◌, ◌++◌, length, refl, sym, ◌∙◌, ap, subst, Option, Some, None, Result, Ok, Err, Bool, true, false, if◌then◌else◌, arith, nat_le, nat_lt, min, eqb-true, slice_get, slice_set, take, replicate, add-one}
+use Rattle.std.proofs.Common.{MatchOption, is_some, ◌≡◌, ℕ, zero, suc, ◌+◌, ◌-◌, ◌<◌, ◌≤◌, ◌==◌, ◌&&◌, ◌⊎◌, inl, inr, List, [], ◌∷◌, ◌++◌, length, refl, sym, ◌∙◌, ap, subst, Option, Some, None, Result, Ok, Err, Bool, true, false, if◌then◌else◌, arith, nat_le, nat_lt, min, eqb-true, slice_get, slice_set, take, replicate, add-one, ◌||◌, not}
 use Rattle.std.proofs.lemmas.Bool.{leb-true, le-leb, lt-ltb, ltb-true, ltb-false}
 use Rattle.nbd_wire.specs.declared.entry.Entry.{Entry}
-use Rattle.nbd_wire.specs.protocol.Entries.{HasBadPart, IsTwice, IsWhollyServed, MayServe, NamesWhole, inside, numbers}
+use Rattle.nbd_wire.specs.protocol.Entries.{HasBadPart, IsTwice, IsWhollyServed, MayServe, NamesWhole, inside, numbers, inside_of}
+use Rattle.nbd_wire.specs.declared.commands.TheConstants as commands
 use Rattle.nbd_wire.specs.protocol.Operations.{Exporting, has_range}
 use Rattle.nbd_wire.specs.protocol.Orders.{HasReplyStarted, IsBad, IsLate, IsUnserved, NamesNone}
 use Rattle.nbd_wire.specs.protocol.Pieces.{is_in}
@@ -19,7 +20,7 @@ use Rattle.nbd_judge.specs.declared.service.Service.TheVariants.{Unnamed, Whole,
 use Rattle.nbd_judge.specs.declared.verdict.OrderFault.{OrderFault}
 use Rattle.nbd_judge.specs.declared.verdict.OrderFault.TheVariants.{NoSuchRequest, Twice, Late, Missing, BadPart, NotCovered}
 use Rattle.nbd_judge.specs.Orders.{IsOrderFault}
-use Rattle.nbd_judge.specs.internal.Services.{AreServices, IsBadAt, IsFaultAfter, IsFaultOfService, IsFirstBad, IsNext, IsServiceAfter, IsServiceOf, IsSpanOf, IsUnservedBy, LieApart, TellsFault, TellsUnserved, part_pieces, parts_of, span_if, span_of_asked}
+use Rattle.nbd_judge.specs.internal.Services.{has_inside, AreServices, IsBadAt, IsFaultAfter, IsFaultOfService, IsFirstBad, IsNext, IsServiceAfter, IsServiceOf, IsSpanOf, IsUnservedBy, LieApart, TellsFault, TellsUnserved, part_pieces, parts_of, span_if, span_of_asked}
 use Rattle.nbd_judge.proofs.contents.EffectLemmas.{taken_one}
 use Rattle.nbd_judge.proofs.verdicts.DecisionLemmas.{same_or_not}
 
@@ -63,10 +64,18 @@ span_is size true offset len x = go (nat_lt offset size) refl
         let lo : offset ≤ x = i.0 in let in_size : x < size = ltb-true x size b.1 in let far : size ≤ offset = ltb-false offset size e in absurd (omega arith)))
         (λ h. (let i = from_in 0 0 x h in let hi : x < 0 = i.1 in absurd (omega arith)))
 
-span_of_inside : (export : Option Exporting) (a : Asked) → IsSpanOf (span_of_asked export a) (inside export a.command a.offset a.length)
-span_of_inside (Some export) a x = span_is export.size (has_range a.command) a.offset a.length x
-span_of_inside None a x = none (has_range a.command) (span_is 0 (has_range a.command) a.offset a.length x)
+span_of_inside : (export : Option Exporting) (a : Asked) → IsSpanOf (span_of_asked export a) (inside_of a.proper export a.command a.offset a.length)
+span_of_inside (Some export) a x = joined (a.proper || not (a.command == commands.BLOCK_STATUS)) (has_range a.command) _ ∙ span_is export.size (has_inside a) a.offset a.length x
   where
+    joined : (p r t : Bool) → (p && (r && t)) ≡ ((p && r) && t)
+    joined true r t = refl
+    joined false r t = refl
+span_of_inside None a x = nothing (a.proper || not (a.command == commands.BLOCK_STATUS)) ∙ none (has_inside a) (span_is 0 (has_inside a) a.offset a.length x)
+  where
+    nothing : (p : Bool) → (p && false) ≡ false
+    nothing true = refl
+    nothing false = refl
+
     none : {c : Bool} (b : Bool) → (b && (is_in a.offset a.length x && nat_lt x 0)) ≡ c → false ≡ c
     none b e = sym (same_bool (b && (is_in a.offset a.length x && nat_lt x 0)) false
         (λ h. (let q = both b (is_in a.offset a.length x && nat_lt x 0) h in let r = both (is_in a.offset a.length x) (nat_lt x 0) q.1 in

@@ -1,11 +1,12 @@
 -- What the entries of an order serve of one request, and a table of that.
-use Rattle.std.specs.Prelude.{ℕ, suc, List, [], ◌∷◌, ◌++◌, ◌≡◌, ◌+◌, ◌-◌, ◌<◌, ◌≤◌, ◌==◌, ◌&&◌, Bool, true, false, min, nat_lt, if◌then◌else◌, Option, Some, None, Result, Ok, Err, MatchResult, length, slice_get, take}
+use Rattle.std.specs.Prelude.{ℕ, suc, List, [], ◌∷◌, ◌++◌, ◌≡◌, ◌+◌, ◌-◌, ◌<◌, ◌≤◌, ◌==◌, ◌&&◌, Bool, true, false, min, nat_lt, if◌then◌else◌, Option, Some, None, Result, Ok, Err, MatchResult, length, slice_get, take, ◌||◌, not}
 use Rattle.std.specs.declared.vec.Vec.{Vec}
 use Rattle.nbd_wire.specs.declared.entry.Entry.{Entry}
 use Rattle.nbd_wire.specs.declared.entry.Part.{Part}
 use Rattle.nbd_wire.specs.declared.payloads.Piece.{Piece}
 use Rattle.nbd_wire.specs.declared.payloads.Piece.TheVariants.{Hole}
 use Rattle.nbd_wire.specs.protocol.Entries.{HasBadPart, IsTwice, IsWhollyServed, MayServe, Names, NamesWhole}
+use Rattle.nbd_wire.specs.declared.commands.TheConstants as commands
 use Rattle.nbd_wire.specs.protocol.Operations.{Exporting, has_range}
 use Rattle.nbd_wire.specs.protocol.Orders.{IsBad, IsMissing, IsNotCovered, IsUnserved, HasReplyStarted, NamesNone, NamesAgain, IsBadPart}
 use Rattle.nbd_wire.specs.protocol.Pieces.{SharesNone, is_in, piece_offset, piece_size}
@@ -97,9 +98,13 @@ abbrev pub span_if : Bool → (offset len size : ℕ) → Span
 span_if true offset len size = record { offset = offset; size = min len (size - offset) }
 span_if false offset len size = record { offset = 0; size = 0 }
 
--- where what lies inside a request lies: its range, as far as the export goes; nowhere where its type has none
-abbrev pub span_in : (size : ℕ) → (command offset len : ℕ) → Span
-span_in size command offset len = span_if (has_range command && nat_lt offset size) offset len size
+-- a request of a type with a range, and no BLOCK_STATUS that is not proper
+abbrev pub has_inside : Asked → Bool
+has_inside a = (a.proper || not (a.command == commands.BLOCK_STATUS)) && has_range a.command
+
+-- where what lies inside a request lies: its range, as far as the export goes; nowhere where it has nothing inside
+abbrev pub span_in : (size : ℕ) → Asked → Span
+span_in size a = span_if (has_inside a && nat_lt a.offset size) a.offset a.length size
 
 -- the size of an export, if there is one
 abbrev pub export_size : Option Exporting → ℕ
@@ -108,7 +113,7 @@ export_size None = 0
 
 -- the same of a request of a report
 abbrev pub span_of_asked : Option Exporting → Asked → Span
-span_of_asked export a = span_in (export_size export) a.command a.offset a.length
+span_of_asked export a = span_in (export_size export) a
 
 -- the table has a cell for each request, that of request k at k - 1; each says what the first n entries serve, none of
 -- which is bad
