@@ -1,6 +1,6 @@
 -- What an order without a fault serves, and in which order.
-use Rattle.std.proofs.Common.{◌≡◌, ℕ, zero, suc, ◌<◌, ◌≤◌, inl, inr, List, length, refl, sym, ◌∙◌, ap, subst, Option, Some, None, Bool, true, false, ◌&&◌, ◌||◌, ◌==◌, nat_lt, arith, slice_get, take, IsTrue}
-use Rattle.std.proofs.lemmas.Bool.{and_from, and_parts, cases_lt, false_from_ne_true, lt-ltb, ltb-true}
+use Rattle.std.proofs.Common.{◌≡◌, ℕ, zero, suc, ◌<◌, ◌≤◌, inl, inr, List, length, refl, sym, ◌∙◌, ap, subst, Option, Some, None, Bool, true, false, not, ◌&&◌, ◌||◌, ◌==◌, nat_lt, arith, slice_get, take, IsTrue}
+use Rattle.std.proofs.lemmas.Bool.{and_from, and_parts, cases_lt, eqb-true, false_from_ne_true, lt-ltb, ltb-true}
 use Rattle.std.proofs.lemmas.Option.{slice_get_within}
 use Rattle.nbd_wire.specs.declared.commands.TheConstants as commands
 use Rattle.nbd_wire.specs.declared.entry.Entry.{Entry}
@@ -12,25 +12,36 @@ use Rattle.nbd_wire.specs.protocol.Pieces.{is_in}
 use Rattle.nbd_wire.specs.protocol.Reports.{Asked, Report, asked_at, inside_asked, inside_in, known_in}
 use Rattle.nbd_wire.specs.protocol.Verdicts.{IsFaultless}
 use Rattle.nbd_order.specs.internal.Refutations.{IsBefore}
+use Rattle.nbd_order.proofs.OffsetLemmas.{open_to}
 use Rattle.nbd_order.proofs.TouchLemmas.{from_taken, is_served_by, names_by, number_at, served_at, taken, within}
 
 -- a change has a range
 ranged : (command : ℕ) → is_change command ≡ true → has_range command ≡ true
-ranged command h = go (command == commands.READ) (command == commands.WRITE) (command == commands.TRIM) (command == commands.CACHE) (command == commands.WRITE_ZEROES) h
+ranged command h = go (command == commands.READ) (command == commands.WRITE) (command == commands.TRIM) (command == commands.CACHE) (command == commands.WRITE_ZEROES) (command == commands.BLOCK_STATUS) h
   where
-    go : (a b c d e : Bool) → (b || c || e) ≡ true → (a || b || c || d || e) ≡ true
-    go true b c d e h = refl
-    go false true c d e h = refl
-    go false false true d e h = refl
-    go false false false true e h = refl
-    go false false false false e h = h
+    go : (a b c d e f : Bool) → (b || c || e) ≡ true → (a || b || c || d || e || f) ≡ true
+    go true b c d e f h = refl
+    go false true c d e f h = refl
+    go false false true d e f h = refl
+    go false false false true e f h = refl
+    go false false false false true f h = refl
+    go false false false false false f h = absurd (cc)
+
+-- and is no BLOCK_STATUS
+not_status : (command : ℕ) → is_change command ≡ true → (command == commands.BLOCK_STATUS) ≡ false
+not_status command h = go (command == commands.BLOCK_STATUS) refl
+  where
+    go : (b : Bool) → (command == commands.BLOCK_STATUS) ≡ b → (command == commands.BLOCK_STATUS) ≡ false
+    go true q = absurd (let w : true ≡ false = sym h ∙ ap is_change (eqb-true command commands.BLOCK_STATUS q) in cc)
+    go false q = q
 
 pub in_range : (export : Option Exporting) (o : Option Asked) (e : Effect) (x : ℕ) → effect_if o ≡ Some e → IsTrue (inside_asked export o x)
     → IsTrue (is_in e.offset e.length x) × ((s : Exporting) × (export ≡ Some s) × (x < s.size))
 in_range export None e x q h = absurd (cc)
-in_range None (Some a) e x q h = absurd (let z : false ≡ true = h in (cc))
+in_range None (Some a) e x q h = absurd (let z : false ≡ true = (and_parts (a.proper || not (a.command == commands.BLOCK_STATUS)) false h).1 in (cc))
 in_range (Some s) (Some a) e x q h =
-    let one = and_parts (has_range a.command) (is_in a.offset a.length x && nat_lt x s.size) h in
+    let all = and_parts (a.proper || not (a.command == commands.BLOCK_STATUS)) (has_range a.command && (is_in a.offset a.length x && nat_lt x s.size)) h in
+    let one = and_parts (has_range a.command) (is_in a.offset a.length x && nat_lt x s.size) all.1 in
     let two = and_parts (is_in a.offset a.length x) (nat_lt x s.size) one.1 in
     let same : effect a ≡ e = cc in
     (ap (λ (d : Effect). is_in d.offset d.length x) (sym same) ∙ two.0, (s, refl, ltb-true x s.size two.1))
@@ -45,8 +56,9 @@ is_inside (Some z) (Some a) e x s q t p l =
     let one = and_parts (is_change a.command) (is_in a.offset a.length x && true) touch in
     let two = and_parts (is_in a.offset a.length x) true one.1 in
     let size : z ≡ s = cc in
-    and_from (has_range a.command) (is_in a.offset a.length x && nat_lt x z.size) (ranged a.command one.0)
-    (and_from (is_in a.offset a.length x) (nat_lt x z.size) two.0 (ap (λ (y : Exporting). nat_lt x y.size) size ∙ lt-ltb x s.size l))
+    and_from (a.proper || not (a.command == commands.BLOCK_STATUS)) (has_range a.command && (is_in a.offset a.length x && nat_lt x z.size)) (open_to a.proper a.command (not_status a.command one.0))
+    (and_from (has_range a.command) (is_in a.offset a.length x && nat_lt x z.size) (ranged a.command one.0)
+    (and_from (is_in a.offset a.length x) (nat_lt x z.size) two.0 (ap (λ (y : Exporting). nat_lt x y.size) size ∙ lt-ltb x s.size l)))
 
 pub numbered : (k : ℕ) (asked : List Asked) (e : Effect) → effect_if (asked_at k asked) ≡ Some e → (0 < k) × (k ≤ length asked)
 numbered zero asked e q = absurd (cc)
