@@ -69,7 +69,7 @@ impl State {
                 let with = payload.as_slice();
                 self.agreed = self.may_agree(*id, with);
                 self.phase = chosen(*id, with);
-                self.selection.choose(alloc, *id, with)
+                self.selection.choose(*id, with)
             }
             Message::Answer {
                 option,

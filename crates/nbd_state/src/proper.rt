@@ -15,7 +15,7 @@ use nbd_wire::{RequestHead, command_flags, commands, transmission};
 
 /// Whether a client should send this request to the export; a BLOCK_STATUS, where a metadata context is in force.
 #[tactic(auto, unfolding(nbd_wire::specs::protocol::Operations::is_proper))]
-pub(crate) fn is_proper(export: Export, has_contexts: bool, request: &RequestHead) -> bool
+pub fn is_proper(export: Export, has_contexts: bool, request: &RequestHead) -> bool
     ensures { (payload : List ℕ) (contexts : List Context) (replies : List Message) →
         has_contexts ≡ not (length contexts == 0) →
         result ≡ operations.is_proper (exporting export) (operation_of_head request.now payload contexts replies) }

@@ -29,7 +29,7 @@ pub struct Selection {
 
 impl Selection {
     /// Before the first SET_META_CONTEXT; takes no memory.
-    pub(crate) fn none(alloc: Global) -> Selection
+    pub fn none(alloc: Global) -> Selection
         ensures { HasSelection result no_selection }
     {
         Selection {
@@ -64,7 +64,7 @@ impl Selection {
     }
 
     /// Whether an option that is chosen leads, if it is granted, into transmission with this selection.
-    pub(crate) fn agrees(&self, option: u32, data: &[u8]) -> bool
+    pub fn agrees(&self, option: u32, data: &[u8]) -> bool
         ensures { (selection : contexts.Selection) → HasSelection self.now selection →
             result ≡ agrees option data.now selection }
     {
@@ -77,12 +77,7 @@ impl Selection {
     }
 
     /// An option was chosen. After an `Err`, that memory ran out, nothing is known of the selection.
-    pub(crate) fn choose(
-        &mut self,
-        alloc: Global,
-        option: u32,
-        data: &[u8],
-    ) -> Result<(), AllocError>
+    pub fn choose(&mut self, option: u32, data: &[u8]) -> Result<(), AllocError>
         ensures { OnOk result ((selection : contexts.Selection) → HasSelection self.old selection →
             HasSelection self.new (selection_at option data.now selection)) }
     {
@@ -91,7 +86,7 @@ impl Selection {
         }
         self.export_name.clear();
         self.export_name.extend_from_slice(name_in(data))?;
-        self.ids = BTreeSet::new(alloc);
+        self.ids.clear();
         self.granted = false;
         Ok(())
     }
@@ -115,8 +110,8 @@ impl Selection {
         }
     }
 
-    // An answer to SET_META_CONTEXT came.
-    fn told(&mut self, kind: u32, answer: &[u8]) -> Result<(), AllocError>
+    /// An answer to SET_META_CONTEXT came. After an `Err`, that memory ran out, the selection is as it was.
+    pub fn told(&mut self, kind: u32, answer: &[u8]) -> Result<(), AllocError>
         ensures { OnOk result ((selection : contexts.Selection) → HasSelection self.old selection →
             HasSelection self.new (selection_told kind answer.now selection)) }
     {

@@ -47,6 +47,14 @@ impl Brief {
         }
     }
 
+    /// The type of a chunk.
+    pub fn chunk_kind(&self) -> Option<u16> {
+        match self {
+            Brief::Chunk(head, _) => Some(head.kind),
+            _ => None,
+        }
+    }
+
     /// The part of the export that it brings, if it brings one.
     pub fn content(&self) -> Option<Part> {
         match self {

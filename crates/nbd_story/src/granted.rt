@@ -20,18 +20,13 @@ impl Text {
             .say(advice(story.option))
             .end()
     }
-
-    /// Adds how a session is recorded without a request on block status.
-    pub fn without_status(self) -> Text {
-        self.say("instead: ").say(WITHOUT_STATUS).say("\n")
-    }
 }
 
 // In which profile an option is followed that is not in this one.
 fn wider(option: u32, profile: Profile) -> &'static str {
     match option {
         options::LIST_META_CONTEXT | options::SET_META_CONTEXT if profile == Profile::Base =>
-            "try --profile wide, which follows the negotiation of metadata contexts, though not block status yet; or ",
+            "try --profile wide, which follows metadata contexts and block status; or ",
         _ => "",
     }
 }

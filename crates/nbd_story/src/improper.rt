@@ -7,7 +7,7 @@ use crate::text::Text;
 use nbd_state::{Export, ends_by, has_range};
 use nbd_wire::flags::{has, has_only};
 use nbd_wire::{
-    Part, RequestHead, Side, chunks, command_flags, commands, head_lengths, transmission,
+    Part, Profile, RequestHead, chunks, command_flags, commands, head_lengths, transmission,
 };
 
 /// Requests of these types.
@@ -74,6 +74,12 @@ const BANS: &[Ban] = &[
         reason: "it carries DF, and the export lacks SEND_DF",
     },
     Ban {
+        whom: Whom::AllBut(commands::BLOCK_STATUS),
+        carries: command_flags::REQ_ONE,
+        lacks: 0,
+        reason: "it carries REQ_ONE, which only a BLOCK_STATUS may",
+    },
+    Ban {
         whom: Whom::AllBut(commands::WRITE_ZEROES),
         carries: command_flags::FAST_ZERO,
         lacks: 0,
@@ -91,7 +97,11 @@ const BANS: &[Ban] = &[
 const FLAGS: u16 = command_flags::FUA
     | command_flags::NO_HOLE
     | command_flags::DF
+    | command_flags::REQ_ONE
     | command_flags::FAST_ZERO;
+
+/// Why a request of another type is not sent.
+const UNKNOWN_TYPE: &str = "its type is none of READ, WRITE, FLUSH, TRIM, CACHE and WRITE_ZEROES";
 
 impl Ban {
     // Whether a request is one that it forbids, with an export that offers these flags.
@@ -117,7 +127,10 @@ impl Text {
     }
 
     /// Adds why a client should not send this request to this export: each reason.
-    pub fn improper(self, head: &RequestHead, export: Export) -> Text {
+    pub fn improper(self, head: &RequestHead, export: Export, story: &Story) -> Text {
+        if head.command == commands::BLOCK_STATUS && !story.contexts.are_in_force() {
+            return self.wrong(Some(without_contexts(story.profile)));
+        }
         let mut text = self.beyond(head, export.size);
         for ban in BANS {
             if ban.forbids(head, export.flags) {
@@ -140,6 +153,14 @@ impl Text {
     }
 }
 
+// Why no BLOCK_STATUS is sent where no metadata context is in force.
+fn without_contexts(profile: Profile) -> &'static str {
+    match profile {
+        Profile::Base => UNKNOWN_TYPE,
+        Profile::Wide => "it asks for a status, and no metadata context is in force",
+    }
+}
+
 // Why no request of this type and form is sent to an export with these flags.
 fn type_reason(head: &RequestHead, offered: u16) -> Option<&'static str> {
     match head.command {
@@ -149,7 +170,7 @@ fn type_reason(head: &RequestHead, offered: u16) -> Option<&'static str> {
             "it changes an export that is read-only: it has READ_ONLY",
         ),
         command if has_range(command) => None,
-        _ => Some("its type is none of READ, WRITE, FLUSH, TRIM, CACHE and WRITE_ZEROES"),
+        _ => Some(UNKNOWN_TYPE),
     }
 }
 
@@ -157,7 +178,7 @@ fn unknown_flags(flags: u16) -> Option<&'static str> {
     if has_only(u32::from(flags), u32::from(FLAGS)) {
         None
     } else {
-        Some("it carries a flag that is none of FUA, NO_HOLE, DF and FAST_ZERO")
+        Some("it carries a flag that is none of FUA, NO_HOLE, DF, REQ_ONE and FAST_ZERO")
     }
 }
 
@@ -178,18 +199,24 @@ pub fn chunk_reason(told: &Told, story: &Story) -> Option<&'static str> {
             "the payload of a hole has 12 bytes, an offset and a size",
         ),
         chunks::OFFSET_HOLE => Some("its hole has size 0"),
-        chunks::ERROR | chunks::ERROR_OFFSET => failure_reason(kind, payload_of(told, story)),
+        chunks::BLOCK_STATUS if story.profile == Profile::Wide => Some(status_form(length, story)),
+        chunks::ERROR | chunks::ERROR_OFFSET => failure_reason(
+            kind,
+            story.behind(told, head_lengths::CHUNK),
+        ),
         _ => Some("its type is none of NONE, OFFSET_DATA, OFFSET_HOLE, ERROR and ERROR_OFFSET"),
     }
 }
 
-// The bytes of a chunk behind its head.
-fn payload_of<'a>(told: &Told, story: &'a Story) -> &'a [u8] {
-    let head = head_lengths::CHUNK as u64;
-    let from = told.before.saturating_add(head);
-    let length = told.length.saturating_sub(head);
-    let bytes = story.recording.bytes_from(Side::Server, from);
-    bytes.get(..length as usize).unwrap_or(&[])
+// Why a status chunk with so many bytes of payload has not its form.
+fn status_form(length: u32, story: &Story) -> &'static str {
+    if !story.contexts.are_in_force() {
+        "it gives a status, and no metadata context is in force"
+    } else if length < 12 || length % 8 != 4 {
+        "the payload of a status has an id of 4 bytes and a descriptor of 8 bytes or more of them"
+    } else {
+        "one of its descriptors has length 0"
+    }
 }
 
 // Why the payload of an error chunk has not its form.
@@ -209,13 +236,31 @@ fn failure_reason(kind: u16, payload: &[u8]) -> Option<&'static str> {
 }
 
 /// Why a chunk with content, or with the offset of an error, does not fit its request.
-pub fn content_reason(brief: &Brief, request: &Request, story: &Story) -> Option<&'static str> {
-    match brief {
+pub fn content_reason(told: &Told, request: &Request, story: &Story) -> Option<&'static str> {
+    if let Some((id, _)) = story.status_in(told) {
+        return Some(status_reason(id, request, story));
+    }
+    match &told.brief {
         Brief::Chunk(_, Some(Brought::Content(part))) => misplaced(*part, request, story),
         Brief::Chunk(_, Some(Brought::Failure(_))) => Some(
             "the offset of the error lies outside the range of the request",
         ),
         _ => None,
+    }
+}
+
+// Why the status of the context with this id does not fit its request.
+fn status_reason(id: u32, request: &Request, story: &Story) -> &'static str {
+    if request.head.command != commands::BLOCK_STATUS {
+        "a status answers only a BLOCK_STATUS"
+    } else if !story.contexts.has(id) {
+        "no metadata context in force has its id"
+    } else if story.teller(id, request.number).is_some() {
+        "its context has a status before it in this reply"
+    } else if has(request.head.flags, command_flags::REQ_ONE) {
+        "the request has REQ_ONE, so it gets one descriptor, which ends with the range or before"
+    } else {
+        "the descriptors before the last one reach the end of the range"
     }
 }
 

@@ -8,6 +8,7 @@
 mod arriving;
 mod brief;
 mod content;
+mod contexts;
 mod deduced;
 mod differing;
 mod explanation;

@@ -25,14 +25,9 @@ impl<'a> Data<'a> {
 impl Story {
     // What a message of the negotiation has behind a head of this length. No byte of the other side comes between.
     fn data_of(&self, told: &Told, head: usize) -> Data<'_> {
-        let head = head as u64;
-        let length = told.length.saturating_sub(head);
-        let bytes = self
-            .recording
-            .bytes_from(told.side, told.before.saturating_add(head));
         Data {
-            bytes: bytes.get(..length as usize).unwrap_or(bytes),
-            first: told.first.saturating_add(head),
+            bytes: self.behind(told, head),
+            first: told.first.saturating_add(head as u64),
         }
     }
 }

@@ -47,7 +47,10 @@ impl Text {
             Brief::Chunk(head, brought) => self
                 .say("chunk")
                 .to(story.request_in(told))
-                .chunk(head, brought),
+                .chunk(head, brought)
+                .status(head.kind, told, story)
+                .flags_in(flag_names::CHUNK, head.flags),
+            Brief::Answer(head, info) => self.answer(head, info).context_told(head, told, story),
             brief => self.negotiation(brief),
         }
     }
@@ -62,7 +65,6 @@ impl Text {
                 .say("client flags, ")
                 .flags(flag_names::CLIENT, *flags),
             Brief::Choice(head) => self.option(head.id).data(head.length),
-            Brief::Answer(head, info) => self.answer(head, info),
             Brief::Exported(export) => self.say("export of ").export(*export),
             _ => self,
         }
@@ -152,7 +154,6 @@ impl Text {
             .count(u64::from(head.length), "byte")
             .say(" of payload")
             .brought(brought)
-            .flags_in(flag_names::CHUNK, head.flags)
     }
 
     // What a chunk brings: where its content lies, or its error.

@@ -5,7 +5,6 @@ use crate::parts::{Parts, first_outside, has_offset, inside, shared};
 use crate::story::{Request, Story, range};
 use crate::text::Text;
 use nbd_judge::{OrderFault, order_rule};
-use nbd_state::has_range;
 use nbd_wire::{Entry, Part};
 use std::alloc::Global;
 
@@ -134,7 +133,7 @@ impl Text {
 
     // What a request asks for of the export.
     fn range(self, request: &Request, story: &Story) -> Text {
-        if has_range(request.head.command) {
+        if request.has_inside() {
             self.part("range: ", range(&request.head)).range_in(
                 range(&request.head),
                 inside(request, story.size()),
@@ -234,7 +233,7 @@ fn first_shared(
 
 // Where an offset lies that is not inside a request.
 fn side_of_range(request: &Request, offset: u64) -> &'static str {
-    if has_range(request.head.command) && has_offset(range(&request.head), offset) {
+    if request.has_inside() && has_offset(range(&request.head), offset) {
         ", which lies beyond the end of the export\n"
     } else {
         ", which lies outside the request's range\n"

@@ -1,7 +1,6 @@
 //! Where parts of an export lie to one another.
 
 use crate::story::Request;
-use nbd_state::has_range;
 use nbd_wire::{Entry, Part};
 use std::alloc::{AllocError, Global};
 
@@ -46,10 +45,10 @@ pub fn first_outside(part: Part, range: Part) -> Option<u64> {
     }
 }
 
-/// What of a request's range lies in an export of this size; nothing where its type has no range.
+/// What of a request's range lies in an export of this size; nothing where no part of it can be served.
 pub fn inside(request: &Request, size: u64) -> Part {
     let offset = request.head.offset;
-    if has_range(request.head.command) && offset < size {
+    if request.has_inside() && offset < size {
         Part {
             offset,
             length: u64::from(request.head.length).min(size - offset),

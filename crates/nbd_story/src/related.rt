@@ -62,13 +62,14 @@ impl Text {
             WireFault::SuccessOfImproper => self.export_told(request, story),
             WireFault::BadChunk => self.wrong(chunk_reason(told, story)),
             WireFault::BadContent => self
-                .wrong(content_reason(&told.brief, request, story))
+                .wrong(content_reason(told, request, story))
                 .rival(told, request, story),
             WireFault::IncompleteRead => self.gap(
                 parts_brought(alloc, told, request, story),
                 range(&request.head),
                 ", which no chunk brings\n",
             ),
+            WireFault::IncompleteStatus => self.missing_statuses(told, request, story),
             _ => self,
         }
     }
@@ -79,7 +80,7 @@ impl Text {
                 .say("export: ")
                 .export(export)
                 .end()
-                .improper(&request.head, export),
+                .improper(&request.head, export, story),
             None => self,
         }
     }

@@ -1,9 +1,10 @@
 //! The messages of a session with their places, and what became of its requests.
 
 use crate::brief::Brief;
+use crate::contexts::Contexts;
 use crate::parts::{has_offset, shared};
 use crate::recording::Recording;
-use nbd_state::Export;
+use nbd_state::{Export, has_range, is_proper};
 use nbd_wire::flags::has_wide;
 use nbd_wire::{
     AnswerHead, Info, Message, Part, Profile, RequestHead, Side, answers, commands, handshake,
@@ -68,12 +69,19 @@ pub struct Request {
     pub finished: Option<u64>,
     /// The error that its reply told; 0 where it told none.
     pub error: u32,
+    /// Whether a client should send it to the export.
+    pub proper: bool,
 }
 
 impl Request {
     /// Whether it changes the export at an offset.
     pub fn changes(&self, offset: u64) -> bool {
         is_change(self.head.command) && has_offset(range(&self.head), offset)
+    }
+
+    /// Whether an entry can serve a part of it: its type has a range, and it is no BLOCK_STATUS that is not proper.
+    pub fn has_inside(&self) -> bool {
+        has_range(self.head.command) && (self.proper || self.head.command != commands::BLOCK_STATUS)
     }
 
     /// Whether it was surely served before another one: its reply began before that one had come whole.
@@ -126,9 +134,16 @@ pub struct Story {
     pub option: u32,
     /// How many zeroes the answer to EXPORT_NAME ends with.
     pub padding: u64,
+    /// What was said of metadata contexts.
+    pub contexts: Contexts,
 }
 
 impl Story {
+    /// What a message has behind a head of this length, as far as it has come.
+    pub fn behind(&self, told: &Told, head: usize) -> &[u8] {
+        payload_of(&self.recording, told, head)
+    }
+
     /// One of a session of this profile, without a byte and without a message; takes no memory.
     pub fn of(alloc: Global, profile: Profile) -> Story {
         Story {
@@ -143,6 +158,7 @@ impl Story {
             is_transmission: false,
             option: 0,
             padding: head_lengths::PADDING as u64,
+            contexts: Contexts::none(alloc),
         }
     }
 
@@ -167,9 +183,29 @@ impl Story {
         match (&told.brief, told.request) {
             (Brief::Request(head), Some(number)) => return self.ask(told, *head, number),
             (_, Some(number)) => self.answer(told, number),
-            (brief, None) => self.negotiate(brief),
+            (brief, None) => {
+                self.negotiate(brief);
+                return self.select(told);
+            }
         }
         Ok(())
+    }
+
+    // What a message of the negotiation says of metadata contexts.
+    fn select(&mut self, told: &Told) -> Result<(), AllocError> {
+        let before = told.before;
+        match &told.brief {
+            Brief::Choice(head) => {
+                let data = payload_of(&self.recording, told, head_lengths::CHOICE);
+                self.contexts.choose(head.id, data)
+            }
+            Brief::Answer(head, _) => {
+                let data = payload_of(&self.recording, told, head_lengths::ANSWER);
+                let before = before.saturating_add(head_lengths::ANSWER as u64);
+                self.contexts.answer(head, before, data)
+            }
+            _ => Ok(()),
+        }
     }
 
     // What a message of the negotiation changes.
@@ -211,9 +247,18 @@ impl Story {
             replied: None,
             finished: None,
             error: 0,
+            proper: self.is_proper(&head),
         })?;
         self.outstanding.insert(head.cookie, number)?;
         Ok(())
+    }
+
+    // Whether a client should send a request to the export.
+    fn is_proper(&self, head: &RequestHead) -> bool {
+        match self.export {
+            Some(export) => is_proper(export, self.contexts.are_in_force(), head),
+            None => false,
+        }
     }
 
     // A message of its reply has come; after the last one its cookie is free.
@@ -289,4 +334,12 @@ impl Story {
             },
         }
     }
+}
+
+// What a message has behind a head of this length.
+fn payload_of<'a>(recording: &'a Recording, told: &Told, head: usize) -> &'a [u8] {
+    let head = head as u64;
+    let length = told.length.saturating_sub(head);
+    let bytes = recording.bytes_from(told.side, told.before.saturating_add(head));
+    bytes.get(..length as usize).unwrap_or(bytes)
 }

@@ -6,10 +6,6 @@ use nbd_judge::{Breaker, wire_rule};
 use nbd_wire::{Side, WireFault};
 use std::alloc::Global;
 
-/// What is not followed of a request on block status.
-const STATUS: &str =
-    "nbdcheck does not follow block status yet: the request asks for it, and a metadata context is in force.";
-
 /// Who broke a rule where a request was answered before it was whole.
 const EARLY: &str =
     "the server, if it answered before the request was whole; or the client, if it sent fewer bytes than the request says";
@@ -35,9 +31,6 @@ impl Text {
     fn wire_rule(self, fault: WireFault, breaker: &str, story: &Story) -> Text {
         let rule = wire_rule(fault);
         match fault {
-            WireFault::OutOfProfile if story.is_transmission => self
-                .choice(STATUS, rule.section)
-                .without_status(),
             WireFault::OutOfProfile => self.choice(rule.sentence, rule.section).instead(story),
             WireFault::ExportTooLarge => self.choice(rule.sentence, rule.section),
             _ => self.rule(&rule, breaker),

@@ -180,6 +180,7 @@ fn fault_name(fault: WireFault) -> &'static str
         WireFault::SuccessOfImproper => "SuccessOfImproper",
         WireFault::BadDisconnect => "BadDisconnect",
         WireFault::Unfinished => "Unfinished",
+        WireFault::IncompleteStatus => "IncompleteStatus",
     }
 }
 

@@ -3,6 +3,7 @@
 use Rattle.std.specs.Prelude.{◌≡◌}
 use Rattle.nbd_wire.specs.declared.answers.TheConstants as answers
 use Rattle.nbd_wire.specs.declared.chunks.TheConstants as chunks
+use Rattle.nbd_wire.specs.declared.states.TheConstants as states
 use Rattle.nbd_wire.specs.declared.command_flags.TheConstants as command_flags
 use Rattle.nbd_wire.specs.declared.commands.TheConstants as commands
 use Rattle.nbd_wire.specs.declared.handshake.TheConstants as handshake
@@ -96,6 +97,7 @@ CommandFlagsAreLiteral =
     (command_flags.FUA ≡ 1)
     × (command_flags.NO_HOLE ≡ 2)
     × (command_flags.DF ≡ 4)
+    × (command_flags.REQ_ONE ≡ 8)
     × (command_flags.FAST_ZERO ≡ 16)
 
 -- types and the flag of chunks (proto.md, "Structured reply types", "Structured reply flags")
@@ -104,9 +106,14 @@ ChunksAreLiteral =
     (chunks.NONE ≡ 0)
     × (chunks.OFFSET_DATA ≡ 1)
     × (chunks.OFFSET_HOLE ≡ 2)
+    × (chunks.BLOCK_STATUS ≡ 5)
     × (chunks.ERROR ≡ 0x8001)
     × (chunks.ERROR_OFFSET ≡ 0x8002)
     × (chunks.DONE ≡ 1)
+
+-- flags of the statuses of base:allocation (proto.md, "Metadata querying")
+abbrev pub StatesAreLiteral : Type 0
+StatesAreLiteral = (states.HOLE ≡ 1) × (states.ZERO ≡ 2)
 
 -- lengths of heads in bytes, and of the zeroes after an export's size and flags (the layouts of proto.md)
 abbrev pub LengthsAreLiteral : Type 0

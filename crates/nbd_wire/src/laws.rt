@@ -13,7 +13,7 @@ ghost use Rattle.nbd_wire.specs.declared.message.Message.{Message};
 ghost use Rattle.nbd_wire.specs.declared.flag_names.TheConstants as flag_names;
 ghost use Rattle.nbd_wire.specs.declared.names.TheConstants as names;
 ghost use Rattle.nbd_wire.specs.Names.{chunk_flag_names, chunk_names, client_flag_names, command_flag_names, command_names, error_names, handshake_flag_names, info_names, option_names, reply_names, transmission_flag_names};
-ghost use Rattle.nbd_wire.specs.Numbers.{ChunksAreLiteral, CommandFlagsAreLiteral, CommandsAreLiteral, HandshakeFlagsAreLiteral, InfosAreLiteral, LengthsAreLiteral, LimitsAreLiteral, MagicsAreLiteral, OptionsAreLiteral, ReplyKindsAreLiteral, TransmissionFlagsAreLiteral};
+ghost use Rattle.nbd_wire.specs.Numbers.{ChunksAreLiteral, CommandFlagsAreLiteral, CommandsAreLiteral, HandshakeFlagsAreLiteral, InfosAreLiteral, LengthsAreLiteral, LimitsAreLiteral, MagicsAreLiteral, OptionsAreLiteral, ReplyKindsAreLiteral, StatesAreLiteral, TransmissionFlagsAreLiteral};
 
 /// A number that was read and is written back gives the bytes that it was read from.
 pub fn number_gives_its_bytes()
@@ -76,6 +76,7 @@ pub fn numbers_are_literal()
     ensures commands { CommandsAreLiteral }
     ensures command_flags { CommandFlagsAreLiteral }
     ensures chunks { ChunksAreLiteral }
+    ensures states { StatesAreLiteral }
     ensures lengths { LengthsAreLiteral }
     ensures limits { LimitsAreLiteral }
 {}

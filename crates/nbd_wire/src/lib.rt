@@ -30,6 +30,7 @@ pub mod options;
 pub mod payloads;
 pub mod profile;
 pub mod sides;
+pub mod states;
 pub mod transmission;
 
 pub use bytes::Bytes;
