@@ -9,7 +9,8 @@ and no more memory than 16 MiB and ten times the input (`explain` and `order`: 6
 
   check    the same answer as it stands, as records of one byte and as longest runs; where it is yes, a yes of `explain`, and no
            proof that no order explains the session; in the profile `wide` the same answer as in `base`, unless that is
-           OutOfProfile at an answer to LIST_META_CONTEXT or SET_META_CONTEXT; in both what negotiated.py says of the negotiation
+           OutOfProfile at an answer to LIST_META_CONTEXT or SET_META_CONTEXT; in both what negotiated.py and transmitted.py say
+           of the bytes, and of a yes what they count
   show     the same lines in these forms; what it accepts is, made and shown again, the same; `--names` has as many lines
   explain  the status and the line of `check`; without an order, those of `order`; the same words in other records
   order    what it finds is accepted by `check`; `--arrival` has the number of each request, or says that the session was refused
@@ -26,13 +27,12 @@ from collections import Counter
 from pathlib import Path
 
 import negotiated
+import transmitted
 from built import PROGRAM, Room, build
 from cases import makes, shows
-from cases.contexts import (
-    ALLOCATION, DEPTH, FOLLOWED, NEGOTIATION, NEGOTIATION_TABLE, STATUS_TABLE, STATUSES, ZEROES, ack, error,
-)
+from cases.contexts import ALLOCATION, DEPTH, NEGOTIATION_TABLE, STATUS_TABLE, ZEROES_ARE_COMPARED, ack, error
 from messages import (
-    DISC, DONE, LIST_META_CONTEXT, META_CONTEXT, SET_META_CONTEXT, answer, context, extents, longest_runs,
+    DISC, DONE, LIST_META_CONTEXT, META_CONTEXT, REQ_ONE, SET_META_CONTEXT, answer, context, done, extents, failed, longest_runs,
     one_by_one, option, queries, records_of, simple, status, text,
 )
 from test_cases import TABLES, joined
@@ -46,15 +46,15 @@ WORDS = [b"0", b"1", b"2", b"01", b"-1", b"18446744073709551616", b"C", b"S", b"
 FAULTS = ("BadMagic|NotFixedNewstyle|BadClientFlags|OutOfTurn|WrongOption|BadReplyKind|OutOfProfile|BadReplyPayload|"
           "MissingExportInfo|BadExport|ExportTooLarge|CookieInUse|UnknownCookie|SimpleForbidden|ChunkForbidden|BadChunk|"
           "BadContent|IncompleteRead|SuccessOfImproper|BadDisconnect|Unfinished")
-# The faults of `wide` where a BLOCK_STATUS is followed.
-WIDE_FAULTS = FAULTS + ("|IncompleteStatus" if FOLLOWED in (STATUSES, ZEROES) else "")
+# The faults of `wide`, which follows BLOCK_STATUS.
+WIDE_FAULTS = f"{FAULTS}|IncompleteStatus"
 YES = r"yes requests \d+ answered \d+ improper \d+\n"
 WIRE = rf"no at byte \d+: ({FAULTS})\n"
 IMAGE = r"no image \d+ size \d+\n"
 NO = (rf"({WIRE}|{IMAGE}|no order entry \d+: (NoSuchRequest|Twice|Late|Missing|BadPart|NotCovered)\n|"
       r"no content request \d+ offset \d+\n)")
 # The same in `wide`.
-WIDE_NO = NO.replace(FAULTS, WIDE_FAULTS).replace("no content", "no (content|status)" if FOLLOWED == ZEROES else "no content")
+WIDE_NO = NO.replace(FAULTS, WIDE_FAULTS).replace("no content", "no (content|status)" if ZEROES_ARE_COMPARED else "no content")
 NONE = (rf"({WIRE}|{IMAGE}|no content request \d+ offset \d+ in any order\n|"
         r"no order explains requests \d+( \d+)+ at offset \d+\n)")
 GAVE_UP = r"gave up: too many (steps|states) at request \d+ offset \d+\n"
@@ -86,6 +86,13 @@ EXCHANGED = b"the first bytes of C are a server's (NBDMAGIC): C and S are exchan
 SEARCHED = b"line 1 is no entry of an order but an answer: 'no' or 'gave up'\n"
 EMPTY = b"the capture is empty: nothing was recorded\n"
 REFUSED = b"no order: the session was refused\n"
+
+
+# What a status may say of eight bytes.
+EXTENTS = [
+    [(8, 2)], [(8, 2)], [(8, 3)], [(4, 0), (4, 2)], [(3, 0), (2**32 - 1, 1)], [(8, 0), (1, 0)], [(0, 2)], [],
+    [(2**32 - 1, 0), (1, 0), (1, 2)],
+]
 
 
 class Wrong(Exception):
@@ -267,10 +274,17 @@ class Mutator:
         return [option(number, data), *told, *end]
 
     def status(self):
-        """A BLOCK_STATUS, and at times a reply."""
+        """A BLOCK_STATUS, and at times a reply, which may be odd."""
         cookie, chance = 2**40, self.chance
-        reply = chance.choice([[], [simple(cookie, error=22)], [simple(cookie)], [extents(cookie, 1, (8, 2), flags=DONE)]])
-        return [status(cookie, 0, chance.choice([8, 8, 0, 9])), *reply]
+        flags = chance.choice([0, 0, 0, 1, 2, REQ_ONE, REQ_ONE, 1 | REQ_ONE])
+        asked = status(cookie, 0, chance.choice([8, 8, 8, 4, 0, 9]), flags)
+        told = [(chance.choice([0, 1, 1, 1, 2]), chance.choice(EXTENTS)) for _ in range(chance.choice([0, 1, 1, 1, 2, 3]))]
+        last = chance.randrange(len(told)) if told and chance.random() < 0.1 else len(told) - 1
+        is_done = chance.random() < 0.6
+        chunks = [extents(cookie, number, *parts, flags=DONE * (is_done and at == last))
+                  for at, (number, parts) in enumerate(told)]
+        end = chance.choice([[done(cookie)], [failed(cookie)], [simple(cookie, error=22)], [simple(cookie)], []])
+        return [asked, *chunks, *([] if is_done and told else end)]
 
     def value(self, name, value):
         if name == "padded":
@@ -381,26 +395,15 @@ class Fuzz:
             self.want("explain of a yes", self.judged("explain", capture, order, start), found)
 
     def compare(self, records, base, wide):
-        """The lines of both profiles, beside each other and beside a reader of negotiations."""
+        """The lines of both profiles, beside each other and beside readers, which know neither orders nor contents."""
         if not is_left_out(records, base):
             self.want("check in wide and in base", wide, base)
         elif (place_of(wide) or place_of(base)) < place_of(base):
             raise Wrong(f"check in wide {wide!r}, in base {base!r}")
         for profile, line in (("base", base), ("wide", wide)):
-            told = negotiated.read(records, profile)
-            if told.fault:
-                self.want(f"negotiated.py in {profile}", line, f"no at byte {told.place}: {told.fault}\n")
-            elif place_of(line) and (not told.entered or place_of(line) <= told.behind):
-                raise Wrong(f"negotiated.py in {profile}: {told}, check {line!r}")
-            if FOLLOWED == NEGOTIATION and told.entered:
-                self.compare_status(profile, negotiated.status_in_force(records, told), line)
-
-    def compare_status(self, profile, place, line):
-        """Behind the negotiation a line is OutOfProfile at a BLOCK_STATUS alone, which no line passes by."""
-        refused = place_of(line)
-        is_left_out = line.endswith(": OutOfProfile\n")
-        if is_left_out and refused != place or place and (not refused or refused > place):
-            raise Wrong(f"negotiated.py in {profile}: a BLOCK_STATUS in force at {place}, check {line!r}")
+            told = transmitted.line(records, profile)
+            if line.startswith(("yes", "no at byte")) or told.startswith("no"):
+                self.want(f"transmitted.py in {profile}", line, told)
 
     def ask_show(self, capture, _, __):
         shown = self.show(capture)
@@ -476,7 +479,7 @@ class Fuzz:
 
 
 COMMANDS = ("check", "show", "explain", "order")
-# Of how many sessions of a command metadata contexts are a part: `check` alone has another answer than OutOfProfile for them.
+# Of how many sessions of a command metadata contexts are a part: `check` alone is asked in `wide` too, where they are followed.
 OFTEN = {"check": 0.4, "show": 0.1, "explain": 0.1, "order": 0.1}
 
 
