@@ -29,7 +29,7 @@ from pathlib import Path
 import negotiated
 import transmitted
 from built import PROGRAM, Room, build
-from cases import makes, shows
+from cases import makes, shows, statuses
 from cases.contexts import ALLOCATION, DEPTH, NEGOTIATION_TABLE, STATUS_TABLE, ZEROES_ARE_COMPARED, ack, error
 from messages import (
     DISC, DONE, LIST_META_CONTEXT, META_CONTEXT, REQ_ONE, SET_META_CONTEXT, answer, context, done, extents, failed, longest_runs,
@@ -114,7 +114,7 @@ def seeds():
 
 
 def seeds_with_contexts():
-    for told in STATUS_TABLE + NEGOTIATION_TABLE:
+    for told in STATUS_TABLE + NEGOTIATION_TABLE + statuses.TABLE:
         yield text(told.records), told.order.encode(), told.start
 
 

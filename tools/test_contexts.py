@@ -11,7 +11,7 @@ from pathlib import Path
 import test_cases
 import transmitted
 from built import TOP, Room, Tally
-from cases import damaged, offers
+from cases import damaged, offers, statuses
 from cases.contexts import (
     ALLOCATION, DEPTH, NEGOTIATION_TABLE, ONE_CONTEXT, STATUS_TABLE, TWO_CONTEXTS, ZEROES_ARE_COMPARED, ack, allocation, line_of,
     listing, setting, told_last,
@@ -19,7 +19,7 @@ from cases.contexts import (
 from messages import REQ_ONE, context, failed, front, longest_runs, one_by_one, records_of, status
 from messages import damaged as inverted
 
-TABLE = STATUS_TABLE + NEGOTIATION_TABLE
+TABLE = STATUS_TABLE + NEGOTIATION_TABLE + statuses.TABLE
 PROFILES = "base", "wide"
 # Words that stand in the bytes below.
 WORDS = {
