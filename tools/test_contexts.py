@@ -16,11 +16,12 @@ from cases.contexts import (
     ALLOCATION, DEPTH, NEGOTIATION_TABLE, ONE_CONTEXT, STATUS_TABLE, TWO_CONTEXTS, ZEROES_ARE_COMPARED, ack, allocation, line_of,
     listing, setting, told_last,
 )
-from messages import REQ_ONE, context, failed, front, longest_runs, one_by_one, records_of, status
+from messages import REQ_ONE, context, failed, front, longest_runs, one_by_one, records_of, status, text
 from messages import damaged as inverted
 
 TABLE = STATUS_TABLE + NEGOTIATION_TABLE + statuses.TABLE
 PROFILES = "base", "wide"
+CHUNK = bytes.fromhex("668e33ef")
 # Words that stand in the bytes below.
 WORDS = {
     "IHAVEOPT": "49484156454f5054", "ANSWER": "0003e889045565a9", "ALLOCATION": "626173653a616c6c6f636174696f6e",
@@ -150,6 +151,41 @@ def readers(tally):
             want(tally, f"byte {place} damaged", line, inverted(session, place - 1), profile)
 
 
+def words_at_their_ends(records):
+    """Sessions in which one number of a status chunk is another: the id, a length, or flags."""
+    for number, (side, data) in enumerate(records):
+        if data[:4] == CHUNK and data[6:8] == b"\0\5":
+            for at in range(20, len(data), 4):
+                for value in (0, 1, 2, 4, 2**31, 2**32 - 4, 2**32 - 1):
+                    changed = data[:at] + value.to_bytes(4, "big") + data[at + 4 :]
+                    yield f"{value} at {at} of {number}", [*records[:number], (side, changed), *records[number + 1 :]]
+
+
+def mistakes(records):
+    """A session as it stands, cut behind each byte, with each byte inverted, and with other numbers in its status chunks."""
+    size = ends_of(records)[-1]
+    yield "as it stands", records
+    for count in range(size):
+        yield f"{count} bytes", front(records, count)
+        yield f"byte {count + 1} damaged", inverted(records, count)
+    yield from words_at_their_ends(records)
+
+
+def damages(tally, room):
+    """A session with statuses, with a mistake: `check` in `wide`, in two ways of cutting it, against the readers."""
+    order = statuses.MIXED_ORDER.encode()
+    for name, records in mistakes(statuses.DAMAGED):
+        told = transmitted.line(records, "wide")
+        found = room.check(text(records), order, "zero", profile="wide")
+        line = found.out.decode()
+        if told.startswith("no") or line.startswith(("yes", "no at byte")):
+            tally.want(f"statuses, {name}", line, told)
+        else:
+            tally.holds(f"statuses, {name}", line.startswith(("no order", "no content", "no status")), found)
+        again = room.check(text(one_by_one(records)), order, "zero", profile="wide")
+        tally.want(f"statuses, {name}, byte by byte", again, found)
+
+
 def wanted(capture, is_whole):
     """The lines of a recorded session in `base` and in `wide`. Of the sessions of another folder NAME.out is the one in `wide`
     where zeroes are compared."""
@@ -192,6 +228,7 @@ def run(tally):
         part(tally)
     with Room() as room:
         recorded(tally, room, TOP / "examples", is_whole=False)
+        damages(tally, room)
 
 
 if __name__ == "__main__":

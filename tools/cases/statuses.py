@@ -3,8 +3,8 @@ zeroes unless said. What a status calls zero is zero in all of them.
 """
 
 from cases.contexts import (
-    ALLOCATION, CHUNKS, EMPTY_1, EMPTY_ONE, FOUR, FOUR_ONE, LAST, LENGTH, NO_CONTEXT, STATUS_1, ack, allocation, at, cases,
-    followed, go, granted, one, setting, told_last, two, yes,
+    ALLOCATION, CHUNKS, EMPTY_1, EMPTY_ONE, FOUR, FOUR_ONE, LAST, LENGTH, NO_CONTEXT, STATUS_1, TWO_CONTEXTS, ack, allocation, at,
+    cases, followed, go, granted, one, setting, told_last, two, yes,
 )
 from cases.shows import BEGUN_STRUCTURED_LINES, Show
 from messages import (
@@ -248,6 +248,20 @@ SERVED = [
     one("a part of a status that is not answered", [STATUS_1], left(1, 0), order="1 0 4\n"),
     followed("a part of a status where no context was asked for", NO_CONTEXT + [STATUS_1, failed(1)],
              "no order entry 1: BadPart\n", "no order entry 1: BadPart\n", "1 0 8\n"),
+]
+
+# Statuses and a READ that are outstanding together, a failure and a status of no bytes, and an order of them.
+MIXED = TWO_CONTEXTS + [
+    STATUS_1, status(2, 0, 4, REQ_ONE), extents(1, 2, (1, 1), (7, 0)), read(3, 0, 8), extents(2, 1, (4, 3)),
+    told_last(1, 1, (3, 2), (9, 2)), status(4, 4, 4, FUA), chunk(3, OFFSET_DATA, bytes(16), DONE), told_last(2, 2, (2, 0)),
+    extents(4, 1, (4, 0)), failed(4), EMPTY_1, done(1),
+]
+MIXED_ORDER = "1\n2\n3\n4\n5\n"
+FAILS_7 = chunk(7, ERROR, b"\0\0\0\x16\0\0")
+# The same with requests that are not proper, which fail.
+DAMAGED = MIXED + [
+    status(6, 4, 8), extents(6, 2, (4, 0)), failed(6), status(7, 0, 8, NO_HOLE), FAILS_7, done(7),
+    STATUS_1, simple(1, error=22),
 ]
 
 TABLE = IDS + TWO + ENDS + OTHER_CHUNKS + FORMS + REACHES + ONE + FLAGS + IMPROPER + OUTSTANDING + SERVED
