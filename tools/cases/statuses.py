@@ -62,6 +62,18 @@ IDS = [
              WHOLE_LAST], at(121), yes(1), "1\n"),
 ]
 
+# The contexts end at bytes 115, 142 and 169, the request at 291.
+THREE_CONTEXTS = CHUNKS + [setting(b"x:"), context(5, b"x:a"), context(1, b"x:b"), context(0, b"x:c"), ack(), *go(), STATUS_1]
+
+THREE = [
+    followed("three contexts", THREE_CONTEXTS + [
+        extents(1, 0, (8, 0)), extents(1, 5, (8, 0)), WHOLE_LAST], at(108), yes(1), "1\n"),
+    followed("three contexts, of which one is left out", THREE_CONTEXTS + [
+        extents(1, 5, (8, 0)), told_last(1, 0, (8, 0))], at(108), at(355, "IncompleteStatus"), "1\n"),
+    followed("three contexts, of which one is told twice", THREE_CONTEXTS + [
+        extents(1, 5, (8, 0)), extents(1, 0, (8, 0)), told_last(1, 5, (8, 0))], at(108), at(387, "BadContent"), "1\n"),
+]
+
 TWO = [
     two("both contexts in the order of their ids", [STATUS_1, WHOLE, told_last(1, 2, (8, 0))], yes(1)),
     two("both contexts in the other order", [STATUS_1, extents(1, 2, (8, 1)), WHOLE_LAST], yes(1)),
@@ -264,7 +276,7 @@ DAMAGED = MIXED + [
     STATUS_1, simple(1, error=22),
 ]
 
-TABLE = IDS + TWO + ENDS + OTHER_CHUNKS + FORMS + REACHES + ONE + FLAGS + IMPROPER + OUTSTANDING + SERVED
+TABLE = IDS + THREE + TWO + ENDS + OTHER_CHUNKS + FORMS + REACHES + ONE + FLAGS + IMPROPER + OUTSTANDING + SERVED
 
 CASES = [case for told in TABLE for case in cases(told)]
 
