@@ -84,8 +84,9 @@ class Room:
         words = ["--profile", profile] if profile else []
         return self.run("check", capture, order, "--start", start, *words, **how)
 
-    def show(self, capture, **how):
-        return self.run("show", self.put("capture", capture), **how)
+    def show(self, capture, profile=None, **how):
+        words = ["--profile", profile] if profile else []
+        return self.run("show", self.put("capture", capture), *words, **how)
 
     def make(self, script, **how):
         return self.run("make", self.put("script", script), **how)

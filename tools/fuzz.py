@@ -7,9 +7,10 @@ fields changed), and in the order. Some sessions get options on metadata context
 run is asked: an exit status that the command has, with an output and a standard error of its form; an end within ten seconds;
 and no more memory than 16 MiB and ten times the input (`explain` and `order`: 64 MiB and forty times). And of
 
-  check    the same answer as it stands, as records of one byte and as longest runs; where it is yes, a yes of `explain`, and no
-           proof that no order explains the session; in the profile `wide` the same answer as in `base`, unless that is
-           OutOfProfile at an answer to LIST_META_CONTEXT or SET_META_CONTEXT; in both what negotiated.py says of the negotiation
+  check    in both profiles the same answer as it stands, as records of one byte and as longest runs; where it is yes, a yes of
+           `explain`, and no proof that no order explains the session; in `wide` the same answer as in `base`, unless that is
+           OutOfProfile at an answer to LIST_META_CONTEXT or SET_META_CONTEXT; in both what negotiated.py and transmitted.py say
+           of the bytes, and of a yes what they count
   show     the same lines in these forms; what it accepts is, made and shown again, the same; `--names` has as many lines
   explain  the status and the line of `check`; without an order, those of `order`; the same words in other records
   order    what it finds is accepted by `check`; `--arrival` has the number of each request, or says that the session was refused
@@ -26,13 +27,12 @@ from collections import Counter
 from pathlib import Path
 
 import negotiated
+import transmitted
 from built import PROGRAM, Room, build
-from cases import makes, shows
-from cases.contexts import (
-    ALLOCATION, DEPTH, FOLLOWED, NEGOTIATION, NEGOTIATION_TABLE, STATUS_TABLE, STATUSES, ZEROES, ack, error,
-)
+from cases import makes, shows, statuses
+from cases.contexts import ALLOCATION, DEPTH, NEGOTIATION_TABLE, STATUS_TABLE, ZEROES_ARE_COMPARED, ack, error
 from messages import (
-    DISC, DONE, LIST_META_CONTEXT, META_CONTEXT, SET_META_CONTEXT, answer, context, extents, longest_runs,
+    DISC, DONE, LIST_META_CONTEXT, META_CONTEXT, REQ_ONE, SET_META_CONTEXT, answer, context, done, extents, failed, longest_runs,
     one_by_one, option, queries, records_of, simple, status, text,
 )
 from test_cases import TABLES, joined
@@ -45,17 +45,15 @@ WORDS = [b"0", b"1", b"2", b"01", b"-1", b"18446744073709551616", b"C", b"S", b"
 
 FAULTS = ("BadMagic|NotFixedNewstyle|BadClientFlags|OutOfTurn|WrongOption|BadReplyKind|OutOfProfile|BadReplyPayload|"
           "MissingExportInfo|BadExport|ExportTooLarge|CookieInUse|UnknownCookie|SimpleForbidden|ChunkForbidden|BadChunk|"
-          "BadContent|IncompleteRead|SuccessOfImproper|BadDisconnect|Unfinished")
-# The faults of `wide` where a BLOCK_STATUS is followed.
-WIDE_FAULTS = FAULTS + ("|IncompleteStatus" if FOLLOWED in (STATUSES, ZEROES) else "")
+          "BadContent|IncompleteRead|SuccessOfImproper|BadDisconnect|Unfinished|IncompleteStatus")
+BASE, WIDE = [], ["--profile", "wide"]
 YES = r"yes requests \d+ answered \d+ improper \d+\n"
 WIRE = rf"no at byte \d+: ({FAULTS})\n"
 IMAGE = r"no image \d+ size \d+\n"
+WRONG = "no (content|status)" if ZEROES_ARE_COMPARED else "no content"
 NO = (rf"({WIRE}|{IMAGE}|no order entry \d+: (NoSuchRequest|Twice|Late|Missing|BadPart|NotCovered)\n|"
-      r"no content request \d+ offset \d+\n)")
-# The same in `wide`.
-WIDE_NO = NO.replace(FAULTS, WIDE_FAULTS).replace("no content", "no (content|status)" if FOLLOWED == ZEROES else "no content")
-NONE = (rf"({WIRE}|{IMAGE}|no content request \d+ offset \d+ in any order\n|"
+      rf"{WRONG} request \d+ offset \d+\n)")
+NONE = (rf"({WIRE}|{IMAGE}|{WRONG} request \d+ offset \d+ in any order\n|"
         r"no order explains requests \d+( \d+)+ at offset \d+\n)")
 GAVE_UP = r"gave up: too many (steps|states) at request \d+ offset \d+\n"
 MESSAGE = (r"([CS] (greeting|client-flags|option|answer|export|request|simple|chunk)"
@@ -65,7 +63,6 @@ TOLD = r"([ -~]+\n)*"
 # The output of each command with each exit status that is an answer.
 FORMS = {
     "check": {0: YES, 1: NO},
-    "wide": {0: YES, 1: WIDE_NO},
     "show": {0: f"{MESSAGE}*ok\n", 1: f"{MESSAGE}*{WIRE}"},
     "names": {0: rf"([CS] [ -~]+\n)*ok\n", 1: rf"([CS] [ -~]+\n)*{WIRE}"},
     "explain": {0: YES, 1: f"{NO}{TOLD}"},
@@ -77,7 +74,6 @@ FORMS = {
 # The standard error of a text that is malformed.
 BAD_TEXTS = {
     "check": r"fault (capture|order) line \d+\n",
-    "wide": r"fault (capture|order) line \d+\n",
     "explain": r"fault (capture|order) line \d+\n",
     "make": r"fault script line \d+\n",
 }
@@ -86,6 +82,13 @@ EXCHANGED = b"the first bytes of C are a server's (NBDMAGIC): C and S are exchan
 SEARCHED = b"line 1 is no entry of an order but an answer: 'no' or 'gave up'\n"
 EMPTY = b"the capture is empty: nothing was recorded\n"
 REFUSED = b"no order: the session was refused\n"
+
+
+# What a status may say of eight bytes.
+EXTENTS = [
+    [(8, 2)], [(8, 2)], [(8, 3)], [(4, 0), (4, 2)], [(3, 0), (2**32 - 1, 1)], [(8, 0), (1, 0)], [(0, 2)], [],
+    [(2**32 - 1, 0), (1, 0), (1, 2)],
+]
 
 
 class Wrong(Exception):
@@ -107,7 +110,7 @@ def seeds():
 
 
 def seeds_with_contexts():
-    for told in STATUS_TABLE + NEGOTIATION_TABLE:
+    for told in STATUS_TABLE + NEGOTIATION_TABLE + statuses.TABLE:
         yield text(told.records), told.order.encode(), told.start
 
 
@@ -267,10 +270,17 @@ class Mutator:
         return [option(number, data), *told, *end]
 
     def status(self):
-        """A BLOCK_STATUS, and at times a reply."""
+        """A BLOCK_STATUS, and at times a reply, which may be odd."""
         cookie, chance = 2**40, self.chance
-        reply = chance.choice([[], [simple(cookie, error=22)], [simple(cookie)], [extents(cookie, 1, (8, 2), flags=DONE)]])
-        return [status(cookie, 0, chance.choice([8, 8, 0, 9])), *reply]
+        flags = chance.choice([0, 0, 0, 1, 2, REQ_ONE, REQ_ONE, 1 | REQ_ONE])
+        asked = status(cookie, 0, chance.choice([8, 8, 8, 4, 0, 9]), flags)
+        told = [(chance.choice([0, 1, 1, 1, 2]), chance.choice(EXTENTS)) for _ in range(chance.choice([0, 1, 1, 1, 2, 3]))]
+        last = chance.randrange(len(told)) if told and chance.random() < 0.1 else len(told) - 1
+        is_done = chance.random() < 0.6
+        chunks = [extents(cookie, number, *parts, flags=DONE * (is_done and at == last))
+                  for at, (number, parts) in enumerate(told)]
+        end = chance.choice([[done(cookie)], [failed(cookie)], [simple(cookie, error=22)], [simple(cookie)], []])
+        return [asked, *chunks, *([] if is_done and told else end)]
 
     def value(self, name, value):
         if name == "padded":
@@ -305,7 +315,7 @@ class Mutator:
 
 class Fuzz:
     def __init__(self, room, chance):
-        self.room, self.mutator, self.endings = room, Mutator(chance), Counter()
+        self.room, self.mutator, self.endings, self.profile = room, Mutator(chance), Counter(), BASE
 
     def run(self, name, *words, capture=b"", order=b""):
         """A run in little memory, whose ending is one that its command has."""
@@ -330,17 +340,12 @@ class Fuzz:
 
     def judged(self, command, capture, order, start):
         """`check` or `explain` with an order."""
-        words = [self.room.put("capture", capture), self.room.put("order", order), "--start", start]
+        words = [self.room.put("capture", capture), self.room.put("order", order), "--start", start, *self.profile]
         return self.run(command, command, *words, capture=capture, order=order)
-
-    def wide(self, capture, order, start):
-        """`check` in the wider profile."""
-        words = [self.room.put("capture", capture), self.room.put("order", order), "--start", start, "--profile", "wide"]
-        return self.run("wide", "check", *words, capture=capture, order=order)
 
     def over(self, name, capture, *words):
         """A command over a capture alone."""
-        return self.run(name, *words, self.room.put("capture", capture), capture=capture)
+        return self.run(name, *words, *self.profile, self.room.put("capture", capture), capture=capture)
 
     def show(self, capture):
         return self.over("show", capture, "show")
@@ -366,41 +371,35 @@ class Fuzz:
             self.want(f"{way.__name__}, another answer", (found.status, found.out), (wanted.status, wanted.out))
 
     def ask_check(self, capture, order, start):
-        found = self.judged("check", capture, order, start)
-        wide = self.wide(capture, order, start)
-        if found.status == 3:
-            self.want("check in both profiles", wide, found)
+        base, wide = (self.ask_profile(profile, capture, order, start) for profile in (BASE, WIDE))
+        if base.status == 3:
+            self.want("check in both profiles", wide, base)
         else:
+            self.compare(records_of(capture), base.out.decode(), wide.out.decode())
+
+    def ask_profile(self, profile, capture, order, start):
+        """`check` in this profile."""
+        self.profile = profile
+        found = self.judged("check", capture, order, start)
+        if found.status != 3:
             self.others(capture, lambda other: self.judged("check", other, order, start), found)
-            self.others(capture, lambda other: self.wide(other, order, start), wide)
-            self.compare(records_of(capture), found.out.decode(), wide.out.decode())
         if found.status == 0:
             searched = self.order(capture, start)
             if searched.status == 1:
                 raise Wrong(f"check {found.out!r}, order {searched.out!r}")
             self.want("explain of a yes", self.judged("explain", capture, order, start), found)
+        return found
 
     def compare(self, records, base, wide):
-        """The lines of both profiles, beside each other and beside a reader of negotiations."""
+        """The lines of both profiles, beside each other and beside readers, which know neither orders nor contents."""
         if not is_left_out(records, base):
             self.want("check in wide and in base", wide, base)
         elif (place_of(wide) or place_of(base)) < place_of(base):
             raise Wrong(f"check in wide {wide!r}, in base {base!r}")
         for profile, line in (("base", base), ("wide", wide)):
-            told = negotiated.read(records, profile)
-            if told.fault:
-                self.want(f"negotiated.py in {profile}", line, f"no at byte {told.place}: {told.fault}\n")
-            elif place_of(line) and (not told.entered or place_of(line) <= told.behind):
-                raise Wrong(f"negotiated.py in {profile}: {told}, check {line!r}")
-            if FOLLOWED == NEGOTIATION and told.entered:
-                self.compare_status(profile, negotiated.status_in_force(records, told), line)
-
-    def compare_status(self, profile, place, line):
-        """Behind the negotiation a line is OutOfProfile at a BLOCK_STATUS alone, which no line passes by."""
-        refused = place_of(line)
-        is_left_out = line.endswith(": OutOfProfile\n")
-        if is_left_out and refused != place or place and (not refused or refused > place):
-            raise Wrong(f"negotiated.py in {profile}: a BLOCK_STATUS in force at {place}, check {line!r}")
+            told = transmitted.line(records, profile)
+            if line.startswith(("yes", "no at byte")) or told.startswith("no"):
+                self.want(f"transmitted.py in {profile}", line, told)
 
     def ask_show(self, capture, _, __):
         shown = self.show(capture)
@@ -446,7 +445,7 @@ class Fuzz:
     def session(self, capture, order, often):
         """A session with one to four mistakes, in its text or in its messages; and so often one with options on contexts, which
         are put in before the mistakes, if there are any, or behind them."""
-        mutator = self.mutator
+        mutator, self.profile = self.mutator, WIDE
         has_options = [mutator.chance.random() < often for _ in range(2)]
         if has_options[0]:
             capture = mutator.contexts(capture)
@@ -470,14 +469,15 @@ class Fuzz:
         return start if isinstance(start, str) else f"image:{self.room.put('image', start)}"
 
     def one(self, command, capture, order, start):
-        """One session with mistakes, and what is asked of it."""
+        """One session with mistakes, and what is asked of it, in one of the profiles or in both."""
         capture, order = self.session(capture, order, OFTEN[command])
+        self.profile = self.mutator.chance.choice([BASE, WIDE])
         getattr(self, f"ask_{command}")(capture, order, start)
 
 
 COMMANDS = ("check", "show", "explain", "order")
-# Of how many sessions of a command metadata contexts are a part: `check` alone has another answer than OutOfProfile for them.
-OFTEN = {"check": 0.4, "show": 0.1, "explain": 0.1, "order": 0.1}
+# Of how many sessions of a command metadata contexts are a part: `check` is asked in both profiles of each session.
+OFTEN = {"check": 0.4, "show": 0.3, "explain": 0.3, "order": 0.3}
 
 
 def keep(failures, name, room):

@@ -9,9 +9,9 @@ MAGIC, OPTION, ANSWER = b"NBDMAGIC", b"IHAVEOPT", 0x0003E889045565A9
 FOLLOWED = {"base": (3, 6, 7, 8), "wide": (3, 6, 7, 8, 9, 10)}
 MOST = 2**63 - 1
 
-# Where and with what the session was refused (None: it was not); whether transmission began; the ids of the contexts that are in
-# force; and the place behind what was read.
-Read = namedtuple("Read", "place fault entered contexts behind")
+# Where and with what the session was refused (None: it was not); whether transmission began, with what size and flags of the
+# export, and with structured replies or without; the ids of the contexts that are in force; and the place behind what was read.
+Read = namedtuple("Read", "place fault entered size flags structured contexts behind")
 
 
 class Refused(Exception):
@@ -86,6 +86,8 @@ class Reader:
         self.structured, self.padded = False, True
         # The export and the ids of the last SET_META_CONTEXT, and whether it ended well.
         self.export, self.ids, self.is_granted = None, [], False
+        # The size and the flags of the export, as last told.
+        self.told = None
 
     def take(self, side, count, begins=True):
         """So many bytes of a side whose turn it is."""
@@ -127,7 +129,7 @@ class Reader:
                 return cut_name(data)[0]
 
     def exported(self, name):
-        size, flags = struct.unpack(">QH", self.take("S", 10))
+        self.told = size, flags = struct.unpack(">QH", self.take("S", 10))
         self.need(flags & 1, "BadExport")
         self.need(size <= MOST, "ExportTooLarge")
         if self.padded:
@@ -136,22 +138,22 @@ class Reader:
 
     def answers(self, number, data):
         """All answers to an option; whether the last is an ACK."""
-        info = None
+        self.told = None
         while True:
-            kind, payload = self.answer(number, data, info)
+            kind, payload = self.answer(number, data)
             if kind == 1:
                 self.structured |= number == 8
                 self.is_granted |= number == 10
             if kind == 4 and number == 10:
-                self.ids.append(payload[:4])
+                self.ids.append(int.from_bytes(payload[:4], "big"))
             if kind == 3 and payload[:2] == bytes(2):
-                info = int.from_bytes(payload[2:10], "big")
+                self.told = struct.unpack(">QH", payload[2:])
             if number == 2:
                 self.take("nobody", 1)
             if kind == 1 or kind >= 2**31:
                 return kind == 1
 
-    def answer(self, number, data, info):
+    def answer(self, number, data):
         magic, of, kind, length = struct.unpack(">QIII", self.take("S", 20))
         self.need(magic == ANSWER, "BadMagic")
         self.need(of == number, "WrongOption")
@@ -160,12 +162,12 @@ class Reader:
             self.kinds(number, data, kind)
             self.need(kind != 1 or length == 0, "BadReplyPayload")
             if kind == 1 and number in (6, 7) and is_fine:
-                self.need(info is not None, "MissingExportInfo")
-                self.need(number == 6 or info <= MOST, "ExportTooLarge")
+                self.need(self.told is not None, "MissingExportInfo")
+                self.need(number == 6 or self.told[0] <= MOST, "ExportTooLarge")
         payload = self.take("S", length, begins=False)
         if not is_error:
             self.need(has_form(kind, payload), "BadReplyPayload")
-            self.need(kind != 4 or number != 10 or payload[:4] not in self.ids, "BadReplyPayload")
+            self.need(kind != 4 or number != 10 or int.from_bytes(payload[:4], "big") not in self.ids, "BadReplyPayload")
             self.need(is_fine, "SuccessOfImproper")
         return kind, payload
 
@@ -180,45 +182,13 @@ class Reader:
 
 def read(records, profile):
     """What becomes of a session until its transmission begins."""
-    reader, name = Reader(records, profile), None
+    reader = Reader(records, profile)
     try:
         reader.flags()
         name = reader.choices()
     except Refused as refused:
-        return Read(refused.place, refused.fault, False, [], refused.place)
+        return Read(refused.place, refused.fault, False, 0, 0, False, [], refused.place)
     except Over:
-        return Read(None, None, False, [], reader.at)
+        return Read(None, None, False, 0, 0, False, [], reader.at)
     is_in_force = reader.is_granted and reader.structured and reader.export == name
-    return Read(None, None, True, reader.ids if is_in_force else [], reader.at)
-
-
-def first_status(records, behind):
-    """Where the head of the first BLOCK_STATUS ends, of the requests that begin behind this place; None without one."""
-    sides = "".join(side * len(data) for side, data in records)
-    data = b"".join(data for _, data in records)
-    places = [at for at in range(behind, len(data)) if sides[at] == "C"]
-    first = 0
-    while first + 28 <= len(places):
-        head = bytes(data[at] for at in places[first : first + 28])
-        command, length = int.from_bytes(head[6:8], "big"), int.from_bytes(head[24:], "big")
-        if command == 7:
-            return places[first + 27] + 1
-        first += len(places) if command == 2 else 28 + (length if command == 1 else 0)
-    return None
-
-
-def status_in_force(records, found):
-    """Where the head of the first BLOCK_STATUS ends, while a context is in force; else None."""
-    return first_status(records, found.behind) if found.contexts else None
-
-
-def line(records, profile):
-    """The line of `check` where the negotiation decides it, or where a BLOCK_STATUS is asked of contexts that are in force; else
-    None: it is decided in transmission, by the order, or by the bytes."""
-    found = read(records, profile)
-    if found.fault:
-        return f"no at byte {found.place}: {found.fault}\n"
-    if not found.entered:
-        return "yes requests 0 answered 0 improper 0\n"
-    place = status_in_force(records, found)
-    return place and f"no at byte {place}: OutOfProfile\n"
+    return Read(None, None, True, *reader.told, reader.structured, reader.ids if is_in_force else [], reader.at)

@@ -1,23 +1,27 @@
-"""Sessions with metadata contexts beside what cases/contexts.py says of them: where their messages end, what a reader of its own
-says (negotiated.py), and recorded sessions in both profiles.
+"""Sessions with metadata contexts beside what cases/contexts.py says of them: where their messages end, what readers of their own
+say (negotiated.py, transmitted.py), and recorded sessions in both profiles. The readers are tried on the other cases too.
 
 `test_contexts.py FOLDER` runs the recorded sessions of another folder: NAME.cap, .ord, .start, and NAME.out, the line in `wide`
-where contexts are followed whole.
+where zeroes are compared.
 """
 
 import sys
 from pathlib import Path
 
-import negotiated
 import test_cases
+import transmitted
 from built import TOP, Room, Tally
+from cases import damaged, offers, statuses
 from cases.contexts import (
-    ALLOCATION, DEPTH, FOLLOWED, NEGOTIATION, NEGOTIATION_TABLE, ONE_CONTEXT, STATUS_TABLE, TWO_CONTEXTS, ack, allocation,
+    ALLOCATION, DEPTH, NEGOTIATION_TABLE, ONE_CONTEXT, STATUS_TABLE, TWO_CONTEXTS, ZEROES_ARE_COMPARED, ack, allocation, line_of,
     listing, setting, told_last,
 )
-from messages import REQ_ONE, context, failed, longest_runs, one_by_one, records_of, status
+from messages import REQ_ONE, context, failed, front, longest_runs, one_by_one, records_of, status, text
+from messages import damaged as inverted
 
-TABLE = STATUS_TABLE + NEGOTIATION_TABLE
+TABLE = STATUS_TABLE + NEGOTIATION_TABLE + statuses.TABLE
+PROFILES = "base", "wide"
+CHUNK = bytes.fromhex("668e33ef")
 # Words that stand in the bytes below.
 WORDS = {
     "IHAVEOPT": "49484156454f5054", "ANSWER": "0003e889045565a9", "ALLOCATION": "626173653a616c6c6f636174696f6e",
@@ -108,42 +112,90 @@ def place_of(line):
     return int(line.split()[3].rstrip(":")) if line.startswith("no at byte") else None
 
 
+def want(tally, name, line, records, profile):
+    """A line against the readers, which know neither orders nor contents."""
+    found = transmitted.line(records, profile)
+    if line.startswith(("no order", "no image", "no content", "no status", "fault order")):
+        tally.holds(f"{name}, {profile}: {line}", found.startswith("yes"), found)
+    else:
+        tally.want(f"{name}, {profile}", found, line)
+
+
 def lines(tally):
-    """What the table says against what the reader says, and against itself."""
+    """What the table says against what the readers say, and against itself."""
     for told in TABLE:
         for way in (list, one_by_one, longest_runs):
-            records = way(told.records)
-            base, wide = (negotiated.line(records, profile) for profile in ("base", "wide"))
-            tally.want(f"{told.name}, base", told.base, base or told.base)
-            tally.want(f"{told.name}, wide", told.early or told.wide, wide or told.early or told.wide)
+            for profile, line in zip(PROFILES, (told.base, line_of(told))):
+                want(tally, told.name, line, way(told.records), profile)
         # Where base follows the session, wide says the same.
         if "OutOfProfile" not in told.base:
-            tally.want(f"{told.name}: both profiles", told.base, told.early or told.wide)
-        for line in (told.base, told.early or "", told.wide):
+            tally.want(f"{told.name}: both profiles", told.base, told.wide)
+        for line in (told.base, told.wide):
             tally.holds(f"{told.name}: {line}", (place_of(line) or 0) <= ends_of(told.records)[-1])
 
 
-def reader(tally):
-    """The reader against the other cases, which have no context: it says the same in both profiles."""
-    for table in test_cases.TABLES:
-        for case in table.CASES + table.REFUSED:
-            records = records_of(test_cases.joined(case.capture))
-            base, wide = (negotiated.line(records, profile) for profile in ("base", "wide"))
-            tally.want(f"{case.name}, wide", wide, base)
-            if base and not case.order:
-                tally.want(case.name, base, case.want)
+def readers(tally):
+    """The readers against the other cases, which have no context: they say the same in both profiles."""
+    for profile in PROFILES:
+        for table in test_cases.TABLES:
+            for case in table.CASES + table.REFUSED:
+                want(tally, case.name, case.want, records_of(test_cases.joined(case.capture)), profile)
+        for name, capture, is_proper in offers.offers():
+            line = f"yes requests 1 answered 1 improper {0 if is_proper else 1}\n"
+            want(tally, name, line, records_of(test_cases.joined(capture)), profile)
+        session = records_of(test_cases.joined(damaged.SESSION))
+        for count in range(191):
+            line = damaged.ENDS.get(count, (None, f"no at byte {count}: Unfinished\n"))[1]
+            want(tally, f"{count} bytes", line, front(session, count), profile)
+        for place, line in damaged.DAMAGED.items():
+            want(tally, f"byte {place} damaged", line, inverted(session, place - 1), profile)
+
+
+def words_at_their_ends(records):
+    """Sessions in which one number of a status chunk is another: the id, a length, or flags."""
+    for number, (side, data) in enumerate(records):
+        if data[:4] == CHUNK and data[6:8] == b"\0\5":
+            for at in range(20, len(data), 4):
+                for value in (0, 1, 2, 4, 2**31, 2**32 - 4, 2**32 - 1):
+                    changed = data[:at] + value.to_bytes(4, "big") + data[at + 4 :]
+                    yield f"{value} at {at} of {number}", [*records[:number], (side, changed), *records[number + 1 :]]
+
+
+def mistakes(records):
+    """A session as it stands, cut behind each byte, with each byte inverted, and with other numbers in its status chunks."""
+    size = ends_of(records)[-1]
+    yield "as it stands", records
+    for count in range(size):
+        yield f"{count} bytes", front(records, count)
+        yield f"byte {count + 1} damaged", inverted(records, count)
+    yield from words_at_their_ends(records)
+
+
+def damages(tally, room):
+    """A session with statuses, with a mistake: `check` in `wide`, in two ways of cutting it, against the readers."""
+    order = statuses.MIXED_ORDER.encode()
+    for name, records in mistakes(statuses.DAMAGED):
+        told = transmitted.line(records, "wide")
+        found = room.check(text(records), order, "zero", profile="wide")
+        line = found.out.decode()
+        if told.startswith("no") or line.startswith(("yes", "no at byte")):
+            tally.want(f"statuses, {name}", line, told)
+        else:
+            tally.holds(f"statuses, {name}", line.startswith(("no order", "no content", "no status")), found)
+        again = room.check(text(one_by_one(records)), order, "zero", profile="wide")
+        tally.want(f"statuses, {name}, byte by byte", again, found)
 
 
 def wanted(capture, is_whole):
     """The lines of a recorded session in `base` and in `wide`. Of the sessions of another folder NAME.out is the one in `wide`
-    where contexts are followed whole."""
+    where zeroes are compared."""
     line, told = capture.with_suffix(".out").read_text(), capture.with_suffix(".wide")
     if not is_whole:
         return line, told.read_text() if told.exists() else line
-    records = records_of(capture.read_bytes())
-    base, wide = (negotiated.line(records, profile) for profile in ("base", "wide"))
-    is_early = FOLLOWED == NEGOTIATION or negotiated.read(records, "wide").fault
-    return base or line, wide if wide and is_early else line
+    base, wide = (transmitted.line(records_of(capture.read_bytes()), profile) for profile in PROFILES)
+    if line.startswith("no status") and not ZEROES_ARE_COMPARED:
+        return base, wide
+    return base if base.startswith("no") else line, line
 
 
 def recorded(tally, room, folder, is_whole):
@@ -162,22 +214,21 @@ def recorded(tally, room, folder, is_whole):
 
 
 def examples(tally):
-    """The lines of the sessions of examples/ against what the reader says."""
+    """The lines of the sessions of examples/ against what the readers say."""
     for capture in sorted((TOP / "examples").glob("*.cap")):
-        records, line = records_of(capture.read_bytes()), capture.with_suffix(".out").read_text()
-        base, wide = (negotiated.line(records, profile) for profile in ("base", "wide"))
-        told = capture.with_suffix(".wide")
-        tally.want(f"{capture.name}, base", line, base or line)
-        tally.want(f"{capture.name}: has a line of its own in wide", told.exists(), "OutOfProfile" in line)
-        if told.exists() and FOLLOWED == NEGOTIATION:
-            tally.want(f"{capture.name}, wide", told.read_text(), wide or told.read_text())
+        records, lines_of = records_of(capture.read_bytes()), wanted(capture, is_whole=False)
+        for profile, line in zip(PROFILES, lines_of):
+            want(tally, capture.name, line, records, profile)
+        is_told = capture.with_suffix(".wide").exists()
+        tally.want(f"{capture.name}: has a line of its own in wide", is_told, "OutOfProfile" in lines_of[0])
 
 
 def run(tally):
-    for part in (messages, lines, reader, examples):
+    for part in (messages, lines, readers, examples):
         part(tally)
     with Room() as room:
         recorded(tally, room, TOP / "examples", is_whole=False)
+        damages(tally, room)
 
 
 if __name__ == "__main__":

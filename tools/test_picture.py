@@ -11,7 +11,7 @@ import sys
 import time
 
 from built import PROGRAM, TOP, Ended, Room, Tally
-from cases import offers
+from cases import contexts, offers, statuses
 from messages import (CLIENT, DONE, ERROR, FLUSH, WRITE_ZEROES, begun, chunk, client_flags, content, cut, done, greeting, hole,
                       option, read, request, simple, text, write)
 from picture.places import Places
@@ -118,6 +118,18 @@ def proper_requests(tally, room):
         for line in room.show(data).out.splitlines():
             shown.add(line)
         tally.want(name, [(one.is_improper, one.result) for one in shown.requests], [(not is_proper, FAILURE)])
+
+
+def proper_statuses(tally, room):
+    """Requests on block status, in the sessions with metadata contexts that are accepted."""
+    for told in contexts.STATUS_TABLE + contexts.NEGOTIATION_TABLE + statuses.TABLE:
+        if not contexts.line_of(told).startswith("yes"):
+            continue
+        data = text(told.records)
+        shown = Session(Places(io.BytesIO(data)), None)
+        for line in room.show(data, profile="wide").out.splitlines():
+            shown.add(line)
+        tally.want(told.name, sum(one.is_improper for one in shown.requests), int(contexts.line_of(told).split()[-1]))
 
 
 def guilt(tally, room):
@@ -356,7 +368,10 @@ def many(tally, room):
     tally.holds("many requests: seconds", seconds < 30, (seconds, time.monotonic() - begun_at))
 
 
-PARTS = (places, lanes, results, proper_requests, guilt, in_words, escaping, refusals, gave_up, pipes, interrupts, examples, many)
+PARTS = (
+    places, lanes, results, proper_requests, proper_statuses, guilt, in_words, escaping, refusals, gave_up, pipes, interrupts, examples,
+    many,
+)
 
 
 def run(tally):

@@ -17,11 +17,15 @@ MIB = 2**20
 # A system's own programs stand before those of a python that was installed beside it.
 PATH = "/usr/bin:" + os.environ["PATH"]
 NONE = "yes requests 0 answered 0 improper 0"
-# What docs/PROFILE.md leaves out: block status, of a client to whom a server granted a metadata context.
-OUT = "OutOfProfile"
+SOME = ["yes requests "]
 
 BYTES = "for k in range(4): h.pwrite(bytes([k + 1]) * 512, 300 * k)"
 READS = "assert h.pread(512, 700) == b'\\3' * 200 + b'\\4' * 312"
+# The extents of the whole export, and one of a part of it; a server without contexts is asked for none.
+MAPS = """if h.can_meta_context('base:allocation'):
+    for count, flags in ((65536, 0), (2048, nbd.CMD_FLAG_REQ_ONE)):
+        h.block_status(count, 0, lambda *_: 0, flags)
+"""
 NBDSH = ["nbdsh", "-u", "{uri}", "-c", BYTES, "-c", READS]
 QEMU_IO = ["qemu-io", "-f", "raw", "-c", "write -P 7 4096 8192", "-c", "read -P 7 4096 8192", "{uri}"]
 NBDCOPY = ["nbdcopy", "--no-extents", "{uri}", "null:"]
@@ -33,13 +37,14 @@ CLIENTS = {
     "nbdsh": (NBDSH, ["--arrival"], ["yes requests 5 answered 5 improper 0"]),
     "nbdinfo": (["nbdinfo", "--size", "{uri}"], [], [NONE]),
     "nbdcopy": ([*NBDCOPY, "--connections=1", "--request-size=262144"], [], ["yes requests 4 answered 4 improper 0"]),
-    "nbdcopy of extents": (["nbdcopy", "{uri}", "null:", "--connections=1"], [], OUT),
-    "nbdinfo of contexts": (["nbdinfo", "{uri}"], [], ["yes requests "]),
-    "qemu-io": (QEMU_IO, [], ["yes requests "]),
-    "fio": (FIO, [], [NONE, "yes requests "]),
+    "nbdcopy of extents": (["nbdcopy", "{uri}", "null:", "--connections=1"], [], SOME),
+    "nbdinfo of contexts": (["nbdinfo", "{uri}"], [], SOME),
+    "nbdinfo of extents": (["nbdinfo", "--map", "{uri}"], [], SOME),
+    "nbdsh of extents": (["nbdsh", "--base-allocation", "-u", "{uri}", "-c", MAPS], [], SOME),
+    "qemu-io": (QEMU_IO, [], SOME),
+    "qemu-io of extents": ([*QEMU_IO[:-1], "-c", "map", QEMU_IO[-1]], [], SOME),
+    "fio": (FIO, [], [NONE, *SOME]),
 }
-# Servers that have no metadata context to grant.
-PLAIN = ("nbdkit --no-sr", "nbd-server")
 
 
 def is_there(name):
@@ -140,10 +145,6 @@ def judged(tally, server, client, address, folder):
               env_more={"PATH": PATH}) as tool:
         status, out, err = tool.end()
     name, found = f"{client} and {server}", first_lines(out)
-    if wanted == OUT and server not in PLAIN:
-        tally.holds(name, status == 1 and len(found) == 1 and found[0].endswith(f": {OUT}"), (status, out, err))
-        return
-    wanted = ["yes requests "] if wanted == OUT else wanted
     same = len(found) == len(wanted) and all(line.startswith(part) for line, part in zip(found, wanted))
     tally.holds(name, status == 0 and same, (status, out, err))
     captures = [f"nbdcheck-record: kept {keep}/session.{number}.cap" for number in range(1, len(wanted) + 1)]

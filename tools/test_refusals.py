@@ -11,6 +11,7 @@ import tempfile
 from pathlib import Path
 
 from built import TOP, Ended, Room, Tally
+from cases.statuses import MIXED, MIXED_ORDER
 from messages import begun, text
 from test_cuts import SESSIONS
 from test_explain import ORDERLESS
@@ -97,6 +98,9 @@ def runs(room):
     image = room.put("zeroes", bytes(8))
     words = ["check", room.path("chunks.cap"), room.path("chunks.ord"), "--start", f"image:{image}"]
     yield "check over an image", words, room.run(*words), 0
+    mixed = [room.put("statuses.cap", text(MIXED)), room.put("statuses.ord", MIXED_ORDER.encode())]
+    words = ["check", *mixed, "--start", "zero", "--profile", "wide"]
+    yield "check statuses", words, room.run(*words), 0
     for name, capture in (("a negotiation", text(begun())), ("a recorded session", sample())):
         words = ["show", room.put(f"{name}.cap", capture)]
         shown = room.run(*words)

@@ -1,18 +1,20 @@
-"""Long messages and lines, many records and chunks, many READs as holes over many changes, and exports of no byte and of as many as
-there may be.
+"""Long messages and lines, many records and chunks, many READs as holes over many changes, many statuses and what they cost, and
+exports of no byte and of as many as there may be.
 """
 
 import resource
 
 from built import Ended, Room, Tally
 from messages import (
-    DONE, OFFSET_HOLE, TRIM, WRITE, WRITE_ZEROES, answer, begun, chunk, client_flags, content, done, greeting, one_by_one, option,
-    read, request, simple, text, write,
+    ACK, DONE, OFFSET_HOLE, SET_META_CONTEXT, TRIM, WRITE, WRITE_ZEROES, answer, begun, chunk, client_flags, content, context, done,
+    extents, greeting, one_by_one, option, queries, read, request, simple, status, text, write,
 )
 
 # The largest export (docs/PROFILE.md).
 LIMIT = 2**63 - 1
 MIB = 2**20
+# The contexts, statuses or extents of the smallest session of each kind.
+TOLD = 20_000
 # The changes and the READs of the smallest session of holes, and what a run may take beside what grows, in seconds.
 HOLES, APART = 20_000, 0.5
 # What changes each second byte there, and the start.
@@ -132,6 +134,59 @@ def costs_of(tally, room, changes, change, start):
     }
 
 
+def selecting(count, size):
+    """A negotiation in which so many contexts come in force, with the ids from 0 on."""
+    told = [context(number, b"x:%d" % number) for number in range(count)]
+    setting = [option(SET_META_CONTEXT, queries(b"", b"x:")), *told, answer(SET_META_CONTEXT, ACK)]
+    begin = begun(structured=True, size=size)
+    return [*begin[:4], *setting, *begin[4:]]
+
+
+def statuses(kind, count):
+    """Sessions with so many extents in a chunk, contexts in force, statuses outstanding together, or statuses one by one; and how
+    many requests they have."""
+    if kind == "extents":
+        return [*selecting(1, count), status(1, 0, count), extents(1, 0, *[(1, 0)] * count, flags=DONE)], 1
+    if kind == "contexts":
+        chunks = [extents(1, number, (1, 0)) for number in reversed(range(count))]
+        return [*selecting(count, 8), status(1, 0, 8), *chunks, done(1)], 1
+    asked = [status(cookie, 0, count) for cookie in range(count)]
+    told = [extents(cookie, 0, (count, 0), flags=DONE) for cookie in range(count)]
+    if kind == "outstanding":
+        return [*selecting(1, count), *asked, *told], count
+    return [*selecting(1, count), *(message for pair in zip(asked, told) for message in pair)], count
+
+
+def costs_of_statuses(tally, room):
+    """Statuses cost no more than eight times as much where there are four times as many extents, contexts, or requests."""
+    for kind in ("extents", "contexts", "outstanding", "one by one"):
+        seconds = []
+        for times in (1, 2, 4):
+            records, count = statuses(kind, times * TOLD)
+            capture = room.put("statuses.cap", text(records))
+            order = room.put("statuses.ord", b"".join(b"%d\n" % number for number in range(1, count + 1)))
+            words = ["check", capture, order, "--start", "zero", "--profile", "wide"]
+            seconds.append(costs(tally, room, f"statuses, {kind}, {times} times", yes(count, count, 0), *words))
+        one, two, four = seconds
+        tally.holds(f"statuses, {kind}, twice as many", two <= 4 * one + APART, seconds)
+        tally.holds(f"statuses, {kind}, four times as many", four <= 8 * one + APART, seconds)
+
+
+def many_contexts(tally, room):
+    """A thousand contexts in force, of which the last in the reply is left out, told twice, or told in its place."""
+    count = 1000
+    begin = [*selecting(count, 8), status(1, 0, 8), *(extents(1, number, (8, 0)) for number in range(count - 1))]
+    size = sum(len(data) for _, data in begin)
+    for last, wanted in (
+        ([extents(1, count - 1, (8, 0), flags=DONE)], yes(1, 1, 0)),
+        ([extents(1, count - 1, (8, 0)), done(1)], yes(1, 1, 0)),
+        ([done(1)], no(f"no at byte {size + 20}: IncompleteStatus")),
+        ([extents(1, 0, (8, 0), flags=DONE)], no(f"no at byte {size + 32}: BadContent")),
+        ([extents(1, count, (8, 0), flags=DONE)], no(f"no at byte {size + 32}: BadContent")),
+    ):
+        tally.want("a thousand contexts", room.check(text([*begin, *last]), b"1\n", profile="wide"), wanted)
+
+
 def exports(tally, room):
     """Exports of no byte, of one MiB, and of as many bytes as there may be."""
     empty = begun(size=0)
@@ -178,7 +233,7 @@ def long_lines(tally, room):
 
 def run(tally):
     with Room() as room:
-        for part in (long_messages, many_chunks, a_million, costs_of_holes, exports, long_lines):
+        for part in (long_messages, many_chunks, a_million, costs_of_holes, costs_of_statuses, many_contexts, exports, long_lines):
             part(tally, room)
 
 

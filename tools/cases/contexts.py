@@ -1,8 +1,8 @@
 """Sessions with metadata contexts, and what `check` says of each in both profiles: on an export of 8 bytes, which holds zeroes
 unless said.
 
-In `base` no answer to LIST_META_CONTEXT and SET_META_CONTEXT but an error is followed. In `wide` they are negotiated. A
-BLOCK_STATUS while a context is in force is followed as far as FOLLOWED says.
+In `base` no answer to LIST_META_CONTEXT and SET_META_CONTEXT but an error is followed. In `wide` they are negotiated, and
+BLOCK_STATUS is asked while a context is in force. ZEROES_ARE_COMPARED says whether what a status calls zero is compared yet.
 """
 
 from collections import namedtuple
@@ -15,13 +15,12 @@ from messages import (
     go_data, greeting, named, option, queries, read, request, simple, status, text, write,
 )
 
-# How far the program follows a context that is in force: NEGOTIATION, where a BLOCK_STATUS is answered by OutOfProfile at its
-# head and its chunk type is an unknown one; STATUSES, whose zeroes are not compared; ZEROES, which are.
-NEGOTIATION, STATUSES, ZEROES = range(3)
-FOLLOWED = NEGOTIATION
+# Whether `check` compares what a status calls zero with the export's bytes. Before it does, it says of a session what it says
+# where all zeroes are right.
+ZEROES_ARE_COMPARED = False
 
-# The lines of a session in `base`, in `wide` before a BLOCK_STATUS is followed (None: as below), and in `wide`.
-Told = namedtuple("Told", "name records order base early wide start")
+# The lines of a session in `base` and in `wide`, where zeroes are compared.
+Told = namedtuple("Told", "name records order base wide start")
 
 
 def at(place, fault="OutOfProfile"):
@@ -32,25 +31,14 @@ def yes(requests, improper=0):
     return f"yes requests {requests} answered {requests} improper {improper}\n"
 
 
-def size_of(records):
-    return sum(len(data) for _, data in records)
-
-
 def followed(name, records, base, wide, order="", start="zero"):
-    """A session in which no status is asked while a context is in force."""
-    return Told(name, records, order, base, None, wide, start)
-
-
-def asks(name, records, base, early, wide, order="1\n", start="zero"):
-    """A session in which the head of a BLOCK_STATUS ends at the byte `early`, while a context is in force."""
-    return Told(name, records, order, at(base), at(early), wide, start)
+    """A session with contexts."""
+    return Told(name, records, order, base, wide, start)
 
 
 def line_of(told):
-    """What `check --profile wide` says as far as it follows contexts."""
-    if FOLLOWED == NEGOTIATION and told.early:
-        return told.early
-    if FOLLOWED == STATUSES and told.wide.startswith("no status"):
+    """What `check --profile wide` says."""
+    if told.wide.startswith("no status") and not ZEROES_ARE_COMPARED:
         return yes(len({entry.split()[0] for entry in told.order.splitlines()}))
     return told.wide
 
@@ -129,14 +117,14 @@ EMPTY_1, EMPTY_ONE = status(1, 0, 0), status(1, 0, 0, REQ_ONE)
 FAILED_1 = simple(1, error=22)
 
 
-def one(name, messages, wide, early=262, **how):
+def one(name, messages, wide, order="1\n", start="zero"):
     """Behind ONE_CONTEXT."""
-    return asks(name, ONE_CONTEXT + messages, 121, early, wide, **how)
+    return followed(name, ONE_CONTEXT + messages, at(121), wide, order, start)
 
 
-def two(name, messages, wide, **how):
+def two(name, messages, wide, order="1\n", start="zero"):
     """Behind TWO_CONTEXTS."""
-    return asks(name, TWO_CONTEXTS + messages, 146, 332, wide, **how)
+    return followed(name, TWO_CONTEXTS + messages, at(146), wide, order, start)
 
 
 WHAT_IS_CALLED_ZERO = [
@@ -150,11 +138,11 @@ WHAT_IS_CALLED_ZERO = [
 UNDER_WAY = WRITTEN, status(2, 0, 8), told_last(2, 1, (8, 2))
 
 STATUSES_AND_WRITES = [
-    one("zeroes after a write", [*UNDER_WAY, simple(1)], "no status request 2 offset 0\n", 292, order="1\n2\n"),
-    one("zeroes before a write", [*UNDER_WAY, simple(1)], yes(2), 292, order="2\n1\n"),
-    one("zeroes after a write that failed", [*UNDER_WAY, simple(1, error=5)], yes(2), 292, order="1\n2\n"),
+    one("zeroes after a write", [*UNDER_WAY, simple(1)], "no status request 2 offset 0\n", order="1\n2\n"),
+    one("zeroes before a write", [*UNDER_WAY, simple(1)], yes(2), order="2\n1\n"),
+    one("zeroes after a write that failed", [*UNDER_WAY, simple(1, error=5)], yes(2), order="1\n2\n"),
     one("a write was answered before the status was asked", [WRITTEN, simple(1), *UNDER_WAY[1:]],
-        "no order entry 1: Late\n", 308, order="2\n1\n"),
+        "no order entry 1: Late\n", order="2\n1\n"),
 ]
 
 
@@ -164,9 +152,9 @@ def changed(change):
 
 
 STATUSES_AND_OTHER_CHANGES = [
-    one("zeroes after a TRIM", changed(request(TRIM, 2, 0, 8)), yes(3), 352, order="1\n2\n3\n"),
+    one("zeroes after a TRIM", changed(request(TRIM, 2, 0, 8)), yes(3), order="1\n2\n3\n"),
     one("zeroes after a WRITE_ZEROES of one of two bytes", changed(request(WRITE_ZEROES, 2, 0, 1)),
-        "no status request 3 offset 1\n", 352, order="1\n2\n3\n"),
+        "no status request 3 offset 1\n", order="1\n2\n3\n"),
     one("a status makes no byte known",
         [STATUS_1, told_last(1, 1, (8, 2)), read(2, 0, 8), chunk(2, OFFSET_DATA, bytes(8) + SEVEN, DONE)],
         yes(2), order="1\n2\n", start="unknown"),
@@ -189,16 +177,14 @@ EXTENTS = [
     one("an extent of length 0", [STATUS_1, told_last(1, 1, (0, 2))], at(294, "BadChunk")),
     one("no extent", [STATUS_1, told_last(1, 1)], at(286, "BadChunk")),
     one("a context that was not selected", [STATUS_1, told_last(1, 0, (8, 0))], at(294, "BadContent")),
-    # No status is asked; but its chunk is known where statuses are.
-    asks("a READ is answered by a status", ONE_CONTEXT + [read(1, 0, 8), extents(1, 1, (8, 0))], 121, 294,
-         at(294, "BadContent"))._replace(early=at(294, "BadChunk")),
+    one("a READ is answered by a status", [read(1, 0, 8), extents(1, 1, (8, 0))], at(294, "BadContent")),
 ]
 
 ONE_EXTENT_ASKED = [
     one("one extent", [FOUR_ONE, told_last(1, 1, (4, 2))], yes(1)),
     one("one extent that passes the range", [FOUR_ONE, told_last(1, 1, (5, 2))], at(294, "BadContent")),
     one("two extents, though one was asked for", [FOUR_ONE, told_last(1, 1, (1, 2), (1, 0))], at(302, "BadContent")),
-    followed("REQ_ONE on a READ", ONE_CONTEXT + [request(READ, 1, 0, 8, flags=REQ_ONE), failed(1)], at(121), yes(1, 1), "1\n"),
+    one("REQ_ONE on a READ", [request(READ, 1, 0, 8, flags=REQ_ONE), failed(1)], yes(1, 1)),
 ]
 
 TWO_CONTEXTS_IN_FORCE = [
@@ -257,10 +243,10 @@ NONE_IN_FORCE = [
 ]
 
 ONE_IN_FORCE = [
-    asks("the context of a second selection", SECOND + [told_last(1, 2, (8, 0))], 121, 364, yes(1)),
-    asks("the context of a first selection", SECOND + [told_last(1, 1, (8, 0))], 121, 364, at(396, "BadContent")),
-    asks("an export that EXPORT_NAME names",
-         CHUNKS + granted(name=b"disk") + by_name(b"disk") + [STATUS_1, told_last(1, 1, (8, 2))], 125, 222, yes(1)),
+    followed("the context of a second selection", SECOND + [told_last(1, 2, (8, 0))], at(121), yes(1), "1\n"),
+    followed("the context of a first selection", SECOND + [told_last(1, 1, (8, 0))], at(121), at(396, "BadContent"), "1\n"),
+    followed("an export that EXPORT_NAME names",
+             CHUNKS + granted(name=b"disk") + by_name(b"disk") + [STATUS_1, told_last(1, 1, (8, 2))], at(125), yes(1), "1\n"),
 ]
 
 SIMPLE = FLAGS + granted()
@@ -273,8 +259,8 @@ ANSWERS = [
              SIMPLE + go() + [STATUS_1, FAILED_1], at(85), yes(1, 1), "1\n"),
     followed("a context without structured replies, and a status is answered",
              SIMPLE + go() + [STATUS_1, told_last(1, 1, (8, 0))], at(85), at(246, "ChunkForbidden"), "1\n"),
-    asks("structured replies behind the context",
-         SIMPLE + STRUCTURED + go() + [STATUS_1, told_last(1, 1, (8, 2))], 85, 262, yes(1)),
+    followed("structured replies behind the context",
+             SIMPLE + STRUCTURED + go() + [STATUS_1, told_last(1, 1, (8, 2))], at(85), yes(1), "1\n"),
     followed("the server refuses contexts", FLAGS + [setting(ALLOCATION), error()], yes(0), yes(0)),
     followed("a list of contexts",
              FLAGS + [listing(ALLOCATION), allocation(0, LIST_META_CONTEXT), ack(LIST_META_CONTEXT)], at(85), yes(0)),
@@ -413,9 +399,7 @@ IDS = [
 
 def selected(name, negotiation, base, in_force):
     """A session whose one request is a BLOCK_STATUS, which an error answers: it is proper where a context is in force."""
-    records = negotiation + [STATUS_1, FAILED_1]
-    early = at(size_of(negotiation) + 28) if in_force else None
-    return Told(name, records, "1\n", at(base), early, yes(1, 0 if in_force else 1), "zero")
+    return followed(name, negotiation + [STATUS_1, FAILED_1], at(base), yes(1, 0 if in_force else 1), "1\n")
 
 
 DISK = granted(name=b"disk")
@@ -477,10 +461,11 @@ SELECTIONS = [
     selected("the selection behind STRUCTURED_REPLY fails",
              SIMPLE + STRUCTURED + [setting(ALLOCATION), error()] + go(), 85, False),
     selected("300 contexts are in force", MANY + [ack()] + STRUCTURED + go(), 72, True),
-    asks("the selection behind STRUCTURED_REPLY counts",
-         SIMPLE + STRUCTURED + granted(2) + go() + [STATUS_1, told_last(1, 2, (8, 0))], 85, 364, yes(1)),
-    asks("the selection before STRUCTURED_REPLY no longer counts",
-         SIMPLE + STRUCTURED + granted(2) + go() + [STATUS_1, told_last(1, 1, (8, 0))], 85, 364, at(396, "BadContent")),
+    followed("the selection behind STRUCTURED_REPLY counts",
+             SIMPLE + STRUCTURED + granted(2) + go() + [STATUS_1, told_last(1, 2, (8, 0))], at(85), yes(1), "1\n"),
+    followed("the selection before STRUCTURED_REPLY no longer counts",
+             SIMPLE + STRUCTURED + granted(2) + go() + [STATUS_1, told_last(1, 1, (8, 0))], at(85), at(396, "BadContent"),
+             "1\n"),
 ]
 
 TURNS = [
@@ -508,8 +493,8 @@ REQUESTS = [
     followed("a status of which the last byte is missing", ONE_CONTEXT + [cut(STATUS_1, 27)[0]], at(121),
              at(261, "Unfinished")),
     followed("a status behind DISC", ONE_CONTEXT + [request(DISC, 9, 0, 0), STATUS_1], at(121), at(263, "OutOfTurn")),
-    asks("a status with the cookie of a READ that is not answered", ONE_CONTEXT + [read(1, 0, 8), STATUS_1], 121, 290,
-         at(290, "CookieInUse")),
+    followed("a status with the cookie of a READ that is not answered", ONE_CONTEXT + [read(1, 0, 8), STATUS_1], at(121),
+             at(290, "CookieInUse")),
 ]
 
 NEGOTIATION_TABLE = ODD_OPTIONS + ODD_ANSWERS + OTHER_OPTIONS + IDS + EXPORTS + BETWEEN + SELECTIONS + TURNS + REQUESTS

@@ -3,10 +3,10 @@
 const data = JSON.parse(document.getElementById("session").textContent);
 const guilt = data.guilt;
 const PENDING = "0", SUCCESS = "1", FAILURE = "2";
-const COMMANDS = ["READ", "WRITE", "DISC", "FLUSH", "TRIM", "CACHE", "WRITE_ZEROES"];
+const COMMANDS = ["READ", "WRITE", "DISC", "FLUSH", "TRIM", "CACHE", "WRITE_ZEROES", "BLOCK_STATUS"];
 const WRITE = 1, TRIM = 4, WRITE_ZEROES = 6, READ = 0;
 // By the numbers of the commands; they differ in lightness too.
-const COLORS = ["#7cc4f0", "#0b3f80", "#000000", "#f2d95c", "#cf8a33", "#3f8f5b", "#6d3fae"];
+const COLORS = ["#7cc4f0", "#0b3f80", "#000000", "#f2d95c", "#cf8a33", "#3f8f5b", "#6d3fae", "#b5376e"];
 const OTHER = "#6b6b6b";
 const LIGHT = ["#7cc4f0", "#f2d95c", "#cf8a33"];
 

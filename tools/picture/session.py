@@ -5,7 +5,7 @@ import struct
 
 from .places import SIDES
 
-READ, WRITE, DISC, FLUSH, TRIM, CACHE, WRITE_ZEROES = range(7)
+READ, WRITE, DISC, FLUSH, TRIM, CACHE, WRITE_ZEROES, BLOCK_STATUS = range(8)
 OFFSET_DATA, OFFSET_HOLE = 1, 2
 # Types of chunks from here on are errors.
 ERRORS = 0x8000
@@ -15,7 +15,9 @@ HEADS = {"greeting": 18, "client-flags": 4, "option": 16, "answer": 20, "export"
 PADDING = 124
 INFO, INFO_EXPORT = 3, 0
 READ_ONLY, SEND_FLUSH, SEND_FUA, SEND_TRIM, SEND_WRITE_ZEROES, SEND_DF, SEND_FAST_ZERO = (1 << at for at in (1, 2, 3, 5, 6, 7, 11))
-FUA, NO_HOLE, DF, FAST_ZERO = 1, 2, 4, 16
+FUA, NO_HOLE, DF, REQ_ONE, FAST_ZERO = 1, 2, 4, 8, 16
+EXPORT_NAME, GO, STRUCTURED_REPLY, SET_META_CONTEXT = 1, 7, 8, 10
+ACK, META_CONTEXT = 1, 4
 
 
 class Request:
@@ -32,13 +34,46 @@ class Request:
         return self.offset <= offset < self.offset + self.length
 
 
-class Export:
-    """The size and the flags of the export, as last told."""
+class Contexts:
+    """The metadata contexts that were selected, and the names of exports: docs/PROFILE.md, "Metadata contexts"."""
 
     def __init__(self):
-        self.size, self.flags = None, 0
+        self.is_structured, self.is_granted, self.count = False, False, 0
+        # The export of the selection, and the one that was entered last.
+        self.selected, self.entered = None, None
 
     def told(self, kind, fields, payload):
+        if kind == "option":
+            self._chosen(int(fields["id"]), bytes.fromhex(payload.decode()))
+        elif kind == "answer":
+            self._answered(int(fields["option"]), int(fields["kind"]))
+
+    def _chosen(self, option, data):
+        name = data[4 : 4 + int.from_bytes(data[:4], "big")]
+        if option == SET_META_CONTEXT:
+            self.selected, self.is_granted, self.count = name, False, 0
+        elif option in (EXPORT_NAME, GO):
+            self.entered = data if option == EXPORT_NAME else name
+
+    def _answered(self, option, kind):
+        if option == STRUCTURED_REPLY:
+            self.is_structured |= kind == ACK
+        elif option == SET_META_CONTEXT:
+            self.count += kind == META_CONTEXT
+            self.is_granted |= kind == ACK
+
+    def are_in_force(self):
+        return self.is_structured and self.is_granted and self.count > 0 and self.selected == self.entered
+
+
+class Export:
+    """The size and the flags of the export, as last told, and its metadata contexts."""
+
+    def __init__(self):
+        self.size, self.flags, self.contexts = None, 0, Contexts()
+
+    def told(self, kind, fields, payload):
+        self.contexts.told(kind, fields, payload)
         if kind == "export":
             self.size, self.flags = int(fields["size"]), int(fields["flags"])
         elif kind == "answer" and int(fields["kind"]) == INFO and len(payload) == 24 and int(payload[:4], 16) == INFO_EXPORT:
@@ -49,6 +84,8 @@ class Export:
         allowed = FUA if self.flags & SEND_FUA else 0
         if command == READ and self.flags & SEND_DF:
             allowed |= DF
+        if command == BLOCK_STATUS:
+            allowed |= REQ_ONE
         if command == WRITE_ZEROES:
             allowed |= NO_HOLE | (FAST_ZERO if self.flags & SEND_FAST_ZERO else 0)
         return allowed
@@ -62,8 +99,10 @@ class Export:
         else:
             is_outside = request.offset + request.length > self.size
         may_not_change = command in (WRITE, TRIM, WRITE_ZEROES) and self.flags & READ_ONLY
-        return bool(command not in (READ, WRITE, FLUSH, TRIM, CACHE, WRITE_ZEROES) or is_outside or may_not_change
-                    or needed & ~self.flags or request.flags & ~self._allowed(command))
+        is_known = command in (READ, WRITE, FLUSH, TRIM, CACHE, WRITE_ZEROES)
+        is_known |= command == BLOCK_STATUS and self.contexts.are_in_force()
+        return bool(not is_known or is_outside or may_not_change or needed & ~self.flags
+                    or request.flags & ~self._allowed(command))
 
 
 class Session:

@@ -1,0 +1,244 @@
+"""A reader of transmissions for tests, behind the reader of negotiations (negotiated.py): a second opinion of where `check`
+refuses the bytes of a session, and of what it counts. It is written from the rules of the protocol, message after message,
+and shares no code with the program or with the tables. Orders and contents it does not know.
+"""
+
+import struct
+from collections import namedtuple
+
+import negotiated
+from negotiated import Refused
+
+REQUEST_MAGIC, SIMPLE_MAGIC, CHUNK_MAGIC = 0x25609513, 0x67446698, 0x668E33EF
+READ, WRITE, DISC, FLUSH, TRIM, CACHE, WRITE_ZEROES, BLOCK_STATUS = range(8)
+NONE, OFFSET_DATA, OFFSET_HOLE, STATUS, ERROR, ERROR_OFFSET = 0, 1, 2, 5, 0x8001, 0x8002
+READ_ONLY, SEND_FLUSH, SEND_FUA, SEND_TRIM, SEND_WRITE_ZEROES, SEND_DF, SEND_FAST_ZERO = 2, 4, 8, 32, 64, 128, 2048
+FUA, NO_HOLE, DF, REQ_ONE, FAST_ZERO = 1, 2, 4, 8, 16
+DONE = 1
+
+# Where and with what the session was refused (None: it was not), and how many requests came, were answered, and were improper.
+Judged = namedtuple("Judged", "place fault requests answered improper")
+
+
+class Request:
+    """A request, and what came in answer to it."""
+
+    def __init__(self, flags, command, cookie, offset, length):
+        self.flags, self.command, self.cookie, self.offset, self.length = flags, command, cookie, offset, length
+        self.end = offset + length
+        self.chunks, self.has_failed, self.is_answered = 0, False, False
+        # The ranges that content chunks gave, and the ids that status chunks named.
+        self.given, self.told = [], set()
+
+    def holds(self, offset):
+        return self.offset <= offset < self.end
+
+    def is_covered(self):
+        return sum(end - begin for begin, end in self.given) == self.length
+
+
+def is_proper(request, found):
+    """Whether a client should send this on the export of what the negotiation found."""
+    command, flags = request.command, found.flags
+    if command not in range(8) or command == DISC or command == BLOCK_STATUS and not found.contexts:
+        return False
+    if command == FLUSH:
+        fits = request.offset == request.length == 0
+    else:
+        fits = request.end <= found.size
+    needed = {FLUSH: SEND_FLUSH, TRIM: SEND_TRIM, WRITE_ZEROES: SEND_WRITE_ZEROES}.get(command, 0)
+    is_allowed = not (flags & READ_ONLY and command in (WRITE, TRIM, WRITE_ZEROES))
+    known = {READ: DF if flags & SEND_DF else 0, BLOCK_STATUS: REQ_ONE,
+             WRITE_ZEROES: NO_HOLE | (FAST_ZERO if flags & SEND_FAST_ZERO else 0)}.get(command, 0)
+    known |= FUA if flags & SEND_FUA else 0
+    return fits and is_allowed and needed & ~flags == 0 and request.flags & ~known == 0
+
+
+def cut_extents(payload):
+    """The id and the lengths in a status chunk; None where it does not have the form."""
+    if len(payload) < 12 or len(payload) % 8 != 4:
+        return None
+    lengths = [length for length, _ in struct.iter_unpack(">II", payload[4:])]
+    return (int.from_bytes(payload[:4], "big"), lengths) if all(lengths) else None
+
+
+class Side:
+    """The bytes of one side behind its last message."""
+
+    def __init__(self, head):
+        self.bytes, self.head, self.need = bytearray(), head, head
+
+
+class Reader:
+    """A session from its transmission on."""
+
+    def __init__(self, found):
+        self.found, self.at, self.is_over = found, found.behind, False
+        self.requests, self.outstanding = [], {}
+        self.improper = self.answered = 0
+        self.client, self.server = Side(28), Side(4)
+        # How many requests had come when the server's message began, and the request that it answers.
+        self.known, self.of = 0, None
+
+    def need(self, is_so, fault):
+        if not is_so:
+            raise Refused(self.at, fault)
+
+    def take(self, side, data):
+        """Bytes of a side, as many at once as are wanted next."""
+        if side == "C" and self.is_over and data:
+            raise Refused(self.at + 1, "OutOfTurn")
+        one, step = (self.client, self.request) if side == "C" else (self.server, self.reply)
+        while data:
+            if side == "S" and not one.bytes:
+                self.known = len(self.requests)
+            part = data[: one.need - len(one.bytes)]
+            one.bytes += part
+            self.at, data = self.at + len(part), data[len(part) :]
+            while len(one.bytes) == one.need and one.bytes:
+                step(one)
+            if side == "C" and self.is_over and data:
+                raise Refused(self.at + 1, "OutOfTurn")
+
+    def request(self, one):
+        """A client's message, or its head."""
+        magic, *fields, length = struct.unpack(">IHHQQI", one.bytes[:28])
+        request = Request(*fields, length)
+        if one.need == 28:
+            self.need(magic == REQUEST_MAGIC, "BadMagic")
+            if request.command == DISC:
+                self.need(request.offset == length == 0, "BadDisconnect")
+            elif request.command == WRITE and length:
+                one.need = 28 + length
+                return
+        if request.command == DISC:
+            self.is_over = True
+        else:
+            self.need(request.cookie not in self.outstanding, "CookieInUse")
+            self.requests.append(request)
+            self.outstanding[request.cookie] = len(self.requests)
+            self.improper += not is_proper(request, self.found)
+        one.bytes.clear()
+        one.need = 28
+
+    def reply(self, one):
+        """A server's message, its head, or its magic number."""
+        magic = int.from_bytes(one.bytes[:4], "big")
+        if one.need == 4:
+            self.need(magic in (SIMPLE_MAGIC, CHUNK_MAGIC), "BadMagic")
+            one.need = 16 if magic == SIMPLE_MAGIC else 20
+            return
+        is_head = one.need == (16 if magic == SIMPLE_MAGIC else 20) and self.of is None
+        if is_head:
+            number = self.outstanding.get(int.from_bytes(one.bytes[8:16], "big"))
+            self.need(number is not None and number <= self.known, "UnknownCookie")
+            self.of = self.requests[number - 1]
+            more = self.simple_head(one.bytes) if magic == SIMPLE_MAGIC else self.chunk_head(one.bytes)
+            if more:
+                one.need += more
+                return
+        (self.simple if magic == SIMPLE_MAGIC else self.chunk)(bytes(one.bytes))
+        self.of = None
+        one.bytes.clear()
+        one.need = 4
+
+    def simple_head(self, head):
+        """How many bytes stand behind the head."""
+        of, error = self.of, int.from_bytes(head[4:8], "big")
+        is_read, is_status = of.command == READ, of.command == BLOCK_STATUS and self.found.contexts
+        self.need(of.chunks == 0, "SimpleForbidden")
+        self.need(not (is_read and self.found.structured), "SimpleForbidden")
+        self.need(not (is_status and error == 0), "SimpleForbidden")
+        return of.length if is_read and error == 0 else 0
+
+    def simple(self, message):
+        is_success = int.from_bytes(message[4:8], "big") == 0
+        self.need(not is_success or is_proper(self.of, self.found), "SuccessOfImproper")
+        self.end()
+
+    def chunk_head(self, head):
+        self.need(self.found.structured, "ChunkForbidden")
+        return int.from_bytes(head[16:20], "big")
+
+    def chunk(self, message):
+        of, payload = self.of, message[20:]
+        flags, kind = struct.unpack(">HH", message[4:8])
+        is_last = flags & DONE == DONE
+        if kind == NONE:
+            self.need(payload == b"" and is_last, "BadChunk")
+        elif kind in (OFFSET_DATA, OFFSET_HOLE):
+            self.content(kind, payload)
+        elif kind in (ERROR, ERROR_OFFSET):
+            self.error(kind, payload)
+        elif kind == STATUS and self.found.contexts:
+            self.status(payload)
+        else:
+            self.need(False, "BadChunk")
+        of.chunks += 1
+        if is_last:
+            if not of.has_failed:
+                self.need(of.command != READ or of.is_covered(), "IncompleteRead")
+                self.need(is_proper(of, self.found), "SuccessOfImproper")
+                is_whole = of.told == set(self.found.contexts)
+                self.need(of.command != BLOCK_STATUS or of.length == 0 or is_whole, "IncompleteStatus")
+            self.end()
+
+    def content(self, kind, payload):
+        of = self.of
+        self.need(len(payload) >= 9 if kind == OFFSET_DATA else len(payload) == 12, "BadChunk")
+        begin = int.from_bytes(payload[:8], "big")
+        size = len(payload) - 8 if kind == OFFSET_DATA else int.from_bytes(payload[8:], "big")
+        self.need(size > 0, "BadChunk")
+        self.need(of.command == READ, "BadContent")
+        self.need(of.offset <= begin and begin + size <= of.end, "BadContent")
+        self.need(all(end <= begin or begin + size <= other for other, end in of.given), "BadContent")
+        self.need(not (of.given and of.flags & DF and is_proper(of, self.found)), "BadContent")
+        of.given.append((begin, begin + size))
+
+    def error(self, kind, payload):
+        text = int.from_bytes(payload[4:6], "big")
+        self.need(len(payload) >= (6 if kind == ERROR else 14) + text and payload[:4] != bytes(4), "BadChunk")
+        if kind == ERROR_OFFSET:
+            self.need(self.of.holds(int.from_bytes(payload[6 + text : 14 + text], "big")), "BadContent")
+        self.of.has_failed = True
+
+    def status(self, payload):
+        of, found = self.of, cut_extents(payload)
+        self.need(found is not None, "BadChunk")
+        number, lengths = found
+        self.need(of.command == BLOCK_STATUS, "BadContent")
+        self.need(number in self.found.contexts and number not in of.told, "BadContent")
+        if of.length:
+            self.need(sum(lengths[:-1]) < of.length, "BadContent")
+            self.need(not of.flags & REQ_ONE or len(lengths) == 1 and lengths[0] <= of.length, "BadContent")
+        of.told.add(number)
+
+    def end(self):
+        """The reply has ended."""
+        del self.outstanding[self.of.cookie]
+        self.answered += 1
+
+
+def judge(records, profile):
+    """Where the bytes of a session are refused, or what they count."""
+    found = negotiated.read(records, profile)
+    if found.fault or not found.entered:
+        return Judged(found.place, found.fault, 0, 0, 0)
+    reader, place, fault = Reader(found), None, None
+    try:
+        at = 0
+        for side, data in records:
+            reader.take(side, data[max(0, found.behind - at) :])
+            at += len(data)
+        reader.need(not reader.client.bytes and not reader.server.bytes, "Unfinished")
+    except Refused as refused:
+        place, fault = refused.place, refused.fault
+    return Judged(place, fault, len(reader.requests), reader.answered, reader.improper)
+
+
+def line(records, profile):
+    """The line of `check` where the bytes are refused; else the yes, if neither order nor contents say no."""
+    told = judge(records, profile)
+    if told.fault:
+        return f"no at byte {told.place}: {told.fault}\n"
+    return f"yes requests {told.requests} answered {told.answered} improper {told.improper}\n"
