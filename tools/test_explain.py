@@ -10,8 +10,11 @@ from collections import namedtuple
 from pathlib import Path
 
 from built import TOP, Ended, Room, Tally
-from messages import (BLOCK_STATUS, CACHE, CLIENT, DISC, FLUSH, READ, SERVER, TRIM, WRITE, WRITE_ZEROES, answer, begun, chunk, client_flags, content,
-                      cut, done, export_info, front, greeting, hole, option, read, request, simple, text, write)
+from messages import (
+    CACHE, CLIENT, DISC, DONE, FLUSH, READ, REQ_ONE, SERVER, TRIM, WRITE, WRITE_ZEROES, answer, begun, chunk,
+    client_flags, content, context, cut, done, export_info, extents, front, greeting, hole, option, read, request, simple, status,
+    text, write,
+)
 from test_commands import EMPTY, fault
 from test_cuts import SESSIONS
 
@@ -34,6 +37,10 @@ def queries(*asked):
 LISTED = [*HELLO, option(8), answer(8, 1), option(9, queries()), answer(9, 4, b"\0\0\0\0base:allocation"), answer(9, 1)]
 ALLOCATION = b"\0\0\0\1base:allocation"
 SELECTED = [*LISTED, option(10, queries(b"base:allocation")), answer(10, 4, ALLOCATION), answer(10, 1), *begun()[2:]]
+SELECTED_TWO = [
+    *LISTED, option(10, queries(b"base:allocation", b"a:\xff")), answer(10, 4, ALLOCATION), context(2, b"a:\xff"), answer(10, 1),
+    *begun()[2:],
+]
 # A WRITE of two bytes, then a READ of four, each answered before the next.
 WRITTEN = [*begun(), write(1, 0, b"\xab\xcd"), simple(1), read(2, 0, 4), simple(2, b"\xab\xcd\0\0")]
 MISREAD = WRITTEN[:-1] + [simple(2, b"\xab\xce\0\0")]
@@ -55,7 +62,17 @@ WIRE = {
     "out-of-profile-of-extended-headers": Session([*HELLO, option(11), answer(11, 1)]),
     "out-of-profile-of-an-unknown-option": Session([*HELLO, option(77), answer(77, 1)]),
     "out-of-profile-of-tls-in-wide": Session([*HELLO, option(5), answer(5, 1)], profile="wide"),
-    "out-of-profile-of-block-status": Session([*SELECTED, request(BLOCK_STATUS, 1, 0, 8)], profile="wide"),
+    "incomplete-status": Session(
+        [*SELECTED_TWO, status(1, 0, 8), extents(1, 1, (3, 0), (5, 3), flags=DONE)], profile="wide"),
+    "incomplete-status-without-one": Session([*SELECTED_TWO, status(1, 0, 8), done(1)], profile="wide"),
+    "bad-content-of-a-second-status": Session(
+        [*SELECTED, status(1, 0, 8), extents(1, 1, (8, 1)), extents(1, 1, (8, 0), flags=DONE)], profile="wide"),
+    "bad-content-of-extents": Session(
+        [*SELECTED, status(1, 2, 4), extents(1, 1, (4, 2), (1, 0), flags=DONE)], profile="wide"),
+    "bad-chunk-of-a-status": Session([*SELECTED, status(1, 0, 8), extents(1, 1, (8, 0), (0, 0))], profile="wide"),
+    "success-of-an-improper-status": Session(
+        [*SELECTED, status(1, 4, 8), extents(1, 1, (8, 0), flags=DONE)], profile="wide"),
+    "simple-success-of-a-status": Session([*SELECTED, status(1, 0, 8), simple(1)], profile="wide"),
     "bad-reply-payload-of-a-context": Session(
         [*SELECTED[:-4], answer(10, 4, b"\0\0\0\1qemu:dirty-bitmap:a")], profile="wide"),
     "success-of-improper-contexts": Session(
@@ -249,7 +266,9 @@ REASONS = [
     (improper(request(TRIM, 1, 0, 1, flags=4), 0xED), "it carries DF, which only a READ may"),
     (improper(request(CACHE, 1, 0, 1, flags=16)), "it carries FAST_ZERO, which only a WRITE_ZEROES may"),
     (improper(request(WRITE_ZEROES, 1, 0, 1, flags=16)), "it carries FAST_ZERO, and the export lacks SEND_FAST_ZERO"),
-    (improper(request(TRIM, 1, 0, 1, flags=8)), "it carries a flag that is none of FUA, NO_HOLE, DF and FAST_ZERO"),
+    (improper(request(TRIM, 1, 0, 1, flags=8)), "it carries REQ_ONE, which only a BLOCK_STATUS may"),
+    (improper(request(TRIM, 1, 0, 1, flags=32)),
+     "it carries a flag that is none of FUA, NO_HOLE, DF, REQ_ONE and FAST_ZERO"),
     ([*begun(), request(READ, 1, 0, 1, flags=4), simple(1, b"\0")], "it carries DF, and the export lacks SEND_DF"),
     (opted(3, b"\0"), "the option has no data, and there is some from byte 39 on"),
     (opted(8, b"\0\0"), "the option has no data, and there is some from byte 39 on"),
@@ -305,13 +324,30 @@ WIDE_REASONS = [
     ([*HELLO, option(9, queries()), answer(9, 4, b"\0\0\0")], "its data is shorter than the id of a context, which has 4 bytes"),
     ([*HELLO, option(10, queries(b"a")), answer(10, 4, ALLOCATION), answer(10, 4, ALLOCATION)],
      "a context that was selected before has the same id"),
+    ([*begun(), status(1, 0, 8), simple(1)], "it asks for a status, and no metadata context is in force"),
+    (chunked(extents(1, 1, (8, 0))), "it gives a status, and no metadata context is in force"),
+    ([*SELECTED, status(1, 0, 8), chunk(1, 5, bytes(13))],
+     "the payload of a status has an id of 4 bytes and a descriptor of 8 bytes or more of them"),
+    ([*SELECTED, status(1, 0, 8), extents(1, 1)],
+     "the payload of a status has an id of 4 bytes and a descriptor of 8 bytes or more of them"),
+    ([*SELECTED, status(1, 0, 8), extents(1, 1, (8, 0), (0, 0))], "one of its descriptors has length 0"),
+    ([*SELECTED, read(1, 0, 8), extents(1, 1, (8, 0))], "a status answers only a BLOCK_STATUS"),
+    ([*SELECTED, status(1, 0, 8), extents(1, 2, (8, 0))], "no metadata context in force has its id"),
+    ([*SELECTED, status(1, 0, 8), extents(1, 1, (8, 0)), extents(1, 1, (8, 0))],
+     "its context has a status before it in this reply"),
+    ([*SELECTED, status(1, 0, 8, REQ_ONE), extents(1, 1, (4, 0), (4, 0))],
+     "the request has REQ_ONE, so it gets one descriptor, which ends with the range or before"),
+    ([*SELECTED, status(1, 0, 8), extents(1, 1, (8, 0), (1, 0))],
+     "the descriptors before the last one reach the end of the range"),
+    ([*SELECTED, status(1, 0, 9), extents(1, 1, (9, 0), flags=DONE)], "its range passes the end of the export of 8 bytes"),
+    ([*SELECTED, status(1, 0, 8, 4), extents(1, 1, (8, 0), flags=DONE)], "it carries DF, which only a READ may"),
 ]
 # Those of a WRITE that breaks as many parts of its rule as one can.
 SEVERAL = [
     "its range passes the end of the export of 8 bytes", "it carries FUA, and the export lacks SEND_FUA",
     "it carries NO_HOLE, which only a WRITE_ZEROES may", "it carries DF, which only a READ may",
-    "it carries FAST_ZERO, which only a WRITE_ZEROES may", "it changes an export that is read-only: it has READ_ONLY",
-    "it carries a flag that is none of FUA, NO_HOLE, DF and FAST_ZERO",
+    "it carries REQ_ONE, which only a BLOCK_STATUS may", "it carries FAST_ZERO, which only a WRITE_ZEROES may", "it changes an export that is read-only: it has READ_ONLY",
+    "it carries a flag that is none of FUA, NO_HOLE, DF, REQ_ONE and FAST_ZERO",
 ]
 # Options that nbdcheck does not follow, and what is said in place of a rule.
 GRANTED = {
@@ -468,7 +504,7 @@ def reasons(tally, room):
         told = told_of(tally, f"granted {number}", room.run("explain", room.put("granted", text(opted(number, b"")))))
         lines = told.split("\n")
         tally.holds(f"granted {number}", lines[3].startswith("granted: ") and lines[3].endswith(f", for {extension}"), told)
-        wider = "try --profile wide, which follows the negotiation of metadata contexts, though not block status yet; or "
+        wider = "try --profile wide, which follows metadata contexts and block status; or "
         first = "instead: " + (wider if number in (9, 10) else "")
         tally.holds(f"instead of {number}", lines[4].startswith(first + "record with"), told)
         named = re.findall(r"--[\w=-]+|h\.\w+|tls-creds|add_meta_context|opt_\w+", lines[4])

@@ -84,9 +84,9 @@ fn sentence_of(fault: WireFault) -> &'static str {
         WireFault::SuccessOfImproper =>
             "An option or a request that the client should not have sent is answered by an error.",
         WireFault::BadDisconnect => "DISC has neither an offset nor a length.",
-        WireFault::Unfinished => "The capture has each message that began to its last byte.",
         WireFault::IncompleteStatus =>
             "The reply to a BLOCK_STATUS that succeeds has the status of each metadata context in force.",
+        WireFault::Unfinished => "The capture has each message that began to its last byte.",
     }
 }
 

@@ -91,7 +91,7 @@ impl Contexts {
         match context_of(data) {
             Some((id, name)) if kind == answers::META_CONTEXT => {
                 let place = Place {
-                    before: before.saturating_add((data.len() - name.len()) as u64),
+                    before: before.saturating_add(data.len().saturating_sub(name.len()) as u64),
                     length: name.len() as u64,
                 };
                 self.names.insert(id, place)?;
@@ -116,10 +116,7 @@ impl Text {
     /// A context by its name and its id: `base:allocation (1)`.
     fn context(self, id: u32, story: &Story) -> Text {
         match story.context_name(id) {
-            Some(name) => self
-                .bytes(name)
-                .number(" (", u64::from(id))
-                .say(")"),
+            Some(name) => self.bytes(name).number(" (", u64::from(id)).say(")"),
             None => self.number("context ", u64::from(id)),
         }
     }
@@ -201,10 +198,7 @@ impl Text {
             return self.hex(" flags ", u64::from(flags));
         }
         self.say(
-            match (
-                has_wide(flags, states::HOLE),
-                has_wide(flags, states::ZERO),
-            ) {
+            match (has_wide(flags, states::HOLE), has_wide(flags, states::ZERO)) {
                 (true, true) => " hole zero",
                 (true, false) => " hole",
                 (false, true) => " zero",
@@ -219,7 +213,7 @@ impl Text {
         let mut missing = 0u64;
         for (id, _) in &story.contexts.names {
             if story.contexts.has(*id) && !story.is_told(*id, chunk, request) {
-                missing += 1;
+                missing = missing.saturating_add(1);
                 if missing <= LISTED {
                     text = text
                         .say("missing: the status of ")

@@ -238,6 +238,7 @@ impl Story {
 
     // A request has come.
     fn ask(&mut self, told: &Told, head: RequestHead, number: u64) -> Result<(), AllocError> {
+        let proper = self.is_proper(&head);
         self.requests.push(Request {
             number,
             head,
@@ -247,7 +248,7 @@ impl Story {
             replied: None,
             finished: None,
             error: 0,
-            proper: self.is_proper(&head),
+            proper,
         })?;
         self.outstanding.insert(head.cookie, number)?;
         Ok(())
