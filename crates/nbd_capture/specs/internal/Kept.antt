@@ -20,7 +20,8 @@ Adds old new part = (bytes : List ℕ) → IsKept old bytes → IsKept new (byte
 -- what is kept of a line grows by what is at hand of it: so many bytes, with the line's LF where it is among them
 abbrev pub IsAdded : (at_hand : List ℕ) → (old new : LineBuffer) → (count : ℕ) → (ends : Bool) → Type 0
 IsAdded at_hand old new count true =
-    (part rest : List ℕ) × (at_hand ≡ part ++ line_feed ∷ rest) × IsUnbroken part × (count ≡ length part + 1) × Adds old new part
+    (part rest : List ℕ) × (at_hand ≡ part ++ line_feed ∷ rest) × IsUnbroken part
+    × (count ≡ length part + 1) × Adds old new part
 IsAdded at_hand old new count false = IsUnbroken at_hand × (count ≡ length at_hand) × Adds old new at_hand
 
 -- the chunk whose sender and bytes these are, if there is a sender, as a list
