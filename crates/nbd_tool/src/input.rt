@@ -49,7 +49,7 @@ pub(crate) fn read_whole<R: Read>(alloc: Global, reader: &mut R) -> Result<Vec<u
 {
     match read_within(alloc, reader, READ_LIMIT as u64)? {
         Text::Whole(text) => Ok(text),
-        Text::Longer(_) => Err(ReadFault::Read),
+        Text::Longer(_) => unreachable!(),
     }
 }
 
@@ -61,7 +61,7 @@ pub(crate) fn read_within<R: Read>(
 ) -> Result<Text, ReadFault>
     ensures read { IfOk result (λ text. IfSome (R.remaining reader.old) (IsText room text)) }
     ensures limited { OnOk result (IsWithinLimit (R.remaining reader.old)) }
-    ensures longer { (n : ℕ) → result ≡ Ok (Longer n) → room < n }
+    ensures longer { (n : ℕ) → result ≡ Ok (Longer n) → (room < n) × (n ≤ READ_LIMIT) }
 {
     let mut portion = vec![in alloc; 0u8; PORTION]?;
     let mut text = Vec::new(alloc);
@@ -87,6 +87,7 @@ fn read_into<R: Read>(
     ensures read { IfOk result (λ count. IfSome (R.remaining reader.old)
         (λ bytes. (count ≡ length bytes) × (count ≤ room → text.new.items ≡ bytes))) }
     ensures limited { OnOk result (IsWithinLimit (R.remaining reader.old)) }
+    ensures few { IfOk result (λ count. count ≤ READ_LIMIT) }
     // Memory runs out only where the next portion may not fit in what room there was.
     ensures full { result ≡ Err Memory → vec_capacity text.old < vec_len text.new + PORTION }
 {
