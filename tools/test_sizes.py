@@ -45,6 +45,11 @@ def long_messages(tally, room):
     tally.want("show of a write of 2 MiB", (shown.status, is_shown, shown.err), (0, True, b""))
     made = room.make(shown.out)
     tally.want("make of a write of 2 MiB", (made.status, made.out == text(records), made.err), (0, True, b""))
+    capture, order = room.put("long", text(records)), room.put("order", b"1\n")
+    told = room.run("explain", capture, order)
+    tally.want("explain of a write of 2 MiB", told, yes(1, 1, 1))
+    named = room.run("show", "--names", capture)
+    tally.want("names of a write of 2 MiB", (named.status, named.out.endswith(b"\nok\n"), named.err), (0, True, b""))
     records = [greeting(), client_flags(), option(3, data), answer(3, 2**31 + 3, data)]
     tally.want("an option of 2 MiB", room.check(text(records), b""), yes(0, 0, 0))
     # The last byte of the message is missing.
@@ -78,12 +83,15 @@ def many_chunks(tally, room):
 
 
 def a_million(tally, room):
-    """A million FLUSHes, each answered before the next, and as many entries of an order: no growth is told as out of memory."""
+    """A million FLUSHes, each answered before the next, as many entries of an order, and a script of as many messages: no growth is
+    told as out of memory."""
     count, nothing = 10**6, "0" * 24
     lines = (f"C 2560951300000003{cookie:016x}{nothing}\nS 6744669800000000{cookie:016x}\n" for cookie in range(count))
     capture, numbers = text(begun()) + "".join(lines).encode(), b"".join(b"%d\n" % number for number in range(1, count + 1))
     tally.want("a million requests and entries", room.check(capture, numbers), yes(count, count, 0))
     tally.want("a million requests, their numbers", room.run("order", "--arrival", room.put("million", capture)), Ended(0, numbers, b""))
+    script, made = b"C client-flags flags=3\n" * count, b"C 00000003\n" * count
+    tally.want("a million messages of a script", room.make(script), Ended(0, made, b""))
 
 
 def holes(count, command):

@@ -1,5 +1,5 @@
 -- The faults of one line, as faults of the whole text.
-use Rattle.std.proofs.Common.{◌≡◌, ℕ, ◌+◌, List, ◌∷◌, ◌++◌, sym, subst, refl, Result, Ok, Err, IfErr}
+use Rattle.std.proofs.Common.{◌≡◌, ℕ, ◌+◌, List, ◌∷◌, ◌++◌, sym, subst, refl, Result, Ok, Err, IfErr, IfOk}
 use Rattle.std.specs.Prelude.{IsErr, MatchResult}
 use Rattle.nbd_wire.specs.declared.entry.Entry.{Entry}
 use Rattle.nbd_capture.specs.declared.capture.CaptureFault.{CaptureFault}
@@ -11,8 +11,9 @@ use Rattle.nbd_capture.specs.Capture.{Chunk, IsCaptureLine, IsCaptureText, IsFir
 use Rattle.nbd_capture.specs.Order.{IsOrderLine, IsOrderText}
 use Rattle.nbd_capture.specs.Faults.{IsCaptureFault, IsOrderTextFault}
 use Rattle.nbd_capture.specs.internal.Steps.{IsChunkFault}
+use Rattle.nbd_capture.proofs.OrderLineLemmas.{one_entry}
 use Rattle.nbd_capture.proofs.ProgressLemmas.{Progress, stopped}
-use Rattle.nbd_capture.proofs.ReadingLemmas.{no_reading}
+use Rattle.nbd_capture.proofs.ReadingLemmas.{no_reading, one_reading}
 
 pub stopped_capture : (text rest bytes behind : List ℕ) (chunks : List Chunk) (number : ℕ) (fault : CaptureFault)
     → Progress IsCaptureLine text rest chunks number → IsUnbroken bytes → rest ≡ bytes ++ line_feed ∷ behind
@@ -30,8 +31,9 @@ only_memory_of_capture text (Err (Line n)) P failed h chunks read = absurd (no_r
 only_memory_of_capture text (Err Read) P failed h chunks read = absurd h
 only_memory_of_capture text (Err Memory) P failed h chunks read = refl
 
-pub only_memory_of_order : {T : Type 0} (text : List ℕ) (r : Result T OrderTextFault) (P : List Entry → T → Type 0) → IsErr r → IfErr r (IsOrderTextFault text)
-    → (entries : List Entry) → IsOrderText text entries → MatchResult r (P entries) (λ e. e ≡ order_faults.Memory)
-only_memory_of_order text (Ok v) P failed h entries read = cc failed
-only_memory_of_order text (Err (order_faults.Line n)) P failed h entries read = absurd (no_reading IsOrderLine text n entries h read)
-only_memory_of_order text (Err order_faults.Memory) P failed h entries read = refl
+-- where the text has a reading as an order, what was found is that, or out of memory
+pub only_entries : {T : Type 0} (items : T → List Entry) (text : List ℕ) (r : Result T OrderTextFault) → IfOk r (λ found. IsOrderText text (items found))
+    → IfErr r (IsOrderTextFault text) → (entries : List Entry) → IsOrderText text entries → MatchResult r (λ found. items found ≡ entries) (λ e. e ≡ order_faults.Memory)
+only_entries items text (Ok found) is fault entries read = one_reading IsOrderLine one_entry text (items found) entries is read
+only_entries items text (Err (order_faults.Line n)) is fault entries read = absurd (no_reading IsOrderLine text n entries fault read)
+only_entries items text (Err order_faults.Memory) is fault entries read = refl

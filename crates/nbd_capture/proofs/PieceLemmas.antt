@@ -1,5 +1,5 @@
 -- What one look at a reader's bytes gives of a line.
-use Rattle.std.proofs.Common.{◌≡◌, ℕ, Bool, true≢false, Ok, Err, refl, IsTrue, ◌+◌, ◌-◌, ◌<◌, ◌≤◌, List, [], ◌∷◌, ◌++◌, length, take, sym, ap, subst, ◌∙◌, arith, ◌==◌, false, take-take, length-take-le, Some, None, IfSome}
+use Rattle.std.proofs.Common.{◌≡◌, ℕ, Bool, true, true≢false, Ok, Err, refl, IsTrue, ◌+◌, ◌-◌, ◌<◌, ◌≤◌, List, [], ◌∷◌, ◌++◌, length, take, sym, ap, subst, ◌∙◌, arith, ◌==◌, false, take-take, length-take-le, Some, None, IfSome}
 use Rattle.std.specs.Prelude.{OnSome, Option}
 use Rattle.std.specs.Io.{StartsWith}
 use Rattle.std.specs.Io.KnownBytes.{Consumes, IsAtEnd, Keeps}
@@ -11,12 +11,13 @@ use Rattle.nbd_capture.specs.Lines.{IsUnbroken, line_feed}
 use Rattle.nbd_capture.specs.declared.capture.CaptureFault.{CaptureFault}
 use Rattle.nbd_capture.specs.declared.capture.CaptureFault.TheVariants.{Line, Memory, Read}
 use Rattle.nbd_capture.specs.declared.source.Ending.TheVariants.{LineFeed, Text}
+use Rattle.nbd_capture.specs.declared.source.Piece.TheVariants.{Part, Last}
 use Rattle.nbd_capture.specs.Capture.{Chunk, IsCaptureLine}
 use Rattle.nbd_capture.specs.Reading.{IsReaderFault, Reading, Reads, Refuses, Takes}
 use Rattle.nbd_capture.specs.internal.Steps.{IsChunkFault}
 use Rattle.nbd_capture.specs.declared.line_buffer.LineBuffer.{LineBuffer}
-use Rattle.nbd_capture.specs.internal.Kept.{IsKept}
-use Rattle.nbd_capture.specs.internal.Pieces.{IsLine}
+use Rattle.nbd_capture.specs.internal.Kept.{IsAdded, IsKept}
+use Rattle.nbd_capture.specs.internal.Pieces.{IsLine, IsPiece}
 use Rattle.nbd_capture.proofs.ReadingStepLemmas.{none_ended, one_ended, reads-append, reads_line, refuses_chunk, refuses_end, stops, takes-append}
 
 pub at_end : (a b : Option (List ℕ)) (shown : List ℕ) → length shown ≡ 0 → IfSome a (λ xs. length shown ≡ 0 → xs ≡ []) → Keeps a b → OnSome a (IsAtEnd b)
@@ -41,34 +42,43 @@ consumed a b c buffered shown bytes n look within same =
     subst (Consumes a c) same (Consumes_shown a b c buffered shown n within look.front look.end look.kept look.fits look.drops).0
 
 -- a line ends within the part of what was shown that the text may have
-pub takes_last : (old new : Reading) (b : Option (List ℕ)) (buffered : Option ℕ) (shown part rest : List ℕ) (m : ℕ)
-    → Look old.rest b new.rest buffered shown (length part + 1) → m ≤ length shown → m ≤ old.room → take m shown ≡ part ++ line_feed ∷ rest → IsUnbroken part
-    → new.room ≡ old.room - (length part + 1) → new.lines ≡ old.lines + 1 → Takes old new (part ++ line_feed ∷ [])
-takes_last old new b buffered shown part rest m look within fits split u room lines =
+pub takes_last : (old new : Reading) (b : Option (List ℕ)) (buffered : Option ℕ) (shown : List ℕ) (m n : ℕ) (before after : LineBuffer)
+    → Look old.rest b new.rest buffered shown n → m ≤ length shown → m ≤ old.room → IsAdded (take m shown) before after n true
+    → new.room ≡ old.room - n → new.lines ≡ old.lines + 1 → IsPiece old new before after (Ok Last)
+takes_last old new b buffered shown m n before after look within fits (part, rest, split, u, count, adds) room lines =
     let long : length (part ++ line_feed ∷ rest) ≡ length part + (length rest + 1) = let e = length-append part (line_feed ∷ rest) in omega (arith, e) in
     let size : length (take m shown) ≡ m = length-take-le m shown within in
     let same : m ≡ length part + (length rest + 1) = sym size ∙ ap length split ∙ long in
     let whole : length (part ++ line_feed ∷ []) ≡ length part + 1 = let e = length-append part (line_feed ∷ []) in omega (arith, e) in
     let inner : length part + 1 ≤ m = omega (arith, same) in
     let shorter : take (length part + 1) shown ≡ part ++ line_feed ∷ [] =
-    sym (take-take (length part + 1) m shown inner) ∙ ap (take (length part + 1)) split ∙ take-append-add part (line_feed ∷ rest) 1 in
-    record {
-      consumed = consumed old.rest b new.rest buffered shown (part ++ line_feed ∷ []) (length part + 1) look (omega (arith, inner, within)) shorter;
-      fits = omega (arith, whole, room, inner, fits);
-      counted = let one = one_ended part u in omega (arith, one, lines);
-    }
+    sym (take-take (length part + 1) m shown inner) ∙ ap (take (length part + 1)) split ∙ take-append-add part (line_feed ∷ rest) 1 in (
+      part,
+      record {
+        consumed = consumed old.rest b new.rest buffered shown (part ++ line_feed ∷ []) n look (omega (arith, count, inner, within)) (ap (λ k. take k shown) count ∙ shorter);
+        fits = omega (arith, count, whole, room, inner, fits);
+        counted = let one = one_ended part u in omega (arith, one, lines);
+      },
+      u,
+      adds,
+    )
 
 -- no line ends within it
-pub takes_part : (old new : Reading) (b : Option (List ℕ)) (buffered : Option ℕ) (shown : List ℕ) (m : ℕ)
-    → Look old.rest b new.rest buffered shown (length (take m shown)) → m ≤ length shown → m ≤ old.room → IsUnbroken (take m shown)
-    → new.room ≡ old.room - length (take m shown) → new.lines ≡ old.lines → Takes old new (take m shown)
-takes_part old new b buffered shown m look within fits u room lines =
-    let size : length (take m shown) ≡ m = length-take-le m shown within in
-    record {
-      consumed = consumed old.rest b new.rest buffered shown (take m shown) (length (take m shown)) look (omega (arith, size, within)) (ap (λ k. take k shown) size);
-      fits = omega (arith, room, size, fits);
-      counted = let none = none_ended (take m shown) u in omega (arith, none, lines);
-    }
+pub takes_part : (old new : Reading) (b : Option (List ℕ)) (buffered : Option ℕ) (shown : List ℕ) (m n : ℕ) (before after : LineBuffer)
+    → Look old.rest b new.rest buffered shown n → m ≤ length shown → m ≤ old.room → IsAdded (take m shown) before after n false → 0 < length (take m shown)
+    → new.room ≡ old.room - n → new.lines ≡ old.lines → IsPiece old new before after (Ok Part)
+takes_part old new b buffered shown m n before after look within fits (u, count, adds) some room lines =
+    let size : length (take m shown) ≡ m = length-take-le m shown within in (
+      take m shown,
+      record {
+        consumed = consumed old.rest b new.rest buffered shown (take m shown) n look (omega (arith, count, size, within)) (ap (λ k. take k shown) (count ∙ size));
+        fits = omega (arith, count, room, size, fits);
+        counted = let none = none_ended (take m shown) u in omega (arith, none, lines);
+      },
+      u,
+      some,
+      adds,
+    )
 
 -- of a line these bytes were taken, and they are kept
 pub record Begins (old new : Reading) (kept : LineBuffer) : Type 0 where

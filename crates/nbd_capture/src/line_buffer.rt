@@ -4,10 +4,11 @@ ghost use Rattle.std.specs.Prelude.{◌≡◌, ◌++◌, ◌∷◌, ◌↔◌, �
 ghost use Rattle.hex.specs.Hex.{decode_of};
 ghost use Rattle.hex.specs.declared.error.FromHexError.TheVariants.{OutOfMemory};
 ghost use Rattle.nbd_capture.specs.Capture.{IsCaptureLine, hash};
-ghost use Rattle.nbd_capture.specs.internal.Kept.{IsKept, said_into};
+ghost use Rattle.nbd_capture.specs.internal.Kept.{IsAdded, IsKept, said_into};
 ghost use Rattle.nbd_capture.specs.internal.Steps.{IsChunkFault};
 
 use crate::capture::{CaptureFault, is_silent, sender_of};
+use crate::lines::first_line;
 use hex::FromHexError;
 use nbd_wire::Side;
 use std::alloc::{AllocError, Global};
@@ -56,6 +57,22 @@ impl LineBuffer {
             self.bytes.extend_from_slice(part)?;
         }
         Ok(())
+    }
+
+    // Adds what stands at hand of the line, up to its LF. Answers how many bytes that is, with the LF, and whether the LF is there.
+    pub(crate) fn add_line(&mut self, at_hand: &[u8]) -> Result<(usize, bool), AllocError>
+        ensures { IfOk result (λ added. IsAdded at_hand.now self.old self.new added.0 added.1) }
+    {
+        match first_line(at_hand) {
+            Some((part, _)) => {
+                self.add(part)?;
+                Ok((part.len() + 1, true))
+            }
+            None => {
+                self.add(at_hand)?;
+                Ok((at_hand.len(), false))
+            }
+        }
     }
 
     // The sender of the chunk that the line stands for, if it stands for one; `bytes` then are the chunk's.

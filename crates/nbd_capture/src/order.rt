@@ -1,6 +1,6 @@
 //! Order texts: an entry on each line.
 
-ghost use Rattle.std.specs.Prelude.{◌≡◌, ◌↔◌, ◌∷◌, ◌++◌, [], ℕ, List, IfOk, IfErr, IsTrue, MatchOption, MatchResult};
+ghost use Rattle.std.specs.Prelude.{◌≡◌, ◌≤◌, ◌↔◌, ◌∷◌, ◌++◌, [], ℕ, List, Err, IfOk, IfErr, IsTrue, MatchOption, MatchResult, OnOk, vec_capacity, vec_len};
 ghost use Rattle.nbd_wire.specs.declared.entry.Entry.{Entry};
 ghost use Rattle.nbd_wire.specs.declared.entry.Part.{Part};
 ghost use Rattle.nbd_capture.specs.Capture.{space};
@@ -49,6 +49,17 @@ pub fn parse_order(alloc: Global, text: &[u8]) -> Result<Vec<Entry>, OrderTextFa
         → MatchResult result (λ found. found.items ≡ entries) (λ e. e ≡ Memory) }
 {
     let mut entries = Vec::new(alloc);
+    parse_into(text, &mut entries).and(Ok(entries))
+}
+
+// Puts the entries of an order text, in order, into a vector that has none.
+fn parse_into(text: &[u8], entries: &mut Vec<Entry>) -> Result<(), OrderTextFault>
+    requires { entries.old.items ≡ [] }
+    ensures entries { OnOk result (IsOrderText text.now entries.new.items) }
+    ensures fault { IfErr result (IsOrderTextFault text.now) }
+    // Memory runs out only where the entries fill all the room that there was.
+    ensures full { result ≡ Err Memory → vec_capacity entries.old ≤ vec_len entries.new }
+{
     let mut rest = text;
     let mut line_number = 0;
     while !rest.is_empty() {
@@ -57,7 +68,7 @@ pub fn parse_order(alloc: Global, text: &[u8]) -> Result<Vec<Entry>, OrderTextFa
         entries.push(entry_on(line).ok_or(OrderTextFault::Line(line_number))?)?;
         rest = after;
     }
-    Ok(entries)
+    Ok(())
 }
 
 // The entry that a line stands for.

@@ -4,7 +4,6 @@ ghost use Rattle.std.specs.Prelude.{◌+◌, ◌<◌, ◌^◌};
 
 use crate::capture::CaptureFault;
 use crate::line_buffer::LineBuffer;
-use crate::lines::first_line;
 use nbd_wire::Side;
 use std::alloc::Global;
 use std::io::BufRead;
@@ -106,22 +105,14 @@ impl<R: BufRead> Source<R> {
         if within.is_empty() {
             return Err(CaptureFault::Read);
         }
-        match first_line(within) {
-            Some((part, _)) => {
-                let read = part.len() + 1;
-                self.line.add(part)?;
-                self.reader.consume(read);
-                self.room -= read as u64;
-                self.lines += 1;
-                Ok(Piece::Last)
-            }
-            None => {
-                let read = within.len();
-                self.line.add(within)?;
-                self.reader.consume(read);
-                self.room -= read as u64;
-                Ok(Piece::Part)
-            }
+        let (read, ends) = self.line.add_line(within)?;
+        self.reader.consume(read);
+        self.room -= read as u64;
+        if ends {
+            self.lines += 1;
+            Ok(Piece::Last)
+        } else {
+            Ok(Piece::Part)
         }
     }
 }

@@ -1,6 +1,6 @@
 //! Scripts: message lines, empty lines, comments and lines that are exactly `ok`.
 
-ghost use Rattle.std.specs.Prelude.{◌≡◌, ◌↔◌, [], List, IfOk, IfErr, IsTrue, MatchResult};
+ghost use Rattle.std.specs.Prelude.{◌≡◌, ◌≤◌, ◌↔◌, ◌++◌, [], List, IfOk, IfErr, IsTrue, MatchResult, OnErr, OnOk, vec_capacity, vec_len};
 ghost use Rattle.nbd_wire.specs.declared.message.Message.{Message};
 ghost use Rattle.nbd_lines.specs.Faults.{IsScriptFault};
 ghost use Rattle.nbd_lines.specs.Script.{IsScript, IsScriptLine};
@@ -60,12 +60,22 @@ pub fn parse_script(alloc: Global, text: &[u8]) -> Result<Vec<Message>, ScriptFa
     while !rest.is_empty() {
         number += 1;
         let (line, after) = first_line(rest).ok_or(ScriptFault::Line(number))?;
-        if let Some(message) = message_on(alloc, line, number)? {
-            messages.push(message)?;
-        }
+        let message = message_on(alloc, line, number)?;
+        push_if(&mut messages, message)?;
         rest = after;
     }
     Ok(messages)
+}
+
+// The message, if there is one, behind the others.
+fn push_if(messages: &mut Vec<Message>, message: Option<Message>) -> Result<(), AllocError>
+    ensures pushed { OnOk result (messages.new.items ≡ messages.old.items ++ said_by message) }
+    ensures full { OnErr result (vec_capacity messages.old ≤ vec_len messages.old) }
+{
+    if let Some(message) = message {
+        messages.push(message)?;
+    }
+    Ok(())
 }
 
 // The message for which a line stands, if it stands for one.

@@ -1,6 +1,6 @@
 //! The order of arrival, and whether an order explains a session, by the judge of `check`.
 
-ghost use Rattle.std.specs.Prelude.{◌≡◌, All, IfOk, MatchBool, None};
+ghost use Rattle.std.specs.Prelude.{◌≡◌, ◌≤◌, [], All, IfOk, MatchBool, None, OnErr, OnOk, vec_capacity, vec_len};
 ghost use Rattle.nbd_judge.specs.Beginnings.{initial_of};
 ghost use Rattle.nbd_judge.specs.Verdicts.{IsVerdict};
 ghost use Rattle.nbd_order.specs.Finding.{AreWhole, arrival};
@@ -17,13 +17,23 @@ pub fn by_arrival(alloc: Global, count: u64) -> Result<Vec<Entry>, AllocError>
     ensures { IfOk result (λ order. order.items ≡ arrival count) }
 {
     let mut order = Vec::new(alloc);
+    push_arrival(&mut order, count).and(Ok(order))
+}
+
+// Puts so many requests, by their numbers, into an order that has none.
+fn push_arrival(order: &mut Vec<Entry>, count: u64) -> Result<(), AllocError>
+    requires { order.old.items ≡ [] }
+    ensures made { OnOk result (order.new.items ≡ arrival count) }
+    // Memory runs out only where the entries fill all the room that there was.
+    ensures full { OnErr result (vec_capacity order.old ≤ vec_len order.new) }
+{
     for i in 0..count {
         order.push(Entry {
             request: i + 1,
             part: None,
         })?;
     }
-    Ok(order)
+    Ok(())
 }
 
 /// The verdict of `check` on an order from this start.

@@ -1,5 +1,6 @@
 //! Reading an input whole.
-ghost use Rattle.std.specs.Prelude.{◌≡◌, ◌<◌, ◌≤◌, ℕ, [], IfOk, IfSome, Ok, OnOk, length};
+ghost use Rattle.std.specs.Prelude.{◌≡◌, ◌+◌, ◌<◌, ◌≤◌, ℕ, [], Err, IfOk, IfSome, Ok, OnOk, length, vec_capacity, vec_len};
+ghost use Rattle.nbd_tool.specs.declared.input.ReadFault.TheVariants.{Memory};
 ghost use Rattle.nbd_tool.specs.declared.input.Text.TheVariants.{Longer};
 ghost use Rattle.nbd_tool.specs.Starts.{IsWithinLimit};
 ghost use Rattle.nbd_tool.specs.internal.Texts.{IsText};
@@ -48,7 +49,7 @@ pub(crate) fn read_whole<R: Read>(alloc: Global, reader: &mut R) -> Result<Vec<u
 {
     match read_within(alloc, reader, READ_LIMIT as u64)? {
         Text::Whole(text) => Ok(text),
-        Text::Longer(_) => Err(ReadFault::Read),
+        Text::Longer(_) => unreachable!(),
     }
 }
 
@@ -60,10 +61,11 @@ pub(crate) fn read_within<R: Read>(
 ) -> Result<Text, ReadFault>
     ensures read { IfOk result (λ text. IfSome (R.remaining reader.old) (IsText room text)) }
     ensures limited { OnOk result (IsWithinLimit (R.remaining reader.old)) }
-    ensures longer { (n : ℕ) → result ≡ Ok (Longer n) → room < n }
+    ensures longer { (n : ℕ) → result ≡ Ok (Longer n) → (room < n) × (n ≤ READ_LIMIT) }
 {
+    let mut portion = vec![in alloc; 0u8; PORTION]?;
     let mut text = Vec::new(alloc);
-    let count = read_into(alloc, reader, room, &mut text)?;
+    let count = read_into(alloc, reader, room, portion.as_mut_slice(), &mut text)?;
     Ok(if count <= room {
         Text::Whole(text)
     } else {
@@ -71,22 +73,27 @@ pub(crate) fn read_within<R: Read>(
     })
 }
 
-// Reads to the end, and answers how many bytes these were. Where there is room for them, they stand in the text, which was empty.
+// Reads to the end, by portions, and answers how many bytes these were. Where there is room for them, they stand in the text, which
+// was empty.
 fn read_into<R: Read>(
     alloc: Global,
     reader: &mut R,
     room: u64,
+    portion: &mut [u8],
     text: &mut Vec<u8>,
 ) -> Result<u64, ReadFault>
-    requires { text.old.items ≡ [] }
+    requires empty { text.old.items ≡ [] }
+    requires portion { length portion.old ≡ PORTION }
     ensures read { IfOk result (λ count. IfSome (R.remaining reader.old)
         (λ bytes. (count ≡ length bytes) × (count ≤ room → text.new.items ≡ bytes))) }
     ensures limited { OnOk result (IsWithinLimit (R.remaining reader.old)) }
+    ensures few { IfOk result (λ count. count ≤ READ_LIMIT) }
+    // Memory runs out only where the next portion may not fit in what room there was.
+    ensures full { result ≡ Err Memory → vec_capacity text.old < vec_len text.new + PORTION }
 {
-    let mut portion = vec![in alloc; 0u8; PORTION]?;
     let mut count = 0;
     while count <= READ_LIMIT {
-        let Ok(more) = reader.read(portion.as_mut_slice()) else {
+        let Ok(more) = reader.read(portion) else {
             return Err(ReadFault::Read);
         };
         if more == 0 {
@@ -94,7 +101,7 @@ fn read_into<R: Read>(
         }
         count += more;
         if count as u64 <= room {
-            text.extend_from_slice(&portion.as_slice()[..more])?;
+            text.extend_from_slice(&portion[..more])?;
         } else {
             *text = Vec::new(alloc);
         }

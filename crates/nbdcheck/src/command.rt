@@ -110,7 +110,9 @@ fn wanted_of(is_whole: bool) -> Wanted
 }
 
 /// The number that was said, or the usual one where none was; None where it is no number.
-fn number_of(text: Option<&str>, usual: u64) -> Option<u64> {
+fn number_of(text: Option<&str>, usual: u64) -> Option<u64>
+    ensures usual { text.entry ≡ None → result ≡ Some usual }
+{
     match text {
         Some(text) => text.parse().ok(),
         None => Some(usual),

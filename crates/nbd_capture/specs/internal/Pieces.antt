@@ -13,15 +13,11 @@ use Rattle.nbd_capture.specs.declared.source.Piece.TheVariants.{Part, Last, End}
 use Rattle.nbd_capture.specs.declared.source.Source.{Source}
 use Rattle.nbd_capture.specs.Lines.{IsUnbroken, line_feed}
 use Rattle.nbd_capture.specs.Reading.{IsReaderFault, Reading, Reads, ReadsToEnd, Takes}
-use Rattle.nbd_capture.specs.internal.Kept.{IsKept}
+use Rattle.nbd_capture.specs.internal.Kept.{Adds, IsKept}
 
 -- a source in this state, as a contract of the capture reader sees it
 abbrev pub reading : {R : Type 0} → (R → Option (List ℕ)) → Source R → State → Reading
 reading remaining s state = record { rest = remaining s.reader; room = s.room; lines = s.lines; state = state }
-
--- what is kept of a line grows by these bytes
-abbrev pub Adds : (old new : LineBuffer) → List ℕ → Type 0
-Adds old new part = (bytes : List ℕ) → IsKept old bytes → IsKept new (bytes ++ part)
 
 -- a part of a line was read and kept, if any
 abbrev pub IsPiece : (old new : Reading) → (before after : LineBuffer) → Result Piece CaptureFault → Type 0

@@ -1,10 +1,11 @@
-use Rattle.std.proofs.Common.{◌≡◌, ◌∷◌, ◌++◌, [], ◌+◌, append-nil}
+use Rattle.std.proofs.Common.{◌≡◌, ◌∷◌, ◌++◌, ◌+◌}
 use Rattle.std.proofs.lemmas.Result.{err_from_is_err_and}
 use Rattle.nbd_capture.specs.Lines.{line_feed, IsUnbroken}
 use Rattle.nbd_capture.proofs.ProgressLemmas.{advance, done, cut_off}
 use Rattle.nbd_capture.proofs.ReadingLemmas.{one_reading}
 use Rattle.nbd_lines.specs.declared.script.ScriptFault.TheVariants.{Line}
 use Rattle.nbd_lines.specs.Script.{IsScriptLine}
+use Rattle.nbd_lines.specs.internal.Steps.{said_by}
 use Rattle.nbd_lines.proofs.ScriptLineLemmas.{one_saying, only_memory, stopped_script}
 use Rattle.nbd_lines.proofs.script.parse_script.Goals as goal
 
@@ -29,16 +30,8 @@ returns-clause-messages c =
 pub loop-rest-preserved : goal.loop-rest-preserved
 loop-rest-preserved c =
     let parts : IsUnbroken c.in_ok-line.line.now × (c.loop-rest.rest.now ≡ c.in_ok-line.line.now ++ line_feed ∷ c.in_ok-line.after.now) = rw c.in_ok-line.ensures.ok_part at c.first_line.ensures in
-    let form : IsScriptLine c.in_ok-line.line.now [] = rw c.in_default.is at c.in_ok-message.ensures.said in
-    let next = advance IsScriptLine c.args.text.now c.loop-rest.rest.now c.in_ok-line.line.now c.in_ok-line.after.now c.loop-rest.messages.items [] c.loop-rest.number c.loop-rest.invariant parts.0 parts.1 form in
-    rw append-nil at next
-
-pub loop-rest-preserved-in_ok-push : goal.loop-rest-preserved-in_ok-push
-loop-rest-preserved-in_ok-push c =
-    let parts : IsUnbroken c.in_ok-line.line.now × (c.loop-rest.rest.now ≡ c.in_ok-line.line.now ++ line_feed ∷ c.in_ok-line.after.now) = rw c.in_ok-line.ensures.ok_part at c.first_line.ensures in
-    let form : IsScriptLine c.in_ok-line.line.now (c.in-Some.message ∷ []) = rw c.in-Some.is at c.in_ok-message.ensures.said in
-    let next = advance IsScriptLine c.args.text.now c.loop-rest.rest.now c.in_ok-line.line.now c.in_ok-line.after.now c.loop-rest.messages.items (c.in-Some.message ∷ []) c.loop-rest.number c.loop-rest.invariant parts.0 parts.1 form in
-    rw c.in_ok-push.ensures.items next
+    let next = advance IsScriptLine c.args.text.now c.loop-rest.rest.now c.in_ok-line.line.now c.in_ok-line.after.now c.loop-rest.messages.items (said_by c.in_ok-message.message) c.loop-rest.number c.loop-rest.invariant parts.0 parts.1 c.in_ok-message.ensures.said in
+    rw c.in_ok-push_if.ensures.pushed next
 
 pub returns-in_err-line-clause-only : goal.returns-in_err-line-clause-only
 returns-in_err-line-clause-only c =

@@ -1,5 +1,5 @@
 -- So many bytes were read, and where there is room for them they stand in the text.
-use Rattle.std.proofs.Common.{◌≡◌, ◌+◌, ◌-◌, vec_len, vec_items}
+use Rattle.std.proofs.Common.{◌≡◌, ◌≤◌, ◌+◌, ◌-◌, length, vec_capacity, vec_items}
 use Rattle.nbd_tool.specs.declared.input.TheConstants.{READ_LIMIT, PORTION}
 use Rattle.nbd_tool.proofs.EndLemmas.{HasRead}
 use Rattle.nbd_tool.proofs.input.read_into.Given as goal
@@ -7,7 +7,8 @@ use Rattle.nbd_tool.proofs.input.read_into.Given as goal
 abbrev pub invariant-loop-count : goal.invariant-loop-count
 invariant-loop-count g l = record {
   read : HasRead (g.R.Read.remaining l.initial.reader) (g.R.Read.remaining l.reader) l.count l.room (vec_items l.text);
-  room : vec_len l.portion ≡ PORTION;
+  room : l.count ≤ l.room → vec_capacity l.initial.text ≤ vec_capacity l.text;
+  portion : length l.portion ≡ PORTION;
 }
 
 abbrev pub decreases-loop-count : goal.decreases-loop-count

@@ -13,5 +13,5 @@ returns-clause-read g c = elim c.if-count-room.branch [
 pub returns-clause-longer : goal.returns-clause-longer
 returns-clause-longer g c = λ n e. elim c.if-count-room.branch [
   | then-count-room w ↦ absurd (let q : Ok (Whole c.read_into.new.text) ≡ Ok (Longer n) = ap Ok (sym w.result-is) ∙ e in cc)
-  | else-count-room w ↦ (let q : Ok (Longer c.in_ok-count.count) ≡ Ok (Longer n) = ap Ok (sym w.result-is) ∙ e in let s : c.in_ok-count.count ≡ n = cc in omega (arith, w.if-count-room.false))
+  | else-count-room w ↦ (let q : Ok (Longer c.in_ok-count.count) ≡ Ok (Longer n) = ap Ok (sym w.result-is) ∙ e in let s : c.in_ok-count.count ≡ n = cc in (omega (arith, w.if-count-room.false), omega (arith, c.in_ok-count.ensures.few)))
 ]
