@@ -197,11 +197,13 @@ fits_it e status h =
     in_its_range : fits_range e status.extents ≡ true → (reach (but_last status.extents) < e.length) × (IsTrue (has e.flags command_flags.REQ_ONE) → (length status.extents ≡ 1) × (reach status.extents ≤ e.length))
     in_its_range h =
         let a : (not (nat_le e.length (reach (but_last status.extents))) ≡ true) × (_ ≡ true) = and_true (not (nat_le e.length (reach (but_last status.extents)))) _ h in
-        let short = leb-false e.length (reach (but_last status.extents)) (not_true _ a.0) in
-        (omega (arith, short), λ one. elim (or_true _ _ a.1) [
-          | inl n ↦ absurd (let q : true ≡ false = sym one ∙ not_true _ n in (cc))
-          | inr r ↦ (let b : ((length status.extents == 1) ≡ true) × (nat_le (reach status.extents) e.length ≡ true) = and_true (length status.extents == 1) _ r in (eqb-true (length status.extents) 1 b.0, leb-true (reach status.extents) e.length b.1))
-        ])
+        let short = leb-false e.length (reach (but_last status.extents)) (not_true _ a.0) in (
+          omega (arith, short),
+          λ one. elim (or_true _ _ a.1) [
+            | inl n ↦ absurd (let q : true ≡ false = sym one ∙ not_true _ n in (cc))
+            | inr r ↦ (let b : ((length status.extents == 1) ≡ true) × (nat_le (reach status.extents) e.length ≡ true) = and_true (length status.extents == 1) _ r in (eqb-true (length status.extents) 1 b.0, leb-true (reach status.extents) e.length b.1))
+          ],
+        )
 
 -- a chunk's form, and what is left to judge of its reply's end
 pub form_of : (export : Exporting) (e f : Operation) (flags kind : ℕ) (payload : List ℕ) (z : Bool) → (kind == chunks.NONE) ≡ z → chunk_fault z export e f flags kind payload ≡ None →

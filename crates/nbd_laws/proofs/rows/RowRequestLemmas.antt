@@ -189,7 +189,7 @@ module _ (since now : Core) (export : Exporting) (bytes : List ℕ) where
 
   simple_head : (o : Option Operation) → IsLeast (simple_fault now.structured o (number_at 4 4 bytes)) (SimpleHead o)
   simple_head None = least_if {c = true} UnknownCookie (record { yes = λ e. tt; no = λ e. absurd (cc) }) least_none (above_none 13)
-  simple_head (Some e) = least_if SimpleForbidden 
+  simple_head (Some e) = least_if SimpleForbidden
       (link_or (replies_link e.replies) (link_or (link_and (link_eq e.command commands.READ) (link_true now.structured)) (link_and (link_true (asks_status e)) (link_eq (number_at 4 4 bytes) 0)))) least_none (above_none 14)
 
   simple_last : (o : Option Operation) → IsLeast (simple_last_fault export o (number_at 4 4 bytes)) (SimpleLast o)

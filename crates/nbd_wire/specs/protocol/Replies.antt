@@ -39,9 +39,9 @@ IsContent export e piece =
     × SharesNone piece (pieces e)
     × (IsTrue (is_proper export e && has e.flags command_flags.DF) → pieces e ≡ [])
 
--- a status chunk answers a BLOCK_STATUS and is of a context in force that no earlier chunk of the reply is of; unless the
--- request's length is 0, its extents but the last lie inside the range, and with REQ_ONE there is one, not longer than
--- the range (proto.md, "Structured reply types", "Command flags")
+-- a status chunk answers a BLOCK_STATUS and is of a context in force that no earlier chunk of the reply is of; unless
+-- the request's length is 0, its extents but the last lie inside the range, and with REQ_ONE there is one, not longer
+-- than the range (proto.md, "Structured reply types", "Command flags")
 abbrev pub IsStatus : Operation → Status → Type 0
 IsStatus e status =
     (e.command ≡ commands.BLOCK_STATUS)

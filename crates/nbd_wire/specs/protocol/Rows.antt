@@ -265,8 +265,8 @@ IsTooLarge phase bytes = ⊥
 abbrev pub chunk_in : List ℕ → Message
 chunk_in bytes = Chunk (chunk_flags bytes) (chunk_type bytes) (cookie_of bytes) (chunk_payload bytes)
 
--- where these contexts are in force, the payload of a chunk has the form of its type, and NONE has DONE; BLOCK_STATUS is
--- a type only where a context is in force
+-- where these contexts are in force, the payload of a chunk has the form of its type, and NONE has DONE; BLOCK_STATUS
+-- is a type only where a context is in force
 abbrev pub HasForm : List Context → (flags kind : ℕ) (payload : List ℕ) → Type 0
 HasForm contexts flags kind payload =
     (kind ≡ chunks.NONE) × (payload ≡ []) × IsTrue (has flags chunks.DONE)
