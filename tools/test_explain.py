@@ -346,7 +346,7 @@ WIDE_REASONS = [
 SEVERAL = [
     "its range passes the end of the export of 8 bytes", "it carries FUA, and the export lacks SEND_FUA",
     "it carries NO_HOLE, which only a WRITE_ZEROES may", "it carries DF, which only a READ may",
-    "it carries REQ_ONE, which only a BLOCK_STATUS may", "it carries FAST_ZERO, which only a WRITE_ZEROES may", "it changes an export that is read-only: it has READ_ONLY",
+    "it carries FAST_ZERO, which only a WRITE_ZEROES may", "it changes an export that is read-only: it has READ_ONLY",
     "it carries a flag that is none of FUA, NO_HOLE, DF, REQ_ONE and FAST_ZERO",
 ]
 # Options that nbdcheck does not follow, and what is said in place of a rule.
