@@ -91,7 +91,7 @@ CommandsAreLiteral =
     × (commands.WRITE_ZEROES ≡ 6)
     × (commands.BLOCK_STATUS ≡ 7)
 
--- command flags, by bits 0, 1, 2 and 4 (proto.md, "Command flags")
+-- command flags, by bits 0 to 4 (proto.md, "Command flags")
 abbrev pub CommandFlagsAreLiteral : Type 0
 CommandFlagsAreLiteral =
     (command_flags.FUA ≡ 1)

@@ -40,8 +40,9 @@ IsContent export e piece =
     × (IsTrue (is_proper export e && has e.flags command_flags.DF) → pieces e ≡ [])
 
 -- a status chunk answers a BLOCK_STATUS and is of a context in force that no earlier chunk of the reply is of; unless
--- the request's length is 0, its extents but the last lie inside the range, and with REQ_ONE there is one, not longer
--- than the range (proto.md, "Structured reply types", "Command flags")
+-- the request's length is 0, its extents but the last end before the range does, and with REQ_ONE there is one, not
+-- longer than the range (proto.md, "Structured reply types", "Command flags"; that no chunk comes twice in a reply that
+-- fails, that the last extent may pass the range, and what holds of length 0 are this project's choices)
 abbrev pub IsStatus : Operation → Status → Type 0
 IsStatus e status =
     (e.command ≡ commands.BLOCK_STATUS)
@@ -66,7 +67,7 @@ IsChunk export e flags kind payload =
 
 -- a finished structured reply states a failure, or the request is proper, a READ is covered, and each context in force
 -- has a status of a BLOCK_STATUS, unless its length is 0 (proto.md, "Structured reply types"; that an improper request
--- has no success is this project's choice)
+-- has no success, and that length 0 asks for no status, are this project's choices)
 abbrev pub MayFinish : Exporting → Operation → Type 0
 MayFinish export e = IsTrue (has_failed e) ⊎ IsTrue (is_proper export e)
     × (e.command ≡ commands.READ → Covers e (pieces e))

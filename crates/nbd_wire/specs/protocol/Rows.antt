@@ -1,4 +1,4 @@
--- What is wrong where a session is refused: the rows of the table of faults (docs/PROFILE.md, "Faults"), in its order.
+-- What is wrong where a session is refused: the rows of the table of faults (docs/PROFILE.md, "Faults").
 -- The open bytes of a side are those after its last completed message (Splits.antt: `open_bytes`); below, `bytes` are
 -- those of one side, `since` is what had completed before the first of them, and `now` what has completed when the last
 -- of them has come. A row says how many open bytes there are where it is seen, and which rule they break. Names in
@@ -285,8 +285,8 @@ pub data IsMisplaced (export : Exporting) (e : Operation) (piece : Piece) : Type
       → IsMisplaced export e piece
 
 -- a status chunk answers no BLOCK_STATUS, is of a context that is not in force or that an earlier chunk is of, or to a
--- range that is not empty says more than it may: of what stands behind the last byte before its last extent begins, or
--- with REQ_ONE in several extents or of more than the range
+-- range that is not empty says more than it may: its extents but the last reach the end of the range, or with REQ_ONE
+-- there are several or one that is longer than the range
 pub data IsStray (e : Operation) (status : Status) : Type 0 where
   to_no_status : e.command ≢ commands.BLOCK_STATUS → IsStray e status
   not_in_force : has_id e.contexts status.id ≡ false → IsStray e status
@@ -398,8 +398,8 @@ pub data RowIn (since now : Core) (bytes : List ℕ) : WireFault → Phase → S
       → IsWholeIn since now bytes (Transmission export) Server → IsAnswered since now (cookie_of bytes) e
       → (HasForm e.contexts (chunk_flags bytes) (chunk_type bytes) (chunk_payload bytes) → ⊥)
       → RowIn since now bytes BadChunk (Transmission export) Server
-  -- at the last byte of a chunk: it does not fit its request (proto.md, "Structured reply types", "Request types";
-  -- which chunks fit an improper request, and when DF counts, is this project's choice)
+  -- at the last byte of a chunk: it does not fit its request (proto.md, "Structured reply types", "Request types",
+  -- "Command flags"; which chunks fit an improper request, and when DF counts, is this project's choice)
   bad_content : {export : Exporting} (e : Operation) → BeginsChunk bytes
       → IsWholeIn since now bytes (Transmission export) Server → IsAnswered since now (cookie_of bytes) e
       → IsBadContent export e (chunk_type bytes) (chunk_payload bytes)
