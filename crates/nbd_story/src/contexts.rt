@@ -9,10 +9,13 @@ use nbd_wire::{
     status_of,
 };
 use std::alloc::{AllocError, Global};
-use std::collections::BTreeMap;
+use std::collections::{BTreeMap, BTreeSet};
 
 /// How many descriptors of a status chunk are listed, and how many contexts without one.
 const LISTED: u64 = 8;
+
+/// How many bytes of a longer name are told, so that it costs no more each time than a message.
+const NAMED: usize = 64;
 
 /// The context whose descriptors have names for their flags.
 const ALLOCATION: &[u8] = b"base:allocation";
@@ -121,8 +124,15 @@ impl Text {
         }
     }
 
-    // Bytes that are text on a line, or else their digits.
+    // Bytes that are text on a line, or else their digits; of too many the first.
     fn bytes(self, bytes: &[u8]) -> Text {
+        match bytes.get(..NAMED) {
+            Some(first) if bytes.len() > NAMED => self.text_or_digits(first).say(".."),
+            _ => self.text_or_digits(bytes),
+        }
+    }
+
+    fn text_or_digits(self, bytes: &[u8]) -> Text {
         match str::from_utf8(bytes) {
             Ok(text) if bytes.iter().all(|byte| byte.is_ascii_graphic()) => self.say(text),
             _ => self.digits(bytes),
@@ -208,11 +218,25 @@ impl Text {
     }
 
     /// The contexts in force of which the reply to a request has no status, with the refused chunk.
-    pub fn missing_statuses(self, chunk: &Told, request: &Request, story: &Story) -> Text {
+    pub fn missing_statuses(
+        self,
+        alloc: Global,
+        chunk: &Told,
+        request: &Request,
+        story: &Story,
+    ) -> Text {
+        match story.ids_told(alloc, chunk, request) {
+            Ok(told) => self.without_status(&told, story),
+            Err(_) => self.refused(),
+        }
+    }
+
+    // The first contexts in force that have none of these ids, and how many more there are.
+    fn without_status(self, told: &BTreeSet<u32>, story: &Story) -> Text {
         let mut text = self;
         let mut missing = 0u64;
         for (id, _) in &story.contexts.names {
-            if story.contexts.has(*id) && !story.is_told(*id, chunk, request) {
+            if story.contexts.has(*id) && !told.contains(id) {
                 missing = missing.saturating_add(1);
                 if missing <= LISTED {
                     text = text
@@ -231,9 +255,25 @@ impl Text {
 }
 
 impl Story {
-    // Whether the reply to a request has the status of this context, with a chunk that is not told.
-    fn is_told(&self, id: u32, chunk: &Told, request: &Request) -> bool {
-        self.tells(id, chunk) || self.teller(id, request.number).is_some()
+    // The ids of the contexts whose status the reply to a request has, with a chunk that is not told.
+    fn ids_told(
+        &self,
+        alloc: Global,
+        chunk: &Told,
+        request: &Request,
+    ) -> Result<BTreeSet<u32>, AllocError> {
+        let mut ids = BTreeSet::new(alloc);
+        if let Some((id, _)) = self.status_in(chunk) {
+            ids.insert(id)?;
+        }
+        for told in &self.told {
+            if told.request == Some(request.number) {
+                if let Some((id, _)) = self.status_in(told) {
+                    ids.insert(id)?;
+                }
+            }
+        }
+        Ok(ids)
     }
 
     /// The first status of a context in the reply to the request with this number.

@@ -69,7 +69,7 @@ impl Text {
                 range(&request.head),
                 ", which no chunk brings\n",
             ),
-            WireFault::IncompleteStatus => self.missing_statuses(told, request, story),
+            WireFault::IncompleteStatus => self.missing_statuses(alloc, told, request, story),
             _ => self,
         }
     }
