@@ -15,7 +15,7 @@ use Rattle.nbd_session.specs.declared.fault.SessionFault.{SessionFault}
 use Rattle.nbd_session.specs.declared.fault.SessionFault.TheVariants as session
 use Rattle.nbd_session.specs.Refusals.{IsWireFaultOf}
 use Rattle.nbd_judge.specs.declared.verdict.Verdict.{Verdict}
-use Rattle.nbd_judge.specs.declared.verdict.Verdict.TheVariants.{Yes, Wire, Image, Order, Content}
+use Rattle.nbd_judge.specs.declared.verdict.Verdict.TheVariants.{Yes, Wire, Image, Order, Content, Status}
 use Rattle.nbd_judge.specs.Conclusions.{Answers}
 use Rattle.nbd_judge.specs.Verdicts.{IsVerdict}
 
@@ -53,6 +53,8 @@ IsChecked profile capture order initial (Order entry fault) =
     HasVerdict profile capture order initial (Order entry fault)
 IsChecked profile capture order initial (Content request offset) =
     HasVerdict profile capture order initial (Content request offset)
+IsChecked profile capture order initial (Status request offset) =
+    HasVerdict profile capture order initial (Status request offset)
 
 -- the verdict is a yes
 abbrev pub SaysYes : Verdict → Type 0

@@ -11,7 +11,7 @@ use Rattle.nbd_laws.specs.Explaining.{IsNoOf, IsYesOf}
 use Rattle.nbd_session.specs.declared.fault.SessionFault.{SessionFault}
 use Rattle.nbd_session.specs.declared.fault.SessionFault.TheVariants as session
 use Rattle.nbd_judge.specs.declared.verdict.Verdict.{Verdict}
-use Rattle.nbd_judge.specs.declared.verdict.Verdict.TheVariants.{Yes, Wire, Image, Order, Content}
+use Rattle.nbd_judge.specs.declared.verdict.Verdict.TheVariants.{Yes, Wire, Image, Order, Content, Status}
 use Rattle.nbd_judge.specs.Verdicts.{IsVerdict}
 
 -- the verdict on a finished session: that on its report, or its wire fault; none where it met out of memory
@@ -43,6 +43,7 @@ Answers profile capture order initial (Yes of_requests of_answered of_improper) 
 Answers profile capture order initial (Order entry fault) =
     IsNoOf profile capture order initial × IsUnserved profile capture order
 Answers profile capture order initial (Content request offset) = IsNoOf profile capture order initial
+Answers profile capture order initial (Status request offset) = IsNoOf profile capture order initial
 Answers profile capture order initial (Image image size) = IsNoOf profile capture order initial
 Answers profile capture order initial (Wire at fault) = ⊥
 

@@ -4,12 +4,13 @@ use Rattle.nbd_wire.specs.declared.entry.Entry.{Entry}
 use Rattle.nbd_wire.specs.protocol.ExportBytes.{IsWrong, effects}
 use Rattle.nbd_wire.specs.protocol.Explains.{FitsImage, Start, start_byte}
 use Rattle.nbd_wire.specs.protocol.Orders.{IsFirst}
-use Rattle.nbd_wire.specs.protocol.Reports.{Report}
+use Rattle.nbd_wire.specs.declared.commands.TheConstants as commands
+use Rattle.nbd_wire.specs.protocol.Reports.{Asked, Report, asked_at}
 use Rattle.nbd_wire.specs.protocol.Verdicts.{IsFaultless, answered_count, improper_count, request_count}
 use Rattle.nbd_judge.specs.Images.{IsOtherSize}
 use Rattle.nbd_judge.specs.Orders.{IsOrderFault}
 use Rattle.nbd_judge.specs.declared.verdict.Verdict.{Verdict}
-use Rattle.nbd_judge.specs.declared.verdict.Verdict.TheVariants.{Yes, Wire, Image, Order, Content}
+use Rattle.nbd_judge.specs.declared.verdict.Verdict.TheVariants.{Yes, Wire, Image, Order, Content, Status}
 
 -- no entry of the order serves a wrong byte, where the export's bytes were these at first
 abbrev pub HasNoneWrongFrom : Report → List Entry → (ℕ → Option ℕ) → Type 0
@@ -25,13 +26,22 @@ FirstWrongFrom r order initial request offset =
     (i : ℕ) × (entry : Entry) × (slice_get order i ≡ Some entry) × (entry.request ≡ request)
     × IsFirst (HasWrongFrom r order initial) i × IsFirst (IsWrong (effects r) order initial i) offset
 
--- the verdict where the export's bytes were these at first: Order, Content or Yes
+-- the same, of a request of this type
+abbrev pub FirstWrongOf : (command : ℕ) → Report → List Entry → (ℕ → Option ℕ) → (request offset : ℕ) → Type 0
+FirstWrongOf command r order initial request offset =
+    FirstWrongFrom r order initial request offset
+    × ((a : Asked) × (asked_at request r.asked ≡ Some a) × (a.command ≡ command))
+
+-- the verdict where the export's bytes were these at first: Order, Content, Status or Yes
 abbrev pub IsJudged : Report → List Entry → (ℕ → Option ℕ) → Verdict → Type 0
 IsJudged r order initial (Yes of_requests of_answered of_improper) =
     IsFaultless r order × HasNoneWrongFrom r order initial
     × (of_requests ≡ request_count r) × (of_answered ≡ answered_count r) × (of_improper ≡ improper_count r)
 IsJudged r order initial (Order entry fault) = IsOrderFault r order entry fault
-IsJudged r order initial (Content request offset) = IsFaultless r order × FirstWrongFrom r order initial request offset
+IsJudged r order initial (Content request offset) =
+    IsFaultless r order × FirstWrongOf commands.READ r order initial request offset
+IsJudged r order initial (Status request offset) =
+    IsFaultless r order × FirstWrongOf commands.BLOCK_STATUS r order initial request offset
 IsJudged r order initial (Wire at fault) = ⊥
 IsJudged r order initial (Image image size) = ⊥
 
@@ -44,4 +54,6 @@ IsVerdict r order initial (Order entry fault) =
     FitsImage r.export initial × IsJudged r order (start_byte initial) (Order entry fault)
 IsVerdict r order initial (Content request offset) =
     FitsImage r.export initial × IsJudged r order (start_byte initial) (Content request offset)
+IsVerdict r order initial (Status request offset) =
+    FitsImage r.export initial × IsJudged r order (start_byte initial) (Status request offset)
 IsVerdict r order initial (Wire at fault) = ⊥

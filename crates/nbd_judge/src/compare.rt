@@ -1,7 +1,8 @@
-//! The bytes of a READ against the contents when it is served.
+//! The bytes that a READ gives, and those that a BLOCK_STATUS calls zero, against the contents when it is served.
 
-ghost use Rattle.std.specs.Prelude.{◌≡◌, ◌+◌, ◌-◌, ◌≤◌, IfOk, OnOk, length, map, max, min};
+ghost use Rattle.std.specs.Prelude.{◌≡◌, ◌==◌, ◌||◌, ◌+◌, ◌-◌, ◌≤◌, IfOk, OnOk, length, map, max, min};
 ghost use Rattle.nbd_export.specs.Ranges.{IsLeast};
+ghost use Rattle.nbd_wire.specs.declared.commands.TheConstants as commands;
 ghost use Rattle.nbd_wire.specs.protocol.ExportBytes.{IsWrongIn, effect, is_success};
 ghost use Rattle.nbd_wire.specs.protocol.Pieces.{piece_offset, piece_size};
 ghost use Rattle.nbd_state.specs.Transcripts.{report_of_request};
@@ -35,7 +36,7 @@ pub fn wrong<'a, C: Contents>(
     ensures size { C.size contents.new ≡ C.size contents.old }
     ensures bytes { C.byte contents.new ≡ C.byte contents.old }
 {
-    if one.command == commands::READ {
+    if is_compared(one.command) {
         if is_success(one.outcome) {
             return match entry.part {
                 Some(part) => part_difference(
@@ -51,6 +52,13 @@ pub fn wrong<'a, C: Contents>(
         }
     }
     Ok(None)
+}
+
+// The bytes that the reply to a READ gives are compared, and those that the reply to a BLOCK_STATUS calls zero.
+fn is_compared(command: u16) -> bool
+    ensures { result ≡ ((command == commands.READ) || (command == commands.BLOCK_STATUS)) }
+{
+    command == commands::READ || command == commands::BLOCK_STATUS
 }
 
 /// Whether a request succeeded.

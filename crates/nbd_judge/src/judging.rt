@@ -1,13 +1,16 @@
 //! The verdict on the report of a session.
 
-ghost use Rattle.std.specs.Prelude.{◌≡◌, ℕ, List, IfOk};
+ghost use Rattle.std.specs.Prelude.{◌≡◌, ℕ, List, Option, IfOk};
 ghost use Rattle.nbd_wire.specs.declared.profile.Profile.{Profile};
+ghost use Rattle.nbd_wire.specs.protocol.Captures.{Pair};
 ghost use Rattle.nbd_wire.specs.protocol.Marks.{Item, pairs};
 ghost use Rattle.nbd_wire.specs.protocol.Reports.{report};
 ghost use Rattle.nbd_wire.specs.protocol.Rules.{IsRunOf};
 ghost use Rattle.nbd_judge.specs.Conclusions.{LeavesUnserved};
 ghost use Rattle.nbd_judge.specs.Servable.{size_of};
-ghost use Rattle.nbd_judge.specs.Verdicts.{IsJudged};
+ghost use Rattle.nbd_wire.specs.declared.entry.Entry.{Entry};
+ghost use Rattle.nbd_wire.specs.protocol.Verdicts.{IsFaultless};
+ghost use Rattle.nbd_judge.specs.Verdicts.{FirstWrongFrom, IsJudged};
 
 use crate::Verdict;
 use crate::order::order_fault;
@@ -15,7 +18,7 @@ use crate::replay::replay;
 use crate::tally::{answered_count, improper_count};
 use nbd_export::Contents;
 use nbd_session::Transcript;
-use nbd_wire::Entry;
+use nbd_wire::{Entry, commands};
 use std::alloc::{AllocError, Global};
 
 /// Judges a session by an order of service and the contents that the export had at first: Yes, Order or
@@ -39,11 +42,24 @@ pub fn judge<C: Contents>(
     }
     let requests = transcript.count();
     if let Some((request, offset)) = replay(alloc, transcript, order, contents)? {
-        return Ok(Verdict::Content { request, offset });
+        return Ok(wrong_of(transcript, request, offset));
     }
     Ok(Verdict::Yes {
         requests,
         answered: answered_count(transcript),
         improper: improper_count(transcript),
     })
+}
+
+// The verdict on a wrong byte that an entry serves of a request: Status where that is a BLOCK_STATUS, else Content.
+fn wrong_of(transcript: &Transcript, request: u64, offset: u64) -> Verdict
+    ensures judged { (order : List Entry) (initial : ℕ → Option ℕ) → IsFaultless transcript.now order →
+        FirstWrongFrom transcript.now order initial request offset → IsJudged transcript.now order initial result }
+    ensures unserved { (profile : Profile) (capture : List Pair) (order : List Entry) →
+        LeavesUnserved profile capture order result }
+{
+    match transcript.asked(request) {
+        Some(one) if one.command == commands::BLOCK_STATUS => Verdict::Status { request, offset },
+        _ => Verdict::Content { request, offset },
+    }
 }

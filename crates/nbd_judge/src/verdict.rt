@@ -23,7 +23,7 @@ pub enum OrderFault {
 }
 
 /// The answer to a session, an order of service and what the export held at first. Of those that
-/// hold, the first in the order Wire, Image, Order, Content, Yes is answered.
+/// hold, the first in the order Wire, Image, Order, Content and Status, Yes is answered.
 #[derive(Clone, Copy, PartialEq, Eq, Drop)]
 pub enum Verdict {
     /// The order explains the session.
@@ -58,6 +58,13 @@ pub enum Verdict {
     },
     /// A successful READ gave a byte that is not the export's known byte.
     Content {
+        /// The number of the request that the first entry with such a byte serves.
+        request: u64,
+        /// The least offset of such a byte that this entry serves, from the export's start.
+        offset: u64,
+    },
+    /// A successful BLOCK_STATUS called a byte zero, and the export's known byte is another.
+    Status {
         /// The number of the request that the first entry with such a byte serves.
         request: u64,
         /// The least offset of such a byte that this entry serves, from the export's start.

@@ -6,3 +6,4 @@ pub mod OutstandingLemmas
 pub mod ReplyLemmas
 pub mod ReportLemmas
 pub mod SoundnessLemmas
+pub mod ZeroLemmas

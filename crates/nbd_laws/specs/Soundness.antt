@@ -1,5 +1,5 @@
 -- What the report of every run has, whatever the bytes.
-use Rattle.std.specs.Prelude.{◌≡◌, ◌+◌, ◌≤◌, ℕ, List, [], Some, None, length, IsTrue, is_some, slice_get}
+use Rattle.std.specs.Prelude.{◌≡◌, ◌≢◌, ◌+◌, ◌≤◌, ℕ, List, [], Some, None, length, IsTrue, is_some, slice_get}
 use Rattle.nbd_wire.specs.declared.command_flags.TheConstants as command_flags
 use Rattle.nbd_wire.specs.declared.commands.TheConstants as commands
 use Rattle.nbd_wire.specs.declared.limits.TheConstants.{EXPORT_SIZE}
@@ -13,7 +13,7 @@ use Rattle.nbd_wire.specs.protocol.Pieces.{byte_at, holds, is_in, piece_offset, 
 use Rattle.nbd_wire.specs.protocol.Flags.{has}
 use Rattle.nbd_wire.specs.protocol.Rules.{IsRunOf}
 
--- the pieces of a READ lie in its range, and no two of them share an offset
+-- the pieces lie in the range of their request, and no two of them share an offset
 pub record AreLaid (offset len : ℕ) (pieces : List Piece) : Type 0 where
   pub inside : (i : ℕ) (p : Piece) → slice_get pieces i ≡ Some p
       → (offset ≤ piece_offset p) × (piece_offset p + piece_size p ≤ offset + len)
@@ -30,8 +30,9 @@ pub record IsSoundAsked (size count k : ℕ) (a : Asked) : Type 0 where
   pub success : a.outcome ≡ Success → IsTrue a.proper
   -- the range of a proper request lies in the export
   pub inside : IsTrue a.proper → IsTrue (has_range a.command) → a.offset + a.length ≤ size
-  -- only a READ has pieces
-  pub reads : (a.command ≡ commands.READ → ⊥) → a.pieces ≡ []
+  -- only a READ and a proper BLOCK_STATUS have pieces
+  pub reads : a.command ≢ commands.READ → a.command ≢ commands.BLOCK_STATUS → a.pieces ≡ []
+  pub statuses : a.command ≡ commands.BLOCK_STATUS → (IsTrue a.proper → ⊥) → a.pieces ≡ []
   pub laid : AreLaid a.offset a.length a.pieces
   -- a proper request with DF has one piece at most
   pub single : IsTrue a.proper → IsTrue (has a.flags command_flags.DF) → length a.pieces ≤ 1

@@ -7,7 +7,7 @@ ghost use Rattle.nbd_wire.specs.protocol.Explains as explains;
 ghost use Rattle.nbd_wire.specs.protocol.ExportBytes as bytes;
 ghost use Rattle.nbd_wire.specs.protocol.Operations as operations;
 ghost use Rattle.nbd_wire.specs.protocol.Pieces.{byte_at, holds, is_in, piece_byte};
-ghost use Rattle.nbd_order.specs.internal.Offsets.{differs, reads_at};
+ghost use Rattle.nbd_order.specs.internal.Offsets.{differs, gives_byte, reads_at};
 ghost use Rattle.nbd_order.specs.internal.Refutations.{IsBefore, IsChangeAt, IsOther, IsReadAt};
 
 use nbd_export::Start;
@@ -15,7 +15,8 @@ use nbd_session::{Asked, Transcript};
 use nbd_state::byte_read;
 use nbd_wire::commands;
 
-/// Whether request `k` is a READ that succeeded, with the offset inside it, to which a reply began.
+/// Whether request `k` is a READ, or a BLOCK_STATUS that calls the offset zero, which succeeded, with the offset inside it, and to
+/// which a reply began.
 pub fn is_read_at(transcript: &Transcript, k: u64, offset: u64) -> bool
     ensures { IsTrue result → IsReadAt transcript.now offset k }
 {
@@ -25,7 +26,7 @@ pub fn is_read_at(transcript: &Transcript, k: u64, offset: u64) -> bool
     }
 }
 
-// Whether the request is such a READ.
+// Whether the request is such a one.
 fn reads_at(transcript: &Transcript, one: &Asked, offset: u64) -> bool
     ensures { result ≡ reads_at transcript.now.export (report_of_request one.now) offset }
 {
@@ -33,11 +34,21 @@ fn reads_at(transcript: &Transcript, one: &Asked, offset: u64) -> bool
         Some((size, _)) => size,
         None => 0,
     };
-    one.command == commands::READ
+    gives_byte(one, offset)
         && one.succeeded()
         && one.known_at.is_some()
         && one.has(offset)
         && offset < size
+}
+
+// Whether it is a READ, or a proper BLOCK_STATUS that calls the offset zero.
+fn gives_byte(one: &Asked, offset: u64) -> bool
+    ensures { result ≡ gives_byte (report_of_request one.now) offset }
+{
+    one.command == commands::READ
+        || one.command == commands::BLOCK_STATUS
+            && one.proper
+            && byte_read(&one.pieces, offset).is_some()
 }
 
 /// Whether request `k` is a WRITE, TRIM or WRITE_ZEROES with the offset in its range.

@@ -1,5 +1,5 @@
 -- What a state shows once a message has completed.
-use Rattle.std.proofs.Common.{◌≡◌, ℕ, zero, suc, ◌<◌, ◌≤◌, ◌⊎◌, ◌==◌, ◌&&◌, List, [], ◌∷◌, ◌++◌, length, refl, sym, ◌∙◌, ap, subst, Option, Some, None, Bool, true, false, if◌then◌else◌, arith, slice_get, slice_index_or, slice_set, Result, Ok, Err, IfOk, OnOk, inl, inr, not, is_some}
+use Rattle.std.proofs.Common.{◌≡◌, ℕ, zero, suc, ◌<◌, ◌≤◌, ◌⊎◌, ◌==◌, ◌&&◌, List, [], ◌∷◌, ◌++◌, length, refl, sym, ◌∙◌, ap, subst, Option, Some, None, Bool, true, false, if◌then◌else◌, arith, slice_get, slice_index_or, slice_set, Result, Ok, Err, IfOk, OnOk, inl, inr, not, is_some, ◌^◌}
 use Rattle.std.proofs.lemmas.Option.{slice_get_read}
 use Rattle.std.specs.BTreeMap.{get}
 use Rattle.std.specs.Ordering.{nat_cmp}
@@ -19,7 +19,7 @@ use Rattle.nbd_state.specs.Showing.{IsShown, exporting}
 use Rattle.nbd_laws.specs.Reached.{IsReached}
 use Rattle.nbd_state.specs.Shows.{AreAskedWith, AreShown, HasSelection, Shows, export_shown, phase_shown, place_of}
 use Rattle.nbd_state.proofs.PlacedLemmas.{IsPlaced, are_shown_in, place_shows_operation, shown_length}
-use Rattle.nbd_laws.proofs.requests.SoundnessLemmas.{open_target}
+use Rattle.nbd_laws.proofs.requests.SoundnessLemmas.{InPhase, open_target, sound}
 use Rattle.nbd_state.proofs.TargetLemmas.{distinct_reached, target_replied, target_requested}
 
 shown_snoc : (export : Exporting) (es : List Operation) (xs : List Exchange) (e : Operation) (x : Exchange) → AreShown (Some export) es xs → IsShown export e x → AreShown (Some export) (es ++ e ∷ []) (xs ++ x ∷ [])
@@ -117,7 +117,7 @@ requested_shows old new core export e x s p r asked t h items places kept = reco
 
 -- one more reply to the request with this cookie
 pub replied_shows : (old mid new : State) (core : Core) (export : Exporting) (cookie place : ℕ) (m : Message) (x y : Exchange) → IsReached core → Shows old core → core.phase ≡ Transmission export → cookie_of m ≡ Some cookie →
-    get nat_cmp old.outstanding cookie ≡ Some place → slice_get old.exchanges.items place ≡ Some x → ((e : Operation) → IsShown export e x → is_finished e ≡ false → IsShown export (with_reply e m) y) →
+    get nat_cmp old.outstanding cookie ≡ Some place → slice_get old.exchanges.items place ≡ Some x → ((e : Operation) → e.contexts ≡ in_force core → IsShown export e x → is_finished e ≡ false → IsShown export (with_reply e m) y) →
     mid ≡ record old { outstanding = mid.outstanding } → ((q : ℕ) → get nat_cmp mid.outstanding q ≡ (if ends_reply m && (cookie == q) then None else get nat_cmp old.outstanding q)) →
     new ≡ record mid { exchanges = new.exchanges } → new.exchanges.items ≡ slice_set old.exchanges.items place y → Shows new (core_with_reply core m)
 replied_shows old mid new core export cookie place m x y r s p c g i step kept left made items = subst (λ t. Shows new (reply_to t core m)) (sym named) shows
@@ -132,7 +132,7 @@ replied_shows old mid new core export cookie place m x y r s p c g i step kept l
     same = let q : Some a.x ≡ Some x = sym a.stands ∙ i in cc
 
     shown : IsShown export (with_reply a.e m) y
-    shown = step a.e (subst (λ z. IsShown export a.e z) same a.shown) (open_target core cookie (suc place) a.e a.found a.numbered)
+    shown = step a.e (asked_at (in_force core) (suc place) core.entries a.e s.asked_with a.numbered) (subst (λ z. IsShown export a.e z) same a.shown) (open_target core cookie (suc place) a.e a.found a.numbered)
 
     shows : Shows new (record core { entries = with_reply_at (suc place) m core.entries })
     shows = record {
@@ -152,6 +152,10 @@ replied_shows old mid new core export cookie place m x y r s p c g i step kept l
           ∙ place_if (ends_reply m && (cookie == q)) (target q core.entries)
           ∙ ap place_of (sym (target_replied q cookie (suc place) m core.entries (distinct_reached r) a.found));
     }
+
+-- the size of an export is a number of 64 bits
+pub size_fits : (core : Core) (export : Exporting) → IsReached core → core.phase ≡ Transmission export → export.size < 2 ^ 64
+size_fits core export r p = let i = subst (λ phase. InPhase phase core.entries) p (sound r) in let l = i.0 in omega (arith, l)
 
 -- the exchange at a place below the length stands in the list
 pub indexed : (old mid : State) (place : ℕ) (x : Exchange) → mid ≡ record old { outstanding = mid.outstanding } → place < length mid.exchanges.items → x ≡ slice_index_or mid.exchanges.items place x →

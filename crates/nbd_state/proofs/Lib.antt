@@ -9,3 +9,4 @@ pub mod ReplyLemmas
 pub mod TargetLemmas
 pub mod TellingLemmas
 pub mod TranscriptLemmas
+pub mod ZeroLemmas

@@ -1,7 +1,9 @@
 -- An exchange after one more reply message.
-use Rattle.std.proofs.Common.{◌≡◌, ℕ, List, [], ◌∷◌, ◌++◌, ◌==◌, append_assoc, append-nil, refl, sym, ◌∙◌, ap, Bool, true, false, not, ◌||◌, if◌then◌else◌, Option, Some, None, is_some, Result, Ok, Err, IfOk, nat_lt, Equal, eqb-true, Less, ltb-true, Greater, ltb-false, arith}
+use Rattle.std.proofs.Common.{◌≡◌, ℕ, List, [], ◌∷◌, ◌++◌, ◌==◌, append_assoc, append-nil, refl, sym, ◌∙◌, ap, Bool, true, false, not, ◌&&◌, ◌||◌, if◌then◌else◌, Option, Some, None, is_some, Result, Ok, Err, IfOk, nat_lt, Equal, eqb-true, Less, ltb-true, Greater, ltb-false, arith}
 use Rattle.nbd_wire.specs.declared.message.Message.{Message}
-use Rattle.nbd_wire.specs.protocol.Operations.{Operation, Exporting, ends_reply, has_failed, is_failing, is_finished, outcome, pieces}
+use Rattle.nbd_wire.specs.protocol.Operations.{Operation, Exporting, ends_reply, has_failed, is_failing, is_finished, is_proper, outcome, pieces, pieces_of}
+use Rattle.nbd_wire.specs.declared.commands.TheConstants as commands
+use Rattle.nbd_wire.specs.declared.payloads.Piece.{Piece}
 use Rattle.std.specs.BTreeSet.{BTreeSet, contains}
 use Rattle.std.specs.BTreeMap.{is_at}
 use Rattle.std.specs.Cmp.{nat_cmp_is}
@@ -9,7 +11,7 @@ use Rattle.std.specs.Ordering.{is_eq, nat_cmp}
 use Rattle.std.proofs.lemmas.Bool.{eqb-false}
 use Rattle.nbd_wire.specs.protocol.Contexts.{Status}
 use Rattle.nbd_wire.specs.protocol.Pieces.{piece_of}
-use Rattle.nbd_wire.specs.protocol.Statuses.{status_in, statuses, statuses_of, tells}
+use Rattle.nbd_wire.specs.protocol.Statuses.{is_allocation, status_in, statuses, statuses_of, tells, zeroes, zeroes_first, zeroes_in, zeroes_told}
 use Rattle.nbd_wire.specs.protocol.Operations as definitions
 use Rattle.nbd_wire.specs.protocol.States.{with_reply}
 use Rattle.nbd_state.specs.declared.asked.Exchange.{Exchange}
@@ -45,7 +47,7 @@ pub exchange_shows_reply : (export : Exporting) (e : Operation) (m : Message) (x
     y.asked.known_at ≡ (if is_some x.asked.known_at then x.asked.known_at else Some known) →
     y.failed ≡ (x.failed || fails) →
     y.asked.outcome ≡ (if ends then (if y.failed then Failure else Success) else x.asked.outcome) →
-    y.asked.pieces.items ≡ x.asked.pieces.items ++ piece_of e.offset m →
+    y.asked.pieces.items ≡ zeroes export (with_reply e m) ++ pieces (with_reply e m) →
     (is_finished (with_reply e m) ≡ false → (id : ℕ) → contains nat_cmp y.told id ≡ tells (statuses (with_reply e m)) id) →
     IsShown export (with_reply e m) y
 exchange_shows_reply export e m x y ends fails known s u n f k known_is failed_is outcome_is pieces_are told_are =
@@ -64,7 +66,7 @@ exchange_shows_reply export e m x y ends fails known s u n f k known_is failed_i
       outcome_is = ap outcome_of outcome_is ∙ outcome-of x.asked.outcome e m ends y.failed s.outcome_is u finished failed;
       failed = sym failed;
       told_are = told_are;
-      pieces_are = pieces_are ∙ ap (λ l. l ++ piece_of e.offset m) s.pieces_are ∙ sym (pieces-snoc e.offset e.replies m);
+      pieces_are = pieces_are;
     }
   where
     some : (o : Option ℕ) → is_some (if is_some o then o else Some known) ≡ true
@@ -130,6 +132,51 @@ module _ (export : Exporting) (e : Operation) (m : Message) (x : Exchange) (ends
       ap (λ t. contains nat_cmp t id) (kept (not_yet f)) ∙ added id ∙ ap (λ b. if status.id == id then true else b) (s.told_are u id)
       ∙ sym (tells-snoc (statuses e) status id)
       ∙ ap (λ ss. tells ss id) (sym (statuses-snoc e.replies m ∙ ap (λ l. statuses e ++ l) is))
+
+-- the zeroes of a request look at the first message of its reply alone
+module _ (export : Exporting) (e : Operation) (m : Message) where
+  by_first : (z : List Piece) → zeroes_first e (e.replies ++ m ∷ []) ≡ z → zeroes export (with_reply e m) ≡ (if (e.command == commands.BLOCK_STATUS) && is_proper export e then z else [])
+  by_first z q = (λ i. if (e.command == commands.BLOCK_STATUS) && proper-same export e m i then q i else [])
+
+  first_stays : (ms : List Message) → (ms ≡ [] → status_in m ≡ []) → zeroes_first e (ms ++ m ∷ []) ≡ zeroes_first e ms
+  first_stays [] n = ap (zeroes_told e) (n refl)
+  first_stays (k ∷ ms) n = refl
+
+  stay : (e.replies ≡ [] → status_in m ≡ []) → zeroes export (with_reply e m) ≡ zeroes export e
+  stay n = by_first (zeroes_first e e.replies) (first_stays e.replies n)
+
+  -- a message that is no first status
+  pub pieces_kept : (x y : List Piece) → x ≡ zeroes export e ++ pieces e → (e.replies ≡ [] → status_in m ≡ []) → y ≡ x ++ piece_of e.offset m → y ≡ zeroes export (with_reply e m) ++ pieces (with_reply e m)
+  pieces_kept x y is n q =
+      q ∙ ap (λ l. l ++ piece_of e.offset m) is ∙ append_assoc (zeroes export e) (pieces e) (piece_of e.offset m)
+      ∙ (λ i. sym (stay n) i ++ sym (pieces-snoc e.offset e.replies m) i)
+
+  -- a first status
+  pub pieces_first : (y : List Piece) (s : Status) → e.replies ≡ [] → status_in m ≡ s ∷ [] → piece_of e.offset m ≡ [] →
+      y ≡ (if is_allocation e.contexts s.id && ((e.command == commands.BLOCK_STATUS) && is_proper export e) then zeroes_in e.offset e.length s.extents else []) → y ≡ zeroes export (with_reply e m) ++ pieces (with_reply e m)
+  pieces_first y s none is p q =
+      q ∙ sym (pick (is_allocation e.contexts s.id) ((e.command == commands.BLOCK_STATUS) && is_proper export e)) ∙ sym (append-nil _)
+      ∙ (λ i. sym told i ++ sym empty i)
+    where
+      pick : (a b : Bool) → (if b then (if a then zeroes_in e.offset e.length s.extents else []) else []) ≡ (if a && b then zeroes_in e.offset e.length s.extents else [])
+      pick true true = refl
+      pick true false = refl
+      pick false true = refl
+      pick false false = refl
+
+      told : zeroes export (with_reply e m) ≡ (if (e.command == commands.BLOCK_STATUS) && is_proper export e then (if is_allocation e.contexts s.id then zeroes_in e.offset e.length s.extents else []) else [])
+      told = by_first _ (ap (λ ms. zeroes_first e (ms ++ m ∷ [])) none ∙ ap (zeroes_told e) is)
+
+      empty : pieces (with_reply e m) ≡ []
+      empty = pieces-snoc e.offset e.replies m ∙ (λ i. pieces_of e.offset (none i) ++ p i)
+
+-- where nothing is known of a first reply there is none
+pub no_reply_yet : (ms : List Message) (o : Option ℕ) → is_some o ≡ not (is_none_yet ms) → is_some o ≡ false → ms ≡ []
+no_reply_yet [] o h n = refl
+no_reply_yet (m ∷ ms) o h n = absurd (let w : true ≡ false = sym h ∙ n in cc)
+
+pub some_reply_yet : (ms : List Message) (o : Option ℕ) → is_some o ≡ not (is_none_yet ms) → is_some o ≡ true → ms ≡ [] → ⊥
+some_reply_yet ms o h n q = let w : true ≡ false = sym n ∙ h ∙ ap (λ l. not (is_none_yet l)) q in cc
 
 -- what follows from what an Ok gives
 pub weaken : {A E : Type 0} {P Q : A → Type 0} (r : Result A E) → ((x : A) → P x → Q x) → IfOk r P → IfOk r Q

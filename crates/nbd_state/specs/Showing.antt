@@ -1,10 +1,10 @@
 -- How the program's values show what the definitions speak of.
-use Rattle.std.specs.Prelude.{◌≡◌, ℕ, false, not, Option, Some, None, is_some}
+use Rattle.std.specs.Prelude.{◌≡◌, ℕ, false, not, Option, Some, None, ◌++◌, is_some}
 use Rattle.std.specs.BTreeSet.{contains}
 use Rattle.std.specs.Ordering.{nat_cmp}
 use Rattle.nbd_laws.specs.internal.Decisions.{is_none_yet}
 use Rattle.nbd_wire.specs.protocol.Operations.{Operation, Exporting, is_finished, is_proper, has_failed, outcome, pieces}
-use Rattle.nbd_wire.specs.protocol.Statuses.{statuses, tells}
+use Rattle.nbd_wire.specs.protocol.Statuses.{statuses, tells, zeroes}
 use Rattle.nbd_wire.specs.protocol.Operations as definitions
 use Rattle.nbd_state.specs.declared.asked.Exchange.{Exchange}
 use Rattle.nbd_state.specs.declared.asked.Outcome.{Outcome}
@@ -37,5 +37,5 @@ pub record IsShown (export : Exporting) (e : Operation) (x : Exchange) : Type 0 
   pub replied : is_some x.asked.known_at ≡ not (is_none_yet e.replies)
   pub outcome_is : outcome_of x.asked.outcome ≡ outcome e
   pub failed : x.failed ≡ has_failed e
-  pub pieces_are : x.asked.pieces.items ≡ pieces e
+  pub pieces_are : x.asked.pieces.items ≡ zeroes export e ++ pieces e
   pub told_are : is_finished e ≡ false → (id : ℕ) → contains nat_cmp x.told id ≡ tells (statuses e) id

@@ -6,7 +6,7 @@ use Rattle.std.specs.Ordering.{nat_cmp}
 use Rattle.nbd_wire.specs.protocol.Options.{is_proper_option, takes_contexts}
 use Rattle.nbd_wire.specs.protocol.Contexts as contexts
 use Rattle.nbd_wire.specs.protocol.Contexts.{Context, Status, has_id}
-use Rattle.nbd_wire.specs.protocol.Statuses.{tells}
+use Rattle.nbd_wire.specs.protocol.Statuses.{is_allocation, tells}
 use Rattle.nbd_wire.specs.protocol.Operations.{Operation, Exporting}
 use Rattle.nbd_wire.specs.protocol.States as definitions
 use Rattle.nbd_wire.specs.protocol.States.{Core, start, target, export_in, in_force}
@@ -61,10 +61,11 @@ abbrev pub place_of : Option ℕ → Option ℕ
 place_of (Some k) = Some (k - 1)
 place_of None = None
 
--- a selection as the program has it, of whose contexts it keeps the ids
+-- a selection as the program has it, of whose contexts it keeps the ids, and those of base:allocation
 pub record HasSelection (shown : Selection) (selection : contexts.Selection) : Type 0 where
   pub export_name_is : shown.export_name.items ≡ selection.export_name
   pub ids_are : (id : ℕ) → contains nat_cmp shown.ids id ≡ has_id selection.contexts id
+  pub allocations_are : (id : ℕ) → contains nat_cmp shown.allocations id ≡ is_allocation selection.contexts id
   pub granted_is : shown.granted ≡ selection.granted
 
 -- it is this one

@@ -14,13 +14,15 @@ ghost use Rattle.nbd_wire.specs.protocol.Sendable.{IsSendable};
 ghost use Rattle.nbd_wire.specs.protocol.States as definitions;
 ghost use Rattle.nbd_wire.specs.protocol.States.{Core, in_force, start_of, target};
 ghost use Rattle.nbd_state.specs.internal.Showing.{operation_of_head};
-ghost use Rattle.nbd_state.specs.internal.Completing.{AddsUnanswered, IsTransmitting, TellsOne};
+ghost use Rattle.nbd_wire.specs.protocol.Statuses.{status_in};
+ghost use Rattle.nbd_state.specs.internal.Completing.{AddsUnanswered, IsTransmitting, TellsOne, is_allocation_told};
 ghost use Rattle.nbd_state.specs.Completions.{Answers, MayTake, core_from};
 ghost use Rattle.nbd_state.specs.Logs.{LogEntry, messages_of};
 ghost use Rattle.nbd_laws.specs.Reached.{IsReached};
 ghost use Rattle.nbd_state.specs.Shows.{AreKnown, Shows, export_shown_if, phase_shown};
 
 use crate::asked::Exchange;
+use crate::recording::told_in;
 use crate::options::{is_proper_option, last_info, takes_contexts};
 use crate::state::{Chosen, Export, Phase, State};
 use nbd_wire::answers::is_error;
@@ -224,8 +226,20 @@ impl State {
         ensures tells { OnOk result (TellsOne (get nat_cmp self.old.outstanding cookie) known
             self.old.exchanges.items self.new.exchanges.items) }
     {
+        let zeroes = self.is_allocation_told(kind, payload);
         self.end_if(has(flags, chunks::DONE), cookie);
-        self.exchanges[place].take_chunk(alloc, flags, kind, payload, known)
+        self.exchanges[place].take_chunk(alloc, flags, kind, payload, zeroes, known)
+    }
+
+    // A chunk is the status of a context in force that tells what reads as zeroes.
+    fn is_allocation_told(&self, kind: u16, payload: &[u8]) -> bool
+        ensures { (core : Core) (flags cookie : ℕ) → Shows self.now core →
+            result ≡ is_allocation_told (in_force core) (status_in (Chunk flags kind cookie payload.now)) }
+    {
+        match told_in(kind, payload) {
+            Some((id, _)) => self.is_allocation(id),
+            None => false,
+        }
     }
 
     // The request with this cookie is no longer outstanding where its reply ends.

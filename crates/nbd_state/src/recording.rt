@@ -1,6 +1,6 @@
 //! What the messages of transmission do to a request under way.
 
-ghost use Rattle.std.specs.Prelude.{◌≡◌, ◌≤◌, ◌==◌, ◌++◌, ◌∷◌, ℕ, List, false, not, IfErr, IfOk, OnErr, MatchOption, [], if◌then◌else◌, is_some, length};
+ghost use Rattle.std.specs.Prelude.{◌≡◌, ◌≤◌, ◌<◌, ◌+◌, ◌^◌, ◌==◌, ◌&&◌, true, ◌++◌, ◌∷◌, ℕ, List, false, not, IfErr, IfOk, OnErr, MatchOption, [], if◌then◌else◌, is_some, length};
 ghost use Rattle.std.specs.Vec.{vec_capacity, vec_len};
 ghost use Rattle.nbd_wire.specs.declared.message.Message.{Message};
 ghost use Rattle.nbd_wire.specs.declared.message.Message.TheVariants.{Chunk, Simple};
@@ -12,7 +12,10 @@ ghost use Rattle.nbd_wire.specs.protocol.Pieces as pieces;
 ghost use Rattle.nbd_wire.specs.protocol.Operations.{Operation, Exporting, ends_reply, is_error_chunk, is_failing, is_finished};
 ghost use Rattle.nbd_wire.specs.protocol.Pieces.{chunk_piece};
 ghost use Rattle.nbd_wire.specs.protocol.States.{with_reply};
-ghost use Rattle.nbd_wire.specs.protocol.Statuses.{status_in};
+ghost use Rattle.nbd_wire.specs.declared.commands.TheConstants as commands;
+ghost use Rattle.nbd_wire.specs.protocol.Payloads.{extents_of};
+ghost use Rattle.nbd_wire.specs.protocol.Statuses.{is_allocation, status_in, zero_part, zeroes_in};
+ghost use Rattle.nbd_state.specs.internal.Completing.{is_allocation_told};
 ghost use Rattle.nbd_state.specs.declared.asked.Outcome.TheVariants.{Failure, Success};
 ghost use Rattle.std.specs.Option.{option_copied};
 ghost use Rattle.nbd_state.specs.Indexes.{Indexes};
@@ -23,8 +26,10 @@ use crate::asked::{Asked, Exchange, Outcome};
 use crate::index::SpanIndex;
 use crate::proper::is_proper;
 use crate::state::Export;
-use nbd_wire::flags::has;
-use nbd_wire::{Bytes, Content, Piece, RequestHead, chunks, content_of, status_of};
+use nbd_wire::flags::{has, has_wide};
+use nbd_wire::{
+    Bytes, Content, Piece, RequestHead, chunks, commands, content_of, first_extent, states, status_of,
+};
 use std::alloc::{AllocError, Global};
 use std::collections::BTreeSet;
 use std::mem;
@@ -86,18 +91,20 @@ impl Exchange {
         self.take(alloc, piece, known, true, error != 0)
     }
 
-    /// A whole chunk has answered it, before whose first byte so many requests had completed. After
-    /// an `Err`, that memory ran out, the exchange is as it was.
+    /// A whole chunk has answered it, before whose first byte so many requests had completed; whether it is the status
+    /// of a context that tells what reads as zeroes. After an `Err`, that memory ran out, the exchange is as it was.
     pub(crate) fn take_chunk(
         &mut self,
         alloc: Global,
         flags: u16,
         kind: u16,
         payload: &[u8],
+        zeroes: bool,
         known: u64,
     ) -> Result<(), AllocError>
         ensures shown { IfOk result (λ _. (export : Exporting) (e : Operation) (cookie : ℕ) →
-            IsShown export e self.old → is_finished e ≡ false →
+            IsShown export e self.old → is_finished e ≡ false → export.size < 2 ^ 64 →
+            zeroes ≡ is_allocation_told e.contexts (status_in (Chunk flags kind cookie payload.now)) →
             IsShown export (with_reply e (Chunk flags kind cookie payload.now)) self.new) }
         ensures first { IfOk result
             (λ _. self.new.asked.known_at ≡ (if is_some self.old.asked.known_at then self.old.asked.known_at
@@ -107,19 +114,55 @@ impl Exchange {
         ensures kept { IfErr result (λ _. self.new.asked.known_at ≡ self.old.asked.known_at) }
     {
         let ends = has(flags, chunks::DONE);
-        if let Some(id) = told_in(kind, payload) {
-            return self.take_status(id, known, ends);
+        if let Some((id, descriptors)) = told_in(kind, payload) {
+            if self.asked.known_at.is_some() {
+                return self.take_status(id, known, ends);
+            }
+            return self.take_first_status(alloc, id, descriptors, zeroes, known, ends);
         }
         let piece = content_piece(alloc, kind, payload)?;
         self.take(alloc, piece, known, ends, is_error_chunk(kind))
     }
 
-    // A status chunk of the context with this id; it may end the reply.
+    // The first message of the reply is the status of the context with this id; it may end the reply.
+    fn take_first_status(
+        &mut self,
+        alloc: Global,
+        id: u32,
+        descriptors: &[u8],
+        zeroes: bool,
+        known: u64,
+        ends: bool,
+    ) -> Result<(), AllocError>
+        ensures shown { IfOk result (λ _. (export : Exporting) (e : Operation) (m : Message) →
+            IsShown export e self.old → is_finished e ≡ false → export.size < 2 ^ 64 →
+            is_some self.old.asked.known_at ≡ false → ends_reply m ≡ ends →
+            is_failing m ≡ false → pieces.piece_of e.offset m ≡ [] →
+            status_in m ≡ record { id = id; extents = extents_of descriptors.now } ∷ [] →
+            zeroes ≡ is_allocation e.contexts id → IsShown export (with_reply e m) self.new) }
+        ensures first { IfOk result
+            (λ _. self.new.asked.known_at ≡ (if is_some self.old.asked.known_at then self.old.asked.known_at
+            else Some known)) }
+        ensures unchanged { IfErr result (λ _. (export : Exporting) (e : Operation) →
+            IsShown export e self.old → IsShown export e self.new) }
+        ensures kept { IfErr result (λ _. self.new.asked.known_at ≡ self.old.asked.known_at) }
+    {
+        let pieces = zeroes_told(alloc, &self.asked, descriptors, zeroes)?;
+        self.told.insert(id)?;
+        clear_if(&mut self.told, ends);
+        self.asked.pieces = pieces;
+        self.index = SpanIndex::new(alloc);
+        self.asked.known_at = first(self.asked.known_at, known);
+        self.asked.outcome = outcome_after(self.asked.outcome, ends, self.failed);
+        Ok(())
+    }
+
+    // A later message of the reply is the status of the context with this id; it may end the reply.
     fn take_status(&mut self, id: u32, known: u64, ends: bool) -> Result<(), AllocError>
         ensures shown { IfOk result (λ _. (export : Exporting) (e : Operation) (m : Message) (status : Status) →
-            IsShown export e self.old → is_finished e ≡ false → ends_reply m ≡ ends → is_failing m ≡ false →
-            pieces.piece_of e.offset m ≡ [] → status_in m ≡ status ∷ [] → status.id ≡ id →
-            IsShown export (with_reply e m) self.new) }
+            IsShown export e self.old → is_finished e ≡ false → is_some self.old.asked.known_at ≡ true →
+            ends_reply m ≡ ends → is_failing m ≡ false → pieces.piece_of e.offset m ≡ [] →
+            status_in m ≡ status ∷ [] → status.id ≡ id → IsShown export (with_reply e m) self.new) }
         ensures first { IfOk result
             (λ _. self.new.asked.known_at ≡ (if is_some self.old.asked.known_at then self.old.asked.known_at
             else Some known)) }
@@ -166,17 +209,74 @@ impl Exchange {
     }
 }
 
-// The id of the context in a status chunk.
-fn told_in(kind: u16, payload: &[u8]) -> Option<u32>
+/// The id of the context in a status chunk, and its descriptors.
+pub(crate) fn told_in(kind: u16, payload: &[u8]) -> Option<(u32, &[u8])>
     ensures { (flags cookie : ℕ) → MatchOption result (status_in (Chunk flags kind cookie payload.now) ≡ [])
-        (λ id. (status : Status) × (kind ≡ chunks.BLOCK_STATUS)
-        × (status_in (Chunk flags kind cookie payload.now) ≡ status ∷ []) × (status.id ≡ id)) }
+        (λ v. (kind ≡ chunks.BLOCK_STATUS) × (status_in (Chunk flags kind cookie payload.now)
+        ≡ record { id = v.0; extents = extents_of v.1.now } ∷ [])) }
 {
-    if kind != chunks::BLOCK_STATUS {
-        return None;
+    if kind == chunks::BLOCK_STATUS {
+        status_of(payload)
+    } else {
+        None
     }
-    let (id, _) = status_of(payload)?;
-    Some(id)
+}
+
+// What descriptors call zero in the range of a request, if it is a proper BLOCK_STATUS and they tell that.
+fn zeroes_told(
+    alloc: Global,
+    asked: &Asked,
+    descriptors: &[u8],
+    zeroes: bool,
+) -> Result<Vec<Piece>, AllocError>
+    ensures { IfOk result (λ pieces. (asked.now.command ≡ commands.BLOCK_STATUS → asked.now.proper ≡ true →
+        asked.now.offset + asked.now.length < 2 ^ 64) →
+        pieces.items ≡ (if zeroes && ((asked.now.command == commands.BLOCK_STATUS) && asked.now.proper)
+        then zeroes_in asked.now.offset asked.now.length (extents_of descriptors.now) else [])) }
+{
+    if zeroes && asked.command == commands::BLOCK_STATUS && asked.proper {
+        zeroes_in(alloc, asked.offset, asked.length, descriptors)
+    } else {
+        Ok(Vec::new(alloc))
+    }
+}
+
+// The bytes of an extent behind the pieces, if there are some and it calls them zero.
+fn push_zero(
+    pieces: &mut Vec<Piece>,
+    offset: u64,
+    size: u32,
+    flags: u32,
+) -> Result<(), AllocError>
+    ensures { IfOk result (λ _. pieces.new.items ≡ pieces.old.items ++ zero_part offset size flags) }
+{
+    if has_wide(flags, states::ZERO) && size > 0 {
+        pieces.push(Piece::Hole { offset, size })?;
+    }
+    Ok(())
+}
+
+// What descriptors call zero in a range, which ends below 2^64.
+fn zeroes_in(
+    alloc: Global,
+    offset: u64,
+    length: u32,
+    descriptors: &[u8],
+) -> Result<Vec<Piece>, AllocError>
+    ensures { IfOk result (λ pieces. offset + length < 2 ^ 64 →
+        pieces.items ≡ zeroes_in offset length (extents_of descriptors.now)) }
+{
+    let mut pieces = Vec::new(alloc);
+    let mut left = length;
+    let mut rest = descriptors;
+    while let Some((extent, later)) = first_extent(rest) {
+        let size = extent.length.min(left);
+        let at = offset.saturating_add(u64::from(length - left));
+        push_zero(&mut pieces, at, size, extent.flags)?;
+        left -= size;
+        rest = later;
+    }
+    Ok(pieces)
 }
 
 // Where the reply ends, nothing more is told.

@@ -8,13 +8,16 @@ ghost use Rattle.nbd_wire.specs.protocol.Contexts.{Status, has_id, no_selection}
 ghost use Rattle.nbd_wire.specs.protocol.Options.{agrees, selection_after, selection_at, selection_told, with_context};
 ghost use Rattle.nbd_wire.specs.protocol.Payloads.{context_of};
 ghost use Rattle.nbd_wire.specs.protocol.States as definitions;
-ghost use Rattle.nbd_wire.specs.protocol.Statuses.{tells_all};
+ghost use Rattle.nbd_wire.specs.protocol.Statuses.{is_allocation, tells_all};
 ghost use Rattle.nbd_state.specs.Shows.{HasSelection, TellsThese, phase_shown};
 
 use crate::state::{Chosen, Phase};
 use nbd_wire::{answers, context_of, name_in, options};
 use std::alloc::{AllocError, Global};
 use std::collections::BTreeSet;
+
+/// The name of the context whose statuses tell what reads as zeroes.
+const ALLOCATION: &[u8] = b"base:allocation";
 
 /// What the last SET_META_CONTEXT asked and was answered.
 #[derive(Drop)]
@@ -23,6 +26,8 @@ pub struct Selection {
     pub export_name: Vec<u8>,
     /// The ids of the contexts that came.
     pub ids: BTreeSet<u32>,
+    /// Those of them whose name is `base:allocation`.
+    pub allocations: BTreeSet<u32>,
     /// An ACK ended the answer.
     pub granted: bool,
 }
@@ -35,6 +40,7 @@ impl Selection {
         Selection {
             export_name: Vec::new(alloc),
             ids: BTreeSet::new(alloc),
+            allocations: BTreeSet::new(alloc),
             granted: false,
         }
     }
@@ -45,6 +51,14 @@ impl Selection {
             result ≡ has_id selection.contexts id }
     {
         self.ids.contains(&id)
+    }
+
+    /// Whether the context with this id is `base:allocation`.
+    pub fn is_allocation(&self, id: u32) -> bool
+        ensures { (selection : contexts.Selection) → HasSelection self.now selection →
+            result ≡ is_allocation selection.contexts id }
+    {
+        self.allocations.contains(&id)
     }
 
     /// Whether no context was selected.
@@ -87,6 +101,7 @@ impl Selection {
         self.export_name.clear();
         self.export_name.extend_from_slice(name_in(data))?;
         self.ids.clear();
+        self.allocations.clear();
         self.granted = false;
         Ok(())
     }
@@ -130,8 +145,11 @@ impl Selection {
         ensures { OnOk result ((selection : contexts.Selection) → HasSelection self.old selection →
             HasSelection self.new (with_context (context_of answer.now) selection)) }
     {
-        if let Some((id, _)) = context_of(answer) {
+        if let Some((id, name)) = context_of(answer) {
             self.ids.insert(id)?;
+            if name == ALLOCATION {
+                self.allocations.insert(id)?;
+            }
         }
         Ok(())
     }

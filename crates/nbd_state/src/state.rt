@@ -73,7 +73,7 @@ impl State {
     ghost use Rattle.nbd_wire.specs.protocol.States.{Core, in_force, start, start_of};
     ghost use Rattle.std.specs.Prelude.{◌≡◌, ◌==◌, List, length, not};
     ghost use Rattle.nbd_wire.specs.protocol.Contexts.{Status, has_id};
-    ghost use Rattle.nbd_wire.specs.protocol.Statuses.{tells_all};
+    ghost use Rattle.nbd_wire.specs.protocol.Statuses.{is_allocation, tells_all};
     ghost use Rattle.nbd_state.specs.Shows.{Shows, TellsThese};
     ghost use Rattle.nbd_laws.specs.Soundness.{IsSoundReport};
     ghost use Rattle.nbd_state.specs.Transcripts.{export_of, transcript_report};
@@ -116,6 +116,13 @@ impl State {
         ensures { (core : Core) → Shows self.now core → result ≡ has_id (in_force core) id }
     {
         self.agreed && self.selection.has_id(id)
+    }
+
+    /// Whether the context with this id is in force and is `base:allocation`.
+    pub fn is_allocation(&self, id: u32) -> bool
+        ensures { (core : Core) → Shows self.now core → result ≡ is_allocation (in_force core) id }
+    {
+        self.agreed && self.selection.is_allocation(id)
     }
 
     /// Whether each metadata context in force has one of these ids, or this one. The cost is the number of contexts

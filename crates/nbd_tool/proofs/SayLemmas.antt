@@ -9,7 +9,7 @@ use Rattle.nbd_wire.specs.declared.entry.Entry.{Entry}
 use Rattle.nbd_wire.specs.declared.profile.Profile.{Profile}
 use Rattle.nbd_wire.specs.protocol.Explains.{IsExplainedOf, Start}
 use Rattle.nbd_judge.specs.declared.verdict.Verdict.{Verdict}
-use Rattle.nbd_judge.specs.declared.verdict.Verdict.TheVariants.{Yes, Wire, Image, Order, Content}
+use Rattle.nbd_judge.specs.declared.verdict.Verdict.TheVariants.{Yes, Wire, Image, Order, Content, Status}
 use Rattle.nbd_tool.specs.Runs.{IsVerdictOn, SaysYes, flat_of}
 use Rattle.nbd_tool.specs.declared.fault.RunFault.{RunFault}
 use Rattle.nbd_tool.specs.declared.fault.RunFault.TheVariants.{Memory, Write}
@@ -33,6 +33,7 @@ explains profile text order_text initial (Wire at fault) rest e v = absurd (n_is
 explains profile text order_text initial (Image image size) rest e v = absurd (n_is_no_y (line (Image image size)) rest refl e)
 explains profile text order_text initial (Order entry fault) rest e v = absurd (n_is_no_y (line (Order entry fault)) rest refl e)
 explains profile text order_text initial (Content request offset) rest e v = absurd (n_is_no_y (line (Content request offset)) rest refl e)
+explains profile text order_text initial (Status request offset) rest e v = absurd (n_is_no_y (line (Status request offset)) rest refl e)
 
 -- a prefix of a verdict's line was written
 pub says_prefix : (profile : Profile) (capture order : Option (List ℕ)) (initial : Option Start) (old new : Option (List ℕ)) (v : Verdict) → IsVerdictOn profile capture order initial v → AppendsPrefix old new (line v) → SaysYes profile capture order initial old new

@@ -2,7 +2,7 @@
 use Rattle.std.specs.Prelude.{ℕ, List, ◌++◌, codes}
 use Rattle.std.specs.Fmt.{decimal}
 use Rattle.nbd_judge.specs.declared.verdict.Verdict.{Verdict}
-use Rattle.nbd_judge.specs.declared.verdict.Verdict.TheVariants.{Yes, Wire, Image, Order, Content}
+use Rattle.nbd_judge.specs.declared.verdict.Verdict.TheVariants.{Yes, Wire, Image, Order, Content, Status}
 use Rattle.nbd_judge.specs.declared.verdict.OrderFault.{OrderFault}
 use Rattle.nbd_judge.specs.declared.verdict.OrderFault.TheVariants.{NoSuchRequest, Twice, Late, Missing, BadPart, NotCovered}
 use Rattle.nbd_wire.specs.declared.fault.WireFault.{WireFault}
@@ -56,6 +56,7 @@ words (Wire at fault) = codes "no at byte " ++ decimal at ++ codes ": " ++ fault
 words (Image image size) = codes "no image " ++ decimal image ++ codes " size " ++ decimal size
 words (Order entry fault) = codes "no order entry " ++ decimal entry ++ codes ": " ++ order_fault_name fault
 words (Content request offset) = codes "no content request " ++ decimal request ++ codes " offset " ++ decimal offset
+words (Status request offset) = codes "no status request " ++ decimal request ++ codes " offset " ++ decimal offset
 
 -- a verdict's line
 abbrev pub line : Verdict → List ℕ

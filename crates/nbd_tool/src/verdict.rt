@@ -121,6 +121,12 @@ fn parts_of(verdict: Verdict) -> Parts
             second: " offset ",
             rest: Rest::Number(offset),
         },
+        Verdict::Status { request, offset } => Parts {
+            first: "no status request ",
+            number: request,
+            second: " offset ",
+            rest: Rest::Number(offset),
+        },
     }
 }
 

@@ -1,5 +1,5 @@
 -- The least wrong byte of a READ, from its pieces.
-use Rattle.std.proofs.Common.{◌≡◌, ℕ, zero, suc, ◌+◌, ◌-◌, ◌<◌, ◌≤◌, ◌⊎◌, inl, inr, List, [], ◌∷◌, length, refl, sym, ◌∙◌, ap, subst, Option, Some, None, arith, Bool, true, false, nat_le, nat_lt, ◌&&◌, if◌then◌else◌, slice_get, slice_index_or, IsTrue, is_some, map, Bor}
+use Rattle.std.proofs.Common.{◌≡◌, ℕ, zero, suc, ◌+◌, ◌-◌, ◌<◌, ◌≤◌, ◌⊎◌, inl, inr, List, [], ◌∷◌, length, refl, sym, ◌∙◌, ap, subst, Option, Some, None, arith, Bool, true, false, nat_le, nat_lt, ◌&&◌, if◌then◌else◌, slice_get, slice_index_or, IsTrue, is_some, map, Bor, ◌==◌, ◌||◌, eqb-true}
 use Rattle.std.proofs.lemmas.Bool.{leb-true, leb-false, le-leb, lt-ltb, ltb-true}
 use Rattle.std.specs.List.{Contains}
 use Rattle.std.proofs.lemmas.Option.{slice_get_within, slice_get-get_or}
@@ -8,7 +8,7 @@ use Rattle.nbd_wire.specs.protocol.Entries.{in_part}
 use Rattle.nbd_wire.specs.declared.commands.TheConstants as commands
 use Rattle.nbd_wire.specs.declared.payloads.Piece.{Piece}
 use Rattle.nbd_wire.specs.declared.payloads.Piece.TheVariants.{Bytes, Hole}
-use Rattle.nbd_wire.specs.protocol.ExportBytes.{IsWrongIn, effect, is_success}
+use Rattle.nbd_wire.specs.protocol.ExportBytes.{IsWrongIn, effect, is_success, Effect, serves}
 use Rattle.nbd_wire.specs.protocol.Reports.{Asked}
 use Rattle.nbd_wire.specs.protocol.Pieces.{byte_at, holds, is_in, piece_byte, piece_offset, piece_size}
 use Rattle.nbd_export.specs.Ranges.{DiffersIn, IsLeast, bytes_from, zeroes}
@@ -119,7 +119,26 @@ pieces_inside size a laid within i p e =
     let l : piece_offset p + piece_size p ≤ a.offset + a.length = q.1 in
     omega arith
 
-module _ (size : ℕ) (a : Asked) (byte : ℕ → Option ℕ) (reads : a.command ≡ commands.READ) (well : is_success a.outcome ≡ true) (sound : IsServable size a) where
+-- what is said of a wrong byte, whatever the type of its request
+pub wrong_of : (p : Option Part) (e : Effect) (byte : ℕ → Option ℕ) (x : ℕ) → IsWrongIn p e byte x →
+    ((e.command ≡ commands.READ) ⊎ (e.command ≡ commands.BLOCK_STATUS)) × (e.succeeded ≡ true) × IsTrue (serves p e x)
+wrong_of p e byte x (inl w) = (inl w.0, w.1, w.2)
+wrong_of p e byte x (inr w) = (inr w.0, w.1, w.2)
+
+-- only the byte there counts
+pub wrong_there : (p : Option Part) (e : Effect) (byte other : ℕ → Option ℕ) (x : ℕ) → IsWrongIn p e byte x → other x ≡ byte x → IsWrongIn p e other x
+wrong_there p e byte other x (inl w) q = inl (w.0, w.1, w.2, (w.3.0, q ∙ w.3.1, w.3.2))
+wrong_there p e byte other x (inr w) q = inr (w.0, w.1, w.2, (w.3.0, w.3.1, q ∙ w.3.2, w.3.3, w.3.4))
+
+-- the types whose replies are compared
+pub compared_of : (command : ℕ) → ((command == commands.READ) || (command == commands.BLOCK_STATUS)) ≡ true → (command ≡ commands.READ) ⊎ (command ≡ commands.BLOCK_STATUS)
+compared_of command h = go (command == commands.READ) refl h
+  where
+    go : (b : Bool) → (command == commands.READ) ≡ b → (b || (command == commands.BLOCK_STATUS)) ≡ true → (command ≡ commands.READ) ⊎ (command ≡ commands.BLOCK_STATUS)
+    go true q h = inl (eqb-true command commands.READ q)
+    go false q h = inr (eqb-true command commands.BLOCK_STATUS h)
+
+module _ (size : ℕ) (a : Asked) (byte : ℕ → Option ℕ) (reads : (a.command ≡ commands.READ) ⊎ (a.command ≡ commands.BLOCK_STATUS)) (well : is_success a.outcome ≡ true) (sound : IsServable size a) where
   same_byte : (i : ℕ) (p : Piece) (x : ℕ) → slice_get a.pieces i ≡ Some p → IsTrue (holds p x) → byte_at a.pieces x ≡ Some (piece_byte p x)
   same_byte i p x e h = byte_of a.pieces x (λ j k q r eq er hq hr. sound.laid.apart j k q r x eq er hq hr) i p e h
 
@@ -138,13 +157,24 @@ module _ (size : ℕ) (a : Asked) (byte : ℕ → Option ℕ) (reads : a.command
         let from : a.offset ≤ piece_offset d.1 = inside.0 in
         let end : piece_offset d.1 + piece_size d.1 ≤ a.offset + a.length = inside.1 in
         let same : byte_at a.pieces x ≡ Some (piece_byte d.1 x) = same_byte d.0 d.1 x d.3 d.4.0 in
-        (reads, well, both_in (is_in a.offset a.length x) (in_part p x) (in_from a.offset a.length x (omega arith) (omega arith)) h.1, (d.4.1.0, d.4.1.1, λ e. d.4.1.2 (sym same ∙ e)))
+        let served = both_in (is_in a.offset a.length x) (in_part p x) (in_from a.offset a.length x (omega arith) (omega arith)) h.1 in
+        elim reads [
+          | inl c ↦ inl (c, well, served, (d.4.1.0, d.4.1.1, λ e. d.4.1.2 (sym same ∙ e)))
+          | inr k ↦ inr (k, well, served, (d.4.1.0, piece_byte d.1 x, d.4.1.1, same, λ e. d.4.1.2 (ap Some (sym e))))
+        ]
 
     from_wrong : (x : ℕ) → IsWrongIn p (effect a) byte x → DiffersHere x
-    from_wrong x w =
+    from_wrong x (inl w) =
         let s = both (is_in a.offset a.length x) (in_part p x) w.2 in
-        let c : (i : ℕ) × (q : Piece) × (slice_get a.pieces i ≡ Some q) × IsTrue (holds q x) = holding a.pieces x (sound.covered reads well x s.0) in
+        let c : (i : ℕ) × (q : Piece) × (slice_get a.pieces i ≡ Some q) × IsTrue (holds q x) = holding a.pieces x (sound.covered w.0 well x s.0) in
         ((c.0, c.1, slice_get_within a.pieces c.0 c.1 c.2, c.2, (c.3, (w.3.0, w.3.1, λ e. w.3.2 (same_byte c.0 c.1 x c.2 c.3 ∙ e)))), s.1)
+
+    from_wrong x (inr w) =
+        let s = both (is_in a.offset a.length x) (in_part p x) w.2 in
+        let told : byte_at a.pieces x ≡ Some w.3.1 = w.3.3 in
+        let c : (i : ℕ) × (q : Piece) × (slice_get a.pieces i ≡ Some q) × IsTrue (holds q x) = holding a.pieces x (ap is_some told) in
+        let same : Some (piece_byte c.1 x) ≡ Some w.3.1 = sym (same_byte c.0 c.1 x c.2 c.3) ∙ told in
+        ((c.0, c.1, slice_get_within a.pieces c.0 c.1 c.2, c.2, (c.3, (w.3.0, w.3.2, λ e. w.3.4 (let q : Some w.3.0 ≡ Some w.3.1 = sym e ∙ same in cc)))), s.1)
 
     pub wrong_part : (o : Option ℕ) → IsLeast DiffersHere o → IsLeast (IsWrongIn p (effect a) byte) o
     wrong_part o h = least_as DiffersHere (IsWrongIn p (effect a) byte) o to_wrong from_wrong h

@@ -1,5 +1,5 @@
 -- What an entry that is served compares and changes.
-use Rattle.std.proofs.Common.{◌≡◌, ℕ, zero, suc, ◌+◌, ◌<◌, ◌≤◌, inl, inr, List, [], ◌∷◌, ◌++◌, sym, ◌∙◌, ap, subst, Option, Some, arith, true, slice_get, take, add-one}
+use Rattle.std.proofs.Common.{◌≡◌, ℕ, zero, suc, ◌+◌, ◌<◌, ◌≤◌, inl, inr, List, [], ◌∷◌, ◌++◌, sym, ◌∙◌, ap, subst, Option, Some, arith, true, slice_get, take, add-one, ◌⊎◌}
 use Rattle.nbd_wire.specs.declared.commands.TheConstants as commands
 use Rattle.nbd_wire.specs.declared.entry.Entry.{Entry}
 use Rattle.nbd_wire.specs.protocol.Entries.{in_part}
@@ -11,7 +11,7 @@ use Rattle.nbd_judge.specs.Folding.{contents_with_effect, contents_after}
 use Rattle.nbd_judge.specs.internal.Servable.{IsServable}
 use Rattle.nbd_judge.specs.Verdicts.{HasWrongFrom}
 use Rattle.nbd_judge.proofs.verdicts.DecisionLemmas.{same_or_not}
-use Rattle.nbd_judge.proofs.contents.CompareLemmas.{both, from_in, least_as}
+use Rattle.nbd_judge.proofs.contents.CompareLemmas.{both, from_in, least_as, wrong_of, wrong_there}
 use Rattle.nbd_judge.proofs.contents.ForwardLemmas.{after_push, applied_same, folding}
 
 -- the entries up to entry i
@@ -34,13 +34,14 @@ module _ (size : ℕ) (requests : ℕ → Option Effect) (order : List Entry) (i
       ∙ ap (λ es. contents_after requests es initial x) (sym taken)
 
   module _ (a : Asked) (at : requests entry.request ≡ Some (effect a)) (sound : IsServable size a) where
-    inside : (x : ℕ) → a.command ≡ commands.READ → is_success a.outcome ≡ true → x < a.offset + a.length → x < size
+    inside : (x : ℕ) → (a.command ≡ commands.READ) ⊎ (a.command ≡ commands.BLOCK_STATUS) → is_success a.outcome ≡ true → x < a.offset + a.length → x < size
     inside x c w h = (let l : a.offset + a.length ≤ size = sound.read_inside c w in omega arith)
 
     to_served : (x : ℕ) → IsWrongIn entry.part (effect a) now x → IsWrong requests order initial i x
     to_served x w =
-        let lies = from_in a.offset a.length x (both (is_in a.offset a.length x) (in_part entry.part x) w.2).0 in
-        (entry, here, (effect a, at, (w.0, w.1, w.2, (w.3.0, sym (same_now x (inside x w.0 w.1 lies.1)) ∙ w.3.1, w.3.2))))
+        let s = wrong_of entry.part (effect a) now x w in
+        let lies = from_in a.offset a.length x (both (is_in a.offset a.length x) (in_part entry.part x) s.2).0 in
+        (entry, here, (effect a, at, wrong_there entry.part (effect a) now (byte_before requests order initial i) x w (sym (same_now x (inside x s.0 s.1 lies.1)))))
 
     from_served : (x : ℕ) → IsWrong requests order initial i x → IsWrongIn entry.part (effect a) now x
     from_served x s =
@@ -48,8 +49,9 @@ module _ (size : ℕ) (requests : ℕ → Option Effect) (order : List Entry) (i
         let v : IsWrongOf requests entry (byte_before requests order initial i) x = subst (λ (e : Entry). IsWrongOf requests e (byte_before requests order initial i) x) d s.2 in
         let r : v.0 ≡ effect a = (let q : Some v.0 ≡ Some (effect a) = sym v.1 ∙ at in cc) in
         let w : IsWrongIn entry.part (effect a) (byte_before requests order initial i) x = subst (λ (z : Effect). IsWrongIn entry.part z (byte_before requests order initial i) x) r v.2 in
-        let lies = from_in a.offset a.length x (both (is_in a.offset a.length x) (in_part entry.part x) w.2).0 in
-        (w.0, w.1, w.2, (w.3.0, same_now x (inside x w.0 w.1 lies.1) ∙ w.3.1, w.3.2))
+        let t = wrong_of entry.part (effect a) (byte_before requests order initial i) x w in
+        let lies = from_in a.offset a.length x (both (is_in a.offset a.length x) (in_part entry.part x) t.2).0 in
+        wrong_there entry.part (effect a) (byte_before requests order initial i) now x w (same_now x (inside x t.0 t.1 lies.1))
 
     pub served : (o : Option ℕ) → IsLeast (IsWrongIn entry.part (effect a) now) o → IsLeast (IsWrong requests order initial i) o
     served o h = least_as (IsWrongIn entry.part (effect a) now) (IsWrong requests order initial i) o to_served from_served h

@@ -1,9 +1,9 @@
 -- A verdict depends on the bytes at first only below the export's size.
-use Rattle.std.proofs.Common.{◌≡◌, ℕ, ◌+◌, ◌<◌, ◌≤◌, List, refl, sym, ◌∙◌, ap, arith, Option, Some, None, Result, Ok, Err, IfOk, take}
+use Rattle.std.proofs.Common.{◌≡◌, ℕ, ◌+◌, ◌<◌, ◌≤◌, List, refl, sym, ◌∙◌, ap, arith, Option, Some, None, Result, Ok, Err, IfOk, take, inl, inr}
 use Rattle.nbd_wire.specs.declared.entry.Entry.{Entry}
 use Rattle.nbd_wire.specs.protocol.Entries.{in_part}
 use Rattle.nbd_wire.specs.protocol.Pieces.{is_in}
-use Rattle.nbd_wire.specs.protocol.ExportBytes.{Effect, IsWrong, effect, effect_if, effects, last_touch, byte_or_start}
+use Rattle.nbd_wire.specs.protocol.ExportBytes.{Effect, IsWrong, effect, effect_if, effects, last_touch, byte_or_start, byte_before}
 use Rattle.nbd_wire.specs.protocol.Explains.{FitsImage, Start, Unknown, Zeroes, Image, start_byte}
 use Rattle.nbd_wire.specs.protocol.Reports.{Asked, Report, asked_at}
 use Rattle.nbd_wire.specs.protocol.Operations.{Exporting}
@@ -18,8 +18,8 @@ use Rattle.nbd_judge.specs.declared.verdict.Verdict.TheVariants as verdict
 use Rattle.nbd_judge.specs.internal.Beginnings.{image_length}
 use Rattle.nbd_judge.specs.Beginnings.{initial_of}
 use Rattle.nbd_judge.specs.Servable.{size_of}
-use Rattle.nbd_judge.specs.Verdicts.{HasWrongFrom, IsJudged, IsVerdict}
-use Rattle.nbd_judge.proofs.contents.CompareLemmas.{both, from_in}
+use Rattle.nbd_judge.specs.Verdicts.{HasWrongFrom, IsJudged, IsVerdict, FirstWrongFrom}
+use Rattle.nbd_judge.proofs.contents.CompareLemmas.{both, from_in, wrong_of, wrong_there}
 use Rattle.nbd_judge.proofs.orders.FirstLemmas.{first_of}
 use Rattle.nbd_judge.proofs.verdicts.SoundLemmas.{servable}
 
@@ -38,34 +38,36 @@ module _ (r : Report) (sound : IsSoundReport r) (order : List Entry) (f g : ℕ 
       let w = v.2 in
       let a = request_of (asked_at entry.request r.asked) w.0 w.1 in
       let served = servable r sound entry.request a.0 a.1 in
-      let reads = ap (λ (e : Effect). e.command) a.2 ∙ w.2.0 in
-      let well = ap (λ (e : Effect). e.succeeded) a.2 ∙ w.2.1 in
+      let t = wrong_of entry.part w.0 (byte_before (effects r) order f i) x w.2 in
+      let reads : (a.0.command ≡ commands.READ) ⊎ (a.0.command ≡ commands.BLOCK_STATUS) = elim t.0 [ inl c ↦ inl (ap (λ (e : Effect). e.command) a.2 ∙ c) | inr c ↦ inr (ap (λ (e : Effect). e.command) a.2 ∙ c) ] in
+      let well = ap (λ (e : Effect). e.succeeded) a.2 ∙ t.1 in
       let end : a.0.offset + a.0.length ≤ size_of r.export = served.read_inside reads well in
-      let lies = from_in w.0.offset w.0.length x (both (is_in w.0.offset w.0.length x) (in_part entry.part x) w.2.2).0 in
+      let lies = from_in w.0.offset w.0.length x (both (is_in w.0.offset w.0.length x) (in_part entry.part x) t.2).0 in
       let hi : x < w.0.offset + w.0.length = lies.1 in
       let offset : a.0.offset ≡ w.0.offset = ap (λ (e : Effect). e.offset) a.2 in
       let len : a.0.length ≡ w.0.length = ap (λ (e : Effect). e.length) a.2 in
       let inside : x < size_of r.export = omega arith in
-      (entry, v.1, (w.0, w.1, (w.2.0, w.2.1, w.2.2, (w.2.3.0, sym (left_same (last_touch (effects r) x (take i order)) f g x (same x inside)) ∙ w.2.3.1, w.2.3.2))))
+      (entry, v.1, (w.0, w.1, wrong_there entry.part w.0 (byte_before (effects r) order f i) (byte_before (effects r) order g i) x w.2 (sym (left_same (last_touch (effects r) x (take i order)) f g x (same x inside)))))
 
   has_wrong_same : (i : ℕ) → HasWrongFrom r order f i → HasWrongFrom r order g i
   has_wrong_same i h = (h.0, wrong_same i h.0 h.1)
+
+first_same : (r : Report) → IsSoundReport r → (order : List Entry) (f g : ℕ → Option ℕ) → AreSameBelow (size_of r.export) f g → (k x : ℕ) → FirstWrongFrom r order f k x → FirstWrongFrom r order g k x
+first_same r sound order f g same k x h = (
+  h.0,
+  h.1,
+  h.2,
+  h.3,
+  first_of {P = HasWrongFrom r order f} {Q = HasWrongFrom r order g} h.0 (has_wrong_same r sound order f g same) (has_wrong_same r sound order g f (λ y l. sym (same y l))) h.4,
+  first_of {P = IsWrong (effects r) order f h.0} {Q = IsWrong (effects r) order g h.0} x (wrong_same r sound order f g same h.0) (wrong_same r sound order g f (λ y l. sym (same y l)) h.0) h.5,
+)
 
 pub judged_same : (r : Report) → IsSoundReport r → (order : List Entry) (f g : ℕ → Option ℕ) → AreSameBelow (size_of r.export) f g → (v : Verdict) → IsJudged r order f v → IsJudged r order g v
 judged_same r sound order f g same (verdict.Yes a b c) h =
     (h.0, (λ i x w. h.1 i x (wrong_same r sound order g f (λ y l. sym (same y l)) i x w)), h.2, h.3, h.4)
 judged_same r sound order f g same (verdict.Order e p) h = h
-judged_same r sound order f g same (verdict.Content k x) h = (
-  h.0,
-  (
-    h.1.0,
-    h.1.1,
-    h.1.2,
-    h.1.3,
-    first_of {P = HasWrongFrom r order f} {Q = HasWrongFrom r order g} h.1.0 (has_wrong_same r sound order f g same) (has_wrong_same r sound order g f (λ y l. sym (same y l))) h.1.4,
-    first_of {P = IsWrong (effects r) order f h.1.0} {Q = IsWrong (effects r) order g h.1.0} x (wrong_same r sound order f g same h.1.0) (wrong_same r sound order g f (λ y l. sym (same y l)) h.1.0) h.1.5,
-  ),
-)
+judged_same r sound order f g same (verdict.Content k x) h = (h.0, (first_same r sound order f g same k x h.1.0, h.1.1))
+judged_same r sound order f g same (verdict.Status k x) h = (h.0, (first_same r sound order f g same k x h.1.0, h.1.1))
 judged_same r sound order f g same (verdict.Wire at fault) h = h
 judged_same r sound order f g same (verdict.Image i s) h = h
 
@@ -74,6 +76,7 @@ fitting : (r : Report) (order : List Entry) (start : Start) → FitsImage r.expo
 fitting r order start fits (verdict.Yes a b c) h = (fits, h)
 fitting r order start fits (verdict.Order e p) h = (fits, h)
 fitting r order start fits (verdict.Content k x) h = (fits, h)
+fitting r order start fits (verdict.Status k x) h = (fits, h)
 fitting r order start fits (verdict.Wire at fault) h = h
 fitting r order start fits (verdict.Image i s) h = absurd h
 

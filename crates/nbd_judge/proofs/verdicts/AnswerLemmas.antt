@@ -10,7 +10,7 @@ use Rattle.nbd_wire.specs.protocol.Verdicts.{IsFaultless, Passes, answered_count
 use Rattle.nbd_laws.specs.Explaining.{ExplainedPasses, IsNoOf, PassingIsExplained}
 use Rattle.nbd_laws.specs.Moments.{OrdersAreFaultless}
 use Rattle.nbd_laws.specs.Sameness.{SameReports}
-use Rattle.nbd_judge.specs.declared.verdict.Verdict.TheVariants.{Yes, Wire, Image, Order, Content}
+use Rattle.nbd_judge.specs.declared.verdict.Verdict.TheVariants.{Yes, Wire, Image, Order, Content, Status}
 use Rattle.nbd_laws.proofs.service.MomentLemmas.{orders_are_faultless}
 use Rattle.nbd_laws.proofs.service.ServiceLemmas.{same_reports}
 use Rattle.nbd_judge.specs.Conclusions.{IsUnserved, VerdictsAnswerRuns}
@@ -55,6 +55,8 @@ module _ (passing : PassingIsExplained) (only : ExplainedPasses) (faultless : Or
     fault_unserved faultless same profile items order e p run v.1,
   )
   answers_runs profile items order initial (Content k x) run v =
-      no_pass profile items order initial run (λ passes. has_wrong (report items) order (start_byte initial) k x v.1.1 passes.reads)
+      no_pass profile items order initial run (λ passes. has_wrong (report items) order (start_byte initial) k x v.1.1.0 passes.reads)
+  answers_runs profile items order initial (Status k x) run v =
+      no_pass profile items order initial run (λ passes. has_wrong (report items) order (start_byte initial) k x v.1.1.0 passes.reads)
   answers_runs profile items order initial (Image i s) run v = no_pass profile items order initial run (λ passes. fits_not (report items).export initial i s passes.fits_image v)
   answers_runs profile items order initial (Wire at fault) run v = absurd v

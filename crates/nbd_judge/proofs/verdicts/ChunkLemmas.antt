@@ -14,7 +14,7 @@ use Rattle.nbd_session.specs.declared.fault.SessionFault.{SessionFault}
 use Rattle.nbd_session.specs.declared.fault.SessionFault.TheVariants as session
 use Rattle.nbd_session.specs.Sessions.{IsReported, SessionView, pairs_of}
 use Rattle.nbd_judge.specs.declared.verdict.Verdict.{Verdict}
-use Rattle.nbd_judge.specs.declared.verdict.Verdict.TheVariants.{Yes, Wire, Image, Order, Content}
+use Rattle.nbd_judge.specs.declared.verdict.Verdict.TheVariants.{Yes, Wire, Image, Order, Content, Status}
 use Rattle.nbd_judge.specs.Captures.{HasVerdict, IsChecked, IsFaultOf, records_of}
 use Rattle.nbd_judge.specs.internal.Captures.{HasReport}
 use Rattle.nbd_judge.specs.Conclusions.{Answers, IsConclusion, IsReportOf}
@@ -91,6 +91,7 @@ checked profile capture order initial (Ok r) v told within is answers = go v is 
     go (Image i s) is says = verdict (Image i s) is says
     go (Order e f) is says = verdict (Order e f) is says
     go (Content k x) is says = verdict (Content k x) is says
+    go (Status k x) is says = verdict (Status k x) is says
 
 -- the bytes of one more chunk
 pub grown_by : (cs : List (Side × Vec ℕ Global)) (i : ℕ) (c : Side × Vec ℕ Global) → i < length cs → c ≡ get_or cs i c →

@@ -39,7 +39,7 @@ use Rattle.nbd_laws.proofs.service.ServiceLemmas.{same_reports}
 use Rattle.nbd_session.specs.Refusals.{IsOpenEndOf, IsRefusalOf, IsWireFaultOf}
 use Rattle.nbd_session.proofs.judge.RefusalLemmas.{completes_exactly}
 use Rattle.nbd_judge.specs.declared.verdict.Verdict.{Verdict}
-use Rattle.nbd_judge.specs.declared.verdict.Verdict.TheVariants.{Yes, Wire, Image, Order, Content}
+use Rattle.nbd_judge.specs.declared.verdict.Verdict.TheVariants.{Yes, Wire, Image, Order, Content, Status}
 use Rattle.nbd_judge.specs.Captures.{HasVerdict}
 use Rattle.nbd_judge.specs.Conclusions.{Answers}
 use Rattle.nbd_judge.specs.Profiles.{TellsNoContexts, VerdictsAgree}
@@ -179,3 +179,4 @@ verdicts_agree p q capture order initial (Yes of_requests of_answered of_imprope
 verdicts_agree p q capture order initial (Image image size) tells h = same_verdict p q capture tells order initial (Image image size) h
 verdicts_agree p q capture order initial (Order entry fault) tells h = same_verdict p q capture tells order initial (Order entry fault) h
 verdicts_agree p q capture order initial (Content request offset) tells h = same_verdict p q capture tells order initial (Content request offset) h
+verdicts_agree p q capture order initial (Status request offset) tells h = same_verdict p q capture tells order initial (Status request offset) h

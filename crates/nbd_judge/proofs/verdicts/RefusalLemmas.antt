@@ -72,6 +72,7 @@ says_exactly profile capture order initial (verdict.Wire at fault) is = ((λ y. 
 says_exactly profile capture order initial (verdict.Image i s) is = ((λ y. absurd y), λ x. is.answers x)
 says_exactly profile capture order initial (verdict.Order e f) is = ((λ y. absurd y), λ x. is.answers.0 x)
 says_exactly profile capture order initial (verdict.Content k x) is = ((λ y. absurd y), λ x. is.answers x)
+says_exactly profile capture order initial (verdict.Status k x) is = ((λ y. absurd y), λ x. is.answers x)
 
 pub answers_exactly : {E : Type 0} (profile : Profile) (capture : List Pair) (order : List Entry) (initial : Start) (o : Result Verdict E) → IfOk o (IsChecked profile capture order initial)
     → IfOk o (λ v. SaysYes v ↔ IsExplainedOf profile capture order initial)

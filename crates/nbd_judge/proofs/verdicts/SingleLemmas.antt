@@ -1,5 +1,5 @@
 -- The cases of the definitions of a verdict exclude each other.
-use Rattle.std.proofs.Common.{◌≡◌, ℕ, ◌+◌, ◌<◌, ◌⊎◌, inl, inr, List, length, sym, ◌∙◌, ap, subst, Option, Some, None, slice_get, take}
+use Rattle.std.proofs.Common.{◌≡◌, ℕ, ◌+◌, ◌<◌, ◌⊎◌, inl, inr, List, length, sym, ◌∙◌, ap, subst, Option, Some, None, slice_get, take, arith}
 use Rattle.nbd_wire.specs.declared.entry.Entry.{Entry}
 use Rattle.nbd_wire.specs.declared.entry.Part.{Part}
 use Rattle.nbd_wire.specs.protocol.Entries.{IsAgain, Names, numbers}
@@ -8,16 +8,16 @@ use Rattle.nbd_wire.specs.protocol.ExportBytes.{IsWrong, effects}
 use Rattle.nbd_wire.specs.protocol.Explains.{FitsImage, Start, start_byte}
 use Rattle.nbd_wire.specs.protocol.Explains as starts
 use Rattle.nbd_wire.specs.protocol.Orders.{IsBad, IsFirst, IsLate, IsUnserved, NamesAgain, NamesNone}
-use Rattle.nbd_wire.specs.protocol.Reports.{Report, inside_in, known_in}
+use Rattle.nbd_wire.specs.protocol.Reports.{Report, inside_in, known_in, asked_at, Asked}
 use Rattle.nbd_wire.specs.protocol.Operations.{Exporting}
 use Rattle.nbd_wire.specs.protocol.Verdicts.{IsFaultless}
 use Rattle.nbd_judge.specs.declared.verdict.OrderFault.{OrderFault}
 use Rattle.nbd_judge.specs.declared.verdict.OrderFault.TheVariants.{NoSuchRequest, Twice, Late, Missing, BadPart, NotCovered}
-use Rattle.nbd_judge.specs.declared.verdict.Verdict.TheVariants.{Yes, Wire, Image, Order, Content}
+use Rattle.nbd_judge.specs.declared.verdict.Verdict.TheVariants.{Yes, Wire, Image, Order, Content, Status}
 use Rattle.nbd_judge.specs.Images.{IsOtherSize}
 use Rattle.nbd_judge.specs.Orders.{IsOrderFault}
 use Rattle.nbd_judge.specs.Uniqueness.{OneJudgement, OneVerdict}
-use Rattle.nbd_judge.specs.Verdicts.{FirstWrongFrom, HasNoneWrongFrom, HasWrongFrom}
+use Rattle.nbd_judge.specs.Verdicts.{FirstWrongFrom, HasNoneWrongFrom, HasWrongFrom, FirstWrongOf}
 use Rattle.nbd_judge.proofs.verdicts.DecisionLemmas.{before_or_behind}
 use Rattle.nbd_judge.proofs.orders.FirstLemmas.{place_before}
 
@@ -125,31 +125,47 @@ module _ (r : Report) (order : List Entry) (initial : ℕ → Option ℕ) where
   pub has_wrong : (k x : ℕ) → FirstWrongFrom r order initial k x → HasNoneWrongFrom r order initial → ⊥
   has_wrong k x w none = none w.0 w.4.0.0 w.4.0.1
 
-  one_wrong : (j k x y : ℕ) → FirstWrongFrom r order initial j x → FirstWrongFrom r order initial k y → Content j x ≡ Content k y
+  one_wrong : (j k x y : ℕ) → FirstWrongFrom r order initial j x → FirstWrongFrom r order initial k y → (j ≡ k) × (x ≡ y)
   one_wrong j k x y v w =
       let same : v.0 ≡ w.0 = one_first (HasWrongFrom r order initial) v.0 w.0 v.4 w.4 in
       let entry : v.1 ≡ w.1 = (let q : Some v.1 ≡ Some w.1 = sym v.2 ∙ ap (slice_get order) same ∙ w.2 in cc) in
       let request : j ≡ k = sym v.3 ∙ ap (λ (e : Entry). e.request) entry ∙ w.3 in
       let at : IsFirst (IsWrong (effects r) order initial w.0) x = subst (λ (n : ℕ). IsFirst (IsWrong (effects r) order initial n) x) same v.5 in
       let offset : x ≡ y = one_first (IsWrong (effects r) order initial w.0) x y at w.5 in
-      ap (λ n. Content n x) request ∙ ap (λ n. Content k n) offset
+      (request, offset)
+
+  -- so the request has one type
+  one_command : (j k x y a b : ℕ) → FirstWrongOf a r order initial j x → FirstWrongOf b r order initial k y → a ≡ b
+  one_command j k x y a b v w =
+      let request = (one_wrong j k x y v.0 w.0).0 in
+      let same : v.1.0 ≡ w.1.0 = (let q : Some v.1.0 ≡ Some w.1.0 = sym v.1.1 ∙ ap (λ n. asked_at n r.asked) request ∙ w.1.1 in cc) in
+      sym v.1.2 ∙ ap (λ (z : Asked). z.command) same ∙ w.1.2
 
 pub one_judgement : OneJudgement
 one_judgement r order initial (Yes a b c) (Yes d e f) v w = (let p : a ≡ d = v.2 ∙ sym w.2 in let q : b ≡ e = v.3 ∙ sym w.3 in let s : c ≡ f = v.4 ∙ sym w.4 in cc)
 one_judgement r order initial (Yes a b c) (Order e p) v w = absurd (has_fault r order e p w v.0)
-one_judgement r order initial (Yes a b c) (Content k x) v w = absurd (has_wrong r order initial k x w.1 v.1)
+one_judgement r order initial (Yes a b c) (Content k x) v w = absurd (has_wrong r order initial k x w.1.0 v.1)
+one_judgement r order initial (Yes a b c) (Status k x) v w = absurd (has_wrong r order initial k x w.1.0 v.1)
 one_judgement r order initial (Yes a b c) (Wire at fault) v w = absurd w
 one_judgement r order initial (Yes a b c) (Image image size) v w = absurd w
 one_judgement r order initial (Order e p) (Yes a b c) v w = absurd (has_fault r order e p v w.0)
 one_judgement r order initial (Order d p) (Order e q) v w = one_fault r order d e p q v w
 one_judgement r order initial (Order e p) (Content k x) v w = absurd (has_fault r order e p v w.0)
+one_judgement r order initial (Order e p) (Status k x) v w = absurd (has_fault r order e p v w.0)
 one_judgement r order initial (Order e p) (Wire at fault) v w = absurd w
 one_judgement r order initial (Order e p) (Image image size) v w = absurd w
-one_judgement r order initial (Content k x) (Yes a b c) v w = absurd (has_wrong r order initial k x v.1 w.1)
+one_judgement r order initial (Content k x) (Yes a b c) v w = absurd (has_wrong r order initial k x v.1.0 w.1)
 one_judgement r order initial (Content k x) (Order e p) v w = absurd (has_fault r order e p w v.0)
-one_judgement r order initial (Content j x) (Content k y) v w = one_wrong r order initial j k x y v.1 w.1
+one_judgement r order initial (Content j x) (Content k y) v w = let one = one_wrong r order initial j k x y v.1.0 w.1.0 in (λ i. Content (one.0 i) (one.1 i))
+one_judgement r order initial (Content j x) (Status k y) v w = absurd (let q = one_command r order initial j k x y _ _ v.1 w.1 in omega (arith, q))
 one_judgement r order initial (Content k x) (Wire at fault) v w = absurd w
 one_judgement r order initial (Content k x) (Image image size) v w = absurd w
+one_judgement r order initial (Status k x) (Yes a b c) v w = absurd (has_wrong r order initial k x v.1.0 w.1)
+one_judgement r order initial (Status k x) (Order e p) v w = absurd (has_fault r order e p w v.0)
+one_judgement r order initial (Status j x) (Content k y) v w = absurd (let q = one_command r order initial j k x y _ _ v.1 w.1 in omega (arith, q))
+one_judgement r order initial (Status j x) (Status k y) v w = let one = one_wrong r order initial j k x y v.1.0 w.1.0 in (λ i. Status (one.0 i) (one.1 i))
+one_judgement r order initial (Status k x) (Wire at fault) v w = absurd w
+one_judgement r order initial (Status k x) (Image image size) v w = absurd w
 one_judgement r order initial (Wire at fault) u v w = absurd v
 one_judgement r order initial (Image image size) u v w = absurd v
 
@@ -170,20 +186,30 @@ one_verdict r order initial (Image i s) (Image j t) v w = one_image r.export ini
 one_verdict r order initial (Image i s) (Yes a b c) v w = absurd (fits_not r.export initial i s w.0 v)
 one_verdict r order initial (Image i s) (Order e p) v w = absurd (fits_not r.export initial i s w.0 v)
 one_verdict r order initial (Image i s) (Content k x) v w = absurd (fits_not r.export initial i s w.0 v)
+one_verdict r order initial (Image i s) (Status k x) v w = absurd (fits_not r.export initial i s w.0 v)
 one_verdict r order initial (Image i s) (Wire at fault) v w = absurd w
 one_verdict r order initial (Yes a b c) (Image i s) v w = absurd (fits_not r.export initial i s v.0 w)
 one_verdict r order initial (Yes a b c) (Wire at fault) v w = absurd w
 one_verdict r order initial (Yes a b c) (Yes d e f) v w = one_judgement r order (start_byte initial) (Yes a b c) (Yes d e f) v.1 w.1
 one_verdict r order initial (Yes a b c) (Order e p) v w = one_judgement r order (start_byte initial) (Yes a b c) (Order e p) v.1 w.1
 one_verdict r order initial (Yes a b c) (Content k x) v w = one_judgement r order (start_byte initial) (Yes a b c) (Content k x) v.1 w.1
+one_verdict r order initial (Yes a b c) (Status k x) v w = one_judgement r order (start_byte initial) (Yes a b c) (Status k x) v.1 w.1
 one_verdict r order initial (Order e p) (Image i s) v w = absurd (fits_not r.export initial i s v.0 w)
 one_verdict r order initial (Order e p) (Wire at fault) v w = absurd w
 one_verdict r order initial (Order e p) (Yes a b c) v w = one_judgement r order (start_byte initial) (Order e p) (Yes a b c) v.1 w.1
 one_verdict r order initial (Order d p) (Order e q) v w = one_judgement r order (start_byte initial) (Order d p) (Order e q) v.1 w.1
 one_verdict r order initial (Order e p) (Content k x) v w = one_judgement r order (start_byte initial) (Order e p) (Content k x) v.1 w.1
+one_verdict r order initial (Order e p) (Status k x) v w = one_judgement r order (start_byte initial) (Order e p) (Status k x) v.1 w.1
 one_verdict r order initial (Content k x) (Image i s) v w = absurd (fits_not r.export initial i s v.0 w)
 one_verdict r order initial (Content k x) (Wire at fault) v w = absurd w
 one_verdict r order initial (Content k x) (Yes a b c) v w = one_judgement r order (start_byte initial) (Content k x) (Yes a b c) v.1 w.1
 one_verdict r order initial (Content k x) (Order e p) v w = one_judgement r order (start_byte initial) (Content k x) (Order e p) v.1 w.1
 one_verdict r order initial (Content j x) (Content k y) v w = one_judgement r order (start_byte initial) (Content j x) (Content k y) v.1 w.1
+one_verdict r order initial (Content j x) (Status k y) v w = one_judgement r order (start_byte initial) (Content j x) (Status k y) v.1 w.1
+one_verdict r order initial (Status k x) (Image i s) v w = absurd (fits_not r.export initial i s v.0 w)
+one_verdict r order initial (Status k x) (Wire at fault) v w = absurd w
+one_verdict r order initial (Status k x) (Yes a b c) v w = one_judgement r order (start_byte initial) (Status k x) (Yes a b c) v.1 w.1
+one_verdict r order initial (Status k x) (Order e p) v w = one_judgement r order (start_byte initial) (Status k x) (Order e p) v.1 w.1
+one_verdict r order initial (Status j x) (Content k y) v w = one_judgement r order (start_byte initial) (Status j x) (Content k y) v.1 w.1
+one_verdict r order initial (Status j x) (Status k y) v w = one_judgement r order (start_byte initial) (Status j x) (Status k y) v.1 w.1
 one_verdict r order initial (Wire at fault) u v w = absurd v

@@ -1,5 +1,5 @@
 -- What every report has, of a request that an order can name.
-use Rattle.std.proofs.Common.{◌≡◌, ℕ, zero, suc, ◌+◌, ◌≤◌, [], length, sym, ◌∙◌, ap, refl, Option, Some, None, true, false}
+use Rattle.std.proofs.Common.{◌≡◌, ℕ, zero, suc, ◌+◌, ◌≤◌, [], length, sym, ◌∙◌, ap, refl, Option, Some, None, true, false, inl, inr}
 use Rattle.nbd_wire.specs.protocol.ExportBytes.{is_success}
 use Rattle.nbd_wire.specs.protocol.Reports.{Asked, Report, asked_at}
 use Rattle.nbd_wire.specs.protocol.Operations.{Exporting, Outcome, Success, Failure, Pending, has_range}
@@ -15,7 +15,7 @@ success_of Pending e = absurd (let q : false ≡ true = e in (cc))
 servable_in : (size count k : ℕ) (a : Asked) → IsSoundAsked size count k a → IsServable size a
 servable_in size count k a sound = record {
   carried = sound.carried;
-  read_inside = λ c w. within w (ap has_range c);
+  read_inside = λ c w. within w (elim c [ inl r ↦ ap has_range r | inr k ↦ ap has_range k ]);
   write_inside = λ c w. within w (ap has_range c);
   zeroes_inside = λ c w. within w (ap has_range c);
   laid = sound.laid;

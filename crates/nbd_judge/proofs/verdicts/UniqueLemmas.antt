@@ -13,7 +13,7 @@ use Rattle.nbd_session.specs.declared.fault.SessionFault.TheVariants as session
 use Rattle.nbd_session.specs.Refusals.{IsOpenEndOf, IsRefusedAtOf}
 use Rattle.nbd_session.proofs.judge.RefusalLemmas.{no_run_of}
 use Rattle.nbd_judge.specs.declared.verdict.Verdict.{Verdict}
-use Rattle.nbd_judge.specs.declared.verdict.Verdict.TheVariants.{Yes, Wire, Image, Order, Content}
+use Rattle.nbd_judge.specs.declared.verdict.Verdict.TheVariants.{Yes, Wire, Image, Order, Content, Status}
 use Rattle.nbd_judge.specs.Captures.{HasVerdict, IsChecked, IsFaultOf}
 use Rattle.nbd_judge.specs.Uniqueness.{OneAnswer, OneWireFault}
 use Rattle.nbd_judge.proofs.verdicts.SingleLemmas.{one_verdict}
@@ -66,6 +66,7 @@ parts_of capture order initial (Yes a b c) h = inr h
 parts_of capture order initial (Image i s) h = inr h
 parts_of capture order initial (Order e f) h = inr h
 parts_of capture order initial (Content k x) h = inr h
+parts_of capture order initial (Status k x) h = inr h
 
 pub one_answer : OneAnswer
 one_answer profile capture order initial v w p q = go (parts_of {profile = profile} capture order initial v p) (parts_of {profile = profile} capture order initial w q)

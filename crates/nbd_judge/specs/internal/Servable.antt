@@ -1,4 +1,4 @@
-use Rattle.std.specs.Prelude.{ℕ, Option, Some, None, ◌≡◌, ◌+◌, ◌≤◌, true, length, IsTrue, is_some}
+use Rattle.std.specs.Prelude.{ℕ, Option, Some, None, ◌≡◌, ◌⊎◌, ◌+◌, ◌≤◌, true, length, IsTrue, is_some}
 use Rattle.nbd_wire.specs.declared.commands.TheConstants as commands
 use Rattle.nbd_wire.specs.declared.entry.Part.{Part}
 use Rattle.nbd_state.specs.declared.span.Span.{Span}
@@ -10,7 +10,8 @@ use Rattle.nbd_laws.specs.Soundness.{AreLaid}
 -- its bytes and its range fit an export of this size, as far as its service reads them
 pub record IsServable (size : ℕ) (a : Asked) : Type 0 where
   pub carried : a.command ≡ commands.WRITE → length a.payload ≡ a.length
-  pub read_inside : a.command ≡ commands.READ → is_success a.outcome ≡ true → a.offset + a.length ≤ size
+  pub read_inside : (a.command ≡ commands.READ) ⊎ (a.command ≡ commands.BLOCK_STATUS) → is_success a.outcome ≡ true
+      → a.offset + a.length ≤ size
   pub write_inside : a.command ≡ commands.WRITE → is_success a.outcome ≡ true → a.offset + a.length ≤ size
   pub zeroes_inside : a.command ≡ commands.WRITE_ZEROES → is_success a.outcome ≡ true → a.offset + a.length ≤ size
   pub laid : AreLaid a.offset a.length a.pieces

@@ -1,5 +1,5 @@
 -- What holds of each request of a core that completed messages lead to, and of every report.
-use Rattle.std.proofs.Common.{◌≡◌, ℕ, ◌<◌, ◌≤◌, ◌+◌, ◌==◌, List, [], ◌∷◌, length, refl, sym, ◌∙◌, ap, subst, inl, inr, Option, Some, None, Bool, true, false, not, ◌&&◌, ◌||◌, if◌then◌else◌, eqb-true, arith, IsTrue, nat_le, ◌⊎◌}
+use Rattle.std.proofs.Common.{◌≡◌, ℕ, ◌<◌, ◌≤◌, ◌+◌, ◌==◌, List, [], ◌∷◌, length, refl, sym, ◌∙◌, ap, subst, inl, inr, Option, Some, None, Bool, true, false, not, ◌&&◌, ◌||◌, if◌then◌else◌, eqb-true, arith, IsTrue, nat_le, ◌⊎◌, ◌++◌, ◌≢◌, append-nil}
 use Rattle.std.proofs.lemmas.Bool.{leb-true}
 use Rattle.nbd_wire.specs.declared.answers.TheConstants as answers
 use Rattle.nbd_wire.specs.declared.commands.TheConstants as commands
@@ -24,7 +24,10 @@ use Rattle.nbd_wire.specs.protocol.Sendable.{IsSendable}
 use Rattle.nbd_wire.specs.protocol.States.{Core, Phase, Greet, Flags, Choosing, Naming, Aborting, Answering, Ended, Transmission, with_reply_at, operation, start, target, with_reply, export_in, in_force}
 use Rattle.nbd_laws.specs.Soundness.{IsSoundAsked, IsSoundReport, ReportsAreSound}
 use Rattle.nbd_laws.proofs.runs.PrefixLemmas.{InTransmission, asks, gives, phase-complete, replies, transmission_row}
-use Rattle.nbd_laws.proofs.requests.LaidLemmas.{are_laid}
+use Rattle.nbd_wire.specs.declared.command_flags.TheConstants as command_flags
+use Rattle.nbd_wire.specs.protocol.Statuses.{zeroes}
+use Rattle.nbd_laws.proofs.requests.LaidLemmas.{AreApart, AreInside, are_laid}
+use Rattle.nbd_laws.proofs.requests.ZeroLemmas.{Told, content, no_df, told, told_of}
 use Rattle.nbd_laws.proofs.service.InsideLemmas.{core_end, entries_grow}
 use Rattle.nbd_laws.specs.Reached.{IsReached, at_start, after_message}
 use Rattle.nbd_laws.proofs.requests.OutstandingLemmas.{IsFound, both_true, find, not_true_is_false}
@@ -192,7 +195,7 @@ known_between core (Starts Server m ∷ items) k n e = go (request_of_reply core
 known_between core (Completes s m ∷ items) k n e = known_between (complete core m) items k n e
 known_between core (Serves j ∷ items) k n e = known_between core items k n e
 
-proper_range : (export : Exporting) (e : Operation) → IsTrue (is_proper export e) → IsTrue (has_range e.command) → e.offset + e.length ≤ export.size
+pub proper_range : (export : Exporting) (e : Operation) → IsTrue (is_proper export e) → IsTrue (has_range e.command) → e.offset + e.length ≤ export.size
 unfolding is_proper
 proper_range export e h r =
     let a = both_true _ (not (e.command == commands.FLUSH) || ((e.offset == 0) && (e.length == 0))) h in
@@ -231,11 +234,37 @@ reports_are_sound profile items run =
       carried = g.carried;
       success = g.success;
       inside = λ p r. proper_range export e p r;
-      reads = g.reads;
-      single = g.single;
-      laid = are_laid e.offset e.length (pieces e) g.inside g.apart;
-      covered = λ c s. g.covered s c;
+      reads = λ n m. told_none n m (told_of export e);
+      statuses = λ c n. told_no_status c n (told_of export e);
+      single = λ p d. told_single p d (told_of export e);
+      laid = are_laid e.offset e.length (zeroes export e ++ pieces e) (told_laid (told_of export e)).0 (told_laid (told_of export e)).1;
+      covered = λ c s. subst (Covers e) (sym (read_told c (told_of export e))) (g.covered s c);
     })
+      where
+        read_told : e.command ≡ commands.READ → Told export e → zeroes export e ++ pieces e ≡ pieces e
+        read_told c (content z) = ap (λ l. l ++ pieces e) z
+        read_told c (told k p i b) = absurd (let w : commands.READ ≡ commands.BLOCK_STATUS = sym c ∙ k in omega (arith, w))
+
+        no_content : e.command ≡ commands.BLOCK_STATUS → pieces e ≡ []
+        no_content k = g.reads (λ c. (let w : commands.READ ≡ commands.BLOCK_STATUS = sym c ∙ k in omega (arith, w)))
+
+        told_none : e.command ≢ commands.READ → e.command ≢ commands.BLOCK_STATUS → Told export e → zeroes export e ++ pieces e ≡ []
+        told_none n m (content z) = ap (λ l. l ++ pieces e) z ∙ g.reads n
+        told_none n m (told k p i b) = absurd (m k)
+
+        told_no_status : e.command ≡ commands.BLOCK_STATUS → (IsTrue (is_proper export e) → ⊥) → Told export e → zeroes export e ++ pieces e ≡ []
+        told_no_status c n (content z) = ap (λ l. l ++ pieces e) z ∙ no_content c
+        told_no_status c n (told k p i b) = absurd (n p)
+
+        told_single : IsTrue (is_proper export e) → IsTrue (has e.flags command_flags.DF) → Told export e → length (zeroes export e ++ pieces e) ≤ 1
+        told_single p d (content z) = subst (λ l. length (l ++ pieces e) ≤ 1) (sym z) (g.single p d)
+        told_single p d (told k q i b) = absurd (no_df export e k p d)
+
+        told_laid : Told export e → AreInside e.offset e.length (zeroes export e ++ pieces e) × AreApart (zeroes export e ++ pieces e)
+        told_laid (content z) = subst (λ l. AreInside e.offset e.length (l ++ pieces e) × AreApart (l ++ pieces e)) (sym z) (g.inside, g.apart)
+        told_laid (told k p i b) =
+            subst (λ l. AreInside e.offset e.length (zeroes export e ++ l) × AreApart (zeroes export e ++ l)) (sym (no_content k))
+            (subst (λ l. AreInside e.offset e.length l × AreApart l) (sym (append-nil (zeroes export e))) (i, b))
 
     go : (phase : Phase) → (ends_at start items).core.phase ≡ phase → InPhase (ends_at start items).core.phase (operations_of items) → IsSoundReport (report items)
     go (Transmission export) q h =

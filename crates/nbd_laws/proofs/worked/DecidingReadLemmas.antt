@@ -1,11 +1,11 @@
 -- Tests that decide by computing whether a byte is wrong.
-use Rattle.std.proofs.Common.{◌≡◌, ℕ, ◌==◌, ◌&&◌, ◌||◌, not, List, [], ◌∷◌, refl, sym, ◌∙◌, ap, subst, Option, Some, None, Bool, true, false, IsTrue, eqb-true, eq-eqb, zero, suc, ◌++◌, take, slice_get, append_assoc, append-nil}
+use Rattle.std.proofs.Common.{◌≡◌, ℕ, ◌==◌, ◌&&◌, ◌||◌, not, List, [], ◌∷◌, refl, sym, ◌∙◌, ap, subst, Option, Some, None, Bool, true, false, IsTrue, eqb-true, eq-eqb, zero, suc, ◌++◌, take, slice_get, append_assoc, append-nil, ◌≢◌, inl, inr}
 use Rattle.std.proofs.lemmas.Bool.{eqb-false}
 use Rattle.nbd_wire.specs.declared.entry.Entry.{Entry}
 use Rattle.nbd_wire.specs.declared.entry.Part.{Part}
 use Rattle.nbd_wire.specs.protocol.Entries.{in_part}
 use Rattle.nbd_wire.specs.declared.commands.TheConstants as commands
-use Rattle.nbd_wire.specs.protocol.ExportBytes.{Differs, Effect, IsWrong, IsWrongIn, IsWrongOf, byte_before, byte_or_start, last_touch, serves}
+use Rattle.nbd_wire.specs.protocol.ExportBytes.{IsFalseZero, IsMisread, Differs, Effect, IsWrong, IsWrongIn, IsWrongOf, byte_before, byte_or_start, last_touch, serves}
 use Rattle.nbd_wire.specs.protocol.Pieces.{is_in}
 use Rattle.nbd_laws.proofs.worked.DecidingLemmas.{all_at, all_in, both, in_range, then_too, was_false}
 
@@ -20,8 +20,21 @@ true_agrees None read b h e ne = absurd (cc)
 true_agrees (Some c) (Some d) b h e ne = ne (ap Some (eqb-true d c h) ∙ e)
 true_agrees (Some c) None b h e ne = absurd (cc)
 
+-- what is told is the known byte, if both are there
+abbrev pub tells_true : (byte told : Option ℕ) → Bool
+tells_true (Some b) (Some c) = c == b
+tells_true (Some b) None = true
+tells_true None told = true
+
+not_belied : (o p : Option ℕ) (b c : ℕ) → tells_true o p ≡ true → o ≡ Some b → p ≡ Some c → b ≢ c → ⊥
+not_belied (Some x) (Some y) b c h q r n = n (let s : x ≡ b = cc in let t : y ≡ c = cc in sym s ∙ sym (eqb-true y x h) ∙ t)
+not_belied (Some x) None b c h q r n = absurd (cc)
+not_belied None p b c h q r n = absurd (cc)
+
 abbrev pub reads_right : Option Part → (byte : ℕ → Option ℕ) → Option Effect → Bool
-reads_right p byte (Some e) = not ((e.command == commands.READ) && e.succeeded) || all_in e.offset e.length (λ x. not (in_part p x) || agrees (byte x) (e.read x))
+reads_right p byte (Some e) =
+    (not ((e.command == commands.READ) && e.succeeded) || all_in e.offset e.length (λ x. not (in_part p x) || agrees (byte x) (e.read x)))
+    && (not ((e.command == commands.BLOCK_STATUS) && e.succeeded) || all_in e.offset e.length (λ x. not (in_part p x) || tells_true (byte x) (e.read x)))
 reads_right p byte None = true
 
 -- the export's byte at x after these entries
@@ -34,16 +47,31 @@ all_right requests initial before [] = true
 all_right requests initial before (e ∷ order) =
     reads_right e.part (byte_after requests initial before) (requests e.request) && all_right requests initial (before ++ e ∷ []) order
 
-pub right : (p : Option Part) (byte : ℕ → Option ℕ) (o : Option Effect) (e : Effect) (x : ℕ) → IsTrue (reads_right p byte o) → o ≡ Some e → IsWrongIn p e byte x → ⊥
-right p byte (Some d) e x h q w =
+right_read : (p : Option Part) (byte : ℕ → Option ℕ) (o : Option Effect) (e : Effect) (x : ℕ) → IsTrue (reads_right p byte o) → o ≡ Some e → IsMisread p e byte x → ⊥
+right_read p byte (Some d) e x h q w =
     let s : d ≡ e = cc in
-    let w' : IsWrongIn p d byte x = subst (λ y. IsWrongIn p y byte x) (sym s) w in
-    let all = then_too ((d.command == commands.READ) && d.succeeded) _ h (ap (λ b. b && d.succeeded) (eq-eqb d.command commands.READ w'.0) ∙ w'.1) in
+    let w' : IsMisread p d byte x = subst (λ y. IsMisread p y byte x) (sym s) w in
+    let all = then_too ((d.command == commands.READ) && d.succeeded) _ (both _ _ h).0 (ap (λ b. b && d.succeeded) (eq-eqb d.command commands.READ w'.0) ∙ w'.1) in
     let at = both (is_in d.offset d.length x) (in_part p x) w'.2 in
     let r = in_range d.offset d.length x at.0 in
     let here = then_too (in_part p x) (agrees (byte x) (d.read x)) (all_at d.offset d.length (λ x. not (in_part p x) || agrees (byte x) (d.read x)) all x r.0 r.1) at.1 in
     true_agrees (byte x) (d.read x) w'.3.0 here w'.3.1 w'.3.2
-right p byte None e x h q w = absurd (cc)
+right_read p byte None e x h q w = absurd (cc)
+
+right_status : (p : Option Part) (byte : ℕ → Option ℕ) (o : Option Effect) (e : Effect) (x : ℕ) → IsTrue (reads_right p byte o) → o ≡ Some e → IsFalseZero p e byte x → ⊥
+right_status p byte (Some d) e x h q w =
+    let s : d ≡ e = cc in
+    let w' : IsFalseZero p d byte x = subst (λ y. IsFalseZero p y byte x) (sym s) w in
+    let all = then_too ((d.command == commands.BLOCK_STATUS) && d.succeeded) _ (both _ _ h).1 (ap (λ b. b && d.succeeded) (eq-eqb d.command commands.BLOCK_STATUS w'.0) ∙ w'.1) in
+    let at = both (is_in d.offset d.length x) (in_part p x) w'.2 in
+    let r = in_range d.offset d.length x at.0 in
+    let here = then_too (in_part p x) (tells_true (byte x) (d.read x)) (all_at d.offset d.length (λ x. not (in_part p x) || tells_true (byte x) (d.read x)) all x r.0 r.1) at.1 in
+    not_belied (byte x) (d.read x) w'.3.0 w'.3.1 here w'.3.2 w'.3.3 w'.3.4
+right_status p byte None e x h q w = absurd (cc)
+
+pub right : (p : Option Part) (byte : ℕ → Option ℕ) (o : Option Effect) (e : Effect) (x : ℕ) → IsTrue (reads_right p byte o) → o ≡ Some e → IsWrongIn p e byte x → ⊥
+right p byte o e x h q (inl w) = right_read p byte o e x h q w
+right p byte o e x h q (inr w) = right_status p byte o e x h q w
 
 none_wrong_after : (requests : ℕ → Option Effect) (initial : ℕ → Option ℕ) (before order : List Entry) → IsTrue (all_right requests initial before order) → (i x : ℕ) (entry : Entry) →
     slice_get order i ≡ Some entry → IsWrongOf requests entry (byte_after requests initial (before ++ take i order)) x → ⊥
@@ -92,7 +120,7 @@ wrong requests order initial i x h = at (slice_get order i) refl h
         let a = both (e.command == commands.READ) _ h in
         let b = both e.succeeded _ a.1 in
         let c = both (serves entry.part e x) _ b.1 in
-        (e, q, (eqb-true e.command commands.READ a.0, b.0, c.0, differs (byte_before requests order initial i) e.read x _ _ refl refl c.1))
+        (e, q, inl (eqb-true e.command commands.READ a.0, b.0, c.0, differs (byte_before requests order initial i) e.read x _ _ refl refl c.1))
 
     at : (o : Option Entry) → slice_get order i ≡ o → IsTrue (is_wrong_at requests (byte_before requests order initial i) x o) → IsWrong requests order initial i x
     at None q h = absurd (cc)

@@ -1,9 +1,9 @@
 -- What the tests of a request at one offset say.
-use Rattle.std.specs.Prelude.{ℕ, ◌==◌, ◌&&◌, nat_lt, not, Bool, true, false, Option, Some, None, is_some}
+use Rattle.std.specs.Prelude.{ℕ, ◌==◌, ◌&&◌, ◌||◌, nat_lt, not, Bool, true, false, Option, Some, None, is_some}
 use Rattle.nbd_wire.specs.declared.commands.TheConstants as commands
 use Rattle.nbd_wire.specs.protocol.ExportBytes.{is_success}
 use Rattle.nbd_wire.specs.protocol.Operations.{Exporting}
-use Rattle.nbd_wire.specs.protocol.Pieces.{is_in}
+use Rattle.nbd_wire.specs.protocol.Pieces.{byte_at, is_in}
 use Rattle.nbd_wire.specs.protocol.Reports.{Asked}
 use Rattle.nbd_judge.specs.Servable.{size_of}
 
@@ -13,8 +13,14 @@ differs None read = false
 differs (Some b) None = true
 differs (Some b) (Some c) = not (b == c)
 
--- a READ that succeeded, with x inside it, to which a reply began
+-- a READ, or a proper BLOCK_STATUS that calls x zero
+abbrev pub gives_byte : Asked → ℕ → Bool
+gives_byte a x =
+    (a.command == commands.READ)
+    || ((a.command == commands.BLOCK_STATUS) && (a.proper && is_some (byte_at a.pieces x)))
+
+-- the same, where it succeeded, with x inside it, and a reply to it began
 abbrev pub reads_at : Option Exporting → Asked → ℕ → Bool
 reads_at export a x =
-    (a.command == commands.READ) && (is_success a.outcome
+    gives_byte a x && (is_success a.outcome
     && (is_some a.known_at && (is_in a.offset a.length x && nat_lt x (size_of export))))

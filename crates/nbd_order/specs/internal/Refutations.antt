@@ -1,6 +1,6 @@
 -- Why no order explains a report at one offset: READs that get their byte there in no order of some changes, and no
 -- other change can help.
-use Rattle.std.specs.Prelude.{ℕ, List, ◌≡◌, ◌<◌, ◌⊎◌, ◌==◌, ◌||◌, Bool, true, false, Option, Some, None, IsTrue, slice_get}
+use Rattle.std.specs.Prelude.{ℕ, List, ◌≡◌, ◌<◌, ◌⊎◌, ◌==◌, ◌||◌, Bool, true, false, Option, Some, None, IsTrue, is_some, slice_get}
 use Rattle.nbd_order.specs.declared.refutation.State.{State}
 use Rattle.nbd_wire.specs.declared.commands.TheConstants as commands
 use Rattle.nbd_wire.specs.protocol.ExportBytes.{Differs, Effect, effect_byte, effects, touches}
@@ -16,11 +16,15 @@ IsBefore r j k = (n : ℕ) × (known_in r j ≡ Some n) × (n < k)
 abbrev pub IsChange : Report → (w x : ℕ) → Effect → Type 0
 IsChange r w x e = (effects r w ≡ Some e) × IsTrue (touches None e x)
 
--- request k is a READ that succeeded, with x inside it, to which a reply began
+-- the reply gives a byte at x: a READ's, or a BLOCK_STATUS's that calls x zero
+abbrev pub GivesByte : Effect → (x : ℕ) → Type 0
+GivesByte e x = (e.command ≡ commands.READ) ⊎ ((e.command ≡ commands.BLOCK_STATUS) × IsTrue (is_some (e.read x)))
+
+-- request k is a READ, or a BLOCK_STATUS that calls x zero, which succeeded, with x inside it, and to which a reply began
 pub record IsReadAt (r : Report) (x k : ℕ) : Type 0 where
   pub read : Effect
   pub is_request : effects r k ≡ Some read
-  pub is_read : read.command ≡ commands.READ
+  pub is_read : GivesByte read x
   pub succeeded : read.succeeded ≡ true
   pub inside : IsTrue (inside_in r k x)
   pub answered : (n : ℕ) × (known_in r k ≡ Some n)

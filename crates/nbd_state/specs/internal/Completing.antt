@@ -1,5 +1,7 @@
 -- What a completed message does to the exchanges.
-use Rattle.std.specs.Prelude.{◌≡◌, ◌≤◌, ◌⊎◌, ℕ, List, Option, Some, None, is_some, if◌then◌else◌, length, slice_get}
+use Rattle.std.specs.Prelude.{◌≡◌, ◌≤◌, ◌⊎◌, ℕ, List, [], ◌∷◌, Bool, false, Option, Some, None, is_some, if◌then◌else◌, length, slice_get}
+use Rattle.nbd_wire.specs.protocol.Contexts.{Context, Status}
+use Rattle.nbd_wire.specs.protocol.Statuses.{is_allocation}
 use Rattle.nbd_state.specs.declared.asked.Exchange.{Exchange}
 use Rattle.nbd_state.specs.declared.state.Export.{Export}
 use Rattle.nbd_state.specs.declared.state.Phase.{Phase}
@@ -13,6 +15,11 @@ IsTransmitting phase = (export : Export) × (phase ≡ Transmission export)
 abbrev pub AddsUnanswered : List Exchange → List Exchange → Type 0
 AddsUnanswered old new = (place : ℕ) (x : Exchange) → slice_get new place ≡ Some x
     → (slice_get old place ≡ Some x) ⊎ (length old ≤ place) × (x.asked.known_at ≡ None)
+
+-- the first of these statuses is of base:allocation, where these contexts are in force
+abbrev pub is_allocation_told : List Context → List Status → Bool
+is_allocation_told contexts [] = false
+is_allocation_told contexts (s ∷ statuses) = is_allocation contexts s.id
 
 -- what is known once a reply message told so many
 abbrev pub known_first : Option ℕ → ℕ → Option ℕ

@@ -1,10 +1,11 @@
 -- What a run says of its requests, whatever the moments of their service.
-use Rattle.std.specs.Prelude.{ℕ, zero, suc, List, [], ◌∷◌, ◌==◌, Bool, true, false, Option, Some, None, length, slice_get}
+use Rattle.std.specs.Prelude.{ℕ, zero, suc, List, [], ◌∷◌, ◌++◌, ◌==◌, Bool, true, false, Option, Some, None, length, slice_get}
 use Rattle.nbd_wire.specs.declared.message.Side.TheVariants.{Client, Server}
 use Rattle.nbd_wire.specs.declared.payloads.Piece.{Piece}
 use Rattle.nbd_wire.specs.protocol.Marks.{Item, Byte, Starts, Completes, Serves}
 use Rattle.nbd_wire.specs.protocol.Entries.{inside_of}
 use Rattle.nbd_wire.specs.protocol.Operations.{Operation, Exporting, Outcome, outcome, pieces, proper_on}
+use Rattle.nbd_wire.specs.protocol.Statuses.{zeroes}
 use Rattle.nbd_wire.specs.protocol.Rules.{request_of_reply, complete, ends_at}
 use Rattle.nbd_wire.specs.protocol.States.{Core, export_in, start}
 
@@ -40,7 +41,7 @@ abbrev pub known_count : List Item → ℕ → Option ℕ
 known_count items k = known_from start.core k items
 
 -- a numbered request as a report states it: whether it is proper, how many numbered requests had
--- completed when its first reply started, what became of it, and the pieces of its reply
+-- completed when its first reply started, what became of it, and the pieces that its reply gives or calls zero
 pub record Asked : Type 0 where
   pub flags : ℕ
   pub command : ℕ
@@ -58,6 +59,11 @@ pub record Report : Type 0 where
   pub export : Option Exporting
   pub asked : List Asked
 
+-- what a request was told: the pieces of its content, and what a BLOCK_STATUS was told to be zero
+abbrev pub pieces_told : Option Exporting → Operation → List Piece
+pieces_told (Some export) e = zeroes export e ++ pieces e
+pieces_told None e = pieces e
+
 -- a request as a report states it
 abbrev pub asked_of : Option Exporting → Option ℕ → Operation → Asked
 asked_of export known_at e = record {
@@ -70,7 +76,7 @@ asked_of export known_at e = record {
   proper = proper_on export e;
   known_at = known_at;
   outcome = outcome e;
-  pieces = pieces e;
+  pieces = pieces_told export e;
 }
 
 -- the requests from number k + 1 on

@@ -1,12 +1,17 @@
 -- What the reply to a BLOCK_STATUS says of its range (proto.md, "Structured reply types").
-use Rattle.std.specs.Prelude.{ℕ, List, [], ◌∷◌, ◌++◌, ◌==◌, ◌&&◌, Bool, true, if◌then◌else◌, option_to_list}
+use Rattle.std.specs.Prelude.{ℕ, List, [], ◌∷◌, ◌++◌, ◌+◌, ◌-◌, ◌==◌, ◌&&◌, Bool, true, not, min, codes, bytes_eq, if◌then◌else◌, option_to_list}
 use Rattle.std.specs.List.{list_any}
 use Rattle.nbd_wire.specs.declared.message.Message.{Message}
 use Rattle.nbd_wire.specs.declared.message.Message.TheVariants.{Chunk}
 use Rattle.nbd_wire.specs.declared.chunks.TheConstants as chunks
 use Rattle.nbd_wire.specs.protocol.Contexts.{Context, Extent, Status}
 use Rattle.nbd_wire.specs.protocol.Payloads.{status_of}
-use Rattle.nbd_wire.specs.protocol.Operations.{Operation}
+use Rattle.nbd_wire.specs.declared.commands.TheConstants as commands
+use Rattle.nbd_wire.specs.declared.payloads.Piece.{Piece}
+use Rattle.nbd_wire.specs.declared.payloads.Piece.TheVariants.{Hole}
+use Rattle.nbd_wire.specs.declared.states.TheConstants as states
+use Rattle.nbd_wire.specs.protocol.Flags.{has}
+use Rattle.nbd_wire.specs.protocol.Operations.{Exporting, Operation, is_proper}
 
 -- the status in a message, where it is a status chunk
 abbrev pub status_in : Message → List Status
@@ -37,3 +42,36 @@ but_last (x ∷ y ∷ extents) = x ∷ but_last (y ∷ extents)
 abbrev pub tells_all : List Status → List Context → Bool
 tells_all statuses [] = true
 tells_all statuses (c ∷ contexts) = tells statuses c.id && tells_all statuses contexts
+
+-- the name of the context whose statuses tell what reads as zeroes (proto.md, "Metadata querying")
+abbrev pub allocation_name : List ℕ
+allocation_name = codes "base:allocation"
+
+-- the context with this id is base:allocation
+abbrev pub is_allocation : List Context → ℕ → Bool
+is_allocation contexts id = list_any (λ (c : Context). (c.id == id) && bytes_eq c.name allocation_name) contexts
+
+-- the bytes of an extent, if there are some and it calls them zero
+abbrev pub zero_part : (offset size flags : ℕ) → List Piece
+zero_part offset size flags = if has flags states.ZERO && not (size == 0) then Hole offset size ∷ [] else []
+
+-- what extents call zero that follow one another from an offset on, as far as so many bytes go
+abbrev pub zeroes_in : (offset size : ℕ) → List Extent → List Piece
+zeroes_in offset size [] = []
+zeroes_in offset size (x ∷ extents) =
+    zero_part offset (min x.length size) x.flags ++ zeroes_in (offset + x.length) (size - x.length) extents
+
+-- what the first of these statuses calls zero in the range of a request, if it is one of base:allocation
+abbrev pub zeroes_told : Operation → List Status → List Piece
+zeroes_told e [] = []
+zeroes_told e (s ∷ statuses) = if is_allocation e.contexts s.id then zeroes_in e.offset e.length s.extents else []
+
+-- the same of the first of these messages
+abbrev pub zeroes_first : Operation → List Message → List Piece
+zeroes_first e [] = []
+zeroes_first e (m ∷ messages) = zeroes_told e (status_in m)
+
+-- the zeroes of a proper BLOCK_STATUS: what the first message of its reply calls zero in its range, where that is a
+-- status of base:allocation (this project's choice); other requests have none
+abbrev pub zeroes : Exporting → Operation → List Piece
+zeroes export e = if (e.command == commands.BLOCK_STATUS) && is_proper export e then zeroes_first e e.replies else []

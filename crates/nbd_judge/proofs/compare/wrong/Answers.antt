@@ -4,7 +4,7 @@ use Rattle.nbd_export.specs.Ranges.{IsLeast}
 use Rattle.nbd_wire.specs.declared.payloads.Piece.{Piece}
 use Rattle.nbd_state.specs.Transcripts.{report_of_request}
 use Rattle.nbd_judge.specs.internal.Pieces.{AddsSorted, DiffersInOneOf, DiffersInOneWithin}
-use Rattle.nbd_judge.proofs.contents.CompareLemmas.{wrong_part, wrong_read}
+use Rattle.nbd_judge.proofs.contents.CompareLemmas.{compared_of, wrong_part, wrong_read}
 use Rattle.nbd_judge.proofs.compare.wrong.Goals as goal
 
 pub returns-in-Some-clause-least : goal.returns-in-Some-clause-least
@@ -12,7 +12,7 @@ returns-in-Some-clause-least g c =
     let byte : ℕ → Option ℕ = g.C.Contents.byte c.args.contents.now in
     let well = sym c.is_success.ensures ∙ c.if-is_success.true in
     rw c.in-Some.is (IfOk-weaker c.part_difference.result _ _ (λ found least.
-    wrong_part (g.C.Contents.size c.args.contents.now) (report_of_request c.args.one.now) byte c.if-one-eq-READ.true well c.requires.servable (Some c.in-Some.part) found
+    wrong_part (g.C.Contents.size c.args.contents.now) (report_of_request c.args.one.now) byte (compared_of c.args.one.now.command (sym c.is_compared.ensures ∙ c.if-is_compared.true)) well c.requires.servable (Some c.in-Some.part) found
     (subst (λ (ps : List Piece). IsLeast (DiffersInOneWithin byte ps (length ps) c.in-Some.part) found) c.deref.ensures.value least))
     c.part_difference.ensures.least)
 
@@ -21,7 +21,7 @@ returns-in-None-clause-least g c =
     let byte : ℕ → Option ℕ = g.C.Contents.byte c.args.contents.now in
     let well = sym c.is_success.ensures ∙ c.if-is_success.true in
     rw c.in-None.is (IfOk-weaker c.first_difference.result _ _ (λ found least.
-    wrong_read (g.C.Contents.size c.args.contents.now) (report_of_request c.args.one.now) byte c.if-one-eq-READ.true well c.requires.servable found
+    wrong_read (g.C.Contents.size c.args.contents.now) (report_of_request c.args.one.now) byte (compared_of c.args.one.now.command (sym c.is_compared.ensures ∙ c.if-is_compared.true)) well c.requires.servable found
     (subst (λ (ps : List Piece). IsLeast (DiffersInOneOf byte ps (length ps)) found) c.deref-in-None.ensures.value least))
     c.first_difference.ensures.least)
 

@@ -1,4 +1,5 @@
 use Rattle.std.proofs.Common.{inr}
+use Rattle.nbd_wire.specs.protocol.Marks.{pairs}
 use Rattle.nbd_wire.specs.protocol.Verdicts.{IsFaultless}
 use Rattle.nbd_judge.proofs.verdicts.AnswerLemmas.{order_unserved}
 use Rattle.nbd_judge.proofs.judging.judge.Goals as goal
@@ -19,3 +20,11 @@ returns-in-Some-clause-unserved g c = order_unserved c.args.transcript.now c.arg
 
 pub replay-requires-clause-well : goal.replay-requires-clause-well
 replay-requires-clause-well g c = λ i b. (let faultless : IsFaultless c.args.transcript.now c.args.order.now = rw c.in_default.is at c.in_ok-entry.ensures in faultless.none_bad i (inr (inr b)))
+
+pub returns-in-Some-2-clause-judged : goal.returns-in-Some-2-clause-judged
+returns-in-Some-2-clause-judged g c =
+    let faultless : IsFaultless c.args.transcript.now c.args.order.now = rw c.in_default.is at c.in_ok-entry.ensures in
+    c.wrong_of.ensures.judged c.args.order.now _ faultless (rw c.in-Some-2.is at c.in_ok-request.ensures)
+
+pub returns-in-Some-2-clause-unserved : goal.returns-in-Some-2-clause-unserved
+returns-in-Some-2-clause-unserved g c = λ profile items run same. c.wrong_of.ensures.unserved profile (pairs items) c.args.order.now

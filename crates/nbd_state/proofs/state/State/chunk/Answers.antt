@@ -4,7 +4,9 @@ use Rattle.std.specs.Ordering.{nat_cmp}
 use Rattle.nbd_wire.specs.declared.message.Message.TheVariants.{Chunk}
 use Rattle.nbd_wire.specs.protocol.Operations.{ends_reply}
 use Rattle.nbd_state.specs.declared.state.State.{State}
-use Rattle.nbd_state.proofs.CompletionLemmas.{indexed, on_one, replied_shows}
+use Rattle.nbd_wire.specs.protocol.Statuses.{status_in}
+use Rattle.nbd_state.specs.internal.Completing.{is_allocation_told}
+use Rattle.nbd_state.proofs.CompletionLemmas.{size_fits, indexed, on_one, replied_shows}
 use Rattle.nbd_state.proofs.TellingLemmas.{tells_at}
 use Rattle.nbd_state.proofs.state.State.chunk.Goals as goal
 
@@ -18,7 +20,7 @@ returns-clause-shown c = on_one c.take_chunk.result (λ _ shown core export r s 
     replied_shows state mid _ core export c.args.cookie place (Chunk c.args.flags c.args.kind c.args.cookie c.args.payload.now) x c.take_chunk.new.self r s p refl
     c.requires.place
     (indexed state mid place x c.end_if.ensures.kept (subst (λ (z : State). place < length z.exchanges.items) (sym c.end_if.ensures.kept) c.requires.within) c.index_mut.ensures.value)
-    (λ e x u. shown export e c.args.cookie x u)
+    (λ e q x u. shown export e c.args.cookie x u (size_fits core export r p) (c.is_allocation_told-zeroes.ensures core c.args.flags c.args.cookie s ∙ ap (λ cs. is_allocation_told cs (status_in (Chunk c.args.flags c.args.kind c.args.cookie c.args.payload.now))) (sym q)))
     c.end_if.ensures.kept
     (λ q. c.end_if.ensures.left q ∙ ap (λ b. if b && (c.args.cookie == q) then None else get nat_cmp c.args.self.now.outstanding q) c.has.ensures) refl
     (ap (λ (z : State). slice_set z.exchanges.items place c.take_chunk.new.self) c.end_if.ensures.kept))

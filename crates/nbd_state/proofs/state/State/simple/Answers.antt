@@ -18,7 +18,7 @@ returns-clause-shown c = on_one c.take_simple.result (λ _ shown core export r s
     replied_shows state mid _ core export c.args.cookie place (Simple c.args.error c.args.cookie c.args.payload.now) x c.take_simple.new.self r s p refl
     c.requires.place
     (indexed state mid place x c.end_if.ensures.kept (subst (λ (z : State). place < length z.exchanges.items) (sym c.end_if.ensures.kept) c.requires.within) c.index_mut.ensures.value)
-    (λ e x u. shown export e c.args.cookie x u)
+    (λ e q x u. shown export e c.args.cookie x u)
     c.end_if.ensures.kept
     c.end_if.ensures.left refl
     (ap (λ (z : State). slice_set z.exchanges.items place c.take_simple.new.self) c.end_if.ensures.kept))

@@ -1,0 +1,48 @@
+use Rattle.std.proofs.Common.{◌≡◌, ◌+◌, ◌-◌, ◌<◌, ◌≤◌, ◌^◌, ◌∷◌, ◌++◌, ◌∙◌, [], ap, append-nil, append_assoc, arith, length, min, refl, sym}
+use Rattle.nbd_wire.specs.codec.Contents.{extent_of}
+use Rattle.nbd_wire.specs.protocol.Payloads.{extents_of}
+use Rattle.nbd_wire.specs.protocol.Statuses.{zero_part, zeroes_in}
+use Rattle.nbd_state.proofs.ZeroLemmas.{next_zeroes}
+use Rattle.nbd_state.proofs.recording.zeroes_in.Goals as goal
+
+pub loop-extent-init : goal.loop-extent-init
+loop-extent-init c = (
+  omega arith,
+  λ fits. (λ i. c.new-pieces.ensures.items i ++ zeroes_in (start i) c.args.length (extents_of c.args.descriptors.now)),
+)
+  where
+    start : c.args.offset + (c.args.length - c.args.length) ≡ c.args.offset
+    start = omega arith
+
+pub overflow_sub-length : goal.overflow_sub-length
+overflow_sub-length c = c.loop-extent.invariant.0
+
+pub loop-extent-smaller : goal.loop-extent-smaller
+loop-extent-smaller c =
+    let one : length (extents_of c.loop-extent.rest.now) ≡ length (extent_of c.in-Some.extent ∷ extents_of c.in-Some.later.now) = ap length c.in-Some.ensures in omega (arith, one)
+
+pub loop-extent-preserved : goal.loop-extent-preserved
+loop-extent-preserved c = (
+  (let l = c.loop-extent.invariant.0 in omega (arith, l)),
+  λ fits.
+      let l = c.loop-extent.invariant.0 in
+      let x = extent_of c.in-Some.extent in
+      let xs = extents_of c.in-Some.later.now in
+      let left = c.loop-extent.left in
+      let whole = c.args.length in
+      let size : c.min-size.result ≡ min c.in-Some.extent.length left = c.min-size.ensures in
+      let at : c.saturating_add-at.result ≡ c.args.offset + (whole - left) = omega (arith, c.saturating_add-at.ensures, c.from.ensures, fits, l) in
+      let found = c.loop-extent.pieces.items in
+      (λ i. (c.in_ok-push_zero.ensures ∙ (λ j. found ++ zero_part (at j) (size j) c.in-Some.extent.flags)) i
+      ++ zeroes_in (c.args.offset + (whole - (left - size i))) (left - size i) xs)
+      ∙ ap (λ z. (found ++ zero_part (c.args.offset + (whole - left)) (min c.in-Some.extent.length left) c.in-Some.extent.flags) ++ z) (sym (next_zeroes c.args.offset whole left x xs l))
+      ∙ append_assoc found (zero_part (c.args.offset + (whole - left)) (min c.in-Some.extent.length left) c.in-Some.extent.flags) _
+      ∙ ap (λ es. found ++ zeroes_in (c.args.offset + (whole - left)) left es) (sym c.in-Some.ensures)
+      ∙ c.loop-extent.invariant.1 fits,
+)
+
+pub returns : goal.returns
+returns c = λ fits.
+    sym (append-nil c.loop-extent.pieces.items)
+    ∙ ap (λ es. c.loop-extent.pieces.items ++ zeroes_in (c.args.offset + (c.args.length - c.loop-extent.left)) c.loop-extent.left es) (sym c.in_default.ensures)
+    ∙ c.loop-extent.invariant.1 fits
