@@ -169,3 +169,10 @@ pub const CONTENT_RULE: Rule = Rule {
     sentence: "Each byte of a READ that succeeded is the byte that the export held when the READ was served.",
     section: "proto.md, \"Request types\"",
 };
+
+/// A BLOCK_STATUS that calls a byte zero which is another.
+pub const STATUS_RULE: Rule = Rule {
+    breaker: Breaker::Server,
+    sentence: "What the reply to a BLOCK_STATUS calls zero in base:allocation reads as zeroes when the BLOCK_STATUS is served.",
+    section: "proto.md, \"Metadata querying\"",
+};

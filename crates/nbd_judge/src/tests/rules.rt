@@ -1,6 +1,6 @@
 //! Rules in words, and who broke them.
 
-use crate::{Breaker, CONTENT_RULE, IMAGE_RULE, OrderFault, order_rule, wire_rule};
+use crate::{Breaker, CONTENT_RULE, IMAGE_RULE, OrderFault, STATUS_RULE, order_rule, wire_rule};
 use nbd_wire::WireFault;
 
 #[test]
@@ -12,5 +12,6 @@ fn rules_with_who_broke_them(rt: HostRuntime) {
             == "A request is served either atomically, by one entry, or in parts, each by an entry of its own."
     );
     assert!(rt; CONTENT_RULE.breaker == Breaker::Server);
+    assert!(rt; STATUS_RULE.breaker == Breaker::Server);
     assert!(rt; IMAGE_RULE.breaker == Breaker::Image);
 }
