@@ -1,12 +1,12 @@
 -- Where there is a refutation, each order has a fault or a wrong byte of one of its READs.
-use Rattle.std.proofs.Common.{◌≡◌, ℕ, zero, suc, ◌<◌, ◌≤◌, inl, inr, List, [], ◌∷◌, length, refl, sym, ◌∙◌, ap, subst, Option, Some, None, Bool, true, false, ◌&&◌, ◌||◌, ◌==◌, if◌then◌else◌, arith, slice_get, take, IsTrue}
+use Rattle.std.proofs.Common.{◌≡◌, ℕ, zero, suc, ◌<◌, ◌≤◌, inl, inr, List, [], ◌∷◌, length, refl, sym, ◌∙◌, ap, subst, Option, Some, None, Bool, true, false, ◌&&◌, ◌||◌, ◌==◌, if◌then◌else◌, arith, slice_get, take, IsTrue, is_some}
 use Rattle.std.proofs.Math.Seq.{take-length}
 use Rattle.std.proofs.lemmas.Bool.{and_from, and_parts, both_ways, cases_Bool, eqb-true, false_from_ne_true, or_cases, or_from, or_left, or_right}
 use Rattle.std.proofs.lemmas.Option.{slice_get_cases}
 use Rattle.nbd_wire.specs.declared.entry.Entry.{Entry}
 use Rattle.nbd_wire.specs.declared.entry.Part.{Part}
 use Rattle.nbd_wire.specs.protocol.Entries.{in_part, is_served}
-use Rattle.nbd_wire.specs.protocol.ExportBytes.{Effect, IsWrong, byte_before, effect_byte, effects, serves, touch_of, touches}
+use Rattle.nbd_wire.specs.protocol.ExportBytes.{Differs, Effect, IsWrong, IsWrongIn, byte_before, effect_byte, effects, serves, touch_of, touches}
 use Rattle.nbd_wire.specs.protocol.Operations.{Exporting, is_change}
 use Rattle.nbd_wire.specs.protocol.Pieces.{is_in}
 use Rattle.nbd_wire.specs.protocol.Reports.{Report, asked_at, known_in}
@@ -14,7 +14,7 @@ use Rattle.nbd_wire.specs.protocol.Verdicts.{IsFaultless}
 use Rattle.nbd_laws.specs.Explaining.{ExplainedPasses}
 use Rattle.nbd_order.specs.declared.refutation.State.{State}
 use Rattle.nbd_order.specs.Unexplained.{IsRefutedBy, RefutedIsUnexplained, has}
-use Rattle.nbd_order.specs.internal.Refutations.{Fits, IsChange, IsHeld, IsRefutation, Leads, is_kept}
+use Rattle.nbd_order.specs.internal.Refutations.{Fits, GivesByte, IsChange, IsHeld, IsRefutation, Leads, is_kept}
 use Rattle.nbd_order.proofs.ServiceLemmas.{in_range, is_inside, is_reached, not_served_before, served_before, served_once}
 use Rattle.nbd_order.proofs.TouchLemmas.{byte_more, served_more}
 
@@ -76,6 +76,21 @@ touch_none : (p : Option Part) (o : Option Effect) (x : ℕ) (e : Effect) → o 
 touch_none p o x e is none =
     ap (λ d. touch_of p d x) is ∙ ap (λ b. if b && serves p e x then Some e else None) none
 
+-- what gives a byte changes none
+changes_nothing : (e : Effect) (x : ℕ) → GivesByte e x → is_change e.command ≡ false
+changes_nothing e x (inl q) = ap is_change q
+changes_nothing e x (inr q) = ap is_change q.0
+
+-- and gives a wrong one where the known byte is another
+given_wrong : (p : Option Part) (e : Effect) (byte : ℕ → Option ℕ) (x : ℕ) → GivesByte e x → e.succeeded ≡ true → IsTrue (serves p e x) → Differs (λ y. byte x) e.read x
+    → IsWrongIn p e byte x
+given_wrong p e byte x (inl q) well here d = inl (q, well, here, d)
+given_wrong p e byte x (inr q) well here d = go (e.read x) refl q.1
+  where
+    go : (o : Option ℕ) → e.read x ≡ o → IsTrue (is_some o) → IsWrongIn p e byte x
+    go None r h = absurd (let z : false ≡ true = h in (cc))
+    go (Some c) r h = inr (q.0, well, here, (d.0, c, d.1, r, λ s. d.2 (r ∙ ap Some (sym s))))
+
 same_effect : (o : Option Effect) (d e : Effect) → o ≡ Some d → o ≡ Some e → d ≡ e
 same_effect o d e p q = cc
 
@@ -103,7 +118,7 @@ module _ (r : Report) (initial : ℕ → Option ℕ) (x : ℕ) (reads changes : 
       let read = s.are_reads k h in
       let same : read.read ≡ e = same_effect (effects r k) read.read e read.is_request c.0 in
       let parts = and_parts (is_change e.command) (serves None e x) c.1 in
-      let none : is_change e.command ≡ false = ap (λ (f : Effect). is_change f.command) (sym same) ∙ ap is_change read.is_read in
+      let none : is_change e.command ≡ false = ap (λ (f : Effect). is_change f.command) (sym same) ∙ changes_nothing read.read x read.is_read in
       both_ways (is_change e.command) none parts.0
 
   not_both : (k : ℕ) → has reads k ≡ true → has changes k ≡ true → ⊥
@@ -179,7 +194,7 @@ module _ (r : Report) (initial : ℕ → Option ℕ) (x : ℕ) (reads changes : 
   known_read i d h at kept known =
       let k = s.are_reads d.request kept in
       let touch : touch_of d.part (effects r d.request) x ≡ None =
-      touch_none d.part (effects r d.request) x k.read k.is_request (ap is_change k.is_read) in
+      touch_none d.part (effects r d.request) x k.read k.is_request (changes_nothing k.read x k.is_read) in
       stays i d h at
       (λ c q. false_from_ne_true ((d.request == c) && in_part d.part x) λ v.
       not_both d.request kept (subst (λ n. has changes n ≡ true) (sym (eqb-true d.request c (and_parts (d.request == c) (in_part d.part x) v).0)) q))
@@ -200,7 +215,8 @@ module _ (r : Report) (initial : ℕ → Option ℕ) (x : ℕ) (reads changes : 
           (
             k.read,
             k.is_request,
-            (k.is_read, k.succeeded, and_from (is_in k.read.offset k.read.length x) (in_part d.part x) lies here, o k.read k.is_request),
+            given_wrong d.part k.read (byte_before (effects r) order initial i) x k.is_read k.succeeded
+            (and_from (is_in k.read.offset k.read.length x) (in_part d.part x) lies here) (o k.read k.is_request),
           ),
         ))
   ]

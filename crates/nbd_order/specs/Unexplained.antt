@@ -19,7 +19,8 @@ has numbers k = list_any (λ n. n == k) numbers
 abbrev pub IsUnexplained : Profile → List Pair → Start → Type 0
 IsUnexplained profile capture initial = (order : List Entry) → IsExplainedOf profile capture order initial → ⊥
 
--- each order without a fault has, against these bytes at the start, a wrong byte at x of one of these READs
+-- each order without a fault has, against these bytes at the start, a wrong byte at x of one of these READs, or of one
+-- of these BLOCK_STATUS a false zero
 abbrev pub IsRefutedBy : Report → (ℕ → Option ℕ) → (x : ℕ) → List ℕ → Type 0
 IsRefutedBy r initial x reads = (order : List Entry) → IsFaultless r order
     → ((i : ℕ) (e : Entry) → slice_get order i ≡ Some e → has reads e.request ≡ true

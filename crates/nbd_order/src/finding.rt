@@ -43,9 +43,10 @@ pub struct Scope {
 /// What the search for an order came to.
 #[derive(Drop)]
 pub enum Found {
-    /// The order explains the session: it has no fault, and no byte of a READ is wrong.
+    /// The order explains the session: it has no fault, no byte of a READ is wrong, and no zero of a BLOCK_STATUS.
     Order(Vec<Entry>),
-    /// No order explains the session, in parts or whole, as this shows: in each order one of its READs has a wrong byte.
+    /// No order explains the session, in parts or whole, as this shows: in each order one of its READs has a wrong byte, or one of its
+    /// BLOCK_STATUS a false zero.
     Unexplained(Refutation),
     /// The start is an image of another size than the export.
     Image {
@@ -58,7 +59,7 @@ pub enum Found {
     NoneWhole,
     /// The search was broken off.
     GaveUp {
-        /// The READ that was being looked at, counted from 1.
+        /// The READ or BLOCK_STATUS that was being looked at, counted from 1.
         request: u64,
         /// In bytes from the export's start.
         offset: u64,

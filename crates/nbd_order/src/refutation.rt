@@ -10,12 +10,12 @@ use std::alloc::Global;
 pub const MOST_STATES: usize = 1_000;
 
 /// Why no order explains a session: at one offset these READs and changes can be served in no order so that each of the READs
-/// gets its byte, and no other change can help. All numbers are those of requests, counted from 1, in rising order.
+/// gets its byte, and no other change can help. A BLOCK_STATUS that calls the offset zero is one of the READs, and gets 0. All numbers are those of requests, counted from 1, in rising order.
 #[derive(Drop)]
 pub struct Refutation {
     /// In bytes from the export's start.
     pub offset: u64,
-    /// READs of the offset that succeeded.
+    /// READs of the offset that succeeded, and such BLOCK_STATUS.
     pub reads: Vec<u64>,
     /// Requests that change the byte at the offset.
     pub changes: Vec<u64>,

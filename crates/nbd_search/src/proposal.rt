@@ -14,10 +14,10 @@ pub enum Proposal {
     GaveUp(Place, Reason),
 }
 
-/// A byte that a READ got.
+/// A byte that a READ got, or that a BLOCK_STATUS called zero.
 #[derive(Clone, Copy, Drop)]
 pub struct Place {
-    /// The READ's number, counted from 1.
+    /// The request's number, counted from 1.
     pub request: u64,
     /// In bytes from the export's start.
     pub offset: u64,

@@ -1,4 +1,5 @@
-//! The requests of a session as what they leave or read in ranges of the export. No byte is copied.
+//! The requests of a session as what they leave or read in ranges of the export. No byte is copied. A BLOCK_STATUS reads zeroes where
+//! it calls a range zero, and is a READ here.
 
 use crate::work::{Work, keep};
 use nbd_export::Start;
@@ -109,7 +110,7 @@ impl Scene {
         if one.touches(one.offset) {
             self.add_request(work, due, one.offset, length);
             self.add_patch(work, None, one.offset, length);
-        } else if one.command == commands::READ && one.succeeded() {
+        } else if gives_bytes(one) {
             self.add_request(work, due, one.offset, length);
             for i in 0..one.pieces.len() {
                 let span = Span::of(&one.pieces[i]);
@@ -156,6 +157,11 @@ impl Scene {
         keep(&mut self.cuts, (lo, lo), &mut work.is_lost);
         keep(&mut self.cuts, (hi, hi), &mut work.is_lost);
     }
+}
+
+// Whether its pieces are bytes that it read.
+fn gives_bytes(one: &Asked) -> bool {
+    one.succeeded() && (one.command == commands::READ || one.command == commands::BLOCK_STATUS)
 }
 
 /// An odd number with bits in no order.

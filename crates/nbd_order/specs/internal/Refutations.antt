@@ -1,5 +1,5 @@
 -- Why no order explains a report at one offset: READs that get their byte there in no order of some changes, and no
--- other change can help.
+-- other change can help. A BLOCK_STATUS that calls the offset zero is such a READ too, of the byte 0.
 use Rattle.std.specs.Prelude.{ℕ, List, ◌≡◌, ◌<◌, ◌⊎◌, ◌==◌, ◌||◌, Bool, true, false, Option, Some, None, IsTrue, is_some, slice_get}
 use Rattle.nbd_order.specs.declared.refutation.State.{State}
 use Rattle.nbd_wire.specs.declared.commands.TheConstants as commands
