@@ -123,13 +123,13 @@ def proper_requests(tally, room):
 def proper_statuses(tally, room):
     """Requests on block status, in the sessions with metadata contexts that are accepted."""
     for told in contexts.STATUS_TABLE + contexts.NEGOTIATION_TABLE + statuses.TABLE:
-        if not contexts.line_of(told).startswith("yes"):
+        if not told.wide.startswith("yes"):
             continue
         data = text(told.records)
         shown = Session(Places(io.BytesIO(data)), None)
         for line in room.show(data, profile="wide").out.splitlines():
             shown.add(line)
-        tally.want(told.name, sum(one.is_improper for one in shown.requests), int(contexts.line_of(told).split()[-1]))
+        tally.want(told.name, sum(one.is_improper for one in shown.requests), int(told.wide.split()[-1]))
 
 
 def guilt(tally, room):
