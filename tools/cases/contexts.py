@@ -70,9 +70,9 @@ def with_more(asked, data):
     return option(int.from_bytes(asked[1][8:12], "big"), asked[1][16:] + data)
 
 
-def go(name=b""):
+def go(name=b"", **told):
     """GO, its info on the export, and ACK."""
-    return [option(GO, go_data(name)), answer(GO, EXPORT_INFO, export_info()), ack(GO)]
+    return [option(GO, go_data(name)), answer(GO, EXPORT_INFO, export_info(**told)), ack(GO)]
 
 
 def granted(number=1, name=b""):

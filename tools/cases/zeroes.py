@@ -3,13 +3,13 @@ of base:allocation calls zero what its extents have with the flag 2.
 """
 
 from cases.contexts import (
-    ALLOCATION, CHUNKS, DEPTH, EMPTY_1, LAST, LENGTH, ONES, SEVEN, STATUS_1, WRITTEN, ack, allocation, at, cases, followed, go, granted,
-    one, setting, told_last, two, yes,
+    ALLOCATION, CHUNKS, DEPTH, EMPTY_1, LAST, LENGTH, ONES, SEVEN, STATUS_1, WRITTEN, ack, allocation, at, cases, followed, go, one,
+    setting, told_last, two, yes,
 )
-from cases.statuses import FAILS, FUA, OFFERED, READ_ONLY, left
+from cases.statuses import FAILS, FUA, OFFERED, READ_ONLY, left, on
 from messages import (
-    DONE, EXPORT_INFO, GO, OFFSET_DATA, OFFSET_HOLE, REQ_ONE, TRIM, WRITE_ZEROES, answer, chunk, context, done, export_info, extents,
-    failed, go_data, option, read, request, simple, status, write,
+    DONE, OFFSET_DATA, OFFSET_HOLE, REQ_ONE, TRIM, WRITE_ZEROES, chunk, context, done, extents, failed, read, request, simple, status,
+    write,
 )
 
 ZERO, HOLE = 2, 1
@@ -30,12 +30,6 @@ def wrong(number, offset, word="status"):
 def zero(cookie):
     """A BLOCK_STATUS of the whole export, which is called zero."""
     return [status(cookie, 0, 8), told_last(cookie, 1, (8, ZERO))]
-
-
-def on(size, name, messages, wide, order="1\n", flags=OFFERED):
-    """Behind a negotiation as ONE_CONTEXT, of another export of zeroes."""
-    entered = [option(GO, go_data()), answer(GO, EXPORT_INFO, export_info(size, flags)), ack(GO)]
-    return followed(name, CHUNKS + granted() + entered + messages, at(121), wide, order)
 
 
 def but(place):
@@ -85,7 +79,7 @@ RANGES = [
     one("a status of no bytes, and one of a byte", [EMPTY_1, told_last(1, 1, (8, ZERO)), status(2, 0, 1), told_last(2, 1, (1, ZERO))],
         wrong(2, 0), order=upto(2), start=ONES),
     one("FUA", [status(1, 0, 8, FUA), WHOLE_LAST], BEGIN, start=ONES),
-    on(8, "an export that is read-only holds zeroes", [STATUS_1, WHOLE_LAST], yes(1), flags=OFFERED | READ_ONLY),
+    on(8, OFFERED | READ_ONLY, "an export that is read-only holds zeroes", [STATUS_1, WHOLE_LAST], yes(1)),
     one("an image of zeroes", [STATUS_1, WHOLE_LAST], yes(1), start=bytes(8)),
     one("an image of another size", [STATUS_1, WHOLE_LAST], "no image 9 size 8\n", start=b"\xff" * 9),
 ]
@@ -257,15 +251,15 @@ def near_the_end(size):
 MANY = 200
 
 SIZES = [
-    on(LARGE, "an export of 2^62 bytes, behind a write near its end",
+    on(LARGE, OFFERED, "an export of 2^62 bytes, behind a write near its end",
        [*near_the_end(LARGE), told_last(2, 1, (LENGTH, ZERO))], wrong(2, LARGE - 3), upto(2)),
-    on(LARGE, "an export of 2^62 bytes, and what was written is not called zero",
+    on(LARGE, OFFERED, "an export of 2^62 bytes, and what was written is not called zero",
        [*near_the_end(LARGE), told_last(2, 1, (LENGTH - 3, ZERO), (2, 0), (1, ZERO))], yes(2), upto(2)),
-    on(LARGE, "an export of 2^62 bytes, and one byte that was written is called zero",
+    on(LARGE, OFFERED, "an export of 2^62 bytes, and one byte that was written is called zero",
        [*near_the_end(LARGE), told_last(2, 1, (LENGTH - 2, ZERO), (2, 0))], wrong(2, LARGE - 3), upto(2)),
-    on(LARGEST, "the largest export, behind a write near its end",
+    on(LARGEST, OFFERED, "the largest export, behind a write near its end",
        [*near_the_end(LARGEST), told_last(2, 1, (LENGTH - 3, 0), (1, 0), (LENGTH, ZERO))], wrong(2, LARGEST - 2), upto(2)),
-    on(LARGEST, "the largest export, and its last byte alone is called zero",
+    on(LARGEST, OFFERED, "the largest export, and its last byte alone is called zero",
        [*near_the_end(LARGEST), told_last(2, 1, (LENGTH - 1, 0), (LENGTH, ZERO))], yes(2), upto(2)),
     one("200 statuses, and one behind a write", [
         *(message for number in range(1, MANY + 1) for message in zero(number)), write(MANY + 1, 3, b"\1"), simple(MANY + 1),
@@ -274,10 +268,10 @@ SIZES = [
         *(status(number, 0, 8) for number in range(1, MANY + 1)), write(MANY + 1, 3, b"\1"),
         *(told_last(number, 1, (8, ZERO)) for number in range(1, MANY + 1)), simple(MANY + 1)], wrong(100, 3),
         order=upto(99) + f"{MANY + 1}\n" + "".join(f"{number}\n" for number in range(100, MANY + 1))),
-    on(2 * MANY, "200 extents, of which every second one is called zero", [
+    on(2 * MANY, OFFERED, "200 extents, of which every second one is called zero", [
         status(1, 0, 2 * MANY), told_last(1, 1, *[(1, 0), (1, ZERO)] * MANY), write(2, 2 * MANY - 2, b"\1"), simple(2),
         status(3, 0, 2 * MANY), told_last(3, 1, *[(1, 0), (1, ZERO)] * MANY)], yes(3), upto(3)),
-    on(2 * MANY, "200 extents, of which the last is called zero and is not", [
+    on(2 * MANY, OFFERED, "200 extents, of which the last is called zero and is not", [
         write(1, 2 * MANY - 1, b"\1"), simple(1), status(2, 0, 2 * MANY), told_last(2, 1, *[(1, 0), (1, ZERO)] * MANY)],
        wrong(2, 2 * MANY - 1), upto(2)),
 ]
