@@ -67,6 +67,8 @@ INSIDE = [
 
 RANGES = [
     one("the least of many wrong offsets", [STATUS_1, WHOLE_LAST], BEGIN, start=ONES),
+    one("the least of the wrong offsets of two extents", [STATUS_1, told_last(1, 1, (3, ZERO), (3, 0), (2, ZERO))], wrong(1, 2),
+        start=b"\0\0\xff\xff\xff\xff\xff\xff"),
     one("the least wrong offset of the second extent", [STATUS_1, told_last(1, 1, (3, 0), (5, ZERO))], wrong(1, 3), start=ONES),
     one("one extent was asked for", [status(1, 2, 4, REQ_ONE), told_last(1, 1, (4, ZERO))], wrong(1, 5), start=but(5)),
     one("one extent was asked for, and is shorter", [status(1, 2, 4, REQ_ONE), told_last(1, 1, (3, ZERO))], yes(1), start=but(5)),
@@ -166,6 +168,8 @@ CHANGES = [
         [WRITTEN, simple(1), status(2, 0, 8), told_last(2, 1, (2, 0), (6, ZERO))], yes(2), order=upto(2)),
     one("one of the bytes that were written is called zero",
         [WRITTEN, simple(1), status(2, 0, 8), told_last(2, 1, (1, 0), (7, ZERO))], wrong(2, 1), order=upto(2)),
+    behind("two WRITEs, the upper one first", [write(1, 6, b"\1"), simple(1), write(2, 1, b"\2"), simple(2)], 3, wrong(3, 1), start="zero"),
+    behind("two WRITEs, the lower one first", [write(1, 1, b"\1"), simple(1), write(2, 6, b"\2"), simple(2)], 3, wrong(3, 1), start="zero"),
     one("a status between two changes",
         [request(WRITE_ZEROES, 1, 0, 8), simple(1), *zero(2), write(3, 0, b"\1"), simple(3)], yes(3), order=upto(3), start=ONES),
     one("a status before, and one behind a change", [*zero(1), write(2, 5, b"\1"), simple(2), *zero(3)], wrong(3, 5), order=upto(3)),
