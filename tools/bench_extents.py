@@ -1,5 +1,5 @@
 #!/usr/bin/env python3
-"""Times nbdcheck on sessions that change and read the contents of an export by ranges.
+"""Times nbdcheck on sessions that change and read the contents of an export by ranges, and ask for statuses of them.
 
     tools/bench_extents.py [-r RUNS] [-n SCALE] [--hexdec PROGRAM] [SHAPE ..]
 
@@ -8,6 +8,9 @@ each RUNS times (3), and the best processor time is printed, with the time for e
 memory at its peak and the ratio to half as many: 2 and a little more where the time grows as n log n. SCALE is n in per cent (100).
 PROGRAM, where one is given, is run as `PROGRAM decode CAPTURE`; a program that only reads the
 capture's hex is the yardstick, and `/hex` is the time over its time.
+
+`statuses` is n requests of BLOCK_STATUS of 4 KiB, `statuses_written` and `statuses_zeroed` are n of the whole export behind 100,000
+changes, which n does not count. They are checked in the profile wide.
 
 The program is crates/nbdcheck/out/nbdcheck, or what the environment names as NBD; `./nbdcheck` at the
 top builds it. Not part of the gate. With --list the shapes are listed.
@@ -24,7 +27,9 @@ import typing
 TOP = os.path.dirname(os.path.dirname(os.path.abspath(__file__)))
 SIZE = 1 << 20
 FLAGS = 0x006D
-READ, WRITE, TRIM, WRITE_ZEROES = 0, 1, 4, 6
+READ, WRITE, TRIM, WRITE_ZEROES, BLOCK_STATUS = 0, 1, 4, 6, 7
+ALLOCATION = b"base:allocation"
+HOLE_AND_ZERO = 3
 BYTE = b"x"
 PAGE = b"x" * 4096
 
@@ -35,7 +40,8 @@ def number(value, length):
 
 class Shape(typing.NamedTuple):
     """The count of its smallest session, and its session of so many: a request and its reply messages, one
-    after the other; and the lines of its order, where it is not that of the requests."""
+    after the other; and the lines of its order, where it is not that of the requests. `contexts` puts base:allocation
+    in force."""
 
     count: int
     session: typing.Callable
@@ -43,10 +49,11 @@ class Shape(typing.NamedTuple):
     start: str = "zero"
     size: int = SIZE
     entries: typing.Callable = None
+    contexts: bool = False
 
 
-def negotiation(size, structured):
-    """Lines up to transmission, with structured replies where they are wanted."""
+def negotiation(size, structured, contexts=False):
+    """Lines up to transmission, with structured replies and the context base:allocation, whose id is 1, where they are wanted."""
     option, answer = b"IHAVEOPT", bytes.fromhex("0003e889045565a9")
     info = number(0, 2) + number(size, 8) + number(FLAGS, 2)
     yield b"S", b"NBDMAGIC" + option + number(3, 2)
@@ -54,6 +61,11 @@ def negotiation(size, structured):
     if structured:
         yield b"C", option + number(8, 4) + number(0, 4)
         yield b"S", answer + number(8, 4) + number(1, 4) + number(0, 4)
+    if contexts:
+        query = bytes(4) + number(1, 4) + number(len(ALLOCATION), 4) + ALLOCATION
+        yield b"C", option + number(10, 4) + number(len(query), 4) + query
+        yield b"S", answer + number(10, 4) + number(4, 4) + number(4 + len(ALLOCATION), 4) + number(1, 4) + ALLOCATION
+        yield b"S", answer + number(10, 4) + number(1, 4) + number(0, 4)
     yield b"C", option + number(7, 4) + number(6, 4) + bytes(6)
     yield b"S", answer + number(7, 4) + number(3, 4) + number(12, 4) + info
     yield b"S", answer + number(7, 4) + number(1, 4) + number(0, 4)
@@ -79,6 +91,11 @@ def content(cookie, offset, data, done=True):
 
 def hole(cookie, offset, length, done=True):
     return chunk(cookie, 2, number(offset, 8) + number(length, 4), done)
+
+
+def told(cookie, length, flags):
+    """A status of one extent."""
+    return chunk(cookie, 5, number(1, 4) + number(length, 4) + number(flags, 4), True)
 
 
 def ascending(i, count, slots):
@@ -169,6 +186,28 @@ def reads(data, first=None):
     return session
 
 
+def statuses(count):
+    """One behind the other, of 4 KiB each, of which every second is called zero."""
+    for i in range(count):
+        offset = i * len(PAGE) % SIZE
+        yield request(BLOCK_STATUS, i + 1, offset, len(PAGE)), [told(i + 1, len(PAGE), HOLE_AND_ZERO * (i % 2))]
+
+
+RANGES = 100000
+
+
+def statuses_over(commands, data, flags):
+    """Changes of 100,000 bytes, which do not touch, and then statuses of the whole export, each of one extent."""
+
+    def session(count):
+        for i in range(RANGES):
+            yield request(commands[i % len(commands)], i + 1, i * (SIZE // RANGES), 1, data), [reply(i + 1)]
+        for i in range(RANGES, RANGES + count):
+            yield request(BLOCK_STATUS, i + 1, 0, SIZE), [told(i + 1, SIZE, flags)]
+
+    return session
+
+
 MIDDLE = SIZE // 2
 WRITTEN = bytes(MIDDLE) + BYTE + bytes(SIZE - MIDDLE - 1)
 IMAGE = random.Random(3).randbytes(SIZE)
@@ -191,6 +230,9 @@ SHAPES = {
     "holes_trimmed": Shape(50000, holes_over(TRIM), structured=True),
     "holes_between": Shape(50000, holes_between, structured=True, start="unknown"),
     "holes_image": Shape(50000, holes, structured=True, start="zeroes"),
+    "statuses": Shape(250000, statuses, structured=True, contexts=True),
+    "statuses_written": Shape(1000, statuses_over([WRITE], BYTE, 0), structured=True, contexts=True),
+    "statuses_zeroed": Shape(1000, statuses_over([TRIM, WRITE_ZEROES], b"", HOLE_AND_ZERO), structured=True, contexts=True),
     "read_zeroes": Shape(16, reads(bytes(SIZE))),
     "read_one_byte": Shape(16, reads(WRITTEN, MIDDLE)),
     "read_image": Shape(16, reads(IMAGE), start="image"),
@@ -200,7 +242,7 @@ SHAPES = {
 def generate(shape, count, base):
     asked = 0
     with open(base + ".cap", "wb") as capture:
-        for side, data in negotiation(shape.size, shape.structured):
+        for side, data in negotiation(shape.size, shape.structured, shape.contexts):
             capture.write(side + b" " + data.hex().encode() + b"\n")
         for question, answers in shape.session(count):
             asked += 1
@@ -237,6 +279,7 @@ def measure(shape, count, options, folder):
     writer.join()
     start = f"image:{base}.img" if shape.start in ("image", "zeroes") else shape.start
     words = [options.program, "check", base + ".cap", base + ".ord", "--start", start]
+    words += ["--profile", "wide"] if shape.contexts else []
     took, memory, answer = timed(words, options.runs)
     hex_took = None
     if options.hexdec:
@@ -252,7 +295,7 @@ def report(name, shape, options, folder):
         ratio = f"{took / before:5.2f}" if before else "    -"
         over = f"{took / hex_took:6.2f} /hex" if hex_took else ""
         each = f"{took / count * 1e6:9.2f} us"
-        print(f"{name:14} {count:8} {took:7.3f} s {each} {ratio} {over} {memory:8.1f} MiB  {answer}", flush=True)
+        print(f"{name:16} {count:8} {took:7.3f} s {each} {ratio} {over} {memory:8.1f} MiB  {answer}", flush=True)
         before = took
 
 

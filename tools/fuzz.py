@@ -9,8 +9,8 @@ and no more memory than 16 MiB and ten times the input (`explain` and `order`: 6
 
   check    in both profiles the same answer as it stands, as records of one byte and as longest runs; where it is yes, a yes of
            `explain`, and no proof that no order explains the session; in `wide` the same answer as in `base`, unless that is
-           OutOfProfile at an answer to LIST_META_CONTEXT or SET_META_CONTEXT; in both what negotiated.py and transmitted.py say
-           of the bytes, and of a yes what they count
+           OutOfProfile at an answer to LIST_META_CONTEXT or SET_META_CONTEXT; in both the line of the readers negotiated.py,
+           transmitted.py and served.py
   show     the same lines in these forms; what it accepts is, made and shown again, the same; `--names` has as many lines
   explain  the status and the line of `check`; without an order, those of `order`; the same words in other records
   order    what it finds is accepted by `check`; `--arrival` has the number of each request, or says that the session was refused
@@ -27,10 +27,10 @@ from collections import Counter
 from pathlib import Path
 
 import negotiated
-import transmitted
+import served
 from built import PROGRAM, Room, build
-from cases import makes, shows, statuses
-from cases.contexts import ALLOCATION, DEPTH, NEGOTIATION_TABLE, STATUS_TABLE, ZEROES_ARE_COMPARED, ack, error
+from cases import makes, shows, statuses, zeroes
+from cases.contexts import ALLOCATION, DEPTH, NEGOTIATION_TABLE, STATUS_TABLE, ack, error
 from messages import (
     DISC, DONE, LIST_META_CONTEXT, META_CONTEXT, REQ_ONE, SET_META_CONTEXT, answer, context, done, extents, failed, longest_runs,
     one_by_one, option, queries, records_of, simple, status, text,
@@ -50,10 +50,9 @@ BASE, WIDE = [], ["--profile", "wide"]
 YES = r"yes requests \d+ answered \d+ improper \d+\n"
 WIRE = rf"no at byte \d+: ({FAULTS})\n"
 IMAGE = r"no image \d+ size \d+\n"
-WRONG = "no (content|status)" if ZEROES_ARE_COMPARED else "no content"
 NO = (rf"({WIRE}|{IMAGE}|no order entry \d+: (NoSuchRequest|Twice|Late|Missing|BadPart|NotCovered)\n|"
-      rf"{WRONG} request \d+ offset \d+\n)")
-NONE = (rf"({WIRE}|{IMAGE}|{WRONG} request \d+ offset \d+ in any order\n|"
+      r"no (content|status) request \d+ offset \d+\n)")
+NONE = (rf"({WIRE}|{IMAGE}|no (content|status) request \d+ offset \d+ in any order\n|"
         r"no order explains requests \d+( \d+)+ at offset \d+\n)")
 GAVE_UP = r"gave up: too many (steps|states) at request \d+ offset \d+\n"
 MESSAGE = (r"([CS] (greeting|client-flags|option|answer|export|request|simple|chunk)"
@@ -110,7 +109,7 @@ def seeds():
 
 
 def seeds_with_contexts():
-    for told in STATUS_TABLE + NEGOTIATION_TABLE + statuses.TABLE:
+    for told in STATUS_TABLE + NEGOTIATION_TABLE + statuses.TABLE + zeroes.TABLE:
         yield text(told.records), told.order.encode(), told.start
 
 
@@ -375,7 +374,8 @@ class Fuzz:
         if base.status == 3:
             self.want("check in both profiles", wide, base)
         else:
-            self.compare(records_of(capture), base.out.decode(), wide.out.decode())
+            image = Path(start[6:]).read_bytes() if start.startswith("image:") else start
+            self.compare(records_of(capture), order.decode(), image, base.out.decode(), wide.out.decode())
 
     def ask_profile(self, profile, capture, order, start):
         """`check` in this profile."""
@@ -390,16 +390,14 @@ class Fuzz:
             self.want("explain of a yes", self.judged("explain", capture, order, start), found)
         return found
 
-    def compare(self, records, base, wide):
-        """The lines of both profiles, beside each other and beside readers, which know neither orders nor contents."""
+    def compare(self, records, order, start, base, wide):
+        """The lines of both profiles, beside each other and beside those of the readers."""
         if not is_left_out(records, base):
             self.want("check in wide and in base", wide, base)
         elif (place_of(wide) or place_of(base)) < place_of(base):
             raise Wrong(f"check in wide {wide!r}, in base {base!r}")
         for profile, line in (("base", base), ("wide", wide)):
-            told = transmitted.line(records, profile)
-            if line.startswith(("yes", "no at byte")) or told.startswith("no"):
-                self.want(f"transmitted.py in {profile}", line, told)
+            self.want(f"served.py in {profile}", line, served.line(records, order, start, profile))
 
     def ask_show(self, capture, _, __):
         shown = self.show(capture)

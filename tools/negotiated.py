@@ -10,7 +10,8 @@ FOLLOWED = {"base": (3, 6, 7, 8), "wide": (3, 6, 7, 8, 9, 10)}
 MOST = 2**63 - 1
 
 # Where and with what the session was refused (None: it was not); whether transmission began, with what size and flags of the
-# export, and with structured replies or without; the ids of the contexts that are in force; and the place behind what was read.
+# export, and with structured replies or without; the names of the contexts that are in force, by their ids; and the place behind
+# what was read.
 Read = namedtuple("Read", "place fault entered size flags structured contexts behind")
 
 
@@ -84,8 +85,8 @@ class Reader:
         self.data = b"".join(data for _, data in records)
         self.at, self.profile = 0, profile
         self.structured, self.padded = False, True
-        # The export and the ids of the last SET_META_CONTEXT, and whether it ended well.
-        self.export, self.ids, self.is_granted = None, [], False
+        # The export and the contexts of the last SET_META_CONTEXT, their names by their ids, and whether it ended well.
+        self.export, self.named, self.is_granted = None, {}, False
         # The size and the flags of the export, as last told.
         self.told = None
 
@@ -124,7 +125,7 @@ class Reader:
                 return self.exported(data)
             if number == 10:
                 name, _ = cut_name(data) or (None, b"")
-                self.export, self.ids, self.is_granted = name, [], False
+                self.export, self.named, self.is_granted = name, {}, False
             if self.answers(number, data) and number == 7:
                 return cut_name(data)[0]
 
@@ -145,7 +146,7 @@ class Reader:
                 self.structured |= number == 8
                 self.is_granted |= number == 10
             if kind == 4 and number == 10:
-                self.ids.append(int.from_bytes(payload[:4], "big"))
+                self.named[int.from_bytes(payload[:4], "big")] = payload[4:]
             if kind == 3 and payload[:2] == bytes(2):
                 self.told = struct.unpack(">QH", payload[2:])
             if number == 2:
@@ -167,7 +168,7 @@ class Reader:
         payload = self.take("S", length, begins=False)
         if not is_error:
             self.need(has_form(kind, payload), "BadReplyPayload")
-            self.need(kind != 4 or number != 10 or int.from_bytes(payload[:4], "big") not in self.ids, "BadReplyPayload")
+            self.need(kind != 4 or number != 10 or int.from_bytes(payload[:4], "big") not in self.named, "BadReplyPayload")
             self.need(is_fine, "SuccessOfImproper")
         return kind, payload
 
@@ -187,8 +188,8 @@ def read(records, profile):
         reader.flags()
         name = reader.choices()
     except Refused as refused:
-        return Read(refused.place, refused.fault, False, 0, 0, False, [], refused.place)
+        return Read(refused.place, refused.fault, False, 0, 0, False, {}, refused.place)
     except Over:
-        return Read(None, None, False, 0, 0, False, [], reader.at)
+        return Read(None, None, False, 0, 0, False, {}, reader.at)
     is_in_force = reader.is_granted and reader.structured and reader.export == name
-    return Read(None, None, True, *reader.told, reader.structured, reader.ids if is_in_force else [], reader.at)
+    return Read(None, None, True, *reader.told, reader.structured, reader.named if is_in_force else {}, reader.at)

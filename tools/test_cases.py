@@ -8,7 +8,7 @@ answers are the same.
 from built import Ended, Room, Tally
 from cases import (
     bad_lines, chunks, contents, contexts, damaged, infos, large_exports, large_numbers, makes, negotiation, offers, orders,
-    parts, pieces, refused_negotiation, shows, statuses, transmission, verdicts,
+    parts, pieces, refused_negotiation, shows, statuses, transmission, verdicts, zeroes,
 )
 from cases.messages import BEGUN, READ_1
 from messages import damaged as inverted
@@ -70,7 +70,7 @@ def checks(tally, room):
 
 def with_contexts(tally, room):
     """Sessions with metadata contexts in each profile; what the wider one refuses also with a READ and its reply behind it."""
-    for case in contexts.CASES + statuses.CASES:
+    for case in contexts.CASES + statuses.CASES + zeroes.CASES:
         try_case(tally, room, case, joined(case.capture))
         if case.profile == "wide" and case.want.startswith("no at byte") and "Unfinished" not in case.want:
             longer = case._replace(name=f"{case.name}, and one more READ")

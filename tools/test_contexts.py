@@ -1,25 +1,24 @@
 """Sessions with metadata contexts beside what cases/contexts.py says of them: where their messages end, what readers of their own
-say (negotiated.py, transmitted.py), and recorded sessions in both profiles. The readers are tried on the other cases too.
+say (negotiated.py, transmitted.py, served.py), and recorded sessions in both profiles. The readers are tried on the other cases too.
 
-`test_contexts.py FOLDER` runs the recorded sessions of another folder: NAME.cap, .ord, .start, and NAME.out, the line in `wide`
-where zeroes are compared.
+`test_contexts.py FOLDER` runs the recorded sessions of another folder: NAME.cap, .ord, .start, and NAME.out, the line in `wide`.
 """
 
 import sys
 from pathlib import Path
 
+import served
 import test_cases
 import transmitted
 from built import TOP, Room, Tally
-from cases import damaged, offers, statuses
+from cases import damaged, offers, statuses, zeroes
 from cases.contexts import (
-    ALLOCATION, DEPTH, NEGOTIATION_TABLE, ONE_CONTEXT, STATUS_TABLE, TWO_CONTEXTS, ZEROES_ARE_COMPARED, ack, allocation, line_of,
-    listing, setting, told_last,
+    ALLOCATION, DEPTH, NEGOTIATION_TABLE, ONE_CONTEXT, STATUS_TABLE, TWO_CONTEXTS, ack, allocation, listing, setting, told_last,
 )
 from messages import REQ_ONE, context, failed, front, longest_runs, one_by_one, records_of, status, text
 from messages import damaged as inverted
 
-TABLE = STATUS_TABLE + NEGOTIATION_TABLE + statuses.TABLE
+TABLE = STATUS_TABLE + NEGOTIATION_TABLE + statuses.TABLE + zeroes.TABLE
 PROFILES = "base", "wide"
 CHUNK = bytes.fromhex("668e33ef")
 # Words that stand in the bytes below.
@@ -112,21 +111,21 @@ def place_of(line):
     return int(line.split()[3].rstrip(":")) if line.startswith("no at byte") else None
 
 
-def want(tally, name, line, records, profile):
-    """A line against the readers, which know neither orders nor contents."""
-    found = transmitted.line(records, profile)
-    if line.startswith(("no order", "no image", "no content", "no status", "fault order")):
+def want(tally, name, line, records, profile, order="1\n", start="zero"):
+    """A line against the readers."""
+    if line.startswith("fault order"):
+        found = transmitted.line(records, profile)
         tally.holds(f"{name}, {profile}: {line}", found.startswith("yes"), found)
     else:
-        tally.want(f"{name}, {profile}", found, line)
+        tally.want(f"{name}, {profile}", served.line(records, order, start, profile), line)
 
 
 def lines(tally):
     """What the table says against what the readers say, and against itself."""
     for told in TABLE:
         for way in (list, one_by_one, longest_runs):
-            for profile, line in zip(PROFILES, (told.base, line_of(told))):
-                want(tally, told.name, line, way(told.records), profile)
+            for profile, line in zip(PROFILES, (told.base, told.wide)):
+                want(tally, told.name, line, way(told.records), profile, told.order, told.start)
         # Where base follows the session, wide says the same.
         if "OutOfProfile" not in told.base:
             tally.want(f"{told.name}: both profiles", told.base, told.wide)
@@ -139,16 +138,18 @@ def readers(tally):
     for profile in PROFILES:
         for table in test_cases.TABLES:
             for case in table.CASES + table.REFUSED:
-                want(tally, case.name, case.want, records_of(test_cases.joined(case.capture)), profile)
+                want(tally, case.name, case.want, records_of(test_cases.joined(case.capture)), profile, case.order, case.start)
         for name, capture, is_proper in offers.offers():
             line = f"yes requests 1 answered 1 improper {0 if is_proper else 1}\n"
             want(tally, name, line, records_of(test_cases.joined(capture)), profile)
         session = records_of(test_cases.joined(damaged.SESSION))
         for count in range(191):
-            line = damaged.ENDS.get(count, (None, f"no at byte {count}: Unfinished\n"))[1]
-            want(tally, f"{count} bytes", line, front(session, count), profile)
+            is_open = damaged.ORDER, f"no at byte {count}: Unfinished\n"
+            order, line, whole = damaged.ENDS.get(count, (*is_open, is_open[1]))
+            want(tally, f"{count} bytes", line, front(session, count), profile, order)
+            want(tally, f"{count} bytes, the whole order", whole, front(session, count), profile, damaged.ORDER)
         for place, line in damaged.DAMAGED.items():
-            want(tally, f"byte {place} damaged", line, inverted(session, place - 1), profile)
+            want(tally, f"byte {place} damaged", line, inverted(session, place - 1), profile, damaged.ORDER)
 
 
 def words_at_their_ends(records):
@@ -173,37 +174,39 @@ def mistakes(records):
 
 def damages(tally, room):
     """A session with statuses, with a mistake: `check` in `wide`, in two ways of cutting it, against the readers."""
-    order = statuses.MIXED_ORDER.encode()
+    order = statuses.MIXED_ORDER
     for name, records in mistakes(statuses.DAMAGED):
-        told = transmitted.line(records, "wide")
-        found = room.check(text(records), order, "zero", profile="wide")
-        line = found.out.decode()
-        if told.startswith("no") or line.startswith(("yes", "no at byte")):
-            tally.want(f"statuses, {name}", line, told)
-        else:
-            tally.holds(f"statuses, {name}", line.startswith(("no order", "no content", "no status")), found)
-        again = room.check(text(one_by_one(records)), order, "zero", profile="wide")
+        found = room.check(text(records), order.encode(), "zero", profile="wide")
+        tally.want(f"statuses, {name}", found.out.decode(), served.line(records, order, "zero", "wide"))
+        again = room.check(text(one_by_one(records)), order.encode(), "zero", profile="wide")
         tally.want(f"statuses, {name}, byte by byte", again, found)
 
 
 def wanted(capture, is_whole):
-    """The lines of a recorded session in `base` and in `wide`. Of the sessions of another folder NAME.out is the one in `wide`
-    where zeroes are compared."""
+    """The lines of a recorded session in `base` and in `wide`. Of the sessions of another folder NAME.out is the one in `wide`."""
     line, told = capture.with_suffix(".out").read_text(), capture.with_suffix(".wide")
     if not is_whole:
         return line, told.read_text() if told.exists() else line
-    base, wide = (transmitted.line(records_of(capture.read_bytes()), profile) for profile in PROFILES)
-    if line.startswith("no status") and not ZEROES_ARE_COMPARED:
-        return base, wide
+    base = transmitted.line(records_of(capture.read_bytes()), "base")
     return base if base.startswith("no") else line, line
+
+
+def start_of(capture):
+    """The start of a recorded session by its name; unknown bytes where its image is not there."""
+    kind, _, image = capture.with_suffix(".start").read_text().strip().partition(":")
+    if not image:
+        return kind
+    return f"image:{capture.parent / image}" if (capture.parent / image).exists() else "unknown"
+
+
+def bytes_of(start):
+    """The same as the reader takes it."""
+    return Path(start.removeprefix("image:")).read_bytes() if start.startswith("image:") else start
 
 
 def recorded(tally, room, folder, is_whole):
     for capture in sorted(Path(folder).glob("*.cap")):
-        kind, _, image = capture.with_suffix(".start").read_text().strip().partition(":")
-        start = f"image:{Path(folder, image)}" if image else kind
-        if image and not Path(folder, image).exists():
-            start = "unknown"
+        start = start_of(capture)
         base, wide = wanted(capture, is_whole)
         order, data = capture.with_suffix(".ord").read_bytes(), capture.read_bytes()
         for profile, line in (("wide", wide), ("base", base), (None, base)):
@@ -217,8 +220,9 @@ def examples(tally):
     """The lines of the sessions of examples/ against what the readers say."""
     for capture in sorted((TOP / "examples").glob("*.cap")):
         records, lines_of = records_of(capture.read_bytes()), wanted(capture, is_whole=False)
+        order, start = capture.with_suffix(".ord").read_text(), bytes_of(start_of(capture))
         for profile, line in zip(PROFILES, lines_of):
-            want(tally, capture.name, line, records, profile)
+            want(tally, capture.name, line, records, profile, order, start)
         is_told = capture.with_suffix(".wide").exists()
         tally.want(f"{capture.name}: has a line of its own in wide", is_told, "OutOfProfile" in lines_of[0])
 

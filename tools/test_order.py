@@ -6,7 +6,8 @@ import subprocess
 
 from bench_order import Shape
 from built import PROGRAM, TOP, Ended, Room, Tally
-from messages import begun, content, done, read, simple, text, write
+from cases.contexts import ONE_CONTEXT, TWO_CONTEXTS, told_last
+from messages import begun, content, done, extents, failed, read, simple, status, text, write
 from test_commands import EMPTY, SEARCHED, fault, on_a_terminal
 
 # Sessions of examples/ for which `check` has another answer than that with an order which explains them.
@@ -47,6 +48,44 @@ WHILE_OPEN = text(begun(True) + [write(1, 0, b"a"), read(2, 0, 1), *got(2, 0, b"
 OVERWRITTEN = text(begun() + [write(1, 0, b"a"), simple(1), write(2, 0, b"b"), simple(2), read(3, 0, 1), simple(3, b"a")])
 # The READ was answered before the WRITE of its byte came.
 BEFORE = text(begun() + [read(1, 0, 1), simple(1, b"a"), write(2, 0, b"a"), simple(2)])
+
+
+def zero(cookie, offset=0, length=8):
+    """A BLOCK_STATUS whose range is called zero, and the reply to it."""
+    return [status(cookie, offset, length), told_last(cookie, 1, (length, 2))]
+
+
+OPEN_WRITE, SHUT_WRITE = [write(1, 0, b"aa")], [write(1, 0, b"aa"), simple(1)]
+GOT_A = [read(2, 0, 1), *got(2, 0, b"a")]
+# Sessions with statuses in the profile wide, from a start of zeroes: what `order` says, or None where there is an order, whether
+# that is in parts.
+WITH_STATUSES = {
+    "a status behind a write": (SHUT_WRITE + zero(2), b"no status request 2 offset 0 in any order\n"),
+    "a status behind a write, of its second byte": (SHUT_WRITE + zero(2, 1, 1), b"no status request 2 offset 1 in any order\n"),
+    "a status beside a write": (SHUT_WRITE + zero(2, 2, 6), None, False),
+    "a status while a write is open": (OPEN_WRITE + zero(2) + [simple(1)], None, False),
+    "a status behind a write that failed": (OPEN_WRITE + [simple(1, error=5)] + zero(2), None, False),
+    "a status behind a write that is not answered": (OPEN_WRITE + zero(2), None, False),
+    "a status that does not call it zero": (SHUT_WRITE + [status(2, 0, 8), told_last(2, 1, (2, 1), (6, 2))], None, False),
+    "a status that calls the second byte zero":
+        (SHUT_WRITE + [status(2, 0, 8), told_last(2, 1, (1, 0), (7, 2))], b"no status request 2 offset 1 in any order\n"),
+    "zeroes behind the range": (SHUT_WRITE + [status(2, 4, 2), told_last(2, 1, (9, 2))], None, False),
+    "a status that fails": (SHUT_WRITE + [status(2, 0, 8), extents(2, 1, (8, 2)), failed(2)], None, False),
+    "a status behind a READ of what an open write wrote":
+        (OPEN_WRITE + GOT_A + zero(3) + [simple(1)], b"no order explains requests 2 3 at offset 0\n"),
+    "a status behind a READ of the other byte": (OPEN_WRITE + GOT_A + zero(3, 1, 1) + [simple(1)], None, True),
+    "a status of both bytes before the READ": (OPEN_WRITE + zero(2) + [read(3, 0, 1), *got(3, 0, b"a"), simple(1)], None, False),
+    "a READ of what was written, where a status called it zero":
+        (SHUT_WRITE + zero(2) + [read(3, 0, 2), *got(3, 0, b"aa")], b"no status request 2 offset 0 in any order\n"),
+    "a READ of another byte where a status called it zero":
+        (zero(1) + [read(2, 3, 1), *got(2, 3, b"a")], b"no content request 2 offset 3 in any order\n"),
+}
+# The same with two contexts in force.
+WITH_TWO = {
+    "the first message calls it zero":
+        (SHUT_WRITE + [status(2, 0, 8), extents(2, 1, (8, 2)), told_last(2, 2, (8, 0))], b"no status request 2 offset 0 in any order\n"),
+    "the second message calls it zero": (SHUT_WRITE + [status(2, 0, 8), extents(2, 2, (8, 2)), told_last(2, 1, (8, 2))], None, False),
+}
 
 
 def examples(tally, room):
@@ -112,6 +151,29 @@ def lines(tally, room):
     tally.want("torn and judged", room.run("check", torn, room.put("found", found.out), "--start", "zero"), yes)
 
 
+def statuses(tally, room):
+    """Sessions in which a status calls bytes zero."""
+    for begins, table in ((ONE_CONTEXT, WITH_STATUSES), (TWO_CONTEXTS, WITH_TWO)):
+        for name, (messages, line, *in_parts) in table.items():
+            capture = room.put("capture", text(begins + messages))
+            found = room.run("order", capture, "--start", "zero", "--profile", "wide")
+            if line is not None:
+                tally.want(f"order: {name}", found, Ended(1, line, b""))
+                continue
+            tally.want(f"order: {name}", (found.status, found.err), (0, b""))
+            judged = room.run("check", capture, room.put("found", found.out), "--start", "zero", "--profile", "wide")
+            tally.want(f"order: {name}, judged", (judged.status, judged.err), (0, b""))
+            tally.want(f"order: {name}, in parts", [any(b" " in entry for entry in found.out.splitlines())], in_parts)
+    alone = room.put("capture", text(ONE_CONTEXT + zero(1)))
+    unknown = room.run("order", alone, "--profile", "wide")
+    tally.want("order: zeroes from an unknown start", unknown, Ended(0, b"1\n", b""))
+    image = room.put("image", bytes(5) + b"\7" + bytes(2))
+    found = room.run("order", alone, "--start", f"image:{image}", "--profile", "wide")
+    tally.want("order: zeroes from an image", found, Ended(1, b"no status request 1 offset 5 in any order\n", b""))
+    left_out = room.run("order", alone, "--start", "zero")
+    tally.want("order: a status in base", left_out, Ended(1, b"no at byte 121: OutOfProfile\n", b""))
+
+
 def files(tally, room):
     """Images, files that cannot be opened, an output that takes nothing, and a pipe."""
     capture, none = room.put("capture", ALONE), room.path("none")
@@ -165,7 +227,7 @@ def terminals(tally, room):
 
 def run(tally):
     with Room() as room:
-        for part in (examples, lines, files, terminals):
+        for part in (examples, lines, statuses, files, terminals):
             part(tally, room)
 
 

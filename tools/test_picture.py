@@ -13,7 +13,7 @@ import time
 from built import PROGRAM, TOP, Ended, Room, Tally
 from cases import contexts, offers, statuses
 from messages import (CLIENT, DONE, ERROR, FLUSH, WRITE_ZEROES, begun, chunk, client_flags, content, cut, done, greeting, hole,
-                      option, read, request, simple, text, write)
+                      option, read, request, simple, status, text, write)
 from picture.places import Places
 from picture.session import FAILURE, Session
 from test_explain import EXPLAINED, JUDGED, start_of
@@ -26,6 +26,8 @@ NOT_WHOLE = "what was written is no whole page"
 MANY = 100_000
 
 WRITTEN = [*begun(), write(1, 0, b"\xab\xcd"), simple(1), read(2, 0, 4), simple(2, b"\xab\xcd\0\0")]
+# A byte that was written is called zero.
+FALSE_ZERO = [*contexts.ONE_CONTEXT, write(1, 1, b"\7"), simple(1), status(2, 0, 8), contexts.told_last(2, 1, (8, 2))]
 # The READ comes behind the WRITE, and is answered before it: the bytes from 97, 127, 155 and 173 on, 188 in all.
 CROSSED = [*begun(), write(1, 0, b"\xab\xcd"), read(2, 0, 2), simple(2, b"\xab\0"), simple(1)]
 FIRST, SECOND = cut(write(2, 4, b"wxyz"), 10)
@@ -123,13 +125,13 @@ def proper_requests(tally, room):
 def proper_statuses(tally, room):
     """Requests on block status, in the sessions with metadata contexts that are accepted."""
     for told in contexts.STATUS_TABLE + contexts.NEGOTIATION_TABLE + statuses.TABLE:
-        if not contexts.line_of(told).startswith("yes"):
+        if not told.wide.startswith("yes"):
             continue
         data = text(told.records)
         shown = Session(Places(io.BytesIO(data)), None)
         for line in room.show(data, profile="wide").out.splitlines():
             shown.add(line)
-        tally.want(told.name, sum(one.is_improper for one in shown.requests), int(contexts.line_of(told).split()[-1]))
+        tally.want(told.name, sum(one.is_improper for one in shown.requests), int(told.wide.split()[-1]))
 
 
 def guilt(tally, room):
@@ -160,6 +162,11 @@ def guilt(tally, room):
         wanted = dict(wanted, **({"offset": 0} if name == "of several" else {}))
         found = {key: value for key, value in session(room, records, order)["guilt"].items() if value is not None and value != []}
         tally.want(f"guilt: {name}", found, wanted)
+    for order in ("1\n2\n", None):
+        found = session(room, FALSE_ZERO, order, "zero", "wide")["guilt"]
+        named = {key: found[key] for key in ("kind", "requests", "offset", "place", "bytes")}
+        wanted = {"kind": "status", "requests": [2], "offset": 1, "place": None, "bytes": [[1, "07"]]}
+        tally.want("guilt: a false zero", {**named, "bytes": found["bytes"][:1]}, wanted)
     unread = session(room, [*begun(), read(1, 0, 4), simple(9, b"1234")], "1\n")
     tally.want("behind a refusal", (unread["bytes"], unread["unread"]), (140, 4))
 

@@ -1,59 +1,93 @@
-"""`order` of sessions at random, against a search of all orders here: an order exactly where there is one, and each is judged here."""
+"""`order` of sessions at random, against a search of all orders here: an order exactly where there is one, and each is judged here.
+
+The search here is tried by itself on sessions by hand (`test_search.py hand`).
+"""
 
 import random
 import re
+import sys
 from collections import namedtuple
 
 from built import Room, Tally
-from messages import READ, TRIM, WRITE, WRITE_ZEROES, begun, content, done, request, simple, text, write
+from cases.contexts import CHUNKS, go, granted
+from messages import (
+    BLOCK_STATUS, DONE, READ, REQ_ONE, TRIM, WRITE, WRITE_ZEROES, begun, content, done, extents, failed, request, simple, text, write,
+)
 
 # How many requests, on how many bytes, how many of them outstanding, how many different bytes; and in a hundred: how many steps of a
-# service serve one byte alone, how many changes fail, requests get no reply, and READs get a wrong byte.
-Shape = namedtuple("Shape", "requests size window letters torn failures unanswered wrong")
-SMALL = Shape(8, 4, 5, 3, 30, 10, 10, 10)
+# service serve one byte alone, how many changes and statuses fail, requests get no reply, READs and statuses get a wrong byte, and
+# how many requests ask for a status.
+Shape = namedtuple("Shape", "requests size window letters torn failures unanswered wrong statuses")
+SMALL = Shape(8, 4, 5, 3, 30, 10, 10, 10, 0)
 SHAPES = {
     "small sessions": SMALL,
     "sessions of one byte": SMALL._replace(requests=10, size=1),
     "sessions of a right server": SMALL._replace(requests=10, size=3, window=9, letters=2, wrong=0),
+    "sessions with statuses": SMALL._replace(statuses=10),
+    "sessions of statuses": SMALL._replace(requests=10, size=3, statuses=33, wrong=20),
+    "sessions of statuses of a right server": SMALL._replace(requests=10, size=3, window=9, letters=2, wrong=0, statuses=33),
 }
 SESSIONS = 400
-REFUSED = re.compile(rb"no (content request \d+ offset \d+ in any order|order explains requests \d+( \d+)+ at offset \d+)\n")
+# How many in a hundred of the bytes that are zero a status does not call so, and how many statuses are cut short, have a last extent
+# that passes the range, or are asked for one extent.
+UNTOLD, SHORT, LONG, ONE = 20, 10, 30, 10
+ZERO = 2
+ONE_REQUEST = re.compile(rb"no (content|status) request (\d+) offset (\d+) in any order\n")
+MORE_REQUESTS = re.compile(rb"no order explains requests (\d+(?: \d+)+) at offset (\d+)\n")
 
 
 class Asked:
-    """A request: from its number on it can be served, and surely before the one whose number is `before`, if there is one."""
+    """A request: from its number on it can be served, and surely before the one whose number is `before`, if there is one. `zeroes` are
+    the places of the bytes that a status calls zero."""
 
-    def __init__(self, dice, number, shape):
-        self.number, self.before, self.served = number, None, 0
-        self.command = dice.choice([TRIM, WRITE_ZEROES] + [WRITE] * 4 + [READ] * 4)
-        self.offset = dice.randrange(shape.size)
-        self.length = dice.randint(1, shape.size - self.offset)
-        self.data = bytearray(dice.randrange(shape.letters) if self.command == WRITE else 0 for _ in range(self.length))
-        self.fails = self.command != READ and dice.randrange(100) < shape.failures
-        self.is_mute = dice.randrange(100) < shape.unanswered
+    def __init__(self, number, command, offset, data, fails=False, before=None, zeroes=()):
+        self.number, self.command, self.offset, self.data, self.fails = number, command, offset, bytearray(data), fails
+        self.length, self.before, self.zeroes = len(data), before, set(zeroes)
+        self.served, self.is_mute, self.flags = 0, False, 0
+        self.reads = command in (READ, BLOCK_STATUS)
 
     def message(self):
         if self.command == WRITE:
             return write(self.number, self.offset, bytes(self.data))
-        return request(self.command, self.number, self.offset, self.length)
+        return request(self.command, self.number, self.offset, self.length, flags=self.flags)
 
     def act_at(self, offset):
-        """What it does to a byte: whether it reads it, and the byte, None of one that is not known; None where it does nothing."""
-        if not self.offset <= offset < self.offset + self.length or self.command == READ and self.before is None:
+        """What it does to a byte: whether it reads it, and the byte, None of one that is not known; None where it does nothing. A byte
+        that a status calls zero is read as one."""
+        place = offset - self.offset
+        if not 0 <= place < self.length or self.reads and (self.before is None or self.fails):
             return None
+        if self.command == BLOCK_STATUS:
+            return (True, 0) if place in self.zeroes else None
         if self.command == READ:
-            return True, self.data[offset - self.offset]
+            return True, self.data[place]
         if self.before is None or self.fails or self.command == TRIM:
             return False, None
-        return False, self.data[offset - self.offset]
+        return False, self.data[place]
+
+
+def drawn(dice, number, shape):
+    """A request at random."""
+    command = dice.choice([TRIM, WRITE_ZEROES] + [WRITE] * 4 + [READ] * 4)
+    if shape.statuses and dice.randrange(100) < shape.statuses:
+        command = BLOCK_STATUS
+    offset = dice.randrange(shape.size)
+    length = dice.randint(1, shape.size - offset)
+    data = [dice.randrange(shape.letters) if command == WRITE else 0 for _ in range(length)]
+    one = Asked(number, command, offset, data, command != READ and dice.randrange(100) < shape.failures)
+    one.is_mute = dice.randrange(100) < shape.unanswered
+    if command == BLOCK_STATUS and dice.randrange(100) < ONE:
+        one.flags = REQ_ONE
+    return one
 
 
 def session(dice, shape, export):
     """The records of a session, and its requests, from a server that serves them in parts."""
-    records, asked, under_way = begun(True, shape.size), [], []
+    records = CHUNKS + granted() + go(size=shape.size) if shape.statuses else begun(True, shape.size)
+    asked, under_way = [], []
     for _ in range(40 * shape.requests):
         if len(asked) < shape.requests and len(under_way) < shape.window and dice.randrange(100) < 40:
-            one = Asked(dice, len(asked) + 1, shape)
+            one = drawn(dice, len(asked) + 1, shape)
             asked.append(one)
             under_way.append(one)
             records.append(one.message())
@@ -72,7 +106,7 @@ def serve(dice, shape, export, one):
     count = 1 if dice.randrange(100) < shape.torn else one.length
     for index in range(one.served, min(one.served + count, one.length)):
         at = one.offset + index
-        if one.command == READ:
+        if one.reads:
             one.data[index] = export[at]
         elif one.command == TRIM or one.fails:
             export[at] = dice.randrange(shape.letters)
@@ -83,6 +117,8 @@ def serve(dice, shape, export, one):
 
 def reply(dice, shape, one, came):
     one.before = came + 1
+    if one.command == BLOCK_STATUS:
+        return told(dice, shape, one)
     if one.command != READ:
         return [simple(one.number, error=5 if one.fails else 0)]
     if dice.randrange(100) < shape.wrong:
@@ -90,6 +126,28 @@ def reply(dice, shape, one, came):
     half = dice.randrange(one.length)
     pieces = [(one.offset, one.data[:half]), (one.offset + half, one.data[half:])]
     return [content(one.number, offset, bytes(data)) for offset, data in pieces if data] + [done(one.number)]
+
+
+def told(dice, shape, one):
+    """The reply to a BLOCK_STATUS, which calls zero most of the bytes that were zero when it was served; it may fail behind that."""
+    one.zeroes = {place for place in range(one.length) if one.data[place] == 0 and dice.randrange(100) >= UNTOLD}
+    if dice.randrange(100) < shape.wrong:
+        one.zeroes.add(dice.randrange(one.length))
+    parts = []
+    for place in range(one.length):
+        flags = ZERO * (place in one.zeroes) + dice.randrange(2)
+        if parts and parts[-1][1] == flags:
+            parts[-1] = parts[-1][0] + 1, flags
+        else:
+            parts.append((1, flags))
+    if one.flags or dice.randrange(100) < SHORT:
+        parts = parts[:1]
+        one.zeroes = {place for place in one.zeroes if place < parts[0][0]}
+    elif dice.randrange(100) < LONG:
+        parts[-1] = parts[-1][0] + dice.randrange(1, 9), parts[-1][1]
+    if one.fails:
+        return [*([extents(one.number, 1, *parts)] * dice.randrange(2)), failed(one.number)]
+    return [extents(one.number, 1, *parts, flags=DONE)] if dice.randrange(2) else [extents(one.number, 1, *parts), done(one.number)]
 
 
 def is_held(one, asked, served):
@@ -148,6 +206,22 @@ def explains(order, asked, export):
     return not any(one.before is not None and left[one.number] for one in asked)
 
 
+def refutes(line, asked, known):
+    """Whether a line names requests that read, of which one has a wrong byte at its offset in each order."""
+    if alone := ONE_REQUEST.fullmatch(line):
+        word, numbers, offset = alone[1], {int(alone[2])}, int(alone[3])
+        if (word == b"status") != (asked[min(numbers) - 1].command == BLOCK_STATUS):
+            return False
+    elif several := MORE_REQUESTS.fullmatch(line):
+        numbers, offset = set(map(int, several[1].split())), int(several[2])
+    else:
+        return False
+    acts = {one.number: one.act_at(offset) for one in asked}
+    if not all(acts[number] is not None and acts[number][0] for number in numbers):
+        return False
+    return not has_order([one for one in asked if not one.reads or one.number in numbers], offset, known[offset])
+
+
 def start_of(room, seed, size):
     """The start by its name, the bytes that the server has, and those that are known."""
     kind = seed % 3
@@ -157,30 +231,82 @@ def start_of(room, seed, size):
 
 
 def try_one(tally, room, name, shape, seed):
-    """Whether there was an order, and whether it was one of whole requests."""
+    """What sort of order was found, or the first two words of what was said in its place."""
     dice = random.Random(f"{name} {seed}")
     start, export, known = start_of(room, seed, shape.size)
     records, asked = session(dice, shape, export)
-    ended = room.run("order", room.put("capture", text(records)), "--start", start)
+    profile = ["--profile", "wide"] if shape.statuses else []
+    ended = room.run("order", room.put("capture", text(records)), "--start", start, *profile)
     has_all = all(has_order(asked, offset, known[offset]) for offset in range(shape.size))
     label = f"{name}, seed {seed}"
     tally.want(f"{label}: status", (ended.status, ended.err), (0 if has_all else 1, b""))
     if ended.status == 0:
         tally.holds(f"{label}: the order", explains(ended.out, asked, known), ended.out)
-        return True, all(part is None for _, part in entries(ended.out))
-    tally.holds(f"{label}: the line", REFUSED.fullmatch(ended.out), ended.out)
-    return False, False
+        return "whole" if all(part is None for _, part in entries(ended.out)) else "in parts"
+    tally.holds(f"{label}: the line", refutes(ended.out, asked, known), ended.out)
+    return b" ".join(ended.out.split()[:2]).decode()
+
+
+def asked_by_hand(*requests):
+    """Requests of one byte: what they are, their byte, the number of the request before which they were answered, and what else."""
+    return [Asked(number, command, 0, bytes([byte]), before=before, **how[0] if how else {})
+            for number, (command, byte, before, *how) in enumerate(requests, 1)]
+
+
+FAILS, TOLD = {"fails": True}, {"zeroes": [0]}
+# One byte, which is 0 at first unless the name says so: the requests, and whether they have an order.
+BY_HAND = {
+    "a write that was answered before the status came": ([(WRITE, 1, 2), (BLOCK_STATUS, 0, 3, TOLD)], False),
+    "a write that was under way together with it": ([(WRITE, 1, 3), (BLOCK_STATUS, 0, 3, TOLD)], True),
+    "a write behind it": ([(BLOCK_STATUS, 0, 2, TOLD), (WRITE, 1, 3)], True),
+    "a write that was not answered": ([(WRITE, 1, None), (BLOCK_STATUS, 0, 3, TOLD)], True),
+    "a write that failed": ([(WRITE, 1, 2, FAILS), (BLOCK_STATUS, 0, 3, TOLD)], True),
+    "a write of zero": ([(WRITE, 0, 2), (BLOCK_STATUS, 0, 3, TOLD)], True),
+    "a TRIM behind a write": ([(WRITE, 1, 2), (TRIM, 0, 3), (BLOCK_STATUS, 0, 4, TOLD)], True),
+    "a WRITE_ZEROES behind a write": ([(WRITE, 1, 2), (WRITE_ZEROES, 0, 3), (BLOCK_STATUS, 0, 4, TOLD)], True),
+    "a status that does not call it zero": ([(WRITE, 1, 2), (BLOCK_STATUS, 0, 3)], True),
+    "a status that fails": ([(WRITE, 1, 2), (BLOCK_STATUS, 0, 3, {**FAILS, **TOLD})], True),
+    "a status that is not answered": ([(WRITE, 1, 2), (BLOCK_STATUS, 0, None, TOLD)], True),
+    "a status between two READs of what was written":
+        ([(WRITE, 1, 5), (READ, 1, 3), (BLOCK_STATUS, 0, 4, TOLD), (READ, 1, 5)], False),
+    "the same, behind two writes":
+        ([(WRITE, 1, 7), (WRITE, 1, 7), (WRITE_ZEROES, 0, 7), (READ, 1, 5), (BLOCK_STATUS, 0, 6, TOLD), (READ, 1, 7)], True),
+    "a status before a READ, where nothing is known": ([(BLOCK_STATUS, 0, 2, TOLD), (READ, 7, 3)], True),
+    "the byte is a 7": ([(BLOCK_STATUS, 0, 2, TOLD)], False),
+}
+
+
+def by_hand(tally):
+    """The search of all orders and the judge of an order, on sessions by hand."""
+    for name, (requests, has_one) in BY_HAND.items():
+        asked, byte = asked_by_hand(*requests), None if "nothing is known" in name else 7 if "is a 7" in name else 0
+        tally.want(f"by hand, {name}", has_order(asked, 0, byte), has_one)
+        if len(asked) == 2 and asked[0].before == 2:
+            tally.want(f"by hand, {name}, judged", explains(b"1\n2\n", asked, [byte]), has_one)
+    wide = [Asked(1, WRITE, 0, b"\1\1", before=4), Asked(2, BLOCK_STATUS, 0, bytes(2), before=4, zeroes=[0, 1])]
+    for order, is_right in ((b"2\n1\n", True), (b"1\n2\n", False), (b"2 0 1\n1\n2 1 1\n", False),
+                            (b"2 1 1\n1 0 1\n2 0 1\n1 1 1\n", False), (b"2 0 1\n1 0 1\n2 1 1\n1 1 1\n", True), (b"2 0 1\n1\n", False)):
+        tally.want(f"by hand, {order}", explains(order, wide, [0, 0]), is_right)
+    late = asked_by_hand((WRITE, 1, 2), (BLOCK_STATUS, 0, 3, TOLD))
+    for line, is_right in ((b"no status request 2 offset 0 in any order\n", True), (b"no content request 2 offset 0 in any order\n", False),
+                           (b"no status request 1 offset 0 in any order\n", False), (b"no status request 2 offset 0\n", False)):
+        tally.want(f"by hand, {line}", refutes(line, late, [0]), is_right)
+    between = asked_by_hand(*BY_HAND["a status between two READs of what was written"][0])
+    for numbers, is_right in ((b"2 3 4", True), (b"2 3", True), (b"3 4", False), (b"2 4", False)):
+        tally.want(f"by hand, {numbers}", refutes(b"no order explains requests %s at offset 0\n" % numbers, between, [0]), is_right)
 
 
 def run(tally):
+    by_hand(tally)
     with Room() as room:
         for name, shape in SHAPES.items():
-            answers = [try_one(tally, room, name, shape, seed) for seed in range(SESSIONS)]
-            kinds = {"whole": (True, True) in answers, "in parts": (True, False) in answers, "none": (False, False) in answers}
-            tally.want(f"{name}: kinds", kinds, {"whole": True, "in parts": shape.size > 1, "none": shape.wrong > 0})
+            answers = {try_one(tally, room, name, shape, seed) for seed in range(SESSIONS)}
+            wanted = {"whole"} | ({"in parts"} if shape.size > 1 else set()) | ({"no content"} if shape.wrong else set())
+            wanted |= {"no status"} if shape.wrong and shape.statuses else set()
+            tally.want(f"{name}: kinds", answers - {"no order"}, wanted)
 
 
 if __name__ == "__main__":
-    told = Tally()
-    run(told)
-    print(f"{told.passed} passed, {told.failed} failed")
+    tried = Tally()
+    (by_hand if sys.argv[1:] == ["hand"] else run)(tried)
+    print(f"{tried.passed} passed, {tried.failed} failed")

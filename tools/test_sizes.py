@@ -1,13 +1,14 @@
-"""Long messages and lines, many records and chunks, many READs as holes over many changes, many statuses and what they cost, and
-exports of no byte and of as many as there may be.
+"""Long messages and lines, many records and chunks, many READs as holes and statuses over many changes, many statuses and what they
+cost, and exports of no byte and of as many as there may be.
 """
 
 import resource
 
 from built import Ended, Room, Tally
+from cases.contexts import CHUNKS, go, granted
 from messages import (
-    ACK, DONE, OFFSET_HOLE, SET_META_CONTEXT, TRIM, WRITE, WRITE_ZEROES, answer, begun, chunk, client_flags, content, context, done,
-    extents, greeting, one_by_one, option, queries, read, request, simple, status, text, write,
+    ACK, BLOCK_STATUS, DONE, OFFSET_HOLE, READ, SET_META_CONTEXT, TRIM, WRITE, WRITE_ZEROES, answer, begun, chunk, client_flags, content,
+    context, done, extents, greeting, one_by_one, option, queries, read, request, simple, status, text, write,
 )
 
 # The largest export (docs/PROFILE.md).
@@ -15,10 +16,13 @@ LIMIT = 2**63 - 1
 MIB = 2**20
 # The contexts, statuses or extents of the smallest session of each kind.
 TOLD = 20_000
-# The changes and the READs of the smallest session of holes, and what a run may take beside what grows, in seconds.
+# The changes and the READs or statuses of the smallest session of holes, and what a run may take beside what grows, in seconds.
 HOLES, APART = 20_000, 0.5
-# What changes each second byte there, and the start.
-KINDS = ((WRITE_ZEROES, "unknown"), (WRITE, "unknown"), (TRIM, "zero"), (WRITE, "image"))
+# What changes each second byte there, the start, and what is asked of all bytes.
+KINDS = (
+    (WRITE_ZEROES, "unknown", READ), (WRITE, "unknown", READ), (TRIM, "zero", READ), (WRITE, "image", READ),
+    (WRITE, "unknown", BLOCK_STATUS), (TRIM, "zero", BLOCK_STATUS),
+)
 
 
 def yes(requests, answered, improper):
@@ -94,15 +98,17 @@ def a_million(tally, room):
     tally.want("a million messages of a script", room.make(script), Ended(0, made, b""))
 
 
-def holes(count, command):
+def holes(count, command, asked):
     """Changes of each second byte, a WRITE to zero, so many, and then as many READs of all of these bytes, each answered by one
-    hole."""
-    records = begun(structured=True, size=4 * count)
+    hole, or as many statuses of them, each answered by one extent of zeroes."""
+    is_status = asked == BLOCK_STATUS
+    records = CHUNKS + granted() + go(size=4 * count) if is_status else begun(structured=True, size=4 * count)
     for cookie in range(1, count + 1):
         records += [request(command, cookie, 2 * cookie - 2, 1, b"\0" if command == WRITE else b""), done(cookie)]
     whole = bytes(8) + (2 * count).to_bytes(4, "big")
     for cookie in range(count + 1, 2 * count + 1):
-        records += [read(cookie, 0, 2 * count), chunk(cookie, OFFSET_HOLE, whole, DONE)]
+        reply = extents(cookie, 1, (2 * count, 2), flags=DONE) if is_status else chunk(cookie, OFFSET_HOLE, whole, DONE)
+        records += [request(asked, cookie, 0, 2 * count), reply]
     return text(records)
 
 
@@ -118,7 +124,8 @@ def costs(tally, room, name, wanted, *words):
 
 
 def costs_of_holes(tally, room):
-    """READs as holes over many changes cost no more than eight times as much where there are four times as many of both."""
+    """READs as holes, and statuses, over many changes cost no more than eight times as much where there are four times as many of
+    both."""
     for kind in KINDS:
         measured = [costs_of(tally, room, times * HOLES, *kind) for times in (1, 2, 4)]
         for command in measured[0]:
@@ -128,14 +135,15 @@ def costs_of_holes(tally, room):
             tally.holds(f"{name}, four times as many", four <= 8 * one + APART, (one, two, four))
 
 
-def costs_of(tally, room, changes, change, start):
+def costs_of(tally, room, changes, change, start, asked):
     """What each command costs on holes over so many changes."""
+    profile = ["--profile", "wide"] if asked == BLOCK_STATUS else []
     count, image = 2 * changes, room.put("holes.image", bytes(4 * changes))
     numbers = b"".join(b"%d\n" % number for number in range(1, count + 1))
-    capture, order = room.put("holes.cap", holes(changes, change)), room.put("holes.ord", numbers)
+    capture, order = room.put("holes.cap", holes(changes, change, asked)), room.put("holes.ord", numbers)
     return {
-        command: costs(tally, room, f"{command}, {count} requests on holes, {change}, {start}", wanted, command, *words,
-                       "--start", f"image:{image}" if start == "image" else start)
+        command: costs(tally, room, f"{command}, {count} requests on holes, {change}, {start}, {asked}", wanted, command, *words,
+                       "--start", f"image:{image}" if start == "image" else start, *profile)
         for command, words, wanted in (("check", [capture, order], yes(count, count, 0)),
                                        ("explain", [capture, order], yes(count, count, 0)),
                                        ("order", [capture], Ended(0, numbers, b"")))
@@ -151,10 +159,13 @@ def selecting(count, size):
 
 
 def statuses(kind, count):
-    """Sessions with so many extents in a chunk, contexts in force, statuses outstanding together, or statuses one by one; and how
-    many requests they have."""
+    """Sessions with so many extents in a chunk, extents of which every second is called zero, contexts in force, statuses
+    outstanding together, or statuses one by one; and how many requests they have."""
     if kind == "extents":
         return [*selecting(1, count), status(1, 0, count), extents(1, 0, *[(1, 0)] * count, flags=DONE)], 1
+    if kind == "zeroes":
+        zeroes = extents(1, 1, *[(1, 2), (1, 0)] * (count // 2), flags=DONE)
+        return [*CHUNKS, *granted(), *go(size=count), status(1, 0, count), zeroes], 1
     if kind == "contexts":
         chunks = [extents(1, number, (1, 0)) for number in reversed(range(count))]
         return [*selecting(count, 8), status(1, 0, 8), *chunks, done(1)], 1
@@ -167,7 +178,7 @@ def statuses(kind, count):
 
 def costs_of_statuses(tally, room):
     """Statuses cost no more than eight times as much where there are four times as many extents, contexts, or requests."""
-    for kind in ("extents", "contexts", "outstanding", "one by one"):
+    for kind in ("extents", "zeroes", "contexts", "outstanding", "one by one"):
         seconds = []
         for times in (1, 2, 4):
             records, count = statuses(kind, times * TOLD)

@@ -1,6 +1,6 @@
 """A reader of transmissions for tests, behind the reader of negotiations (negotiated.py): a second opinion of where `check`
 refuses the bytes of a session, and of what it counts. It is written from the rules of the protocol, message after message,
-and shares no code with the program or with the tables. Orders and contents it does not know.
+and shares no code with the program or with the tables. Orders and contents are those of served.py.
 """
 
 import struct
@@ -16,25 +16,33 @@ READ_ONLY, SEND_FLUSH, SEND_FUA, SEND_TRIM, SEND_WRITE_ZEROES, SEND_DF, SEND_FAS
 FUA, NO_HOLE, DF, REQ_ONE, FAST_ZERO = 1, 2, 4, 8, 16
 DONE = 1
 
-# Where and with what the session was refused (None: it was not), and how many requests came, were answered, and were improper.
-Judged = namedtuple("Judged", "place fault requests answered improper")
+# Where and with what the session was refused (None: it was not), how many requests came, were answered, and were improper; what
+# the negotiation found, and the requests.
+Judged = namedtuple("Judged", "place fault requests answered improper found sent")
 
 
 class Request:
     """A request, and what came in answer to it."""
 
-    def __init__(self, flags, command, cookie, offset, length):
+    def __init__(self, flags, command, cookie, offset, length, data):
         self.flags, self.command, self.cookie, self.offset, self.length = flags, command, cookie, offset, length
-        self.end = offset + length
-        self.chunks, self.has_failed, self.is_answered = 0, False, False
-        # The ranges that content chunks gave, and the ids that status chunks named.
+        self.end, self.data = offset + length, data
+        self.chunks, self.has_failed, self.has_ended = 0, False, False
+        # How many requests had come when its reply began, if it did.
+        self.known = None
+        # The ranges that its reply gave, each with its bytes, or None of a hole; and the ids that status chunks named.
         self.given, self.told = [], set()
+        # The id and the extents of the first chunk, where that is a status.
+        self.first = None
 
     def holds(self, offset):
         return self.offset <= offset < self.end
 
     def is_covered(self):
-        return sum(end - begin for begin, end in self.given) == self.length
+        return sum(end - begin for begin, end, _ in self.given) == self.length
+
+    def succeeded(self):
+        return self.has_ended and not self.has_failed
 
 
 def is_proper(request, found):
@@ -55,11 +63,11 @@ def is_proper(request, found):
 
 
 def cut_extents(payload):
-    """The id and the lengths in a status chunk; None where it does not have the form."""
+    """The id and the extents in a status chunk; None where it does not have the form."""
     if len(payload) < 12 or len(payload) % 8 != 4:
         return None
-    lengths = [length for length, _ in struct.iter_unpack(">II", payload[4:])]
-    return (int.from_bytes(payload[:4], "big"), lengths) if all(lengths) else None
+    found = list(struct.iter_unpack(">II", payload[4:]))
+    return (int.from_bytes(payload[:4], "big"), found) if all(length for length, _ in found) else None
 
 
 class Side:
@@ -103,7 +111,7 @@ class Reader:
     def request(self, one):
         """A client's message, or its head."""
         magic, *fields, length = struct.unpack(">IHHQQI", one.bytes[:28])
-        request = Request(*fields, length)
+        request = Request(*fields, length, bytes(one.bytes[28:]))
         if one.need == 28:
             self.need(magic == REQUEST_MAGIC, "BadMagic")
             if request.command == DISC:
@@ -133,6 +141,7 @@ class Reader:
             number = self.outstanding.get(int.from_bytes(one.bytes[8:16], "big"))
             self.need(number is not None and number <= self.known, "UnknownCookie")
             self.of = self.requests[number - 1]
+            self.of.known = self.known if self.of.known is None else self.of.known
             more = self.simple_head(one.bytes) if magic == SIMPLE_MAGIC else self.chunk_head(one.bytes)
             if more:
                 one.need += more
@@ -154,6 +163,9 @@ class Reader:
     def simple(self, message):
         is_success = int.from_bytes(message[4:8], "big") == 0
         self.need(not is_success or is_proper(self.of, self.found), "SuccessOfImproper")
+        if is_success and self.of.command == READ:
+            self.of.given.append((self.of.offset, self.of.end, message[16:]))
+        self.of.has_failed |= not is_success
         self.end()
 
     def chunk_head(self, head):
@@ -191,9 +203,9 @@ class Reader:
         self.need(size > 0, "BadChunk")
         self.need(of.command == READ, "BadContent")
         self.need(of.offset <= begin and begin + size <= of.end, "BadContent")
-        self.need(all(end <= begin or begin + size <= other for other, end in of.given), "BadContent")
+        self.need(all(end <= begin or begin + size <= other for other, end, _ in of.given), "BadContent")
         self.need(not (of.given and of.flags & DF and is_proper(of, self.found)), "BadContent")
-        of.given.append((begin, begin + size))
+        of.given.append((begin, begin + size, payload[8:] if kind == OFFSET_DATA else None))
 
     def error(self, kind, payload):
         text = int.from_bytes(payload[4:6], "big")
@@ -205,17 +217,21 @@ class Reader:
     def status(self, payload):
         of, found = self.of, cut_extents(payload)
         self.need(found is not None, "BadChunk")
-        number, lengths = found
+        number, parts = found
+        lengths = [length for length, _ in parts]
         self.need(of.command == BLOCK_STATUS, "BadContent")
         self.need(number in self.found.contexts and number not in of.told, "BadContent")
         if of.length:
             self.need(sum(lengths[:-1]) < of.length, "BadContent")
             self.need(not of.flags & REQ_ONE or len(lengths) == 1 and lengths[0] <= of.length, "BadContent")
         of.told.add(number)
+        if of.chunks == 0:
+            of.first = found
 
     def end(self):
         """The reply has ended."""
         del self.outstanding[self.of.cookie]
+        self.of.has_ended = True
         self.answered += 1
 
 
@@ -223,7 +239,7 @@ def judge(records, profile):
     """Where the bytes of a session are refused, or what they count."""
     found = negotiated.read(records, profile)
     if found.fault or not found.entered:
-        return Judged(found.place, found.fault, 0, 0, 0)
+        return Judged(found.place, found.fault, 0, 0, 0, found, [])
     reader, place, fault = Reader(found), None, None
     try:
         at = 0
@@ -233,12 +249,15 @@ def judge(records, profile):
         reader.need(not reader.client.bytes and not reader.server.bytes, "Unfinished")
     except Refused as refused:
         place, fault = refused.place, refused.fault
-    return Judged(place, fault, len(reader.requests), reader.answered, reader.improper)
+    return Judged(place, fault, len(reader.requests), reader.answered, reader.improper, found, reader.requests)
 
 
-def line(records, profile):
+def said(told):
     """The line of `check` where the bytes are refused; else the yes, if neither order nor contents say no."""
-    told = judge(records, profile)
     if told.fault:
         return f"no at byte {told.place}: {told.fault}\n"
     return f"yes requests {told.requests} answered {told.answered} improper {told.improper}\n"
+
+
+def line(records, profile):
+    return said(judge(records, profile))

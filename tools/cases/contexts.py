@@ -2,7 +2,7 @@
 unless said.
 
 In `base` no answer to LIST_META_CONTEXT and SET_META_CONTEXT but an error is followed. In `wide` they are negotiated, and
-BLOCK_STATUS is asked while a context is in force. ZEROES_ARE_COMPARED says whether what a status calls zero is compared yet.
+BLOCK_STATUS is asked while a context is in force.
 """
 
 from collections import namedtuple
@@ -15,11 +15,7 @@ from messages import (
     go_data, greeting, named, option, queries, read, request, simple, status, text, write,
 )
 
-# Whether `check` compares what a status calls zero with the export's bytes. Before it does, it says of a session what it says
-# where all zeroes are right.
-ZEROES_ARE_COMPARED = False
-
-# The lines of a session in `base` and in `wide`, where zeroes are compared.
+# The lines of a session in `base` and in `wide`.
 Told = namedtuple("Told", "name records order base wide start")
 
 
@@ -36,16 +32,9 @@ def followed(name, records, base, wide, order="", start="zero"):
     return Told(name, records, order, base, wide, start)
 
 
-def line_of(told):
-    """What `check --profile wide` says."""
-    if told.wide.startswith("no status") and not ZEROES_ARE_COMPARED:
-        return yes(len({entry.split()[0] for entry in told.order.splitlines()}))
-    return told.wide
-
-
 def cases(told):
     """A session in `wide`, in `base`, and without a profile, which is `base`."""
-    for profile, line in (("wide", line_of(told)), ("base", told.base), (None, told.base)):
+    for profile, line in (("wide", told.wide), ("base", told.base), (None, told.base)):
         name = f"{told.name}, --profile {profile}" if profile else told.name
         yield Case(name, [text(told.records).decode()], told.order, line, told.start, profile)
 
@@ -81,9 +70,9 @@ def with_more(asked, data):
     return option(int.from_bytes(asked[1][8:12], "big"), asked[1][16:] + data)
 
 
-def go(name=b""):
+def go(name=b"", **told):
     """GO, its info on the export, and ACK."""
-    return [option(GO, go_data(name)), answer(GO, EXPORT_INFO, export_info()), ack(GO)]
+    return [option(GO, go_data(name)), answer(GO, EXPORT_INFO, export_info(**told)), ack(GO)]
 
 
 def granted(number=1, name=b""):

@@ -8,8 +8,8 @@ from cases.contexts import (
 )
 from cases.shows import BEGUN_STRUCTURED_LINES, Show
 from messages import (
-    DONE, ERROR, ERROR_OFFSET, EXPORT_INFO, GO, NONE, OFFSET_DATA, OFFSET_HOLE, REQ_ONE, STATUS, TRIM, answer, chunk, content,
-    context, cut, done, export_info, extents, failed, go_data, hole, option, read, request, simple, status, text, write,
+    DONE, ERROR, ERROR_OFFSET, NONE, OFFSET_DATA, OFFSET_HOLE, REQ_ONE, STATUS, TRIM, chunk, content, context, cut, done, extents,
+    failed, hole, read, request, simple, status, text, write,
 )
 
 FUA, NO_HOLE, DF, FAST_ZERO = 1, 2, 4, 16
@@ -23,8 +23,7 @@ FAILS = chunk(1, ERROR, b"\0\0\0\x16\0\0")
 
 def on(size, flags, name, messages, wide, order="1\n"):
     """Behind a negotiation as ONE_CONTEXT, of an export of another size or with other flags."""
-    entered = [option(GO, go_data()), answer(GO, EXPORT_INFO, export_info(size, flags)), ack(GO)]
-    return followed(name, CHUNKS + granted() + entered + messages, at(121), wide, order)
+    return followed(name, CHUNKS + granted() + go(size=size, flags=flags) + messages, at(121), wide, order)
 
 
 def identified(number, name, messages, wide):

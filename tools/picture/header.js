@@ -38,7 +38,11 @@ function fillLink() {
     link.append(anchor(number), `${returned(number)}; in no order can it.`);
     return;
   }
-  const front = guilt.kind === "none" ? `In each order one of these has a wrong byte for offset ${guilt.offset}: ` : "In question: ";
+  const fronts = {
+    none: `In each order one of these has a wrong byte for offset ${guilt.offset}: `,
+    status: `This calls offset ${guilt.offset} zero, and it is not: `,
+  };
+  const front = fronts[guilt.kind] || "In question: ";
   for (const number of [...inQuestion].sort((one, other) => one - other)) link.append(link.firstChild ? ", " : front, anchor(number));
 }
 

@@ -9,6 +9,7 @@ FORMS = {
     "order": re.compile(r"no order entry (?P<entry>\d+): (?P<fault>\w+)"),
     "content": re.compile(r"no content request (?P<requests>\d+) offset (?P<offset>\d+)"),
     "any": re.compile(r"no content request (?P<requests>\d+) offset (?P<offset>\d+) in any order"),
+    "status": re.compile(r"no status request (?P<requests>\d+) offset (?P<offset>\d+)( in any order)?"),
     "none": re.compile(r"no order explains requests (?P<requests>[\d ]+) at offset (?P<offset>\d+)"),
     "image": re.compile(r"no image \d+ size \d+"),
     "yes": re.compile(r"yes requests \d+ answered \d+ improper \d+"),
