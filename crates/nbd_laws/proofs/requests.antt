@@ -1,3 +1,4 @@
+pub mod ContextLemmas
 pub mod DisconnectLemmas
 pub mod EndingLemmas
 pub mod GoodLemmas

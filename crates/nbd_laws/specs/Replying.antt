@@ -12,11 +12,12 @@ use Rattle.nbd_wire.specs.declared.profile.Profile.{Profile}
 use Rattle.nbd_wire.specs.protocol.Marks.{Item}
 use Rattle.nbd_wire.specs.protocol.Payloads.{content_of, failure_of, status_of}
 use Rattle.nbd_wire.specs.protocol.Reports.{operations_of}
-use Rattle.nbd_wire.specs.protocol.Operations.{Operation, ends_reply, asks_status}
+use Rattle.nbd_wire.specs.protocol.Operations.{Operation, asks_status, ends_reply, has_failed}
 use Rattle.nbd_wire.specs.protocol.Flags.{has}
 use Rattle.nbd_wire.specs.protocol.Pieces.{is_in}
 use Rattle.nbd_wire.specs.protocol.Rules.{IsRunOf, cookie_of, ends_at}
-use Rattle.nbd_wire.specs.protocol.States.{operation, start}
+use Rattle.nbd_wire.specs.protocol.States.{operation, start, with_reply}
+use Rattle.nbd_wire.specs.protocol.Statuses.{statuses, tells_all}
 
 -- a chunk to this request: an empty one with DONE, content of a READ, an error in its range, or the status of a context
 -- that is in force for a BLOCK_STATUS
@@ -28,6 +29,12 @@ FitsRequest e flags kind payload =
     × ((x : ℕ) → failure.offset ≡ Some x → IsTrue (is_in e.offset e.length x)))
     ⊎ (kind ≡ chunks.BLOCK_STATUS) × ((status : Status) × (status_of payload ≡ Some status) × IsStatus e status)
 
+-- where the last message of the reply to a BLOCK_STATUS has come, none states a failure and the length is not 0, each
+-- context in force has its status (proto.md, "Structured reply types")
+abbrev pub TellsAllAtEnd : Operation → Message → Type 0
+TellsAllAtEnd e m = IsTrue (ends_reply m) → has_failed (with_reply e m) ≡ false
+    → e.command ≡ commands.BLOCK_STATUS → e.length ≢ 0 → IsTrue (tells_all (statuses (with_reply e m)) e.contexts)
+
 -- a simple reply comes alone, not to a READ where structured replies are in force, and not as the success of a
 -- BLOCK_STATUS of a context in force; a chunk needs structured replies
 abbrev pub IsReplyAfter : (structured : Bool) → Operation → (prefix : List Message) → Message → Type 0
@@ -35,6 +42,7 @@ IsReplyAfter structured e prefix (Simple error cookie payload) =
     (prefix ≡ []) × (e.command ≡ commands.READ → structured ≡ false) × (IsTrue (asks_status e) → error ≢ 0)
 IsReplyAfter structured e prefix (Chunk flags kind cookie payload) =
     (structured ≡ true) × FitsRequest (record e { replies = prefix }) flags kind payload
+    × TellsAllAtEnd (record e { replies = prefix }) (Chunk flags kind cookie payload)
 IsReplyAfter structured e prefix _ = ⊥
 
 -- a reply between others: it has the request's cookie, and none comes after the one that ends the reply

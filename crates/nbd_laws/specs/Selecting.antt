@@ -9,7 +9,7 @@ use Rattle.nbd_wire.specs.declared.profile.Profile.{Profile}
 use Rattle.nbd_wire.specs.protocol.Contexts.{Context}
 use Rattle.nbd_wire.specs.protocol.Forms.{HasGoForm, HasQueriesForm}
 use Rattle.nbd_wire.specs.protocol.Marks.{Item, completed_messages}
-use Rattle.nbd_wire.specs.protocol.Operations.{Exporting}
+use Rattle.nbd_wire.specs.protocol.Operations.{Exporting, Operation}
 use Rattle.nbd_wire.specs.protocol.Rules.{IsRunOf, ends_at}
 use Rattle.nbd_wire.specs.protocol.States.{Transmission, in_force, start_of}
 
@@ -55,6 +55,16 @@ pub record AreSelected (messages : List Message) (contexts : List Context) : Typ
   pub before : List Message
   pub after : List Message
   pub structured : early ++ between ≡ before ++ Answer options.STRUCTURED_REPLY answers.ACK [] ∷ after
+
+-- each of these requests was asked while these contexts were in force
+abbrev pub AreAskedWith : List Context → List Operation → Type 0
+AreAskedWith contexts [] = Unit {0}
+AreAskedWith contexts (e ∷ entries) = (e.contexts ≡ contexts) × AreAskedWith contexts entries
+
+-- the requests of a run were asked while the contexts were in force that are at its end
+abbrev pub ContextsStay : Type 0
+ContextsStay = (profile : Profile) (items : List Item) → IsRunOf profile items
+    → AreAskedWith (in_force (ends_at (start_of profile) items).core) (ends_at (start_of profile) items).core.entries
 
 -- in transmission the contexts in force are those that were selected so, and none where none were
 abbrev pub ContextsAreSelected : Type 0

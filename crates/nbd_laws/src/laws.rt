@@ -7,7 +7,7 @@ ghost use Rattle.nbd_laws.specs.Moments.{LatestMoments, OrdersAreFaultless};
 ghost use Rattle.nbd_laws.specs.Negotiating.{AnswersFollowChoices, HandshakesAreFair};
 ghost use Rattle.nbd_laws.specs.Profiles.{BaseIsWide, EndsAgree, PlacesAgree, RunsAgree, UnderWayAgrees};
 ghost use Rattle.nbd_laws.specs.Replying.{RepliesAreWhole};
-ghost use Rattle.nbd_laws.specs.Selecting.{ContextsAreSelected};
+ghost use Rattle.nbd_laws.specs.Selecting.{ContextsAreSelected, ContextsStay};
 ghost use Rattle.nbd_laws.specs.Sameness.{SameMarks, SameReports, ReportsIgnoreService};
 ghost use Rattle.nbd_laws.specs.Service.{CookiesAreDistinct, DisconnectsAreEmpty, EachReplyAnswersOne, EmptyIsExplained, NothingAfterDisconnect, RepliesEndAsTheyStart, ServedOnceAfterCompletion};
 ghost use Rattle.nbd_laws.specs.Explaining.{PassingIsExplained, ExplainedPasses};
@@ -102,7 +102,8 @@ pub fn nothing_after_disconnect()
 {}
 
 /// The replies to a request have its cookie and are one simple reply, or chunks of which only the last
-/// ends the reply; each is of a form that the request and the structured replies in force allow.
+/// ends the reply; each is of a form that the request and the structured replies in force allow. A BLOCK_STATUS whose
+/// length is not 0 has, where its reply ended without a failure, a status of each metadata context in force.
 pub fn replies_are_whole()
     ensures { RepliesAreWhole }
 {}
@@ -165,4 +166,9 @@ pub fn profiles_agree()
 /// there is no such selection, none is in force.
 pub fn contexts_are_selected()
     ensures { ContextsAreSelected }
+{}
+
+/// The metadata contexts stay as they are in transmission: each request was asked while those were in force that are at the end.
+pub fn contexts_stay()
+    ensures { ContextsStay }
 {}

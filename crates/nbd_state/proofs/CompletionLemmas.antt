@@ -17,7 +17,9 @@ use Rattle.nbd_state.specs.internal.Completing.{AddsUnanswered}
 use Rattle.nbd_laws.specs.internal.Decisions.{is_none_yet}
 use Rattle.nbd_state.specs.Showing.{IsShown, exporting}
 use Rattle.nbd_laws.specs.Reached.{IsReached}
-use Rattle.nbd_state.specs.Shows.{AreAskedWith, AreShown, HasSelection, Shows, export_shown, phase_shown, place_of}
+use Rattle.nbd_laws.specs.Selecting.{AreAskedWith}
+use Rattle.nbd_laws.proofs.requests.ContextLemmas.{asked_answered, asked_at, asked_snoc}
+use Rattle.nbd_state.specs.Shows.{AreShown, HasSelection, Shows, export_shown, phase_shown, place_of}
 use Rattle.nbd_state.proofs.PlacedLemmas.{IsPlaced, are_shown_in, place_shows_operation, shown_length}
 use Rattle.nbd_laws.proofs.requests.SoundnessLemmas.{InPhase, open_target, sound}
 use Rattle.nbd_state.proofs.TargetLemmas.{distinct_reached, target_replied, target_requested}
@@ -49,23 +51,6 @@ none_asked o contexts [] xs n s = tt
 none_asked o contexts (e ∷ es) [] n s = absurd (let h : length (e ∷ es) ≡ length {A = Exchange} [] = shown_length o (e ∷ es) [] s in omega arith)
 none_asked (Some export) contexts (e ∷ es) (x ∷ xs) n s = absurd (cc)
 none_asked None contexts (e ∷ es) (x ∷ xs) n s = absurd s
-
-asked_snoc : (contexts : List Context) (es : List Operation) (e : Operation) → AreAskedWith contexts es → e.contexts ≡ contexts → AreAskedWith contexts (es ++ e ∷ [])
-asked_snoc contexts [] e a q = (q, tt)
-asked_snoc contexts (d ∷ es) e a q = (a.0, asked_snoc contexts es e a.1 q)
-
-asked_answered : (contexts : List Context) (k : ℕ) (m : Message) (es : List Operation) → AreAskedWith contexts es → AreAskedWith contexts (with_reply_at k m es)
-asked_answered contexts k m [] a = tt
-asked_answered contexts zero m (e ∷ es) a = a
-asked_answered contexts (suc zero) m (e ∷ es) a = a
-asked_answered contexts (suc (suc k)) m (e ∷ es) a = (a.0, asked_answered contexts (suc k) m es a.1)
-
--- the contexts of one of them are these
-pub asked_at : (contexts : List Context) (k : ℕ) (es : List Operation) (e : Operation) → AreAskedWith contexts es → operation k es ≡ Some e → e.contexts ≡ contexts
-asked_at contexts k [] e a q = absurd (cc)
-asked_at contexts zero (d ∷ es) e a q = absurd (cc)
-asked_at contexts (suc zero) (d ∷ es) e a q = let r : d ≡ e = cc in ap (λ (x : Operation). x.contexts) (sym r) ∙ a.0
-asked_at contexts (suc (suc k)) (d ∷ es) e a q = asked_at contexts (suc k) es e a.1 q
 
 place_if : (b : Bool) (t : Option ℕ) → (if b then None else place_of t) ≡ place_of (if b then None else t)
 place_if true t = refl

@@ -5,11 +5,12 @@ use Rattle.std.specs.BTreeSet.{BTreeSet, contains}
 use Rattle.std.specs.Ordering.{nat_cmp}
 use Rattle.nbd_wire.specs.protocol.Options.{is_proper_option, takes_contexts}
 use Rattle.nbd_wire.specs.protocol.Contexts as contexts
-use Rattle.nbd_wire.specs.protocol.Contexts.{Context, Status, has_id}
+use Rattle.nbd_wire.specs.protocol.Contexts.{Status, has_id}
 use Rattle.nbd_wire.specs.protocol.Statuses.{is_allocation, tells}
 use Rattle.nbd_wire.specs.protocol.Operations.{Operation, Exporting}
 use Rattle.nbd_wire.specs.protocol.States as definitions
 use Rattle.nbd_wire.specs.protocol.States.{Core, start, target, export_in, in_force}
+use Rattle.nbd_laws.specs.Selecting.{AreAskedWith}
 use Rattle.nbd_state.specs.declared.asked.Exchange.{Exchange}
 use Rattle.nbd_state.specs.declared.selection.Selection.{Selection}
 use Rattle.nbd_state.specs.declared.state.Export.{Export}
@@ -50,11 +51,6 @@ abbrev pub AreShown : Option Exporting → List Operation → List Exchange → 
 AreShown export [] [] = Unit {0}
 AreShown (Some export) (e ∷ entries) (x ∷ exchanges) = IsShown export e x × AreShown (Some export) entries exchanges
 AreShown export entries exchanges = ⊥
-
--- each of the requests was asked where these contexts were in force
-abbrev pub AreAskedWith : List Context → List Operation → Type 0
-AreAskedWith contexts [] = Unit {0}
-AreAskedWith contexts (e ∷ entries) = (e.contexts ≡ contexts) × AreAskedWith contexts entries
 
 -- the place, from 0, of the request with this number
 abbrev pub place_of : Option ℕ → Option ℕ

@@ -120,12 +120,16 @@ unfolding MayReply
 simple_behind structured export e error cookie p h = (h.0, h.1, h.2)
 
 chunk_behind : (structured : Bool) (export : Exporting) (e : Operation) (flags kind cookie : ℕ) (p : List ℕ) → MayReply structured export e (Chunk flags kind cookie p) → IsReplyAfter structured e e.replies (Chunk flags kind cookie p)
-unfolding MayReply
+unfolding MayReply ends_reply
 chunk_behind structured export e flags kind cookie p h = (
   h.0,
   elim h.1 [
     | inl q ↦ inl q
     | inr r ↦ elim r [ inl c ↦ inr (inl (c.0, c.1, c.2.0)) | inr o ↦ elim o [ inl f ↦ inr (inr (inl f)) | inr s ↦ inr (inr (inr s)) ] ]
+  ],
+  λ done well c n. elim (h.2 done) [
+    | inl f ↦ absurd (let z : true ≡ false = sym f ∙ well in (cc))
+    | inr s ↦ s.2 c n
   ],
 )
 

@@ -4,7 +4,7 @@ use Rattle.std.proofs.lemmas.Option.{slice_get_read, same_Some}
 use Rattle.std.specs.BTreeMap.{get}
 use Rattle.std.specs.Ordering.{nat_cmp}
 use Rattle.nbd_laws.proofs.requests.SoundnessLemmas.{open_target}
-use Rattle.nbd_state.proofs.CompletionLemmas.{asked_at}
+use Rattle.nbd_laws.proofs.requests.ContextLemmas.{asked_at}
 use Rattle.nbd_state.proofs.PlacedLemmas.{place_shows_operation}
 use Rattle.nbd_wire.specs.protocol.Operations.{Operation, Exporting, is_finished}
 use Rattle.nbd_wire.specs.protocol.States as definitions

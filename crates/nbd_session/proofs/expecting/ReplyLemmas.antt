@@ -15,8 +15,8 @@ use Rattle.nbd_laws.specs.internal.Decisions.{Decision, fault_if, is_none_yet}
 use Rattle.nbd_laws.specs.internal.JudgeTransmission.{begins, chunk_head_fault, chunk_last_fault, chunk_to, operation_counted, reply_by, reply_with, simple_fault, simple_last_fault, simple_payload_length, simple_to}
 use Rattle.nbd_laws.proofs.judge.SteadyLemmas.{begun_true, no_chunk}
 use Rattle.nbd_state.specs.Showing.{IsShown}
-use Rattle.nbd_state.specs.Shows.{AreAskedWith}
-use Rattle.nbd_state.proofs.CompletionLemmas.{asked_at}
+use Rattle.nbd_laws.specs.Selecting.{AreAskedWith}
+use Rattle.nbd_laws.proofs.requests.ContextLemmas.{asked_at}
 use Rattle.nbd_session.specs.internal.Asking.{is_simple_forbidden}
 use Rattle.nbd_state.specs.declared.asked.Exchange.{Exchange}
 use Rattle.nbd_session.specs.declared.expected.Expected.{Expected}

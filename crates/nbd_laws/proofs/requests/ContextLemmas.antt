@@ -1,0 +1,83 @@
+-- The metadata contexts that each request was asked with.
+use Rattle.std.proofs.Common.{◌≡◌, ℕ, zero, suc, ◌==◌, List, [], ◌∷◌, ◌++◌, refl, sym, ◌∙◌, ap, subst, Option, Some, None, Bool, true, false}
+use Rattle.nbd_wire.specs.declared.commands.TheConstants as commands
+use Rattle.nbd_wire.specs.declared.message.Message.{Message}
+use Rattle.nbd_wire.specs.declared.message.Message.TheVariants.{Greeting, ClientFlags, Choice, Answer, Exported, Request, Simple, Chunk}
+use Rattle.nbd_wire.specs.protocol.Contexts.{Context}
+use Rattle.nbd_wire.specs.protocol.Marks.{Item, Byte, Starts, Completes, Serves}
+use Rattle.nbd_wire.specs.protocol.Operations.{Operation, Exporting}
+use Rattle.nbd_wire.specs.protocol.Rules.{MayComplete, Obeys, after, complete, core_with_request, ends_at, reply_to, request_of_reply}
+use Rattle.nbd_wire.specs.protocol.States.{Core, Phase, State, Greet, Flags, Choosing, Naming, Aborting, Answering, Ended, Transmission, export_in, in_force, operation, with_reply_at, start_of}
+use Rattle.nbd_laws.specs.Selecting.{AreAskedWith, ContextsStay}
+
+pub asked_snoc : (contexts : List Context) (es : List Operation) (e : Operation) → AreAskedWith contexts es → e.contexts ≡ contexts → AreAskedWith contexts (es ++ e ∷ [])
+asked_snoc contexts [] e a q = (q, tt)
+asked_snoc contexts (d ∷ es) e a q = (a.0, asked_snoc contexts es e a.1 q)
+
+pub asked_answered : (contexts : List Context) (k : ℕ) (m : Message) (es : List Operation) → AreAskedWith contexts es → AreAskedWith contexts (with_reply_at k m es)
+asked_answered contexts k m [] a = tt
+asked_answered contexts zero m (e ∷ es) a = a
+asked_answered contexts (suc zero) m (e ∷ es) a = a
+asked_answered contexts (suc (suc k)) m (e ∷ es) a = (a.0, asked_answered contexts (suc k) m es a.1)
+
+-- the contexts of one of them are these
+pub asked_at : (contexts : List Context) (k : ℕ) (es : List Operation) (e : Operation) → AreAskedWith contexts es → operation k es ≡ Some e → e.contexts ≡ contexts
+asked_at contexts k [] e a q = absurd (cc)
+asked_at contexts zero (d ∷ es) e a q = absurd (cc)
+asked_at contexts (suc zero) (d ∷ es) e a q = let r : d ≡ e = cc in ap (λ (x : Operation). x.contexts) (sym r) ∙ a.0
+asked_at contexts (suc (suc k)) (d ∷ es) e a q = asked_at contexts (suc k) es e a.1 q
+
+-- the requests were asked with the contexts in force, and before transmission there is none
+record IsSteady (core : Core) : Type 0 where
+  none : export_in core.phase ≡ None → core.entries ≡ []
+  asked : AreAskedWith (in_force core) core.entries
+
+-- before transmission nothing but requests counts
+idle : (core next : Core) → export_in core.phase ≡ None → next.entries ≡ core.entries → IsSteady core → IsSteady next
+idle core next before same s =
+    let empty : next.entries ≡ [] = same ∙ s.none before in
+    record { none = λ q. empty; asked = subst (AreAskedWith (in_force next)) (sym empty) tt }
+
+requested : (b : Bool) (core : Core) (e : Operation) (export : Exporting) → core.phase ≡ Transmission export → e.contexts ≡ in_force core → IsSteady core → IsSteady (core_with_request b core e)
+requested true core e export q same s = record { none = s.none; asked = s.asked }
+requested false core e export q same s = record {
+  none = λ h. absurd (let z : Some export ≡ None = sym (ap export_in q) ∙ h in (cc));
+  asked = asked_snoc (in_force core) core.entries e s.asked same;
+}
+
+replied : (o : Option ℕ) (core : Core) (m : Message) (export : Exporting) → core.phase ≡ Transmission export → IsSteady core → IsSteady (reply_to o core m)
+replied None core m export q s = s
+replied (Some k) core m export q s = record {
+  none = λ h. absurd (let z : Some export ≡ None = sym (ap export_in q) ∙ h in (cc));
+  asked = asked_answered (in_force core) k m core.entries s.asked;
+}
+
+completed : (core : Core) (phase : Phase) (m : Message) → core.phase ≡ phase → MayComplete core phase m → IsSteady core → IsSteady (complete core m)
+unfolding MayComplete complete
+completed core Greet (Greeting flags) q ok s = idle core (complete core (Greeting flags)) (ap export_in q) refl s
+completed core phase (Greeting flags) q ok s = absurd ok
+completed core Flags (ClientFlags flags) q ok s = idle core (complete core (ClientFlags flags)) (ap export_in q) refl s
+completed core phase (ClientFlags flags) q ok s = absurd ok
+completed core Choosing (Choice id p) q ok s = idle core (complete core (Choice id p)) (ap export_in q) refl s
+completed core phase (Choice id p) q ok s = absurd ok
+completed core Aborting (Answer option kind p) q ok s = idle core (complete core (Answer option kind p)) (ap export_in q) refl s
+completed core (Answering o a i) (Answer option kind p) q ok s = idle core (complete core (Answer option kind p)) (ap export_in q) refl s
+completed core phase (Answer option kind p) q ok s = absurd ok
+completed core Naming (Exported size flags padded) q ok s = idle core (complete core (Exported size flags padded)) (ap export_in q) refl s
+completed core phase (Exported size flags padded) q ok s = absurd ok
+completed core (Transmission export) (Request flags command cookie offset len p) q ok s = requested (command == commands.DISC) core _ export q refl s
+completed core phase (Request flags command cookie offset len p) q ok s = absurd ok
+completed core (Transmission export) (Simple error cookie p) q ok s = replied (request_of_reply core (Simple error cookie p)) core (Simple error cookie p) export q s
+completed core phase (Simple error cookie p) q ok s = absurd ok
+completed core (Transmission export) (Chunk flags kind cookie p) q ok s = replied (request_of_reply core (Chunk flags kind cookie p)) core (Chunk flags kind cookie p) export q s
+completed core phase (Chunk flags kind cookie p) q ok s = absurd ok
+
+steady : (state : State) (items : List Item) → Obeys state items → IsSteady state.core → IsSteady (ends_at state items).core
+steady state [] ob s = s
+steady state (Byte side b ∷ items) ob s = steady state items ob.1 s
+steady state (Starts side m ∷ items) ob s = steady state items ob.1 s
+steady state (Completes side m ∷ items) ob s = steady (after state (Completes side m)) items ob.1 (completed state.core state.core.phase m refl ob.0 s)
+steady state (Serves e ∷ items) ob s = steady (after state (Serves e)) items ob.1 (record { none = s.none; asked = s.asked })
+
+pub contexts_stay : ContextsStay
+contexts_stay profile items run = (steady (start_of profile) items run.obeys (record { none = λ q. refl; asked = tt })).asked
