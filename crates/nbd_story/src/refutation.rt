@@ -68,7 +68,7 @@ impl Text {
             _ => self.one_of_rules(
                 &CONTENT_RULE,
                 &STATUS_RULE,
-                "the server, the one or the other, in whatever order it served",
+                "the server, one or the other, in whatever order it served",
             ),
         }
     }
