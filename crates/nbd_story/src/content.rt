@@ -5,7 +5,7 @@ use crate::explanation::Sources;
 use crate::parts::has_offset;
 use crate::story::{Request, Story, Told};
 use crate::text::Text;
-use crate::zeroes::Descriptor;
+use crate::zeroes::{Descriptor, is_status};
 use nbd_export::Start;
 use nbd_judge::{CONTENT_RULE, Rule, STATUS_RULE};
 use nbd_wire::{Entry, Part, Side, chunks, commands, head_lengths};
@@ -26,9 +26,10 @@ pub struct Came<'a> {
 
 /// The rule that a request breaks which got a wrong byte or called one zero.
 pub fn rule_of(request: Option<&Request>) -> Rule {
-    match request {
-        Some(request) if request.is_status() => STATUS_RULE,
-        _ => CONTENT_RULE,
+    if is_status(request) {
+        STATUS_RULE
+    } else {
+        CONTENT_RULE
     }
 }
 

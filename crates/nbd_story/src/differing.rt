@@ -16,7 +16,7 @@ const SHOWN: u64 = 16;
 /// Offsets at which bytes differ.
 #[derive(Clone, Copy)]
 struct Differing {
-    /// Among how many they are.
+    /// Of how many bytes.
     among: u64,
     count: u64,
     first: u64,

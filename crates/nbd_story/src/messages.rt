@@ -92,7 +92,7 @@ impl Text {
             .number(" #", request.number)
     }
 
-    /// A request that was named before, by its type: `the READ`.
+    /// Words and a request that was named before, by its type: ` before the READ`.
     pub fn the(self, words: &str, request: &Request) -> Text {
         self.say(words).say("the ").command(request.head.command)
     }

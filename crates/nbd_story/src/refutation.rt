@@ -4,6 +4,7 @@ use crate::content::{byte_at_first, byte_by, found_byte, place_of};
 use crate::explanation::Sources;
 use crate::story::{Request, Story};
 use crate::text::Text;
+use crate::zeroes::is_status;
 use nbd_judge::{CONTENT_RULE, STATUS_RULE};
 
 /// READs of an offset of the export, and BLOCK_STATUSes that call it zero, of which each order of the session has one wrong there, and
@@ -25,14 +26,6 @@ impl Contest<'_> {
             }
         }
         count
-    }
-}
-
-/// Whether a request is a BLOCK_STATUS.
-pub fn is_status(request: Option<&Request>) -> bool {
-    match request {
-        Some(request) => request.is_status(),
-        None => false,
     }
 }
 

@@ -3,9 +3,10 @@
 
 use crate::deduced::{Deduced, Hindrance, MOST, Next, Source, Step, bit};
 use crate::explanation::Sources;
-use crate::refutation::{Contest, is_status};
+use crate::refutation::Contest;
 use crate::story::{Request, Story};
 use crate::text::Text;
+use crate::zeroes::is_status;
 
 /// How many steps are told.
 const MOST_STEPS: u64 = 10;

@@ -84,11 +84,6 @@ impl Request {
         has_range(self.head.command) && (self.proper || !self.is_status())
     }
 
-    /// Whether it is a BLOCK_STATUS.
-    pub fn is_status(&self) -> bool {
-        self.head.command == commands::BLOCK_STATUS
-    }
-
     /// Whether it was surely served before another one: its reply began before that one had come whole.
     pub fn is_before(&self, other: &Request) -> bool {
         match self.replied {

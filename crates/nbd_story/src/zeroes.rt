@@ -2,14 +2,30 @@
 
 use crate::layers::end_of;
 use crate::parts::{common, has_offset};
-use crate::story::{Story, Told, range};
+use crate::story::{Request, Story, Told, range};
 use nbd_wire::flags::has_wide;
-use nbd_wire::{Part, Side, first_extent, head_lengths, states};
+use nbd_wire::{Part, Side, commands, first_extent, head_lengths, states};
 
-/// Where the descriptors of a status chunk begin, in bytes of the chunk, and the length of each.
+/// Where the descriptors of a status chunk begin, in bytes of the chunk.
 const FIRST: u64 = head_lengths::CHUNK as u64 + 4;
 
+/// The length of a descriptor, in bytes.
 const LENGTH: u64 = 8;
+
+impl Request {
+    /// Whether it is a BLOCK_STATUS.
+    pub fn is_status(&self) -> bool {
+        self.head.command == commands::BLOCK_STATUS
+    }
+}
+
+/// Whether a request, if there is one, is a BLOCK_STATUS.
+pub fn is_status(request: Option<&Request>) -> bool {
+    match request {
+        Some(request) => request.is_status(),
+        None => false,
+    }
+}
 
 /// A descriptor of a status chunk.
 #[derive(Clone, Copy)]
