@@ -7,6 +7,7 @@ use crate::layers::{Layers, Origin, Stretch, end_of};
 use crate::parts::inside;
 use crate::story::{Request, Told};
 use crate::text::Text;
+use crate::zeroes::Zeroes;
 use nbd_wire::{Entry, Part, Side};
 use std::alloc::{AllocError, Global};
 
@@ -221,19 +222,19 @@ fn stretches_of(
             })?;
         }
     }
-    push_zeroes(&mut stretches, read, sources)?;
+    if let Some(zeroes) = sources.story.zeroes_of(read.number) {
+        push_zeroes(&mut stretches, &zeroes)?;
+    }
     stretches.sort_by_key(|stretch| stretch.part.offset)?;
     Ok(stretches)
 }
 
 // Adds what a BLOCK_STATUS called zero.
-fn push_zeroes(
-    stretches: &mut Vec<Stretch>,
-    request: &Request,
-    sources: Sources<'_>,
-) -> Result<(), AllocError> {
-    if let Some(mut zeroes) = sources.story.zeroes_of(request.number) {
-        while let Some(part) = zeroes.next() {
+fn push_zeroes(stretches: &mut Vec<Stretch>, zeroes: &Zeroes<'_>) -> Result<(), AllocError> {
+    let mut rest = zeroes.descriptors;
+    for _ in 0..rest.count() {
+        let one = rest.next();
+        if let Some(part) = zeroes.part_of(one) {
             stretches.push(Stretch {
                 part,
                 origin: Origin::Zeroes,

@@ -38,11 +38,6 @@ pub struct Descriptor {
 }
 
 impl Descriptor {
-    /// Whether one of `base:allocation` calls its bytes zero.
-    pub fn is_zero(&self) -> bool {
-        has_wide(self.flags, states::ZERO)
-    }
-
     /// The places in the capture of its first byte and its last in this chunk.
     pub fn places(&self, chunk: &Told, story: &Story) -> (u64, u64) {
         let end = chunk
@@ -106,7 +101,8 @@ impl<'a> Descriptors<'a> {
 pub struct Zeroes<'a> {
     /// The chunk that says so, the first message of the reply.
     pub chunk: &'a Told,
-    descriptors: Descriptors<'a>,
+    /// Those of the chunk.
+    pub descriptors: Descriptors<'a>,
     /// The range of the request.
     range: Part,
 }
@@ -139,21 +135,22 @@ impl Story {
 }
 
 impl Zeroes<'_> {
-    /// The next bytes of the range that it calls zero.
-    pub fn next(&mut self) -> Option<Part> {
-        while let Some(one) = self.descriptors.next() {
-            if let (true, Some(part)) = (one.is_zero(), common(one.part, self.range)) {
-                return Some(part);
-            }
+    /// The bytes of the range that a descriptor calls zero, if it is one that does.
+    pub fn part_of(&self, descriptor: Option<Descriptor>) -> Option<Part> {
+        match descriptor {
+            Some(one) if has_wide(one.flags, states::ZERO) => common(one.part, self.range),
+            _ => None,
         }
-        None
     }
 
     /// The descriptor that calls an offset of the range zero.
-    pub fn descriptor_at(mut self, offset: u64) -> Option<Descriptor> {
-        while let Some(one) = self.descriptors.next() {
-            if has_offset(one.part, offset) && one.is_zero() && has_offset(self.range, offset) {
-                return Some(one);
+    pub fn descriptor_at(&self, offset: u64) -> Option<Descriptor> {
+        let mut rest = self.descriptors;
+        for _ in 0..rest.count() {
+            let one = rest.next();
+            match self.part_of(one) {
+                Some(part) if has_offset(part, offset) => return one,
+                _ => {}
             }
         }
         None
