@@ -5,7 +5,7 @@ use crate::content::{expected_byte, found_byte, is_hole};
 use crate::explanation::Sources;
 use crate::layers::{Layers, Origin, Stretch, end_of};
 use crate::parts::inside;
-use crate::story::{Request, Told};
+use crate::story::{Request, Story, Told};
 use crate::text::Text;
 use crate::zeroes::Zeroes;
 use nbd_wire::{Entry, Part, Side};
@@ -214,19 +214,29 @@ fn stretches_of(
     sources: Sources<'_>,
 ) -> Result<Vec<Stretch>, AllocError> {
     let mut stretches = Vec::new(alloc);
-    for told in &sources.story.told {
-        if let Some(part) = told.content_to(read.number) {
+    match sources.story.zeroes_of(read.number) {
+        Some(zeroes) => push_zeroes(&mut stretches, &zeroes)?,
+        None => push_contents(&mut stretches, read.number, sources.story)?,
+    }
+    stretches.sort_by_key(|stretch| stretch.part.offset)?;
+    Ok(stretches)
+}
+
+// Adds what the READ with this number got.
+fn push_contents(
+    stretches: &mut Vec<Stretch>,
+    number: u64,
+    story: &Story,
+) -> Result<(), AllocError> {
+    for told in &story.told {
+        if let Some(part) = told.content_to(number) {
             stretches.push(Stretch {
                 part,
                 origin: origin_in(told, part),
             })?;
         }
     }
-    if let Some(zeroes) = sources.story.zeroes_of(read.number) {
-        push_zeroes(&mut stretches, &zeroes)?;
-    }
-    stretches.sort_by_key(|stretch| stretch.part.offset)?;
-    Ok(stretches)
+    Ok(())
 }
 
 // Adds what a BLOCK_STATUS called zero.
