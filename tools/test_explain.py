@@ -12,7 +12,7 @@ from pathlib import Path
 from built import TOP, Ended, Room, Tally
 from messages import (
     CACHE, CLIENT, DISC, DONE, FLUSH, READ, REQ_ONE, SERVER, TRIM, WRITE, WRITE_ZEROES, answer, begun, chunk,
-    client_flags, content, context, cut, done, export_info, extents, front, greeting, hole, option, read, request, simple, status,
+    client_flags, content, context, cut, done, export_info, extents, failed, front, greeting, hole, option, read, request, simple, status,
     text, write,
 )
 from test_commands import EMPTY, fault
@@ -122,6 +122,15 @@ PIECED = [
     *begun(structured=True, size=32), write(1, 0, bytes(range(1, 17))), simple(1), request(WRITE_ZEROES, 2, 4, 4), simple(2),
     request(TRIM, 3, 8, 4), simple(3), write(4, 12, b"\xff" * 4), simple(4, error=5), read(5, 1, 30), content(5, 16, b"\0\x07" * 4),
     hole(5, 24, 7), content(5, 1, bytes(range(2, 6)) + b"\x06" + bytes(10)), done(5)]
+# A WRITE of two bytes that is outstanding while a BLOCK_STATUS calls all bytes zero: served after the WRITE it calls these two so.
+STALE = [*SELECTED, write(1, 0, b"\xab\xcd"), status(2, 0, 8), extents(2, 1, (8, 2), flags=DONE), simple(1)]
+# A BLOCK_STATUS of the bytes 1 to 6 of an image whose bytes are their offsets, after 3 to 5 were zeroed: the first descriptor, of data,
+# ends at 3, the second at 6, and the last passes the range, in which it calls the byte 6 zero. The status of another context comes behind.
+DESCRIBED = [
+    *SELECTED_TWO, request(WRITE_ZEROES, 1, 3, 3), simple(1), status(2, 1, 6), extents(2, 1, (2, 0), (3, 2), (9, 3)),
+    extents(2, 2, (6, 2), flags=DONE)]
+# A BLOCK_STATUS that calls all bytes zero while a WRITE of the byte 4 is outstanding.
+CALLED = [*SELECTED, status(1, 0, 8), write(2, 4, b"\xff"), extents(1, 1, (8, 2), flags=DONE), simple(2)]
 JUDGED = {
     "content-of-many-bytes": Session(PIECED, "1\n2\n3\n4\n5\n"),
     "content-of-many-bytes-in-part": Session(PIECED, "1\n2\n3\n4\n5 20 11\n5 1 19\n"),
@@ -162,6 +171,22 @@ JUDGED = {
     "content-in-parts": Session(OVERLAPPED, "1 0 1\n2\n1 1 1\n3 0 2\n3 2 2\n"),
     "content-of-another-part": Session(OVERLAPPED, "1 1 1\n3 3 1\n2 1 1\n1 0 1\n3 0 3\n2 0 1\n"),
     "content-of-the-start-in-parts": Session(OVERLAPPED, "1 0 1\n3 1 1\n2\n1 1 1\n3 0 1\n3 2 2\n"),
+    "status": Session(STALE, "1\n2\n", profile="wide"),
+    "status-before-a-write": Session(STALE, "2\n1\n", profile="wide"),
+    "status-of-an-image": Session(
+        [*SELECTED, status(1, 0, 8), extents(1, 1, (7, 3), (1, 0), flags=DONE)], "1\n", "image:8", "wide"),
+    "status-of-many-descriptors": Session(DESCRIBED, "1\n2\n", "image:8", "wide"),
+    "status-of-write-zeroes": Session(
+        [*SELECTED, write(1, 0, b"\xab\xcd"), simple(1), request(WRITE_ZEROES, 2, 0, 1), simple(2), status(3, 0, 8),
+         extents(3, 1, (8, 3), flags=DONE)], "1\n2\n3\n", profile="wide"),
+    "status-in-parts": Session(CALLED, "1 0 4\n2\n1 4 4\n", profile="wide"),
+    "status-in-parts-before-a-write": Session(CALLED, "1 4 4\n2\n1 0 4\n", profile="wide"),
+    "status-behind-that-of-another-context": Session(
+        [*SELECTED_TWO, status(1, 0, 8), extents(1, 2, (8, 2)), extents(1, 1, (8, 2), flags=DONE)], "1\n", "image:8", "wide"),
+    "status-that-failed": Session([*SELECTED, status(1, 0, 8), extents(1, 1, (8, 2)), failed(1)], "1\n", "image:8", "wide"),
+    "status-of-an-unknown-start": Session(
+        [*SELECTED, status(1, 0, 8), extents(1, 1, (8, 2), flags=DONE), read(2, 0, 8), content(2, 0, bytes(7) + b"\1"), done(2)],
+        "1\n2\n", "unknown", "wide"),
 }
 
 # Two WRITEs that are outstanding while three READs come one after the other: they got the bytes of the one, of the other, and of
@@ -198,6 +223,27 @@ BETWEEN = [*begun(), write(1, 0, b"\1"), write(2, 0, b"\1"), write(3, 0, b"\2"),
 HOLED = [*begun(structured=True), write(1, 0, b"\1"), write(2, 0, b"\0"), write(3, 0, b"\1"), done(1), done(2), done(3), read(4, 0, 1),
          content(4, 0, b"\1"), done(4), read(5, 0, 1), hole(5, 0, 1), done(5)]
 
+# A WRITE that a READ got while it was outstanding, and a BLOCK_STATUS that calls the byte zero after the READ.
+UNDONE = [
+    *SELECTED, write(1, 0, b"\1"), read(2, 0, 1), content(2, 0, b"\1"), done(2), status(3, 0, 8), extents(3, 1, (8, 2), flags=DONE),
+    simple(1)]
+# A WRITE of 00 over an image that stays outstanding, and two BLOCK_STATUSes that call its byte zero, of which one comes before another
+# WRITE and one after it.
+CALLED_TWICE = [
+    *SELECTED, write(1, 1, b"\0"), status(2, 1, 1), extents(2, 1, (1, 2), flags=DONE), write(3, 1, b"\5"), simple(3), status(4, 1, 1),
+    extents(4, 1, (1, 2), flags=DONE), simple(1)]
+# As BETWEEN, with a BLOCK_STATUS between: it calls zero what a READ before it and one after it got as 02, of one WRITE.
+CALLED_BETWEEN = [
+    *SELECTED, write(1, 0, b"\0"), write(2, 0, b"\0"), write(3, 0, b"\2"), read(4, 0, 1), content(4, 0, b"\2"), done(4), status(5, 0, 1),
+    extents(5, 1, (1, 3), flags=DONE), read(6, 0, 1), content(6, 0, b"\2"), done(6), simple(1), simple(2), simple(3)]
+# WRITEs of 01 and of 00 in turn that stay outstanding, and after each what finds its byte: a READ, or a BLOCK_STATUS that calls it zero.
+# For the last READ no WRITE of 01 is left.
+CALLED_IN_TURN = [
+    *SELECTED, write(1, 5, b"\1"), read(2, 5, 1), content(2, 5, b"\1"), done(2), write(3, 5, b"\0"), status(4, 5, 1),
+    extents(4, 1, (1, 2), flags=DONE), write(5, 5, b"\1"), read(6, 5, 1), content(6, 5, b"\1"), done(6), write(7, 5, b"\0"),
+    status(8, 5, 1), extents(8, 1, (1, 2), flags=DONE), read(9, 5, 1), content(9, 5, b"\1"), done(9), simple(1), simple(3), simple(5),
+    simple(7)]
+
 # Sessions that are explained without an order.
 ORDERLESS = {
     "no-order-before-the-start": Session(SILENT),
@@ -227,6 +273,15 @@ ORDERLESS = {
     "no-order-of-a-hole": Session(HOLED),
     "no-order-of-five-reads": Session(alternating(2)),
     "no-order-of-more-than-ten-steps": Session(alternating(6)),
+    "no-source-of-a-status": Session(
+        [*SELECTED, request(WRITE_ZEROES, 1, 0, 1), simple(1), write(2, 0, b"\x11"), simple(2), status(3, 0, 8),
+         extents(3, 1, (8, 2), flags=DONE)], profile="wide"),
+    "no-source-of-a-status-of-the-start": Session(
+        [*SELECTED, status(1, 5, 2), extents(1, 1, (1, 0), (1, 2), flags=DONE)], start="image:8", profile="wide"),
+    "no-order-of-a-read-and-a-status": Session(UNDONE, profile="wide"),
+    "no-order-of-two-statuses": Session(CALLED_TWICE, start="image:8", profile="wide"),
+    "no-order-of-a-status-between": Session(CALLED_BETWEEN, profile="wide"),
+    "no-order-of-reads-and-statuses-in-turn": Session(CALLED_IN_TURN, start="image:8", profile="wide"),
     "image": Session(WRITTEN, start="image:9"),
     "unknown-cookie": WIRE["unknown-cookie"],
 }
@@ -455,7 +510,7 @@ def searched(tally, room, name, words):
 def orderless(tally, room):
     for name, session in ORDERLESS.items():
         capture = room.put(f"{name}.cap", text(session.records))
-        words = [capture, "--start", start_of(room, name, session.start)]
+        words = [capture, "--start", start_of(room, name, session.start), *profile_of(session)]
         wanted = (EXPLAINED / f"{name}.txt").read_bytes()
         status = 0 if wanted.startswith(b"yes") else 1
         tally.want(f"explain {name}", room.run("explain", *words), Ended(status, wanted, b""))

@@ -43,6 +43,7 @@ use Rattle.nbd_tool.proofs.OverLemmas.{fault_over, report_over}
 use Rattle.nbd_wire.specs.protocol.Operations.{Exporting}
 use Rattle.nbd_state.specs.Transcripts.{size_and_flags}
 use Rattle.nbd_judge.specs.Images.{IsOtherSize}
+use Rattle.nbd_judge.specs.Verdicts.{wrong_verdict}
 use Rattle.nbd_judge.specs.Servable.{size_of}
 use Rattle.nbd_tool.specs.Beginnings.{IsReadAs}
 use Rattle.nbd_tool.specs.declared.start.Beginning.TheVariants.{Longer}
@@ -80,13 +81,14 @@ nothing_passes r initial sound none =
 
 -- what was found of the report of a run, and written
 ordered : {profile : Profile} (capture : List Pair) (initial : Start) (wanted : Wanted) (told : Report) (items : List Item) (f : Found) (old new : Option (List ℕ)) → IsRunOf profile items → pairs items ≡ capture → report items ≡ told →
-    IsFound told initial f → IsWanted wanted f → Says profile items initial f → Appends old new (found_text f) → IsOrdered profile capture initial wanted old new (ordered_of f)
+    IsFound told initial f → IsWanted wanted f → Says profile items initial f → Appends old new (found_text told f) → IsOrdered profile capture initial wanted old new (ordered_of f)
 ordered {profile} capture initial wanted told items (found.Order entries) old new is_run has same is fits says appended =
     order entries.items (subst (λ c. IsExplainedOf profile c entries.items initial) has says) fits appended
 ordered {profile} capture initial wanted told items (found.Unexplained refutation) old new is_run has same is fits says appended =
     unexplained items refutation.reads.items refutation.offset is_run has
     (subst (λ r. IsRefutedBy r (start_byte initial) refutation.offset refutation.reads.items) (sym same) is)
-    (subst (λ c. IsUnexplained profile c initial) has says) appended
+    (subst (λ c. IsUnexplained profile c initial) has says)
+    (subst (λ (r : Report). Appends old new (unexplained_line r refutation.reads.items refutation.offset)) (sym same) appended)
 ordered {profile} capture initial wanted told items (found.Image n size) old new is_run has same is fits says appended =
     image items n size is_run has (subst (λ (r : Report). IsOtherSize r.export initial n size) (sym same) is) appended
 ordered {profile} capture initial wanted told items found.NoneWhole old new is_run has same is fits says appended =
@@ -96,7 +98,7 @@ ordered {profile} capture initial wanted told items (found.GaveUp request offset
 
 -- the same, where the start may be known
 ordered_from : {profile : Profile} (capture : List Pair) (known : Option Start) (initial : Start) (wanted : Wanted) (told : Report) (items : List Item) (f : Found) (old new : Option (List ℕ)) → IfSome known (λ s. initial ≡ s) →
-    IsRunOf profile items → pairs items ≡ capture → report items ≡ told → IsFound told initial f → IsWanted wanted f → Says profile items initial f → Appends old new (found_text f) →
+    IsRunOf profile items → pairs items ≡ capture → report items ≡ told → IsFound told initial f → IsWanted wanted f → Says profile items initial f → Appends old new (found_text told f) →
     IsOrderedFrom profile capture known wanted old new (ordered_of f)
 ordered_from capture None initial wanted told items f old new is is_run has same found fits says appended = tt
 ordered_from {profile} capture (Some start) initial wanted told items f old new is is_run has same found fits says appended =
@@ -107,7 +109,7 @@ pub orders : {profile : Profile} (known : Option (List ℕ)) (start : Option Sta
     IsOverText profile known r → finished ≡ Ok told → fault_of finished ≡ fault_at_end r → IfOk finished (IsReported r) → (begun : IsBeginningOf start room beginning) → IsReadAs (size_of told.export) begun.initial beginning →
     ((initial : Start) → IsReadAs (size_of told.export) initial beginning → IsFound told initial f) → IsWanted wanted f →
     ((profile : Profile) (initial : Start) (items : List Item) → IsReadAs (size_of told.export) initial beginning → IsRunOf profile items → report items ≡ told → Says profile items initial f) →
-    Appends old new (found_text f) → Orders profile known start wanted (ordered_of f) old new
+    Appends old new (found_text told f) → Orders profile known start wanted (ordered_of f) old new
 orders {profile} known start room beginning wanted r told finished f old new session is same reported begun is_read found fits says appended =
     let has : HasReport profile (flat_of session.chunks) told = subst (λ o. IfOk o (HasReport profile (flat_of session.chunks))) is (report_over (flat_of session.chunks) r finished session.over same reported) in
     let told_is : report has.items ≡ told = has.same_report has.items has.is_run has.has_pairs in
@@ -134,7 +136,7 @@ refuses {profile} known start wanted r at fault finished old new session is same
 pub told_found : (beginning : Beginning) (wanted : Wanted) (finished : Result Report SessionFault) (told : Report) (f : Found) (answer : Ordered) (text : List ℕ) → finished ≡ Ok told →
     ((initial : Start) → IsReadAs (size_of told.export) initial beginning → IsFound told initial f) → IsWanted wanted f →
     ((profile : Profile) (initial : Start) (items : List Item) → IsReadAs (size_of told.export) initial beginning → IsRunOf profile items → report items ≡ told → Says profile items initial f) →
-    answer ≡ ordered_of f → text ≡ found_text f → IsToldOf beginning wanted finished answer text
+    answer ≡ ordered_of f → text ≡ found_text told f → IsToldOf beginning wanted finished answer text
 told_found beginning wanted finished told f answer text is is_found fits says same lines =
     subst (λ q. IsToldOf beginning wanted q answer text) (sym is)
     (subst (λ a. IsToldOf beginning wanted (Ok told) a text) (sym same)
@@ -172,14 +174,14 @@ orders_written {profile} known start wanted r finished answer text old new (Ok s
     subst (λ ordered. Orders profile known start wanted ordered old new) (sym written.0) (orders_told known start wanted r finished answer text old new session same reported ends told written.1)
 orders_written known start wanted r finished answer text old new (Err fault) session same reported ends told written = tt
 
--- the line of one READ, and that of another count of them
-pub one_line : (reads : List ℕ) (offset : ℕ) → length reads ≡ 1 → words (verdict.Content (slice_index reads 0) offset) ++ codes " in any order\n" ≡ unexplained_line reads offset
-one_line [] offset h = absurd (omega arith)
-one_line (request ∷ []) offset h = refl
-one_line (request ∷ more ∷ reads) offset h = absurd (omega arith)
+-- the line of one request, and that of another count of them
+pub one_line : (told : Report) (reads : List ℕ) (offset : ℕ) → length reads ≡ 1 → words (wrong_verdict told (slice_index reads 0) offset) ++ codes " in any order\n" ≡ unexplained_line told reads offset
+one_line told [] offset h = absurd (omega arith)
+one_line told (request ∷ []) offset h = refl
+one_line told (request ∷ more ∷ reads) offset h = absurd (omega arith)
 
-pub several_line : (reads : List ℕ) (offset : ℕ) → (length reads ≡ 1 → ⊥)
-    → codes "no order explains requests" ++ (spaced_numbers reads ++ (codes " at offset " ++ (decimal offset ++ codes "\n"))) ≡ unexplained_line reads offset
-several_line [] offset h = refl
-several_line (request ∷ []) offset h = absurd (h refl)
-several_line (request ∷ more ∷ reads) offset h = refl
+pub several_line : (told : Report) (reads : List ℕ) (offset : ℕ) → (length reads ≡ 1 → ⊥)
+    → codes "no order explains requests" ++ (spaced_numbers reads ++ (codes " at offset " ++ (decimal offset ++ codes "\n"))) ≡ unexplained_line told reads offset
+several_line told [] offset h = refl
+several_line told (request ∷ []) offset h = absurd (h refl)
+several_line told (request ∷ more ∷ reads) offset h = refl

@@ -24,7 +24,7 @@ use Rattle.nbd_order.specs.declared.finding.Found.{Found}
 use Rattle.nbd_order.specs.declared.finding.Found.TheVariants.{GaveUp, Image, NoneWhole, Order, Unexplained}
 use Rattle.nbd_order.specs.declared.finding.Wanted.TheVariants.{Any}
 use Rattle.nbd_tool.specs.Beginnings.{IsBeginningOf, IsReadAs, room_in}
-use Rattle.nbd_explain.specs.Ordering.{IsUnexplainedBy}
+use Rattle.nbd_explain.specs.Ordering.{IsUnexplainedBy, unexplained_line}
 use Rattle.nbd_tool.specs.Runs.{flat_of}
 use Rattle.nbd_tool.specs.Verdicts.{IsYes, line}
 use Rattle.nbd_tool.specs.declared.start.Beginning.{Beginning}
@@ -45,6 +45,7 @@ yes_of capture entries initial (verdict.Wire at fault) explained judged =
 yes_of capture entries initial (verdict.Image n size) explained judged = absurd (judged.answers explained)
 yes_of capture entries initial (verdict.Order entry fault) explained judged = absurd (judged.answers.0 explained)
 yes_of capture entries initial (verdict.Content request offset) explained judged = absurd (judged.answers explained)
+yes_of capture entries initial (verdict.Status request offset) explained judged = absurd (judged.answers explained)
 
 -- what was found of the report of a run, and written
 told_of : {profile : Profile} (capture : List Pair) (initial : Start) (told : Report) (beginning : Beginning) (f : Found) (first rest : List ℕ) (old new : Option (List ℕ)) → (has : HasReport profile capture told) →
@@ -58,7 +59,11 @@ told_of {profile} capture initial told beginning (Order entries) first rest old 
 told_of {profile} capture initial told beginning (Unexplained refutation) first rest old new has is_read is fits says is_line appended =
     unexplained has.items refutation.reads.items refutation.offset has.is_run has.has_pairs
     (subst (λ r. IsRefutedBy r (start_byte initial) refutation.offset refutation.reads.items) (sym (has.same_report has.items has.is_run has.has_pairs)) is)
-    (subst (λ c. IsUnexplained profile c initial) has.has_pairs says) (rest, subst (λ text. Appends old new (text ++ rest)) is_line appended)
+    (subst (λ c. IsUnexplained profile c initial) has.has_pairs says) (
+      rest,
+      subst (λ (r : Report). Appends old new (unexplained_line r refutation.reads.items refutation.offset ++ rest))
+          (sym (has.same_report has.items has.is_run has.has_pairs)) (subst (λ text. Appends old new (text ++ rest)) is_line appended),
+    )
 told_of capture initial told beginning (Image n size) first rest old new has is_read is fits says is_line appended =
     image has.items n size has.is_run has.has_pairs (subst (λ (r : Report). IsOtherSize r.export initial n size) (sym (has.same_report has.items has.is_run has.has_pairs)) is)
     (rest, subst (λ text. Appends old new (text ++ rest)) is_line appended)

@@ -9,7 +9,7 @@ use Rattle.nbd_wire.specs.declared.profile.Profile.{Profile}
 use Rattle.nbd_wire.specs.protocol.Captures.{Pair}
 use Rattle.nbd_wire.specs.protocol.Explains.{IsExplainedOf, Start, start_byte}
 use Rattle.nbd_wire.specs.protocol.Marks.{Item, pairs}
-use Rattle.nbd_wire.specs.protocol.Reports.{report}
+use Rattle.nbd_wire.specs.protocol.Reports.{Report, report}
 use Rattle.nbd_wire.specs.protocol.Rules.{IsRunOf}
 use Rattle.nbd_wire.specs.protocol.Verdicts.{request_count}
 use Rattle.nbd_wire.specs.protocol.Within.{IsOfNoRunOf}
@@ -18,6 +18,7 @@ use Rattle.nbd_capture.specs.Lines.{line_feed}
 use Rattle.nbd_capture.specs.Order.{entry_text}
 use Rattle.nbd_session.specs.Refusals.{IsWireFaultOf}
 use Rattle.nbd_judge.specs.Images.{IsOtherSize}
+use Rattle.nbd_judge.specs.Verdicts.{wrong_verdict}
 use Rattle.nbd_judge.specs.declared.verdict.Verdict.TheVariants.{Wire}
 use Rattle.nbd_judge.specs.declared.verdict.Verdict.TheVariants as verdict
 use Rattle.nbd_search.specs.declared.proposal.Reason.{Reason}
@@ -46,11 +47,11 @@ entry_lines entries = flat_map (λ (e : Entry). entry_text e ++ line_feed ∷ []
 abbrev pub spaced_numbers : List ℕ → List ℕ
 spaced_numbers numbers = flat_map (λ n. codes " " ++ decimal n) numbers
 
--- the line of READs of which each order has one wrong at this offset
-abbrev pub unexplained_line : (reads : List ℕ) → (offset : ℕ) → List ℕ
-unexplained_line (request ∷ []) offset = words (verdict.Content request offset) ++ codes " in any order\n"
-unexplained_line reads offset = codes "no order explains requests" ++ (spaced_numbers reads ++ (codes " at offset " ++
-    (decimal offset ++ codes "\n")))
+-- the line of READs, and of BLOCK_STATUSes that call the offset zero, of which each order has one wrong there
+abbrev pub unexplained_line : Report → (reads : List ℕ) → (offset : ℕ) → List ℕ
+unexplained_line told (request ∷ []) offset = words (wrong_verdict told request offset) ++ codes " in any order\n"
+unexplained_line told reads offset = codes "no order explains requests" ++ (spaced_numbers reads
+    ++ (codes " at offset " ++ (decimal offset ++ codes "\n")))
 
 -- the line of an order in parts where one of whole requests is wanted
 abbrev pub none_whole_line : List ℕ
@@ -68,13 +69,13 @@ gave_up_line request offset reason = codes "gave up: "
     ++ (reason_words reason ++ (codes " at request " ++ (decimal request ++
     (codes " offset " ++ (decimal offset ++ codes "\n")))))
 
--- the text of what was found
-abbrev pub found_text : Found → List ℕ
-found_text (found.Order entries) = entry_lines entries.items
-found_text (found.Unexplained refutation) = unexplained_line refutation.reads.items refutation.offset
-found_text (found.Image image size) = line (verdict.Image image size)
-found_text found.NoneWhole = none_whole_line
-found_text (found.GaveUp request offset reason) = gave_up_line request offset reason
+-- the text of what was found of a report
+abbrev pub found_text : Report → Found → List ℕ
+found_text told (found.Order entries) = entry_lines entries.items
+found_text told (found.Unexplained refutation) = unexplained_line told refutation.reads.items refutation.offset
+found_text told (found.Image image size) = line (verdict.Image image size)
+found_text told found.NoneWhole = none_whole_line
+found_text told (found.GaveUp request offset reason) = gave_up_line request offset reason
 
 -- what that comes to
 abbrev pub ordered_of : Found → Ordered
@@ -110,10 +111,11 @@ pub data IsOrdered (profile : Profile) (capture : List Pair) (initial : Start) (
   image : (items : List Item) (image size : ℕ) → IsRunOf profile items → pairs items ≡ capture
       → IsOtherSize (report items).export initial image size
       → Appends old new (line (verdict.Image image size)) → IsOrdered profile capture initial wanted old new Refuted
-  -- no order explains it: in each one of these READs has a wrong byte at this offset
+  -- no order explains it: in each one of these requests has a wrong byte at this offset
   unexplained : (items : List Item) (reads : List ℕ) (offset : ℕ) → IsRunOf profile items → pairs items ≡ capture
       → IsRefutedBy (report items) (start_byte initial) offset reads → IsUnexplained profile capture initial
-      → Appends old new (unexplained_line reads offset) → IsOrdered profile capture initial wanted old new Refuted
+      → Appends old new (unexplained_line (report items) reads offset)
+      → IsOrdered profile capture initial wanted old new Refuted
   -- an order of whole requests was wanted and none was found, which is not proved. That of arrival does not explain it
   none_whole : (items : List Item) → wanted ≡ Whole → IsRunOf profile items → pairs items ≡ capture
       → IsUnexplainedBy profile capture initial (arrival (request_count (report items)))

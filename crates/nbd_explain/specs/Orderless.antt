@@ -51,10 +51,11 @@ pub data IsTold (profile : Profile) (capture : List Pair) (initial : Start) (old
   image : (items : List Item) (image size : ℕ) → IsRunOf profile items → pairs items ≡ capture
       → IsOtherSize (report items).export initial image size
       → BeginsWith (line (Image image size)) old new → IsTold profile capture initial old new No
-  -- no order explains it: in each one of these READs has a wrong byte at this offset
+  -- no order explains it: in each one of these requests has a wrong byte at this offset
   unexplained : (items : List Item) (reads : List ℕ) (offset : ℕ) → IsRunOf profile items → pairs items ≡ capture
       → IsRefutedBy (report items) (start_byte initial) offset reads → IsUnexplained profile capture initial
-      → BeginsWith (unexplained_line reads offset) old new → IsTold profile capture initial old new No
+      → BeginsWith (unexplained_line (report items) reads offset) old new
+      → IsTold profile capture initial old new No
   -- the search was broken off
   gave_up : (items : List Item) (request offset : ℕ) (reason : Reason) → IsRunOf profile items → pairs items ≡ capture
       → IsUnexplainedBy profile capture initial (arrival (request_count (report items)))

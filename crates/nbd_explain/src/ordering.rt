@@ -22,7 +22,7 @@ ghost use Rattle.nbd_tool.specs.declared.fault.RunFault.TheVariants as faults;
 ghost use Rattle.nbd_explain.specs.internal.Outcomes.{IsToldFrom, IsToldOf};
 
 use nbd_capture::write_whole;
-use nbd_judge::Verdict;
+use nbd_judge::{Verdict, wrong_of};
 use nbd_order::{Found, Scope, find};
 use nbd_search::{Progress, Reason};
 use nbd_session::{SessionFault, Transcript};
@@ -161,7 +161,7 @@ fn told_of_report(
     ensures { IfOk result (λ told. IsToldOf start scope.wanted (Ok transcript.now) told.1 told.0.bytes.items) }
 {
     let found = find_order(alloc, transcript, start, scope, progress)?;
-    let text = found_text_of(alloc, &found)?;
+    let text = found_text_of(alloc, transcript, &found)?;
     Ok((text, ordered_as(&found)))
 }
 
@@ -221,14 +221,21 @@ fn ordered_as(found: &Found) -> Ordered
 }
 
 /// The lines of an order, or the line that says why there is none. An `Err` says that memory ran out.
-pub fn found_text_of(alloc: Global, found: &Found) -> Result<String, AllocError>
-    ensures { IfOk result (λ text. text.bytes.items ≡ found_text found.now) }
+pub fn found_text_of(
+    alloc: Global,
+    transcript: &Transcript,
+    found: &Found,
+) -> Result<String, AllocError>
+    ensures { IfOk result (λ text. text.bytes.items ≡ found_text transcript.now found.now) }
 {
     match found {
         Found::Order(entries) => lines_of(alloc, entries),
-        Found::Unexplained(refutation) => {
-            unexplained(alloc, refutation.reads.as_slice(), refutation.offset)
-        }
+        Found::Unexplained(refutation) => unexplained(
+            alloc,
+            transcript,
+            refutation.reads.as_slice(),
+            refutation.offset,
+        ),
         Found::Image { image, size } => {
             let (image, size) = (*image, *size);
             line_of(alloc, Verdict::Image { image, size })
@@ -271,16 +278,20 @@ fn push_entry(text: &mut String, entry: &Entry) -> Result<(), AllocError>
     }
 }
 
-// The line of READs of which each order has one wrong at this offset.
-fn unexplained(alloc: Global, reads: &[u64], offset: u64) -> Result<String, AllocError>
-    ensures { IfOk result (λ text. text.bytes.items ≡ unexplained_line reads.now offset) }
+// The line of requests of which each order has one wrong at this offset.
+fn unexplained(
+    alloc: Global,
+    transcript: &Transcript,
+    reads: &[u64],
+    offset: u64,
+) -> Result<String, AllocError>
+    ensures { IfOk result (λ text. text.bytes.items ≡ unexplained_line transcript.now reads.now offset) }
 {
     if reads.len() != 1 {
         let reads = numbers_of(alloc, reads)?;
         return format!(in alloc; "no order explains requests{reads} at offset {offset}\n");
     }
-    let request = reads[0];
-    let verdict = Verdict::Content { request, offset };
+    let verdict = wrong_of(transcript, reads[0], offset);
     format!(in alloc; "{} in any order\n", Line { verdict })
 }
 

@@ -155,6 +155,6 @@ fn line_of(
                 Line { verdict }
             )?)
         }
-        _ => found_text_of(alloc, found),
+        _ => found_text_of(alloc, &transcript, found),
     }
 }

@@ -1,5 +1,5 @@
 -- The verdict on a report, an order of service and what the export held at first.
-use Rattle.std.specs.Prelude.{ℕ, List, ◌≡◌, Option, Some, slice_get}
+use Rattle.std.specs.Prelude.{ℕ, List, ◌≡◌, ◌==◌, Option, None, Some, if◌then◌else◌, slice_get}
 use Rattle.nbd_wire.specs.declared.entry.Entry.{Entry}
 use Rattle.nbd_wire.specs.protocol.ExportBytes.{IsWrong, effects}
 use Rattle.nbd_wire.specs.protocol.Explains.{FitsImage, Start, start_byte}
@@ -31,6 +31,16 @@ abbrev pub FirstWrongOf : (command : ℕ) → Report → List Entry → (ℕ →
 FirstWrongOf command r order initial request offset =
     FirstWrongFrom r order initial request offset
     × ((a : Asked) × (asked_at request r.asked ≡ Some a) × (a.command ≡ command))
+
+-- the verdict on a wrong byte of a request, if there is one: Status of a BLOCK_STATUS, else Content
+abbrev pub wrong_verdict_if : Option Asked → (request offset : ℕ) → Verdict
+wrong_verdict_if (Some a) request offset =
+    if a.command == commands.BLOCK_STATUS then Status request offset else Content request offset
+wrong_verdict_if None request offset = Content request offset
+
+-- the verdict on a wrong byte of request k of the report
+abbrev pub wrong_verdict : Report → (request offset : ℕ) → Verdict
+wrong_verdict r request offset = wrong_verdict_if (asked_at request r.asked) request offset
 
 -- the verdict where the export's bytes were these at first: Order, Content, Status or Yes
 abbrev pub IsJudged : Report → List Entry → (ℕ → Option ℕ) → Verdict → Type 0

@@ -10,7 +10,7 @@ ghost use Rattle.nbd_judge.specs.Conclusions.{LeavesUnserved};
 ghost use Rattle.nbd_judge.specs.Servable.{size_of};
 ghost use Rattle.nbd_wire.specs.declared.entry.Entry.{Entry};
 ghost use Rattle.nbd_wire.specs.protocol.Verdicts.{IsFaultless};
-ghost use Rattle.nbd_judge.specs.Verdicts.{FirstWrongFrom, IsJudged};
+ghost use Rattle.nbd_judge.specs.Verdicts.{FirstWrongFrom, IsJudged, wrong_verdict};
 
 use crate::Verdict;
 use crate::order::order_fault;
@@ -51,8 +51,9 @@ pub fn judge<C: Contents>(
     })
 }
 
-// The verdict on a wrong byte that an entry serves of a request: Status where that is a BLOCK_STATUS, else Content.
-fn wrong_of(transcript: &Transcript, request: u64, offset: u64) -> Verdict
+/// The verdict on a wrong byte that an entry serves of a request: Status where that is a BLOCK_STATUS, else Content.
+pub fn wrong_of(transcript: &Transcript, request: u64, offset: u64) -> Verdict
+    ensures verdict { result ≡ wrong_verdict transcript.now request offset }
     ensures judged { (order : List Entry) (initial : ℕ → Option ℕ) → IsFaultless transcript.now order →
         FirstWrongFrom transcript.now order initial request offset → IsJudged transcript.now order initial result }
     ensures unserved { (profile : Profile) (capture : List Pair) (order : List Entry) →

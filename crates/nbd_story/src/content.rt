@@ -1,34 +1,46 @@
-//! Which byte of a READ was wrong, and which was right.
+//! Which byte of a READ was wrong or was called zero by a BLOCK_STATUS, and which was right.
 
 use crate::brief::Brief;
 use crate::explanation::Sources;
 use crate::parts::has_offset;
 use crate::story::{Request, Story, Told};
 use crate::text::Text;
+use crate::zeroes::{Descriptor, is_status};
 use nbd_export::Start;
-use nbd_judge::CONTENT_RULE;
+use nbd_judge::{CONTENT_RULE, Rule, STATUS_RULE};
 use nbd_wire::{Entry, Part, Side, chunks, commands, head_lengths};
 use std::alloc::Global;
 
-/// A byte that a READ got.
+/// A byte that a READ got, or the zero that a BLOCK_STATUS called one.
 #[derive(Clone, Copy)]
 pub struct Came<'a> {
     pub byte: u8,
-    /// Its place in the capture; of a byte of a hole the last byte of the chunk that told the hole.
+    /// Its place in the capture; of a byte of a hole the last byte of the chunk that told the hole, of one that was called zero that of
+    /// the descriptor.
     pub place: u64,
     /// The message that brought it.
     pub reply: &'a Told,
+    /// The descriptor that called it zero.
+    pub descriptor: Option<Descriptor>,
+}
+
+/// The rule that a request breaks which got a wrong byte or called one zero.
+pub fn rule_of(request: Option<&Request>) -> Rule {
+    if is_status(request) {
+        STATUS_RULE
+    } else {
+        CONTENT_RULE
+    }
 }
 
 impl Text {
-    /// Adds that a READ got a wrong byte, if the server served in some order.
-    pub fn content_rule(self, breaker: &str) -> Text {
-        self.rule(&CONTENT_RULE, breaker)
-    }
-
-    /// Adds which byte the READ with this number got for this offset of the export, and which it should have got.
+    /// Adds which byte the READ with this number got for this offset of the export, or that the BLOCK_STATUS called it zero, and which
+    /// byte was right.
     pub fn wrong_byte(self, alloc: Global, number: u64, offset: u64, sources: Sources<'_>) -> Text {
-        let text = self.content_rule("the server, if it served in this order");
+        let text = self.rule(
+            &rule_of(sources.story.request(number)),
+            "the server, if it served in this order",
+        );
         for (place, entry) in sources.order.iter().enumerate() {
             if entry.request == number && serves(entry, offset) {
                 return text
@@ -78,13 +90,30 @@ impl Text {
         }
     }
 
-    /// Adds a byte that a READ got for an offset, and the message that brought it.
+    /// Adds a byte that a READ got for an offset, or what called it zero, and the message that brought it.
     pub fn came(self, came: Came<'_>, offset: u64, story: &Story) -> Text {
-        self.told("reply: ", came.reply, story)
-            .byte("\ncame: ", came.byte)
-            .number(" for offset ", offset)
-            .say(place_of(&came.reply.brief))
-            .number("", came.place)
+        let text = self.told("reply: ", came.reply, story).end();
+        match came.descriptor {
+            Some(descriptor) => text
+                .number("called zero: offset ", offset)
+                .descriptor(descriptor, came.reply, story),
+            None => text
+                .byte("came: ", came.byte)
+                .number(" for offset ", offset)
+                .say(place_of(&came.reply.brief))
+                .number("", came.place)
+                .end(),
+        }
+    }
+
+    // A descriptor of a status chunk, and its places.
+    fn descriptor(self, descriptor: Descriptor, chunk: &Told, story: &Story) -> Text {
+        let (first, last) = descriptor.places(chunk, story);
+        self.part(", in ", descriptor.part)
+            .number(", descriptor ", descriptor.number)
+            .status_named(chunk, story)
+            .say("; ")
+            .places(first, last)
             .end()
     }
 
@@ -153,17 +182,31 @@ fn touches(entry: &Entry, offset: u64, story: &Story) -> bool {
     }
 }
 
-/// The byte that the request with this number got for an offset.
+/// The byte that the request with this number got for an offset; 00 where it called it zero.
 pub fn found_byte(number: u64, offset: u64, story: &Story) -> Option<Came<'_>> {
     match story.bringer(number, Part { offset, length: 1 }) {
         Some(told) if is_hole(&told.brief) => Some(Came {
             byte: 0,
             place: told.last,
             reply: told,
+            descriptor: None,
         }),
         Some(told) => came_in(told, offset, story),
-        None => None,
+        None => called_zero(number, offset, story),
     }
+}
+
+// What the request with this number says of an offset that it calls zero.
+fn called_zero(number: u64, offset: u64, story: &Story) -> Option<Came<'_>> {
+    let zeroes = story.zeroes_of(number)?;
+    let descriptor = zeroes.descriptor_at(offset)?;
+    let (_, place) = descriptor.places(zeroes.chunk, story);
+    Some(Came {
+        byte: 0,
+        place,
+        reply: zeroes.chunk,
+        descriptor: Some(descriptor),
+    })
 }
 
 // The byte for an offset of the content with which a message ends.
@@ -175,6 +218,7 @@ fn came_in<'a>(told: &'a Told, offset: u64, story: &'a Story) -> Option<Came<'a>
             byte,
             place: story.recording.place(Side::Server, before),
             reply: told,
+            descriptor: None,
         }),
         None => None,
     }
@@ -191,10 +235,12 @@ fn count_from(content: Option<Part>, offset: u64) -> u64 {
     }
 }
 
-/// What stands at the place of a byte that a message brought.
+/// What stands at the place of a byte that a message brought or called zero.
 pub fn place_of(brief: &Brief) -> &'static str {
     if is_hole(brief) {
         ", in a hole, whose chunk ends at byte "
+    } else if brief.chunk_kind() == Some(chunks::BLOCK_STATUS) {
+        ", in a descriptor that ends at byte "
     } else {
         ", at byte "
     }

@@ -2,11 +2,11 @@
 
 use crate::story::{Request, Story, Told};
 use crate::text::Text;
+use crate::zeroes::Descriptors;
 use nbd_state::Selection;
 use nbd_wire::flags::has_wide;
 use nbd_wire::{
-    AnswerHead, Side, answers, chunks, context_of, first_extent, head_lengths, options, states,
-    status_of,
+    AnswerHead, Side, answers, chunks, context_of, head_lengths, options, states, status_of,
 };
 use std::alloc::{AllocError, Global};
 use std::collections::{BTreeMap, BTreeSet};
@@ -113,10 +113,15 @@ impl Story {
             .bytes_from(Side::Server, place.before)
             .get(..place.length as usize)
     }
+
+    /// Whether the context with this id is `base:allocation`.
+    pub fn is_allocation(&self, id: u32) -> bool {
+        self.context_name(id) == Some(ALLOCATION)
+    }
 }
 
 impl Text {
-    /// A context by its name and its id: `base:allocation (1)`.
+    // A context by its name and its id: `base:allocation (1)`.
     fn context(self, id: u32, story: &Story) -> Text {
         match story.context_name(id) {
             Some(name) => self.bytes(name).number(" (", u64::from(id)).say(")"),
@@ -171,32 +176,37 @@ impl Text {
                 .context(id, story)
                 .say(": ")
                 .extents(
-                    story.context_name(id) == Some(ALLOCATION),
-                    offset,
-                    descriptors,
+                    story.is_allocation(id),
+                    Descriptors::of(descriptors, offset),
                 ),
             _ => self,
         }
     }
 
-    // Descriptors from an offset on, one behind the other.
-    fn extents(self, is_allocation: bool, offset: u64, descriptors: &[u8]) -> Text {
+    /// Of how many descriptors a status chunk has one, and of which context it is: ` of 2 of base:allocation (1)`.
+    pub fn status_named(self, chunk: &Told, story: &Story) -> Text {
+        match story.status_in(chunk) {
+            Some((id, descriptors)) => self
+                .number(" of ", Descriptors::of(descriptors, 0).count())
+                .say(" of ")
+                .context(id, story),
+            None => self,
+        }
+    }
+
+    // The first descriptors, and how many more there are.
+    fn extents(self, is_allocation: bool, descriptors: Descriptors<'_>) -> Text {
         let mut text = self;
-        let mut at = offset;
         let mut rest = descriptors;
         for number in 0..LISTED {
-            let Some((extent, later)) = first_extent(rest) else {
+            let Some(one) = rest.next() else {
                 return text;
             };
             text = text
-                .say(if number == 0 { "" } else { "; " })
-                .count(u64::from(extent.length), "byte")
-                .number(" at ", at)
-                .state(is_allocation, extent.flags);
-            at = at.saturating_add(u64::from(extent.length));
-            rest = later;
+                .part(if number == 0 { "" } else { "; " }, one.part)
+                .state(is_allocation, one.flags);
         }
-        match rest.len() as u64 / 8 {
+        match rest.count() {
             0 => text,
             more => text.number("; ", more).say(" more"),
         }

@@ -1,4 +1,5 @@
-//! What READs of one offset tell of the order in which its changes were served.
+//! What READs of one offset tell of the order in which its changes were served. A BLOCK_STATUS that calls the offset zero counts as a READ
+//! that got 00.
 
 use crate::content::{byte_at_first, byte_by, found_byte};
 use crate::explanation::Sources;

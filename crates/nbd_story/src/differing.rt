@@ -1,11 +1,13 @@
-//! How many bytes of a READ are wrong, and the first of them beside those that the export held.
+//! How many bytes of a READ are wrong, or of those that a BLOCK_STATUS called zero, and the first of them beside those that the export
+//! held.
 
 use crate::content::{expected_byte, found_byte, is_hole};
 use crate::explanation::Sources;
 use crate::layers::{Layers, Origin, Stretch, end_of};
 use crate::parts::inside;
-use crate::story::{Request, Told};
+use crate::story::{Request, Story, Told};
 use crate::text::Text;
+use crate::zeroes::Zeroes;
 use nbd_wire::{Entry, Part, Side};
 use std::alloc::{AllocError, Global};
 
@@ -15,6 +17,8 @@ const SHOWN: u64 = 16;
 /// Offsets at which bytes differ.
 #[derive(Clone, Copy)]
 struct Differing {
+    /// Of how many bytes.
+    among: u64,
     count: u64,
     first: u64,
     last: u64,
@@ -24,6 +28,7 @@ impl Differing {
     // These and a greater offset.
     fn with(self, offset: u64) -> Differing {
         Differing {
+            among: self.among,
             count: self.count.saturating_add(1),
             first: if self.count == 0 { offset } else { self.first },
             last: offset,
@@ -44,16 +49,24 @@ impl Differing {
     // These and those at which a stretch that came is not the one that was expected, which begins at the same offset.
     fn between(self, came: Stretch, expected: Stretch, sources: Sources<'_>) -> Differing {
         let offset = came.part.offset;
+        let among = self.more(came.part.length);
         match (came.origin, expected.origin) {
-            (_, Origin::Unknown) => self,
-            (Origin::Zeroes, _) => self.compared(offset, expected.bytes(sources), &[]),
-            _ => self.compared(offset, came.bytes(sources), expected.bytes(sources)),
+            (_, Origin::Unknown) => among,
+            (Origin::Zeroes, _) => among.compared(offset, expected.bytes(sources), &[]),
+            _ => among.compared(offset, came.bytes(sources), expected.bytes(sources)),
         }
+    }
+
+    // The same, among so many more.
+    fn more(mut self, count: u64) -> Differing {
+        self.among = self.among.saturating_add(count);
+        self
     }
 }
 
 impl Text {
-    /// Adds how many of the bytes are wrong that a READ got for what an entry at this place of the order serves of it.
+    /// Adds how many of the bytes are wrong that a READ got, or that a BLOCK_STATUS called zero, for what an entry at this place of the
+    /// order serves of it.
     pub fn differing(
         self,
         alloc: Global,
@@ -83,18 +96,19 @@ impl Text {
     ) -> Text {
         match differing_of(alloc, place, read, part, sources) {
             Ok(differing) => self
-                .counted(differing, part)
+                .counted(differing, read)
                 .beside(place, read, first_of(differing, part), sources),
             Err(_) => self.refused(),
         }
     }
 
-    // How many bytes of a part differ, the first and the last of them.
-    fn counted(self, differing: Differing, part: Part) -> Text {
+    // How many bytes differ, the first and the last of them.
+    fn counted(self, differing: Differing, read: &Request) -> Text {
         let text = self
             .number("differ: ", differing.count)
             .say(" of ")
-            .count(part.length, "byte");
+            .count(differing.among, "byte")
+            .say(if read.is_status() { " called zero" } else { "" });
         if differing.count == 1 {
             text.number(", at offset ", differing.first)
         } else {
@@ -107,7 +121,12 @@ impl Text {
     fn beside(self, place: usize, read: &Request, part: Part, sources: Sources<'_>) -> Text {
         let mut came = self
             .number("\nfrom offset ", part.offset)
-            .say(":\n  came    ");
+            .say(":\n  ")
+            .say(if read.is_status() {
+                "called  "
+            } else {
+                "came    "
+            });
         for offset in part.offset..end_of(part) {
             came = came.known(byte_in(read, offset, sources));
         }
@@ -127,7 +146,7 @@ impl Text {
     }
 }
 
-// The byte that a READ got for an offset.
+// The byte that a READ got for an offset; 00 where a BLOCK_STATUS called it zero.
 fn byte_in(read: &Request, offset: u64, sources: Sources<'_>) -> Option<u8> {
     match found_byte(read.number, offset, sources.story) {
         Some(came) => Some(came.byte),
@@ -143,7 +162,7 @@ fn first_of(differing: Differing, part: Part) -> Part {
     }
 }
 
-// What an entry serves of a READ.
+// What an entry serves of a READ or a BLOCK_STATUS.
 fn served(entry: &Entry, read: &Request, sources: Sources<'_>) -> Part {
     match entry.part {
         Some(part) => part,
@@ -151,7 +170,8 @@ fn served(entry: &Entry, read: &Request, sources: Sources<'_>) -> Part {
     }
 }
 
-// The offsets of a part at which a READ got another byte than the export held before an entry of the order.
+// The offsets of a part at which a READ got another byte than the export held before an entry of the order, or a BLOCK_STATUS called it
+// zero.
 fn differing_of(
     alloc: Global,
     place: usize,
@@ -168,6 +188,7 @@ fn differing_of(
 // The offsets at which stretches that came are not those that were expected; both lie in the order of their offsets.
 fn differing_between(came: &[Stretch], expected: &[Stretch], sources: Sources<'_>) -> Differing {
     let mut differing = Differing {
+        among: 0,
         count: 0,
         first: 0,
         last: 0,
@@ -186,23 +207,51 @@ fn differing_between(came: &[Stretch], expected: &[Stretch], sources: Sources<'_
     differing
 }
 
-// What a READ got, in the order of the offsets.
+// What a READ got or a BLOCK_STATUS called zero, in the order of the offsets.
 fn stretches_of(
     alloc: Global,
     read: &Request,
     sources: Sources<'_>,
 ) -> Result<Vec<Stretch>, AllocError> {
     let mut stretches = Vec::new(alloc);
-    for told in &sources.story.told {
-        if let Some(part) = told.content_to(read.number) {
+    match sources.story.zeroes_of(read.number) {
+        Some(zeroes) => push_zeroes(&mut stretches, &zeroes)?,
+        None => push_contents(&mut stretches, read.number, sources.story)?,
+    }
+    stretches.sort_by_key(|stretch| stretch.part.offset)?;
+    Ok(stretches)
+}
+
+// Adds what the READ with this number got.
+fn push_contents(
+    stretches: &mut Vec<Stretch>,
+    number: u64,
+    story: &Story,
+) -> Result<(), AllocError> {
+    for told in &story.told {
+        if let Some(part) = told.content_to(number) {
             stretches.push(Stretch {
                 part,
                 origin: origin_in(told, part),
             })?;
         }
     }
-    stretches.sort_by_key(|stretch| stretch.part.offset)?;
-    Ok(stretches)
+    Ok(())
+}
+
+// Adds what a BLOCK_STATUS called zero.
+fn push_zeroes(stretches: &mut Vec<Stretch>, zeroes: &Zeroes<'_>) -> Result<(), AllocError> {
+    let mut rest = zeroes.descriptors;
+    for _ in 0..rest.count() {
+        let one = rest.next();
+        if let Some(part) = zeroes.part_of(one) {
+            stretches.push(Stretch {
+                part,
+                origin: Origin::Zeroes,
+            })?;
+        }
+    }
+    Ok(())
 }
 
 // Where the content of a message comes from, with which the message ends.

@@ -43,9 +43,8 @@ impl Text {
             Verdict::Wire { at, fault } => self.wire_fault(alloc, *at, *fault, sources.story),
             Verdict::Image { image, size } => self.image(*image, *size),
             Verdict::Order { entry, fault } => self.order_fault(alloc, *entry, *fault, sources),
-            Verdict::Content { request, offset } => self.wrong_byte(
-                alloc, *request, *offset, sources,
-            ),
+            Verdict::Content { request, offset } | Verdict::Status { request, offset } =>
+                self.wrong_byte(alloc, *request, *offset, sources),
         }
     }
 
@@ -61,12 +60,27 @@ impl Text {
 
     /// Adds a rule, who broke it, and where it stands.
     pub fn rule(self, rule: &Rule, breaker: &str) -> Text {
-        self.say("rule: ")
-            .say(rule.sentence)
-            .say("\nbroken by: ")
-            .say(breaker)
-            .say("\nsection: ")
-            .say(rule.section)
-            .end()
+        self.sentence(rule).breaker(breaker).section(rule)
+    }
+
+    /// Adds two rules of which one or the other was broken, who broke it, and where they stand.
+    pub fn one_of_rules(self, first: &Rule, second: &Rule, breaker: &str) -> Text {
+        self.sentence(first)
+            .sentence(second)
+            .breaker(breaker)
+            .section(first)
+            .section(second)
+    }
+
+    fn sentence(self, rule: &Rule) -> Text {
+        self.say("rule: ").say(rule.sentence).end()
+    }
+
+    fn breaker(self, breaker: &str) -> Text {
+        self.say("broken by: ").say(breaker).end()
+    }
+
+    fn section(self, rule: &Rule) -> Text {
+        self.say("section: ").say(rule.section).end()
     }
 }

@@ -31,6 +31,7 @@ mod window;
 mod wire;
 mod words;
 mod worth;
+mod zeroes;
 
 pub use explanation::{Sources, explanation_of};
 pub use messages::told_line;

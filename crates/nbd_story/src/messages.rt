@@ -92,6 +92,11 @@ impl Text {
             .number(" #", request.number)
     }
 
+    /// Words and a request that was named before, by its type: ` before the READ`.
+    pub fn the(self, words: &str, request: &Request) -> Text {
+        self.say(words).say("the ").command(request.head.command)
+    }
+
     // The type of a request: `READ`, and `command 9` of one without a name.
     fn command(self, command: u16) -> Text {
         match name_in(COMMANDS, u32::from(command)) {

@@ -4,9 +4,11 @@ use crate::content::{byte_at_first, byte_by, found_byte, place_of};
 use crate::explanation::Sources;
 use crate::story::{Request, Story};
 use crate::text::Text;
+use crate::zeroes::is_status;
+use nbd_judge::{CONTENT_RULE, STATUS_RULE};
 
-/// READs of which each order of the session has one wrong at an offset of the export, and the changes that it takes to show that, by
-/// their numbers.
+/// READs of an offset of the export, and BLOCK_STATUSes that call it zero, of which each order of the session has one wrong there, and
+/// the changes that it takes to show that, by their numbers.
 #[derive(Clone, Copy)]
 pub struct Contest<'a> {
     pub reads: &'a [u64],
@@ -14,18 +16,53 @@ pub struct Contest<'a> {
     pub offset: u64,
 }
 
+impl Contest<'_> {
+    // How many of the requests are BLOCK_STATUSes.
+    fn count_of_statuses(&self, story: &Story) -> usize {
+        let mut count = 0usize;
+        for number in self.reads {
+            if is_status(story.request(*number)) {
+                count = count.saturating_add(1);
+            }
+        }
+        count
+    }
+}
+
+fn label_of(request: Option<&Request>) -> &'static str {
+    if is_status(request) {
+        "status: "
+    } else {
+        "read: "
+    }
+}
+
 impl Text {
-    /// Adds why no order serves these READs so that each gets its byte of the export at the offset.
+    /// Adds why no order serves these requests so that each READ gets its byte of the export at the offset, and each BLOCK_STATUS 00.
     pub fn refutation(self, contest: Contest<'_>, sources: Sources<'_>) -> Text {
         match contest.reads {
             [request] => self.no_source(*request, contest.offset, sources),
             _ => self
-                .content_rule("the server, in whatever order it served")
+                .rules(contest, sources.story)
                 .byte_of_start(contest.offset, sources)
                 .changes(contest, sources.story)
                 .reads(contest, sources.story)
                 .deduction(contest, sources)
                 .assumed(),
+        }
+    }
+
+    // The rule of READs, that of BLOCK_STATUSes, or both where there are both.
+    fn rules(self, contest: Contest<'_>, story: &Story) -> Text {
+        let breaker = "the server, in whatever order it served";
+        match (contest.count_of_statuses(story), contest.reads.len()) {
+            (0, _) => self.rule(&CONTENT_RULE, breaker),
+            (statuses, all) if statuses == all => self.rule(&STATUS_RULE, breaker),
+            _ => self.one_of_rules(
+                &CONTENT_RULE,
+                &STATUS_RULE,
+                "the server, one or the other, in whatever order it served",
+            ),
         }
     }
 
@@ -59,12 +96,13 @@ impl Text {
         }
     }
 
-    // Each READ, when it can have been served, and the byte that it got.
+    // Each READ and BLOCK_STATUS, when it can have been served, and the byte that it got or called zero.
     fn reads(self, contest: Contest<'_>, story: &Story) -> Text {
         let mut text = self;
         for number in contest.reads {
+            let request = story.request(*number);
             text = text
-                .between("read: ", story.request(*number))
+                .between(label_of(request), request)
                 .got(*number, contest.offset, story);
         }
         text
@@ -73,11 +111,20 @@ impl Text {
     fn got(self, read: u64, offset: u64, story: &Story) -> Text {
         match found_byte(read, offset, story) {
             Some(came) => self
-                .byte("got ", came.byte)
+                .told_byte(came.descriptor.is_some(), came.byte)
                 .say(place_of(&came.reply.brief))
                 .number("", came.place)
                 .end(),
             None => self.say("got no byte\n"),
+        }
+    }
+
+    /// A byte that came, or that was called zero.
+    pub fn told_byte(self, is_status: bool, byte: u8) -> Text {
+        if is_status {
+            self.say("called it zero")
+        } else {
+            self.byte("got ", byte)
         }
     }
 

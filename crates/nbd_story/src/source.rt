@@ -1,6 +1,6 @@
-//! Why a byte that a READ got has no source.
+//! Why a byte that a READ got, or that a BLOCK_STATUS called zero, has no source.
 
-use crate::content::{Came, byte_at_first, byte_by, found_byte};
+use crate::content::{Came, byte_at_first, byte_by, found_byte, rule_of};
 use crate::explanation::Sources;
 use crate::story::{Request, Story};
 use crate::text::Text;
@@ -8,7 +8,7 @@ use crate::text::Text;
 /// How many changes are listed.
 const LISTED: u64 = 8;
 
-/// A READ that got a byte for this offset of the export.
+/// A READ that got a byte for this offset of the export, or a BLOCK_STATUS that called it zero.
 #[derive(Clone, Copy)]
 struct Got<'a> {
     read: &'a Request,
@@ -17,11 +17,12 @@ struct Got<'a> {
 }
 
 impl Text {
-    /// Adds which byte the READ with this number got for this offset of the export, and why neither the start nor a change
-    /// can have left it.
+    /// Adds which byte the READ with this number got for this offset of the export, or that the BLOCK_STATUS called it zero, and why
+    /// neither the start nor a change can have left that.
     pub fn no_source(self, number: u64, offset: u64, sources: Sources<'_>) -> Text {
-        let text = self.content_rule("the server, in whatever order it served");
-        match sources.story.request(number) {
+        let request = sources.story.request(number);
+        let text = self.rule(&rule_of(request), "the server, in whatever order it served");
+        match request {
             Some(read) => text
                 .asked("message: ", read)
                 .end()
@@ -57,7 +58,8 @@ impl Text {
             Some(change) => self
                 .say("not the start: ")
                 .numbered(change)
-                .say(" was surely served before the READ\n"),
+                .the(" was surely served before ", got.read)
+                .end(),
             None => self,
         }
     }
@@ -77,13 +79,14 @@ impl Text {
                 }
             }
         }
-        text.more_changes(count)
+        text.more_changes(count, got.read)
     }
 
     // How many more there are than were listed, or that there is none.
-    fn more_changes(self, count: u64) -> Text {
+    fn more_changes(self, count: u64, read: &Request) -> Text {
         if count == 0 {
-            self.say("not from: no change of this offset came before the READ was answered\n")
+            self.the("not from: no change of this offset came before ", read)
+                .say(" was answered\n")
         } else if count > LISTED {
             self.number("not from: ", count - LISTED)
                 .say(" more that changed this offset before\n")
@@ -97,17 +100,18 @@ impl Text {
         let text = self.asked("not from: ", change);
         match byte_by(Some(change), got.offset, story) {
             Some(byte) if byte != got.came.byte => text.byte("; it left ", byte).end(),
-            _ => text.overwritten(change_before(Some(change), got, story)),
+            _ => text.overwritten(change_before(Some(change), got, story), got.read),
         }
     }
 
     // Overwritten by a change that was surely served after it and before the READ, if there is one.
-    fn overwritten(self, change: Option<&Request>) -> Text {
+    fn overwritten(self, change: Option<&Request>, read: &Request) -> Text {
         match change {
             Some(change) => self
                 .say("; ")
                 .numbered(change)
-                .say(" was surely served between it and the READ\n"),
+                .the(" was surely served between it and ", read)
+                .end(),
             None => self.say("; no reason found\n"),
         }
     }

@@ -1,10 +1,12 @@
-//! Why READs of one offset can't all have their bytes, step by step.
+//! Why READs of one offset can't all have their bytes, step by step. A BLOCK_STATUS that calls the offset zero counts as a READ that got
+//! 00.
 
 use crate::deduced::{Deduced, Hindrance, MOST, Next, Source, Step, bit};
 use crate::explanation::Sources;
 use crate::refutation::Contest;
-use crate::story::Story;
+use crate::story::{Request, Story};
 use crate::text::Text;
+use crate::zeroes::is_status;
 
 /// How many steps are told.
 const MOST_STEPS: u64 = 10;
@@ -84,7 +86,7 @@ impl Text {
             Some(hindrance) => self
                 .say("; not from ")
                 .source(source, deduced, story)
-                .hindrance(hindrance, deduced, story),
+                .hindrance(read, hindrance, deduced, story),
             None => self,
         }
     }
@@ -96,28 +98,52 @@ impl Text {
         }
     }
 
-    fn hindrance(self, hindrance: Hindrance, deduced: &Deduced, story: &Story) -> Text {
+    // Why the READ at a place does not have its byte from a source.
+    fn hindrance(
+        self,
+        read: usize,
+        hindrance: Hindrance,
+        deduced: &Deduced,
+        story: &Story,
+    ) -> Text {
         match hindrance {
             Hindrance::Left(byte) => self.byte(" (", byte).say(")"),
-            Hindrance::Later => self.say(", served after the READ"),
+            Hindrance::Later => self.type_of(", served after ", read, deduced, story),
             Hindrance::Overwritten(place) => self
                 .say(", which ")
                 .party(place, deduced, story)
-                .say(" overwrote before the READ"),
+                .type_of(" overwrote before ", read, deduced, story),
             Hindrance::Followed(place) => self
                 .say(", after which ")
                 .party(place, deduced, story)
-                .byte(" got ", deduced.bytes[place % MOST].unwrap_or(0))
-                .say(" before the READ"),
+                .say(" ")
+                .told_of(place, deduced, story)
+                .type_of(" before ", read, deduced, story),
         }
     }
 
     // The request at a place by its type and its number.
     fn party(self, place: usize, deduced: &Deduced, story: &Story) -> Text {
-        match story.request(deduced.numbers[place % MOST]) {
+        match party_at(place, deduced, story) {
             Some(request) => self.numbered(request),
             None => self,
         }
+    }
+
+    // The request at a place, which was named before, by its type.
+    fn type_of(self, words: &str, place: usize, deduced: &Deduced, story: &Story) -> Text {
+        match party_at(place, deduced, story) {
+            Some(request) => self.the(words, request),
+            None => self,
+        }
+    }
+
+    // The byte that the READ at a place got.
+    fn told_of(self, place: usize, deduced: &Deduced, story: &Story) -> Text {
+        self.told_byte(
+            is_status(party_at(place, deduced, story)),
+            deduced.bytes[place % MOST].unwrap_or(0),
+        )
     }
 
     // What follows, step by step, up to a READ whose byte can come from nothing.
@@ -150,7 +176,12 @@ impl Text {
             deduced,
             story,
         )
-        .group("; so served after this READ: ", step.after, deduced, story)
+        .group(
+            words_after(party_at(step.read, deduced, story)),
+            step.after,
+            deduced,
+            story,
+        )
         .end()
     }
 
@@ -172,5 +203,18 @@ impl Text {
             .say(" from nothing")
             .impossible(read, false, deduced, story)
             .end()
+    }
+}
+
+// The request at a place.
+fn party_at<'a>(place: usize, deduced: &Deduced, story: &'a Story) -> Option<&'a Request> {
+    story.request(deduced.numbers[place % MOST])
+}
+
+fn words_after(read: Option<&Request>) -> &'static str {
+    if is_status(read) {
+        "; so served after this BLOCK_STATUS: "
+    } else {
+        "; so served after this READ: "
     }
 }

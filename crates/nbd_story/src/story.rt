@@ -81,7 +81,7 @@ impl Request {
 
     /// Whether an entry can serve a part of it: its type has a range, and it is no BLOCK_STATUS that is not proper.
     pub fn has_inside(&self) -> bool {
-        has_range(self.head.command) && (self.proper || self.head.command != commands::BLOCK_STATUS)
+        has_range(self.head.command) && (self.proper || !self.is_status())
     }
 
     /// Whether it was surely served before another one: its reply began before that one had come whole.

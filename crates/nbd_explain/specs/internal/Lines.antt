@@ -45,10 +45,10 @@ pub record HasVerdictLine (told : Report) (entries : List Entry) (beginning : Be
 -- the line of what was found: of an order that of the verdict on it, else that of `order`
 abbrev pub IsLineOf : Report → Found → Beginning → List ℕ → Type 0
 IsLineOf told (Order entries) beginning text = HasVerdictLine told entries.items beginning text
-IsLineOf told (Unexplained refutation) beginning text = text ≡ found_text (Unexplained refutation)
-IsLineOf told (Image image size) beginning text = text ≡ found_text (Image image size)
-IsLineOf told NoneWhole beginning text = text ≡ found_text NoneWhole
-IsLineOf told (GaveUp request offset reason) beginning text = text ≡ found_text (GaveUp request offset reason)
+IsLineOf told (Unexplained refutation) beginning text = text ≡ found_text told (Unexplained refutation)
+IsLineOf told (Image image size) beginning text = text ≡ found_text told (Image image size)
+IsLineOf told NoneWhole beginning text = text ≡ found_text told NoneWhole
+IsLineOf told (GaveUp request offset reason) beginning text = text ≡ found_text told (GaveUp request offset reason)
 
 -- a text begins with that line
 pub record BeginsWithLineOf (told : Report) (found : Found) (beginning : Beginning) (text : List ℕ) : Type 0 where

@@ -29,7 +29,7 @@ pub data IsToldOf (beginning : Beginning) (wanted : Wanted) : Result Report Sess
       → IsWanted wanted f
       → ((profile : Profile) (initial : Start) (items : List Item) → IsReadAs (size_of told.export) initial beginning
       → IsRunOf profile items → report items ≡ told → Says profile items initial f)
-      → IsToldOf beginning wanted (Ok told) (ordered_of f) (found_text f)
+      → IsToldOf beginning wanted (Ok told) (ordered_of f) (found_text told f)
   of_refusal : (at : ℕ) (fault : WireFault) → IsToldOf beginning wanted (Err (Wire at fault)) Refuted
       (line (verdict.Wire at fault))
 
