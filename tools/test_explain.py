@@ -532,6 +532,12 @@ def examples(tally, room):
         found = room.run("explain", capture, capture.with_suffix(".ord"), "--start", start)
         tally.want(f"explain {capture.name}", found, Ended(0 if line.startswith(b"yes") else 1, why, b""))
         tally.holds(f"explain {capture.name} begins as check", why.startswith(line), why)
+        wide = capture.with_suffix(".wide")
+        if wide.exists():
+            words = [capture, "--start", start, "--profile", "wide"]
+            searched(tally, room, f"{capture.name} in wide", words)
+            told = room.run("explain", capture, capture.with_suffix(".ord"), *words[1:])
+            tally.holds(f"explain {capture.name} in wide begins as check", told.out.startswith(wide.read_bytes()), told.out)
 
 
 def told_of(tally, name, found):
