@@ -41,9 +41,9 @@ IsWanted wanted (GaveUp request offset reason) = Unit {0}
 abbrev pub FailsArrival : Report → Start → Type 0
 FailsArrival r initial = Passes r (arrival (request_count r)) initial → ⊥
 
--- what is said of a report: an order without a fault and without a wrong byte, READs (or BLOCK_STATUS) of which one has a
--- wrong byte in each order without a fault, or an image of another size; of every other answer only that the order of
--- arrival does not explain it
+-- what is said of a report: an order without a fault and without a wrong byte, READs or BLOCK_STATUS of which one has
+-- a wrong byte in each order without a fault, or an image of another size; of every other answer only that the order
+-- of arrival does not explain it
 abbrev pub IsFound : Report → Start → Found → Type 0
 IsFound r initial (Order order) = Passes r order.items initial
 IsFound r initial (Unexplained refutation) = IsRefutedBy r (start_byte initial) refutation.offset refutation.reads.items

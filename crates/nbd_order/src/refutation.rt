@@ -10,7 +10,8 @@ use std::alloc::Global;
 pub const MOST_STATES: usize = 1_000;
 
 /// Why no order explains a session: at one offset these READs and changes can be served in no order so that each of the READs
-/// gets its byte, and no other change can help. A BLOCK_STATUS that calls the offset zero is one of the READs, and gets 0. All numbers are those of requests, counted from 1, in rising order.
+/// gets its byte, and no other change can help. A BLOCK_STATUS that calls the offset zero is one of the READs, and gets 0. All
+/// numbers are those of requests, counted from 1, in rising order.
 #[derive(Drop)]
 pub struct Refutation {
     /// In bytes from the export's start.

@@ -56,15 +56,9 @@ pub fn entries_of(alloc: Global, work: &mut Work, scene: &Scene, list: &[Kept]) 
     let mut pieces = Vec::new(alloc);
     if scene.is_torn {
         add_ranges(&mut pieces, list, &mut work.is_lost);
-    }
-    for request in 1..scene.requests.len() {
-        let one = &scene.requests[request];
-        if scene.is_torn {
-            add_rest(&mut pieces, &scene.cuts, request, one, &mut work.is_lost);
-        } else if one.moment.0 != NEVER {
-            let piece = (one.moment, request, one.lo, one.hi);
-            keep(&mut pieces, piece, &mut work.is_lost);
-        }
+        add_rest(&mut pieces, scene, &mut work.is_lost);
+    } else {
+        add_whole(&mut pieces, scene, &mut work.is_lost);
     }
     pieces.sort_unstable();
     joined(alloc, scene, &pieces, &mut work.is_lost)
@@ -85,33 +79,49 @@ fn add_ranges(pieces: &mut Vec<Piece>, list: &[Kept], is_lost: &mut bool) {
     }
 }
 
-// Adds what of a request that was answered lies in no range that was searched, as it arrives; also a request without a range.
-fn add_rest(
+// Adds what of the requests that were answered is not served yet, as it arrives; also those without a range. Of a BLOCK_STATUS that
+// may be a part of a range that was searched, since it reads only what it calls zero.
+fn add_rest(pieces: &mut Vec<Piece>, scene: &Scene, is_lost: &mut bool) {
+    pieces.sort_unstable_by_key(|piece| (piece.1, piece.2));
+    let (served, mut next) = (pieces.len(), 0);
+    for request in 1..scene.requests.len() {
+        let one = &scene.requests[request];
+        let (mut at, first) = (one.lo, next);
+        for i in first..served {
+            let Some((_, owner, lo, hi)) = pieces.get(i).copied() else {
+                break;
+            };
+            if owner != request {
+                break;
+            }
+            add_answered(pieces, request, one, (at, lo), is_lost);
+            (at, next) = (hi, i + 1);
+        }
+        add_answered(pieces, request, one, (at, one.hi), is_lost);
+    }
+}
+
+// Adds what of a request that was answered lies between two offsets, as it arrives; also one without a range.
+fn add_answered(
     pieces: &mut Vec<Piece>,
-    cuts: &[(u64, u64)],
     request: usize,
     one: &Request,
+    between: (u64, u64),
     is_lost: &mut bool,
 ) {
-    if one.due == NEVER {
-        return;
+    let (lo, hi) = between;
+    if one.due != NEVER && (lo < hi || one.lo == one.hi) {
+        keep(pieces, ((request, 0), request, lo, hi), is_lost);
     }
-    let mut at = one.lo;
-    let (Ok(first) | Err(first)) = cuts.binary_search(&(at, at));
-    for i in first..cuts.len() {
-        let (cut, searched) = cuts[i];
-        if cut >= one.hi {
-            break;
+}
+
+// Adds each request that has a moment, whole.
+fn add_whole(pieces: &mut Vec<Piece>, scene: &Scene, is_lost: &mut bool) {
+    for request in 1..scene.requests.len() {
+        let one = &scene.requests[request];
+        if one.moment.0 != NEVER {
+            keep(pieces, (one.moment, request, one.lo, one.hi), is_lost);
         }
-        if cut < searched {
-            if at < cut {
-                keep(pieces, ((request, 0), request, at, cut), is_lost);
-            }
-            at = searched;
-        }
-    }
-    if at < one.hi || one.lo == one.hi {
-        keep(pieces, ((request, 0), request, at, one.hi), is_lost);
     }
 }
 

@@ -20,7 +20,7 @@ IsChange r w x e = (effects r w ≡ Some e) × IsTrue (touches None e x)
 abbrev pub GivesByte : Effect → (x : ℕ) → Type 0
 GivesByte e x = (e.command ≡ commands.READ) ⊎ ((e.command ≡ commands.BLOCK_STATUS) × IsTrue (is_some (e.read x)))
 
--- request k is a READ, or a BLOCK_STATUS that calls x zero, which succeeded, with x inside it, and to which a reply began
+-- request k gives a byte at x: it succeeded, x lies inside it, and a reply to it began
 pub record IsReadAt (r : Report) (x k : ℕ) : Type 0 where
   pub read : Effect
   pub is_request : effects r k ≡ Some read
