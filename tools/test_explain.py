@@ -11,7 +11,7 @@ from pathlib import Path
 
 from built import TOP, Ended, Room, Tally
 from messages import (
-    CACHE, CLIENT, DISC, DONE, FLUSH, READ, REQ_ONE, SERVER, TRIM, WRITE, WRITE_ZEROES, answer, begun, chunk,
+    BLOCK_STATUS, CACHE, CLIENT, DISC, DONE, FLUSH, READ, REQ_ONE, SERVER, TRIM, WRITE, WRITE_ZEROES, answer, begun, chunk,
     client_flags, content, context, cut, done, export_info, extents, failed, front, greeting, hole, option, read, request, simple, status,
     text, write,
 )
@@ -36,7 +36,8 @@ def queries(*asked):
 # A negotiation that lists metadata contexts, and one that then sets one.
 LISTED = [*HELLO, option(8), answer(8, 1), option(9, queries()), answer(9, 4, b"\0\0\0\0base:allocation"), answer(9, 1)]
 ALLOCATION = b"\0\0\0\1base:allocation"
-SELECTED = [*LISTED, option(10, queries(b"base:allocation")), answer(10, 4, ALLOCATION), answer(10, 1), *begun()[2:]]
+SELECTING = [*LISTED, option(10, queries(b"base:allocation")), answer(10, 4, ALLOCATION), answer(10, 1)]
+SELECTED = [*SELECTING, *begun()[2:]]
 SELECTED_TWO = [
     *LISTED, option(10, queries(b"base:allocation", b"a:\xff")), answer(10, 4, ALLOCATION), context(2, b"a:\xff"), answer(10, 1),
     *begun()[2:],
@@ -613,12 +614,18 @@ def bytes_left(changes, start):
     return held
 
 
-def session_of(changes, came, pieces, rng, size):
-    """The records, in which each request is answered before the next; a piece of zeroes may be a hole."""
-    records = begun(structured=True, size=size)
+def changing(changes):
+    """The records of changes, each of which is answered before the next."""
+    records = []
     for number, (command, offset, data, succeeded) in enumerate(changes, 1):
         payload = data if command == WRITE else b""
         records += [request(command, number, offset, len(data), payload), simple(number, error=0 if succeeded else 5)]
+    return records
+
+
+def session_of(changes, came, pieces, rng, size):
+    """The records, in which each request is answered before the next; a piece of zeroes may be a hole."""
+    records = [*begun(structured=True, size=size), *changing(changes)]
     number = len(changes) + 1
     records.append(read(number, 0, size))
     for first, end in rng.sample(pieces, len(pieces)):
@@ -650,16 +657,60 @@ def differing(tally, room):
         found = room.run("explain", room.put("drawn.cap", text(records)), room.put("drawn.ord", order), "--start",
                          start_of(room, "drawn", start))
         told = told_of(tally, f"differing {turn}", found)
-        wrong = [offset for offset in range(size) if held[offset] not in (None, came[offset])]
-        if not wrong:
-            tally.holds(f"differing {turn}: yes", told.startswith("yes "), told)
+        compared(tally, f"differing {turn}", told, bytes_of(size), "came    ", came, held)
+
+
+def bytes_of(count):
+    return f"{count} byte" + "s" * (count != 1)
+
+
+def compared(tally, name, told, among, label, came, held):
+    """What is told of the bytes that came, None where none did, beside what the export held, None where that is not known; the offset
+    of the first that is wrong, if there is one."""
+    wrong = [offset for offset, (one, other) in enumerate(zip(came, held)) if None not in (one, other) and one != other]
+    if not wrong:
+        tally.holds(f"{name}: yes", told.startswith("yes "), told)
+        return None
+    places = f"at offset {wrong[0]}" if len(wrong) == 1 else f"from offset {wrong[0]} to {wrong[-1]}"
+    shown = slice(wrong[0], wrong[0] + 16)
+    wanted = (f"\ndiffer: {len(wrong)} of {among}, {places}\nfrom offset {wrong[0]}:\n  {label} {row(came[shown])}\n"
+              f"  expected {row(held[shown])}\n")
+    tally.holds(f"{name}: {wanted}", wanted in told, told)
+    return wrong[0]
+
+
+def called_zero(tally, room):
+    """The same of random sessions of one BLOCK_STATUS, of which the last descriptor may pass the range: the descriptor that calls the
+    first wrong byte zero, and its places, too."""
+    rng = random.Random(22)
+    for turn in range(150):
+        size = rng.choice((1, 5, 17, 40))
+        changes, pieces = drawn(rng, size)
+        start, kept = rng.choice((("zero", [0] * size), ("unknown", [None] * size), (f"image:{size}", list(range(size)))))
+        first = rng.randrange(size)
+        parts = [(max(at, first), end, rng.randrange(4)) for at, end in pieces if end > first]
+        called = [None] * size
+        for at, end, flags in parts:
+            called[at:end] = [0 if flags & 2 else None] * (end - at)
+        lengths = [(end - at, flags) for at, end, flags in parts]
+        lengths[-1] = (lengths[-1][0] + rng.choice((0, 0, 3)), lengths[-1][1])
+        number = len(changes) + 1
+        records = [*SELECTING, *begun(size=size)[2:], *changing(changes), status(number, first, size - first)]
+        before = sum(len(data) for _, data in records)
+        records.append(extents(number, 1, *lengths, flags=DONE))
+        order = "".join(f"{k}\n" for k in range(1, number + 1)).encode()
+        found = room.run("explain", room.put("called.cap", text(records)), room.put("called.ord", order), "--start",
+                         start_of(room, "called", start), "--profile", "wide")
+        told = told_of(tally, f"called zero {turn}", found)
+        among = f"{bytes_of(called.count(0))} called zero"
+        wrong = compared(tally, f"called zero {turn}", told, among, "called  ", called, bytes_left(changes, kept))
+        if wrong is None:
             continue
-        places = f"at offset {wrong[0]}" if len(wrong) == 1 else f"from offset {wrong[0]} to {wrong[-1]}"
-        noun = "byte" if size == 1 else "bytes"
-        shown = slice(wrong[0], wrong[0] + 16)
-        wanted = (f"\ndiffer: {len(wrong)} of {size} {noun}, {places}\nfrom offset {wrong[0]}:\n  came     {row(came[shown])}\n"
-                  f"  expected {row(held[shown])}\n")
-        tally.holds(f"differing {turn}: {wanted}", wanted in told, told)
+        place = next(k for k, (at, end, _) in enumerate(parts) if at <= wrong < end)
+        at = before + 25 + 8 * place
+        wanted = (f"\ncalled zero: offset {wrong}, in {bytes_of(lengths[place][0])} at {parts[place][0]}, descriptor {place + 1} of "
+                  f"{len(parts)} of base:allocation (1); bytes {at} to {at + 7}\n")
+        tally.holds(f"called zero {turn}: {wanted}", wanted in told, told)
 
 
 def large(tally, room):
@@ -804,6 +855,19 @@ def deduced(tally, room):
         if told.startswith("no order explains"):
             ends[follow(tally, f"deduced {turn}", told)] += 1
     tally.want("deduced: all of them end", (ends[0], ends[1] > 10), (0, True))
+    ends = {(False, True): 0, (True, False): 0, (True, True): 0}
+    for turn in range(1000):
+        start = rng.choice(("zero", "image:8", "unknown"))
+        capture = room.put("race.cap", text(race(rng, rng.randint(3, 6), is_wide=True)))
+        found = room.run("explain", capture, "--start", start_of(room, "race", start), "--profile", "wide")
+        told = told_of(tally, f"deduced with statuses {turn}", found)
+        if told.startswith("no order explains"):
+            kinds = tuple(f"\n{kind}: " in told for kind in ("read", "status"))
+            ends[kinds] += 1
+            rules = tuple(f"\nsection: proto.md, \"{section}\"\n" in told for section in ("Request types", "Metadata querying"))
+            tally.want(f"deduced with statuses {turn}, rules", rules, kinds)
+            follow(tally, f"deduced with statuses {turn}", as_reads(tally, f"deduced with statuses {turn}", told))
+    tally.holds("deduced with statuses: some are of both", ends[True, True] > 5, ends)
     # Of a longer one ten steps; of more than 64 requests none.
     for count, is_told in ((6, True), (15, True), (16, False)):
         name = f"deduced, {4 * count + 1} requests"
@@ -814,19 +878,44 @@ def deduced(tally, room):
             tally.want(f"{name}: is no end", follow(tally, name, told), False)
 
 
-def race(rng, count):
+def as_reads(tally, name, told):
+    """What is told, with each BLOCK_STATUS that calls the offset zero as a READ that got 00. Each is called by its own type."""
+    types = {number: kind for kind, number in re.findall(r"(?m)^(?:change|read|status): (\w+) #(\d+)", told)}
+    for line in told.split("\n"):
+        named = re.findall(r"([A-Z_]+) #(\d+)", line)
+        tally.want(f"{name}: {line}, types", [(types[number], number) for _, number in named], named)
+        tally.want(f"{name}: {line}, the type", set(re.findall(r"\bthe (READ|BLOCK_STATUS)", line)) - {kind for kind, _ in named[:1]}
+                   if not line.startswith("rule: ") else set(), set())
+    tally.holds(f"{name}: what each did", not re.search(r"READ #\d+[^#]* called it|BLOCK_STATUS #\d+[^#]* got", told), told)
+    return (told.replace("\nstatus: ", "\nread: ").replace("called it zero, in", "got 00, in").replace("called it zero", "got 00")
+            .replace("BLOCK_STATUS", "READ"))
+
+
+def race(rng, count, is_wide=False):
     """Changes of one byte at one offset and READs of it, in flight together, whose READs get any byte; some changes fail, and
-    some requests are never answered."""
-    records, waiting = begun(), []
+    some requests are never answered. In the profile wide some of the READs are BLOCK_STATUSes, which call the byte zero or not."""
+    records, waiting = list(SELECTED) if is_wide else begun(), []
+    at = int(is_wide)
     for number in range(1, 2 * count + 1):
         command = rng.choice((READ, READ, READ, WRITE, WRITE, WRITE, rng.choice((WRITE, WRITE_ZEROES, TRIM))))
         value = bytes([rng.randint(0, 2)])
-        records.append(request(command, number, 0, 1, value if command == WRITE else b""))
-        error = 5 if command != READ and rng.random() < 0.05 else 0
-        waiting.append(simple(number, value if command == READ else b"", error))
+        if is_wide and command == READ:
+            command = rng.choice((READ, BLOCK_STATUS))
+        records.append(request(command, number, at, 1, value if command == WRITE else b""))
+        error = 5 if command not in (READ, BLOCK_STATUS) and rng.random() < 0.05 else 0
+        waiting.append(reply_to(command, number, at, value, error, is_wide))
         while len(waiting) > 2 or waiting and rng.random() < 0.4:
             records.append(waiting.pop(rng.randrange(len(waiting))))
     return records + (waiting if rng.random() < 0.7 else [])
+
+
+def reply_to(command, number, at, value, error, is_wide):
+    """The one message of the reply to a request of one byte, which got this byte; a BLOCK_STATUS calls 00 zero."""
+    if command == BLOCK_STATUS:
+        return extents(number, 1, (1, 2 * (value == b"\0")), flags=DONE)
+    if command == READ and is_wide:
+        return chunk(number, 1, at.to_bytes(8, "big") + value, flags=DONE)
+    return simple(number, value if command == READ else b"", error)
 
 
 def names(tally, room):
@@ -883,7 +972,9 @@ def faults(tally, room):
 
 def run(tally):
     with Room() as room:
-        for part in (sessions, orderless, reasons, arriving, differing, large, deduced, examples, names, fronts, faults):
+        for part in (
+            sessions, orderless, reasons, arriving, differing, called_zero, large, deduced, examples, names, fronts, faults,
+        ):
             part(tally, room)
 
 
