@@ -216,7 +216,7 @@ module _ (r : Report) (initial : ℕ → Option ℕ) (x : ℕ) (reads changes : 
             k.read,
             k.is_request,
             given_wrong d.part k.read (byte_before (effects r) order initial i) x k.is_read k.succeeded
-            (and_from (is_in k.read.offset k.read.length x) (in_part d.part x) lies here) (o k.read k.is_request),
+                (and_from (is_in k.read.offset k.read.length x) (in_part d.part x) lies here) (o k.read k.is_request),
           ),
         ))
   ]

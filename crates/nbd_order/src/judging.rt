@@ -51,7 +51,9 @@ pub fn verdict_of(
 /// The byte that a verdict on an order tells. Of an order with a fault that is the faulty entry, at offset 0.
 pub fn place_of(verdict: &Verdict) -> Place {
     let (request, offset) = match verdict {
-        Verdict::Content { request, offset } | Verdict::Status { request, offset } => { (*request, *offset) }
+        Verdict::Content { request, offset } | Verdict::Status { request, offset } => {
+            (*request, *offset)
+        }
         Verdict::Order { entry, .. } => (*entry, 0),
         Verdict::Yes { .. } | Verdict::Image { .. } | Verdict::Wire { .. } => (0, 0),
     };

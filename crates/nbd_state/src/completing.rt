@@ -22,8 +22,8 @@ ghost use Rattle.nbd_laws.specs.Reached.{IsReached};
 ghost use Rattle.nbd_state.specs.Shows.{AreKnown, Shows, export_shown_if, phase_shown};
 
 use crate::asked::Exchange;
-use crate::recording::told_in;
 use crate::options::{is_proper_option, last_info, takes_contexts};
+use crate::recording::told_in;
 use crate::state::{Chosen, Export, Phase, State};
 use nbd_wire::answers::is_error;
 use nbd_wire::flags::has;

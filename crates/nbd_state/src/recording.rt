@@ -28,7 +28,8 @@ use crate::proper::is_proper;
 use crate::state::Export;
 use nbd_wire::flags::{has, has_wide};
 use nbd_wire::{
-    Bytes, Content, Piece, RequestHead, chunks, commands, content_of, first_extent, states, status_of,
+    Bytes, Content, Piece, RequestHead, chunks, commands, content_of, first_extent, states,
+    status_of,
 };
 use std::alloc::{AllocError, Global};
 use std::collections::BTreeSet;
@@ -242,12 +243,7 @@ fn zeroes_told(
 }
 
 // The bytes of an extent behind the pieces, if there are some and it calls them zero.
-fn push_zero(
-    pieces: &mut Vec<Piece>,
-    offset: u64,
-    size: u32,
-    flags: u32,
-) -> Result<(), AllocError>
+fn push_zero(pieces: &mut Vec<Piece>, offset: u64, size: u32, flags: u32) -> Result<(), AllocError>
     ensures { IfOk result (λ _. pieces.new.items ≡ pieces.old.items ++ zero_part offset size flags) }
 {
     if has_wide(flags, states::ZERO) && size > 0 {

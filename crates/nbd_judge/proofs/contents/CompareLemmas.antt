@@ -168,7 +168,6 @@ module _ (size : ℕ) (a : Asked) (byte : ℕ → Option ℕ) (reads : (a.comman
         let s = both (is_in a.offset a.length x) (in_part p x) w.2 in
         let c : (i : ℕ) × (q : Piece) × (slice_get a.pieces i ≡ Some q) × IsTrue (holds q x) = holding a.pieces x (sound.covered w.0 well x s.0) in
         ((c.0, c.1, slice_get_within a.pieces c.0 c.1 c.2, c.2, (c.3, (w.3.0, w.3.1, λ e. w.3.2 (same_byte c.0 c.1 x c.2 c.3 ∙ e)))), s.1)
-
     from_wrong x (inr w) =
         let s = both (is_in a.offset a.length x) (in_part p x) w.2 in
         let told : byte_at a.pieces x ≡ Some w.3.1 = w.3.3 in

@@ -84,8 +84,11 @@ zeroes_apart offset size (x ∷ xs) = go _ (zeroes_apart (offset + x.length) (si
   where
     go : (b : Bool) → AreApart (zeroes_in (offset + x.length) (size - x.length) xs) → AreApart ((if b then Hole offset (min x.length size) ∷ [] else []) ++ zeroes_in (offset + x.length) (size - x.length) xs)
     go false r = r
-    go true r = ((λ y h. (let q = both_true (nat_le offset y) (nat_lt y (offset + min x.length size)) h in let u : y < offset + min x.length size = ltb-true y (offset + min x.length size) q.1 in
-        behind (offset + x.length) (size - x.length) (zeroes_in (offset + x.length) (size - x.length) xs) y (zeroes_inside (offset + x.length) (size - x.length) xs) (omega (arith, u)))), r)
+    go true r = (
+      (λ y h. (let q = both_true (nat_le offset y) (nat_lt y (offset + min x.length size)) h in let u : y < offset + min x.length size = ltb-true y (offset + min x.length size) q.1 in
+          behind (offset + x.length) (size - x.length) (zeroes_in (offset + x.length) (size - x.length) xs) y (zeroes_inside (offset + x.length) (size - x.length) xs) (omega (arith, u)))),
+      r,
+    )
 
 -- what a request was told
 pub data Told (export : Exporting) (e : Operation) : Type 0 where
