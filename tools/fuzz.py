@@ -3,14 +3,14 @@
 
 The sessions are the good ones of examples/, of cases/ and of the tests. Mistakes are made in the bytes, lines and words of
 the text (digits, sides, line ends, cuts), in the messages, by way of `show` and `make` (messages dropped, doubled, swapped,
-fields changed), and in the order. Some sessions get options on metadata contexts, with answers that are right or odd. Of every
-run is asked: an exit status that the command has, with an output and a standard error of its form; an end within ten seconds;
+fields changed), and in the order. Some sessions get options on metadata contexts, with answers that are right or odd, and some
+are told block sizes, which are right or odd. Of every run is asked: an exit status that the command has, with an output and a standard error of its form; an end within ten seconds;
 and no more memory than 16 MiB and ten times the input (`explain` and `order`: 64 MiB and forty times). And of
 
   check    in both profiles the same answer as it stands, as records of one byte and as longest runs; where it is yes, a yes of
            `explain`, and no proof that no order explains the session; in `wide` the same answer as in `base`, unless that is
-           OutOfProfile at an answer to LIST_META_CONTEXT or SET_META_CONTEXT; in both the line of the readers negotiated.py,
-           transmitted.py and served.py
+           OutOfProfile at an answer to LIST_META_CONTEXT or SET_META_CONTEXT, or block sizes are announced, which may be refused,
+           or be broken and counted; in both the line of the readers negotiated.py, transmitted.py and served.py
   show     the same lines in these forms; what it accepts is, made and shown again, the same; `--names` has as many lines
   explain  the status and the line of `check`; without an order, those of `order`; the same words in other records
   order    what it finds is accepted by `check`; `--arrival` has the number of each request, or says that the session was refused
@@ -23,19 +23,21 @@ fuzz.py [COUNT] [--seed N] [--command NAME] [--failures FOLDER]
 import argparse
 import random
 import re
+import struct
 from collections import Counter
 from pathlib import Path
 
 import negotiated
 import served
 from built import PROGRAM, Room, build
-from cases import makes, shows, statuses, zeroes
+from cases import makes, outside, shows, sizes, statuses, zeroes
 from cases.contexts import ALLOCATION, DEPTH, NEGOTIATION_TABLE, STATUS_TABLE, ack, error
 from messages import (
-    DISC, DONE, LIST_META_CONTEXT, META_CONTEXT, REQ_ONE, SET_META_CONTEXT, answer, context, done, extents, failed, longest_runs,
-    one_by_one, option, queries, records_of, simple, status, text,
+    DISC, DONE, GO, INFO, LIST_META_CONTEXT, META_CONTEXT, REQ_ONE, SET_META_CONTEXT, answer, context, done, extents, failed,
+    longest_runs, named, one_by_one, option, queries, records_of, simple, status, text,
 )
 from test_cases import TABLES, joined
+from test_contexts import ANNOUNCED, differ_by_sizes
 from test_cuts import SESSIONS, examples
 from test_explain import ORDERLESS
 
@@ -64,7 +66,7 @@ FORMS = {
     "check": {0: YES, 1: NO},
     "show": {0: f"{MESSAGE}*ok\n", 1: f"{MESSAGE}*{WIRE}"},
     "names": {0: rf"([CS] [ -~]+\n)*ok\n", 1: rf"([CS] [ -~]+\n)*{WIRE}"},
-    "explain": {0: YES, 1: f"{NO}{TOLD}"},
+    "explain": {0: f"{YES}{TOLD}", 1: f"{NO}{TOLD}"},
     "alone": {0: f"{YES}{TOLD}", 1: f"{NONE}{TOLD}", 5: f"{GAVE_UP}{TOLD}"},
     "order": {0: r"(\d+( \d+ \d+)?\n)*", 1: NONE, 5: GAVE_UP},
     "arrival": {0: r"(\d+\n)*", 1: ""},
@@ -88,6 +90,9 @@ EXTENTS = [
     [(8, 2)], [(8, 2)], [(8, 3)], [(4, 0), (4, 2)], [(3, 0), (2**32 - 1, 1)], [(8, 0), (1, 0)], [(0, 2)], [],
     [(2**32 - 1, 0), (1, 0), (1, 2)],
 ]
+# The least, the preferred and the largest block size; the last of these are malformed.
+SIZES = [(1, 4096, 2**25), (2, 512, 4), (2, 512, 2**32 - 1), (4, 512, 4), (512, 4096, 32768), (1, 512, 2), (4096, 4096, 4096)]
+ODD_SIZES = [(0, 512, 512), (3, 512, 6), (2**17, 2**17, 2**17), (2, 256, 4), (1024, 512, 1024), (2, 512, 5), (2, 512, 0), (1, 513, 1)]
 
 
 class Wrong(Exception):
@@ -108,8 +113,8 @@ def seeds():
         yield text(one.records), one.order.encode(), bytes(range(int(size))) if kind == "image" else one.start
 
 
-def seeds_with_contexts():
-    for told in STATUS_TABLE + NEGOTIATION_TABLE + statuses.TABLE + zeroes.TABLE:
+def seeds_in_profiles():
+    for told in STATUS_TABLE + NEGOTIATION_TABLE + statuses.TABLE + zeroes.TABLE + sizes.TABLE + outside.TABLE:
         yield text(told.records), told.order.encode(), told.start
 
 
@@ -142,6 +147,11 @@ def is_left_out(records, line):
     return len(head) == 20 and int.from_bytes(head[8:12], "big") in (LIST_META_CONTEXT, SET_META_CONTEXT)
 
 
+def is_of_sizes(records, base, wide):
+    """Whether two lines differ by block sizes that are announced."""
+    return differ_by_sizes(base, wide) and ANNOUNCED in b"".join(data for side, data in records if side == "S")
+
+
 def said(name, status, capture):
     """What stands on standard error beside an answer, where this is no terminal."""
     if name == "make":
@@ -150,6 +160,19 @@ def said(name, status, capture):
     if not capture:
         return EMPTY
     return refused + (EXCHANGED if status == 1 and is_exchanged(capture) else b"")
+
+
+def is_go(record):
+    """Whether a record is a whole GO or INFO that has its form."""
+    side, data = record
+    number = int.from_bytes(data[8:12], "big")
+    return side == "C" and data[:8] == b"IHAVEOPT" and number in (GO, INFO) and negotiated.is_proper(number, data[16:])
+
+
+def asking(data):
+    """The data of GO or INFO, with the block sizes among the kinds of info."""
+    name, kinds = negotiated.cut_name(data)
+    return named(name) + (int.from_bytes(kinds[:2], "big") + 1).to_bytes(2, "big") + kinds[2:] + b"\0\3"
 
 
 class Mutator:
@@ -251,6 +274,24 @@ class Mutator:
         statuses = self.status() if self.chance.random() < 0.5 else []
         last = len(records) - (records[-1][1][6:8] == DISC.to_bytes(2, "big"))
         return text(records[:at] + added + records[at:last] + statuses + records[last:])
+
+    def sizes(self, capture):
+        """The session with block sizes in answer to one of its GOs and INFOs, and most often with a client that asks for them."""
+        try:
+            records = records_of(capture)
+        except ValueError:
+            return capture
+        chance, places = self.chance, [at for at, record in enumerate(records) if is_go(record)]
+        if not places:
+            return capture
+        at = places[-1] if chance.random() < 0.8 else chance.choice(places)
+        number, data = int.from_bytes(records[at][1][8:12], "big"), records[at][1][16:]
+        if chance.random() < 0.8:
+            records[at] = option(number, asking(data))
+        for _ in range(chance.choice([1, 1, 1, 1, 2])):
+            told = struct.pack(">HIII", 3, *chance.choice(ODD_SIZES if chance.random() < 0.15 else SIZES))
+            records.insert(at + 1 + chance.randrange(2), answer(number, 3, told))
+        return text(records)
 
     def option(self, name):
         """LIST_META_CONTEXT or SET_META_CONTEXT and its answers, which may be odd."""
@@ -387,12 +428,15 @@ class Fuzz:
             searched = self.order(capture, start)
             if searched.status == 1:
                 raise Wrong(f"check {found.out!r}, order {searched.out!r}")
-            self.want("explain of a yes", self.judged("explain", capture, order, start), found)
+            told = self.judged("explain", capture, order, start)
+            self.want("explain of a yes", (told.status, first_line(told), told.err), (0, first_line(found), found.err))
         return found
 
     def compare(self, records, order, start, base, wide):
         """The lines of both profiles, beside each other and beside those of the readers."""
-        if not is_left_out(records, base):
+        if is_of_sizes(records, base, wide):
+            pass
+        elif not is_left_out(records, base):
             self.want("check in wide and in base", wide, base)
         elif (place_of(wide) or place_of(base)) < place_of(base):
             raise Wrong(f"check in wide {wide!r}, in base {base!r}")
@@ -442,11 +486,13 @@ class Fuzz:
 
     def session(self, capture, order, often):
         """A session with one to four mistakes, in its text or in its messages; and so often one with options on contexts, which
-        are put in before the mistakes, if there are any, or behind them."""
+        are put in before the mistakes, if there are any, or behind them. Half as often one with block sizes."""
         mutator, self.profile = self.mutator, WIDE
         has_options = [mutator.chance.random() < often for _ in range(2)]
         if has_options[0]:
             capture = mutator.contexts(capture)
+        if mutator.chance.random() < often / 2:
+            capture = mutator.sizes(capture)
         for _ in range(mutator.chance.choice([0, 0, 0, 1, 2] if any(has_options) else [1, 1, 1, 2, 4])):
             if mutator.chance.random() < 0.6:
                 shown = self.show(capture)
@@ -495,7 +541,7 @@ def main():
     words.add_argument("--failures", type=Path, default=Path("fuzz-failures"))
     asked = words.parse_args()
     build()
-    chance, pools = random.Random(asked.seed), (list(seeds()), list(seeds_with_contexts()))
+    chance, pools = random.Random(asked.seed), (list(seeds()), list(seeds_in_profiles()))
     # Long sessions are taken more seldom.
     weights = [[1 / (200 + len(capture)) for capture, _, _ in pool] for pool in pools]
     commands = [asked.command] if asked.command else COMMANDS

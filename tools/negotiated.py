@@ -1,5 +1,5 @@
-"""A reader of negotiations for tests: a second opinion of what `check` says of one, and of the contexts that are in force behind
-it. It is written from the rules of the protocol, message after message, and shares no code with the program or with the tables.
+"""A reader of negotiations for tests: a second opinion of what `check` says of one, and of the contexts and the block sizes that are
+in force behind it. It is written from the rules of the protocol, message after message, and shares no code with the program or with the tables.
 """
 
 import struct
@@ -10,9 +10,9 @@ FOLLOWED = {"base": (3, 6, 7, 8), "wide": (3, 6, 7, 8, 9, 10)}
 MOST = 2**63 - 1
 
 # Where and with what the session was refused (None: it was not); whether transmission began, with what size and flags of the
-# export, and with structured replies or without; the names of the contexts that are in force, by their ids; and the place behind
-# what was read.
-Read = namedtuple("Read", "place fault entered size flags structured contexts behind")
+# export, and with structured replies or without; the names of the contexts that are in force, by their ids; the block sizes that
+# are in force, the least and the largest, or None; and the place behind what was read.
+Read = namedtuple("Read", "place fault entered size flags structured contexts sizes behind")
 
 
 class Refused(Exception):
@@ -66,13 +66,33 @@ def is_proper(number, data):
     return number in (9, 10) and cut_queries(data) is not None
 
 
-def has_form(kind, payload):
-    """Whether an answer's payload has the form of its kind."""
+def asks_sizes(data):
+    """Whether the data of a GO that has its form asks for the block sizes."""
+    _, rest = cut_name(data)
+    return 3 in (number for (number,) in struct.iter_unpack(">H", rest[2:]))
+
+
+def is_power(number):
+    """Whether a number is a power of two."""
+    return number.bit_count() == 1
+
+
+def are_sizes(least, preferred, largest):
+    """Whether block sizes may be announced: the largest is a multiple of the least, or no limit."""
+    is_least = is_power(least) and least <= 65536
+    is_preferred = is_power(preferred) and preferred >= 512 and preferred >= least
+    return is_least and is_preferred and (largest == 2**32 - 1 or largest != 0 and largest % least == 0)
+
+
+def has_form(kind, payload, profile):
+    """Whether an answer's payload has the form of its kind. Block sizes have any values in `base`."""
     if kind == 2:
         return cut_name(payload) is not None
     if kind == 3:
         info = int.from_bytes(payload[:2], "big")
         is_long = len(payload) == {0: 12, 3: 14}.get(info, max(2, len(payload)))
+        if is_long and info == 3 and profile == "wide":
+            return are_sizes(*struct.unpack(">III", payload[2:]))
         return is_long and (info != 0 or payload[11] & 1 == 1)
     return kind != 4 or len(payload) >= 4
 
@@ -87,8 +107,9 @@ class Reader:
         self.structured, self.padded = False, True
         # The export and the contexts of the last SET_META_CONTEXT, their names by their ids, and whether it ended well.
         self.export, self.named, self.is_granted = None, {}, False
-        # The size and the flags of the export, as last told.
-        self.told = None
+        # The size and the flags of the export, and the block sizes, as last told in answer to the option; and whether it is a GO that
+        # asked for the sizes and was granted.
+        self.told, self.sizes, self.is_held = None, None, False
 
     def take(self, side, count, begins=True):
         """So many bytes of a side whose turn it is."""
@@ -127,6 +148,7 @@ class Reader:
                 name, _ = cut_name(data) or (None, b"")
                 self.export, self.named, self.is_granted = name, {}, False
             if self.answers(number, data) and number == 7:
+                self.is_held = asks_sizes(data)
                 return cut_name(data)[0]
 
     def exported(self, name):
@@ -139,7 +161,7 @@ class Reader:
 
     def answers(self, number, data):
         """All answers to an option; whether the last is an ACK."""
-        self.told = None
+        self.told = self.sizes = None
         while True:
             kind, payload = self.answer(number, data)
             if kind == 1:
@@ -149,6 +171,8 @@ class Reader:
                 self.named[int.from_bytes(payload[:4], "big")] = payload[4:]
             if kind == 3 and payload[:2] == bytes(2):
                 self.told = struct.unpack(">QH", payload[2:])
+            if kind == 3 and payload[:2] == b"\0\3":
+                self.sizes = struct.unpack(">III", payload[2:])[::2]
             if number == 2:
                 self.take("nobody", 1)
             if kind == 1 or kind >= 2**31:
@@ -167,7 +191,7 @@ class Reader:
                 self.need(number == 6 or self.told[0] <= MOST, "ExportTooLarge")
         payload = self.take("S", length, begins=False)
         if not is_error:
-            self.need(has_form(kind, payload), "BadReplyPayload")
+            self.need(has_form(kind, payload, self.profile), "BadReplyPayload")
             self.need(kind != 4 or number != 10 or int.from_bytes(payload[:4], "big") not in self.named, "BadReplyPayload")
             self.need(is_fine, "SuccessOfImproper")
         return kind, payload
@@ -188,8 +212,10 @@ def read(records, profile):
         reader.flags()
         name = reader.choices()
     except Refused as refused:
-        return Read(refused.place, refused.fault, False, 0, 0, False, {}, refused.place)
+        return Read(refused.place, refused.fault, False, 0, 0, False, {}, None, refused.place)
     except Over:
-        return Read(None, None, False, 0, 0, False, {}, reader.at)
+        return Read(None, None, False, 0, 0, False, {}, None, reader.at)
     is_in_force = reader.is_granted and reader.structured and reader.export == name
-    return Read(None, None, True, *reader.told, reader.structured, reader.named if is_in_force else {}, reader.at)
+    contexts = reader.named if is_in_force else {}
+    sizes = reader.sizes if reader.is_held and profile == "wide" else None
+    return Read(None, None, True, *reader.told, reader.structured, contexts, sizes, reader.at)

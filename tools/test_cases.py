@@ -7,8 +7,8 @@ answers are the same.
 
 from built import Ended, Room, Tally
 from cases import (
-    bad_lines, chunks, contents, contexts, damaged, infos, large_exports, large_numbers, makes, negotiation, offers, orders,
-    parts, pieces, refused_negotiation, shows, statuses, transmission, verdicts, zeroes,
+    bad_lines, chunks, contents, contexts, damaged, infos, large_exports, large_numbers, makes, negotiation, offers, orders, outside,
+    parts, pieces, refused_negotiation, shows, sizes, statuses, transmission, verdicts, zeroes,
 )
 from cases.messages import BEGUN, READ_1
 from messages import damaged as inverted
@@ -68,9 +68,9 @@ def checks(tally, room):
             try_case(tally, room, longer, joined([*case.capture, ONE_MORE_READ]))
 
 
-def with_contexts(tally, room):
-    """Sessions with metadata contexts in each profile; what the wider one refuses also with a READ and its reply behind it."""
-    for case in contexts.CASES + statuses.CASES + zeroes.CASES:
+def in_profiles(tally, room):
+    """Sessions with metadata contexts or block sizes in each profile; what the wider one refuses also with a READ and its reply."""
+    for case in contexts.CASES + statuses.CASES + zeroes.CASES + sizes.CASES + outside.CASES:
         try_case(tally, room, case, joined(case.capture))
         if case.profile == "wide" and case.want.startswith("no at byte") and "Unfinished" not in case.want:
             longer = case._replace(name=f"{case.name}, and one more READ")
@@ -140,7 +140,7 @@ def made_again(tally, room):
 
 def run(tally):
     with Room() as room:
-        for part in (checks, with_contexts, malformed, proper_requests, cut_sessions, damaged_sessions):
+        for part in (checks, in_profiles, malformed, proper_requests, cut_sessions, damaged_sessions):
             part(tally, room)
         for part in (shown_lines, made_captures, made_again):
             part(tally, room)

@@ -1,9 +1,11 @@
-"""Sessions with metadata contexts beside what cases/contexts.py says of them: where their messages end, what readers of their own
-say (negotiated.py, transmitted.py, served.py), and recorded sessions in both profiles. The readers are tried on the other cases too.
+"""Sessions with metadata contexts, and with block sizes, beside what cases/contexts.py and cases/sizes.py say of them: where their
+messages end, what readers of their own say (negotiated.py, transmitted.py, served.py), and recorded sessions in both profiles. The
+readers are tried on the other cases too.
 
 `test_contexts.py FOLDER` runs the recorded sessions of another folder: NAME.cap, .ord, .start, and NAME.out, the line in `wide`.
 """
 
+import re
 import sys
 from pathlib import Path
 
@@ -11,16 +13,18 @@ import served
 import test_cases
 import transmitted
 from built import TOP, Room, Tally
-from cases import damaged, offers, statuses, zeroes
+from cases import damaged, offers, outside, sizes, statuses, zeroes
 from cases.contexts import (
     ALLOCATION, DEPTH, NEGOTIATION_TABLE, ONE_CONTEXT, STATUS_TABLE, TWO_CONTEXTS, ack, allocation, listing, setting, told_last,
 )
 from messages import REQ_ONE, context, failed, front, longest_runs, one_by_one, records_of, status, text
 from messages import damaged as inverted
 
-TABLE = STATUS_TABLE + NEGOTIATION_TABLE + statuses.TABLE + zeroes.TABLE
+WITH_CONTEXTS = STATUS_TABLE + NEGOTIATION_TABLE + statuses.TABLE + zeroes.TABLE
+WITH_SIZES = sizes.TABLE + outside.TABLE
+TABLE = WITH_CONTEXTS + WITH_SIZES
 PROFILES = "base", "wide"
-CHUNK = bytes.fromhex("668e33ef")
+CHUNK, REQUEST, ANNOUNCED = bytes.fromhex("668e33ef"), bytes.fromhex("25609513"), bytes.fromhex("0000000e0003")
 # Words that stand in the bytes below.
 WORDS = {
     "IHAVEOPT": "49484156454f5054", "ANSWER": "0003e889045565a9", "ALLOCATION": "626173653a616c6c6f636174696f6e",
@@ -41,6 +45,8 @@ BYTES = [
     (told_last(1, 1, (3, 0), (5, 2)),
      "CHUNK 0001 0005 0000000000000001 00000014 00000001 00000003 00000000 00000005 00000002"),
     (failed(1), "CHUNK 0001 8001 0000000000000001 00000006 00000016 0000"),
+    (sizes.asking(3), "IHAVEOPT 00000007 00000008 00000000 0001 0003"),
+    (sizes.sizes(2, 512, 4), "ANSWER 00000007 00000003 0000000e 0003 00000002 00000200 00000004"),
 ]
 # Where messages of sessions end, by hand: the last of these is the session's end.
 ENDS = {
@@ -84,6 +90,15 @@ ENDS = {
     "the name of an export in place of a context": (101, 121),
     "served before the write": (262, 291, 323, 339),
     "a part of a status that passes the export": (262, 288),
+    "sizes: a READ inside": (18, 22, 46, 80, 112, 132, 160, 180),
+    "sizes: a READ that is improper and outside succeeds": (160, 178),
+    "sizes: GO that did not ask is told them": (44, 78, 110, 130, 158, 175),
+    "sizes: INFO is told them, and GO does not ask": (46, 80, 112, 132, 154, 186, 206, 234, 251),
+    "sizes: INFO is told them, and EXPORT_NAME enters": (132, 148, 158, 186, 203),
+    "sizes: a GO fails that was told them, and the next is not": (46, 80, 100, 124, 156, 176, 204, 221),
+    "sizes: the second announcement counts": (46, 80, 114, 146, 166, 194, 211),
+    "sizes: 2 512 5 are announced": (46, 80, 112, 132),
+    "sizes: a BLOCK_STATUS inside": (160, 184, 218, 250, 270, 298, 330),
 }
 
 
@@ -120,14 +135,22 @@ def want(tally, name, line, records, profile, order="1\n", start="zero"):
         tally.want(f"{name}, {profile}", served.line(records, order, start, profile), line)
 
 
+def differ_by_sizes(base, wide):
+    """Whether two lines differ by what block sizes may change: an announcement is refused, or more requests count as improper."""
+    counts = [re.fullmatch(r"(yes requests \d+ answered \d+) improper (\d+)\n", line) for line in (base, wide)]
+    if not all(counts):
+        return wide.endswith(": BadReplyPayload\n") and (place_of(base) or place_of(wide)) >= place_of(wide)
+    return counts[0][1] == counts[1][1] and int(counts[0][2]) < int(counts[1][2])
+
+
 def lines(tally):
     """What the table says against what the readers say, and against itself."""
     for told in TABLE:
         for way in (list, one_by_one, longest_runs):
             for profile, line in zip(PROFILES, (told.base, told.wide)):
                 want(tally, told.name, line, way(told.records), profile, told.order, told.start)
-        # Where base follows the session, wide says the same.
-        if "OutOfProfile" not in told.base:
+        # Where base follows the session, wide says the same, but of block sizes.
+        if "OutOfProfile" not in told.base and not (told in WITH_SIZES and differ_by_sizes(told.base, told.wide)):
             tally.want(f"{told.name}: both profiles", told.base, told.wide)
         for line in (told.base, told.wide):
             tally.holds(f"{told.name}: {line}", (place_of(line) or 0) <= ends_of(told.records)[-1])
@@ -152,34 +175,47 @@ def readers(tally):
             want(tally, f"byte {place} damaged", line, inverted(session, place - 1), profile, damaged.ORDER)
 
 
-def words_at_their_ends(records):
-    """Sessions in which one number of a status chunk is another: the id, a length, or flags."""
+def numbers_in(data):
+    """Where numbers of 32 bits stand in a message that a mistake is made in, and which ones may stand there: in a status chunk the id, a
+    length, or flags; in an announcement the block sizes; in a request the low half of the offset, and the length."""
+    if data[:4] == CHUNK and data[6:8] == b"\0\5":
+        return range(20, len(data), 4), (0, 1, 2, 4, 2**31, 2**32 - 4, 2**32 - 1)
+    if data[16:22] == ANNOUNCED:
+        return (22, 26, 30), (0, 1, 2, 3, 4, 256, 511, 512, 513, 1024, 65535, 65536, 2**17, 2**31, 2**32 - 2, 2**32 - 1)
+    if data[:4] == REQUEST:
+        return (20, 24), (0, 1, 2, 3, 4, 5, 6, 7, 8, 9, 2**32 - 2, 2**32 - 1)
+    return (), ()
+
+
+def numbers_at_their_ends(records):
+    """Sessions in which one number of a message is another."""
     for number, (side, data) in enumerate(records):
-        if data[:4] == CHUNK and data[6:8] == b"\0\5":
-            for at in range(20, len(data), 4):
-                for value in (0, 1, 2, 4, 2**31, 2**32 - 4, 2**32 - 1):
-                    changed = data[:at] + value.to_bytes(4, "big") + data[at + 4 :]
-                    yield f"{value} at {at} of {number}", [*records[:number], (side, changed), *records[number + 1 :]]
+        places, values = numbers_in(data)
+        for at in places:
+            for value in values:
+                changed = data[:at] + value.to_bytes(4, "big") + data[at + 4 :]
+                yield f"{value} at {at} of {number}", [*records[:number], (side, changed), *records[number + 1 :]]
 
 
 def mistakes(records):
-    """A session as it stands, cut behind each byte, with each byte inverted, and with other numbers in its status chunks."""
+    """A session as it stands, cut behind each byte, with each byte inverted, and with other numbers."""
     size = ends_of(records)[-1]
     yield "as it stands", records
     for count in range(size):
         yield f"{count} bytes", front(records, count)
         yield f"byte {count + 1} damaged", inverted(records, count)
-    yield from words_at_their_ends(records)
+    yield from numbers_at_their_ends(records)
 
 
 def damages(tally, room):
-    """A session with statuses, with a mistake: `check` in `wide`, in two ways of cutting it, against the readers."""
-    order = statuses.MIXED_ORDER
-    for name, records in mistakes(statuses.DAMAGED):
-        found = room.check(text(records), order.encode(), "zero", profile="wide")
-        tally.want(f"statuses, {name}", found.out.decode(), served.line(records, order, "zero", "wide"))
-        again = room.check(text(one_by_one(records)), order.encode(), "zero", profile="wide")
-        tally.want(f"statuses, {name}, byte by byte", again, found)
+    """A session with statuses and one with block sizes, with a mistake: `check` in `wide`, in two ways of cutting it, against the
+    readers."""
+    for word, session, order in (("statuses", statuses.DAMAGED, statuses.MIXED_ORDER), ("sizes", outside.DAMAGED, outside.ORDER)):
+        for name, records in mistakes(session):
+            found = room.check(text(records), order.encode(), "zero", profile="wide")
+            tally.want(f"{word}, {name}", found.out.decode(), served.line(records, order, "zero", "wide"))
+            again = room.check(text(one_by_one(records)), order.encode(), "zero", profile="wide")
+            tally.want(f"{word}, {name}, byte by byte", again, found)
 
 
 def wanted(capture, is_whole):
@@ -188,7 +224,8 @@ def wanted(capture, is_whole):
     if not is_whole:
         return line, told.read_text() if told.exists() else line
     base = transmitted.line(records_of(capture.read_bytes()), "base")
-    return base if base.startswith("no") else line, line
+    is_of_bytes = base.startswith("no") or line.startswith(("yes", "no at byte"))
+    return base if is_of_bytes else line, line
 
 
 def start_of(capture):
@@ -224,7 +261,7 @@ def examples(tally):
         for profile, line in zip(PROFILES, lines_of):
             want(tally, capture.name, line, records, profile, order, start)
         is_told = capture.with_suffix(".wide").exists()
-        tally.want(f"{capture.name}: has a line of its own in wide", is_told, "OutOfProfile" in lines_of[0])
+        tally.want(f"{capture.name}: has a line of its own in wide", is_told, lines_of[0] != lines_of[1])
 
 
 def run(tally):

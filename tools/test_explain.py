@@ -10,6 +10,7 @@ from collections import namedtuple
 from pathlib import Path
 
 from built import TOP, Ended, Room, Tally
+from cases.sizes import asking, begun as sized, sizes
 from messages import (
     BLOCK_STATUS, CACHE, CLIENT, DISC, DONE, FLUSH, READ, REQ_ONE, SERVER, TRIM, WRITE, WRITE_ZEROES, answer, begun, chunk,
     client_flags, content, context, cut, done, export_info, extents, failed, front, greeting, hole, option, read, request, simple, status,
@@ -79,6 +80,7 @@ WIRE = {
     "success-of-improper-contexts": Session(
         [*LISTED, option(10, queries(b"base:allocation")[:-1]), answer(10, 1)], profile="wide"),
     "bad-reply-payload": Session([*GO, answer(7, 1, b"\0")]),
+    "bad-reply-payload-of-block-sizes": Session([*HELLO, asking(3), sizes(3, 256, 1024)], profile="wide"),
     "missing-export-info": Session([*GO, answer(7, 1)]),
     "bad-export": Session([*HELLO, option(1, b"disk"), (SERVER, (8).to_bytes(8, "big") + b"\0\0")]),
     "export-too-large": Session(begun(size=2**63)),
@@ -102,6 +104,7 @@ WIRE = {
     "incomplete-read": Session([*CHUNKED, content(1, 0, b"\1\2\3"), done(1)]),
     "incomplete-read-between-chunks": Session([*CHUNKED, hole(1, 3, 1), chunk(1, 1, bytes(8) + b"\1", flags=1)]),
     "success-of-improper": Session([*begun(), read(1, 8, 4), simple(1, bytes(4))]),
+    "success-of-improper-and-outside": Session([*sized(2, 512, 4), read(1, 7, 2), simple(1, bytes(2))], profile="wide"),
     "success-of-improper-go": Session(
         [*HELLO, option(7, b"\0\0\0\1x\0\2\0\3"), answer(7, 3, export_info()), answer(7, 1)]),
     "bad-disconnect": Session([*begun(), request(DISC, 0, 0, 1)]),
@@ -132,7 +135,20 @@ DESCRIBED = [
     extents(2, 2, (6, 2), flags=DONE)]
 # A BLOCK_STATUS that calls all bytes zero while a WRITE of the byte 4 is outstanding.
 CALLED = [*SELECTED, status(1, 0, 8), write(2, 4, b"\xff"), extents(1, 1, (8, 2), flags=DONE), simple(2)]
+# With the block sizes 2, 512 and 4 on an export of 8 bytes: requests that keep to them, that break each or all of them, and that are
+# improper, of which one breaks them too.
+OUTSIDE = [
+    *sized(2, 512, 4), read(1, 0, 4), simple(1, bytes(4)), read(2, 1, 2), simple(2, bytes(2)), read(3, 0, 3), simple(3, bytes(3)),
+    read(4, 0, 6), simple(4, bytes(6)), write(5, 1, b"\1" * 5), simple(5), request(WRITE_ZEROES, 6, 0, 8), simple(6),
+    request(WRITE_ZEROES, 7, 0, 7), simple(7), read(8, 7, 2), simple(8, error=22), status(9, 1, 1), simple(9, error=22)]
+# A READ, and twelve behind the end of the export of 8 bytes.
+TWELVE = [
+    *begun(), read(1, 0, 1), simple(1, b"\0"),
+    *(record for number in range(2, 14) for record in (read(number, 6 + number, 1), simple(number, error=22)))]
 JUDGED = {
+    "improper-and-outside": Session(OUTSIDE, "".join(f"{number}\n" for number in range(1, 10)), profile="wide"),
+    "improper-in-base": Session(OUTSIDE, "".join(f"{number}\n" for number in range(1, 10))),
+    "improper-requests-of-more-than-ten": Session(TWELVE, "".join(f"{number}\n" for number in range(1, 14))),
     "content-of-many-bytes": Session(PIECED, "1\n2\n3\n4\n5\n"),
     "content-of-many-bytes-in-part": Session(PIECED, "1\n2\n3\n4\n5 20 11\n5 1 19\n"),
     "yes": Session(WRITTEN, "1\n2\n"),
@@ -253,6 +269,7 @@ ORDERLESS = {
         [*begun(), write(1, 0, b"\1"), simple(1), write(2, 0, b"\2"), simple(2), read(3, 0, 1), simple(3, b"\xff"),
          write(4, 0, b"\3"), simple(4), write(5, 0, b"\xff"), simple(5)]),
     "found": Session(WRITTEN),
+    "found-with-a-request-outside": Session([*sized(2, 512, 4), read(1, 1, 2), simple(1, bytes(2))], profile="wide"),
     "found-in-parts": Session(
         [*begun(), write(1, 0, b"\xab\xcd"), read(2, 0, 2), simple(1), simple(2, b"\xab\0")]),
     "no-source-overwritten": Session(
@@ -297,6 +314,11 @@ def chunked(*chunks):
     return [*CHUNKED, *chunks]
 
 
+def announced(*numbers):
+    """GO asks for block sizes, and is told these."""
+    return [*HELLO, asking(3), sizes(*numbers)]
+
+
 def opted(number, data, kind=1):
     """An option with this data, which is granted."""
     return [*HELLO, option(number, data), answer(number, kind)]
@@ -304,14 +326,18 @@ def opted(number, data, kind=1):
 
 # Sessions that are refused, and what is said to be wrong there: which part of its rule is broken.
 REASONS = [
-    ([*begun(), read(1, 7, 2), simple(1, bytes(2))], "its range passes the end of the export of 8 bytes"),
+    ([*begun(), read(1, 7, 2), simple(1, bytes(2))], "its range passes the end of the export of 8 bytes by 1 byte"),
+    ([*begun(), read(1, 9, 0), simple(1)], "its range passes the end of the export of 8 bytes by 1 byte"),
+    (improper(request(TRIM, 1, 0, 2**32 - 1)), "its range passes the end of the export of 8 bytes by 4294967287 bytes"),
+    (improper(request(TRIM, 1, 2**64 - 1, 8)), f"its range passes the end of the export of 8 bytes by {2**64 - 1} bytes"),
+    (improper(request(TRIM, 1, 2**64 - 1, 9)), f"its range passes the end of the export of 8 bytes by more than {2**64 - 1} bytes"),
     (improper(request(9, 1, 0, 0)), "its type is none of READ, WRITE, FLUSH, TRIM, CACHE and WRITE_ZEROES"),
     (improper(request(FLUSH, 1, 0, 0), 1), "the export does not offer FLUSH: it lacks SEND_FLUSH"),
     (improper(request(TRIM, 1, 0, 1), 1), "the export does not offer TRIM: it lacks SEND_TRIM"),
     (improper(request(WRITE_ZEROES, 1, 0, 1), 1), "the export does not offer WRITE_ZEROES: it lacks SEND_WRITE_ZEROES"),
     ([*begun(structured=True), read(1, 6, 4), content(1, 6, bytes(4)), done(1)],
-     "its range passes the end of the export of 8 bytes"),
-    ([*begun(size=1), write(1, 1, b"\1"), simple(1)], "its range passes the end of the export of 1 byte"),
+     "its range passes the end of the export of 8 bytes by 2 bytes"),
+    ([*begun(size=1), write(1, 1, b"\1"), simple(1)], "its range passes the end of the export of 1 byte by 1 byte"),
     (improper(write(1, 0, b"\1"), 3), "it changes an export that is read-only: it has READ_ONLY"),
     (improper(request(TRIM, 1, 0, 1), 0x6F), "it changes an export that is read-only: it has READ_ONLY"),
     (improper(request(WRITE_ZEROES, 1, 0, 1), 0x6F), "it changes an export that is read-only: it has READ_ONLY"),
@@ -395,12 +421,23 @@ WIDE_REASONS = [
      "the request has REQ_ONE, so it gets one descriptor, which ends with the range or before"),
     ([*SELECTED, status(1, 0, 8), extents(1, 1, (8, 0), (1, 0))],
      "the descriptors before the last one reach the end of the range"),
-    ([*SELECTED, status(1, 0, 9), extents(1, 1, (9, 0), flags=DONE)], "its range passes the end of the export of 8 bytes"),
+    ([*SELECTED, status(1, 0, 9), extents(1, 1, (9, 0), flags=DONE)], "its range passes the end of the export of 8 bytes by 1 byte"),
     ([*SELECTED, status(1, 0, 8, 4), extents(1, 1, (8, 0), flags=DONE)], "it carries DF, which only a READ may"),
+    (announced(0, 512, 2**32 - 1), "the least block size is no power of 2"),
+    (announced(3, 512, 1536), "the least block size is no power of 2"),
+    (announced(131072, 131072, 131072), "the least block size is above 65536"),
+    (announced(1, 0, 1), "the preferred block size is no power of 2"),
+    (announced(1, 513, 1024), "the preferred block size is no power of 2"),
+    (announced(1, 256, 512), "the preferred block size is below 512"),
+    (announced(1024, 512, 1024), "the preferred block size is below the least"),
+    (announced(2, 512, 5), "the largest block size is no multiple of the least"),
+    (announced(4096, 4096, 2048), "the largest block size is no multiple of the least"),
+    (announced(1, 512, 0), "the largest block size is 0"),
+    ([*GO, sizes(1, 512, 0)], "the largest block size is 0"),
 ]
 # Those of a WRITE that breaks as many parts of its rule as one can.
 SEVERAL = [
-    "its range passes the end of the export of 8 bytes", "it carries FUA, and the export lacks SEND_FUA",
+    "its range passes the end of the export of 8 bytes by 1 byte", "it carries FUA, and the export lacks SEND_FUA",
     "it carries NO_HOLE, which only a WRITE_ZEROES may", "it carries DF, which only a READ may",
     "it carries FAST_ZERO, which only a WRITE_ZEROES may", "it changes an export that is read-only: it has READ_ONLY",
     "it carries a flag that is none of FUA, NO_HOLE, DF, REQ_ONE and FAST_ZERO",
@@ -412,10 +449,10 @@ GRANTED = {
 }
 # Every kind of message; a READ that failed, one that is pending, requests and options that proto.md has no name for.
 NAMED = [
-    *begun(structured=True)[:-3], option(99), answer(99, 0x80000001, b"what?"), *begun(structured=True)[-3:], write(1, 0, b"\xab\xcd"),
-    simple(1), request(FLUSH, 2, 0, 0), simple(2), read(3, 0, 4), content(3, 0, b"\xab\xcd"), hole(3, 2, 2), done(3), read(4, 8, 1),
-    chunk(4, 0x8001, b"\0\0\0\x16\0\0", flags=1), request(9, 5, 0, 0, flags=0x8001), simple(5, error=75), read(0x2A, 4, 4),
-    request(DISC, 0, 0, 0),
+    *begun(structured=True)[:-3], option(99), answer(99, 0x80000001, b"what?"), begun()[2], sizes(1, 4096, 2**25), *begun()[3:],
+    write(1, 0, b"\xab\xcd"), simple(1), request(FLUSH, 2, 0, 0), simple(2), read(3, 0, 4), content(3, 0, b"\xab\xcd"), hole(3, 2, 2),
+    done(3), read(4, 8, 1), chunk(4, 0x8001, b"\0\0\0\x16\0\0", flags=1), request(9, 5, 0, 0, flags=0x8001), simple(5, error=75),
+    read(0x2A, 4, 4), request(DISC, 0, 0, 0),
 ]
 NAMES = """\
 S greeting, NBD_FLAG_FIXED_NEWSTYLE NBD_FLAG_NO_ZEROES (0x3)
@@ -425,6 +462,7 @@ S reply to NBD_OPT_STRUCTURED_REPLY (8): NBD_REP_ACK (1), 0 bytes of data
 C option 99, 0 bytes of data
 S reply to option 99: NBD_REP_ERR_UNSUP (2147483649), 5 bytes of data
 C NBD_OPT_GO (7), 6 bytes of data
+S reply to NBD_OPT_GO (7): NBD_REP_INFO (3), 14 bytes of data, NBD_INFO_BLOCK_SIZE (3): at least 1, preferred 4096, at most 33554432
 S reply to NBD_OPT_GO (7): NBD_REP_INFO (3), 12 bytes of data, NBD_INFO_EXPORT (0): 8 bytes, \
 HAS_FLAGS SEND_FLUSH SEND_FUA SEND_TRIM SEND_WRITE_ZEROES (0x6d)
 S reply to NBD_OPT_GO (7): NBD_REP_ACK (1), 0 bytes of data
@@ -539,6 +577,9 @@ def examples(tally, room):
             searched(tally, room, f"{capture.name} in wide", words)
             told = room.run("explain", capture, capture.with_suffix(".ord"), *words[1:])
             tally.holds(f"explain {capture.name} in wide begins as check", told.out.startswith(wide.read_bytes()), told.out)
+            whole = EXPLAINED / f"{capture.stem}-in-wide.txt"
+            if whole.exists():
+                tally.want(f"explain {capture.name} in wide", told, Ended(0, whole.read_bytes(), b""))
 
 
 def told_of(tally, name, found):
@@ -561,6 +602,16 @@ def reasons(tally, room):
         tally.want(f"wide: {reason}", reasons_of(tally, room, reason, records, "--profile", "wide"), [reason])
     several = request(WRITE, 1, 7, 2, b"\1\2", flags=0x8017)
     tally.want("several reasons", reasons_of(tally, room, "several reasons", improper(several, 0x83)), SEVERAL)
+    for records, reason in REASONS:
+        if len(records) == len(begun()) + 2 and records[-2][0] == CLIENT:
+            failing = [*records[:-1], simple(1, error=22)]
+            tally.want(f"failing: {reason}", reasons_of(tally, room, reason, failing), [reason])
+    told = told_of(tally, "failing", room.run("explain", room.put("failing", text([*improper(several, 0x83)[:-1], simple(1, error=5)]))))
+    listed = ["improper: 1 of 1 request", "message: WRITE #1, cookie 0x1, 2 bytes at 7, FUA NO_HOLE DF FAST_ZERO (0x8017); bytes 97 to 126"]
+    tally.want("failing for several reasons", told.splitlines()[-9:], listed + [f"wrong: {reason}" for reason in SEVERAL])
+    none = reasons_of(tally, room, "no good size", announced(0, 0, 0), "--profile", "wide")
+    tally.want("no good size", none, [f"the {name} block size is {reason}" for name, reason in (
+        ("least", "no power of 2"), ("preferred", "no power of 2"), ("largest", "0"))])
     page = (TOP / "docs/RECORDING.md").read_text()
     for number, extension in GRANTED.items():
         told = told_of(tally, f"granted {number}", room.run("explain", room.put("granted", text(opted(number, b"")))))

@@ -7,6 +7,7 @@ import subprocess
 from bench_order import Shape
 from built import PROGRAM, TOP, Ended, Room, Tally
 from cases.contexts import ONE_CONTEXT, TWO_CONTEXTS, told_last
+from cases.outside import CHUNKED
 from messages import begun, content, done, extents, failed, read, simple, status, text, write
 from test_commands import EMPTY, SEARCHED, fault, on_a_terminal
 
@@ -86,6 +87,21 @@ WITH_TWO = {
         (SHUT_WRITE + [status(2, 0, 8), extents(2, 1, (8, 2)), told_last(2, 2, (8, 0))], b"no status request 2 offset 0 in any order\n"),
     "the second message calls it zero": (SHUT_WRITE + [status(2, 0, 8), extents(2, 2, (8, 2)), told_last(2, 1, (8, 2))], None, False),
 }
+ODD_WRITE = [write(1, 1, b"aaa")]
+# Requests outside of block sizes, of which the least is 2 and the largest 4: an order is looked for as for any other request.
+WITH_SIZES = {
+    "an odd READ behind an odd WRITE": (ODD_WRITE + [simple(1), read(2, 1, 3), *got(2, 1, b"aaa")], None, False),
+    "an odd READ behind an odd WRITE gives its first two bytes":
+        (ODD_WRITE + [simple(1), read(2, 1, 3), *got(2, 1, b"aa\0")], b"no content request 2 offset 3 in any order\n"),
+    "an odd READ while an odd WRITE is open": (ODD_WRITE + [read(2, 1, 3), *got(2, 1, b"\0\0\0"), simple(1)], None, False),
+    "an odd READ gives half of an odd WRITE": (ODD_WRITE + [read(2, 1, 3), *got(2, 1, b"aa\0"), simple(1)], None, True),
+    "a READ longer than the largest gives half of such a WRITE":
+        ([write(1, 0, b"a" * 6), read(2, 0, 6), *got(2, 0, b"aaa\0\0\0"), simple(1)], None, True),
+    "three odd READs while two odd WRITEs are open":
+        ([write(1, 1, b"a"), write(2, 1, b"b"), *(one for cookie, byte in ((3, b"a"), (4, b"b"), (5, b"a"))
+                                                  for one in (read(cookie, 1, 1), *got(cookie, 1, byte))), simple(1), simple(2)],
+         b"no order explains requests 3 4 5 at offset 1\n"),
+}
 
 
 def examples(tally, room):
@@ -152,8 +168,8 @@ def lines(tally, room):
 
 
 def statuses(tally, room):
-    """Sessions in which a status calls bytes zero."""
-    for begins, table in ((ONE_CONTEXT, WITH_STATUSES), (TWO_CONTEXTS, WITH_TWO)):
+    """Sessions in which a status calls bytes zero, or with requests outside of block sizes."""
+    for begins, table in ((ONE_CONTEXT, WITH_STATUSES), (TWO_CONTEXTS, WITH_TWO), (CHUNKED, WITH_SIZES)):
         for name, (messages, line, *in_parts) in table.items():
             capture = room.put("capture", text(begins + messages))
             found = room.run("order", capture, "--start", "zero", "--profile", "wide")

@@ -11,7 +11,7 @@ import sys
 import time
 
 from built import PROGRAM, TOP, Ended, Room, Tally
-from cases import contexts, offers, statuses
+from cases import contexts, offers, outside, sizes, statuses
 from messages import (CLIENT, DONE, ERROR, FLUSH, WRITE_ZEROES, begun, chunk, client_flags, content, cut, done, greeting, hole,
                       option, read, request, simple, status, text, write)
 from picture.places import Places
@@ -122,16 +122,17 @@ def proper_requests(tally, room):
         tally.want(name, [(one.is_improper, one.result) for one in shown.requests], [(not is_proper, FAILURE)])
 
 
-def proper_statuses(tally, room):
-    """Requests on block status, in the sessions with metadata contexts that are accepted."""
-    for told in contexts.STATUS_TABLE + contexts.NEGOTIATION_TABLE + statuses.TABLE:
-        if not told.wide.startswith("yes"):
-            continue
-        data = text(told.records)
-        shown = Session(Places(io.BytesIO(data)), None)
-        for line in room.show(data, profile="wide").out.splitlines():
-            shown.add(line)
-        tally.want(told.name, sum(one.is_improper for one in shown.requests), int(told.wide.split()[-1]))
+def proper_in_profiles(tally, room):
+    """Requests on block status, and requests outside of block sizes, in the sessions of both profiles that are accepted."""
+    for told in contexts.STATUS_TABLE + contexts.NEGOTIATION_TABLE + statuses.TABLE + sizes.TABLE + outside.TABLE:
+        for profile, line in (("base", told.base), ("wide", told.wide)):
+            if not line.startswith("yes"):
+                continue
+            data = text(told.records)
+            shown = Session(Places(io.BytesIO(data)), None, profile == "wide")
+            for one in room.show(data, profile=profile).out.splitlines():
+                shown.add(one)
+            tally.want(f"{told.name}, {profile}", sum(one.is_improper for one in shown.requests), int(line.split()[-1]))
 
 
 def guilt(tally, room):
@@ -376,7 +377,7 @@ def many(tally, room):
 
 
 PARTS = (
-    places, lanes, results, proper_requests, proper_statuses, guilt, in_words, escaping, refusals, gave_up, pipes, interrupts, examples,
+    places, lanes, results, proper_requests, proper_in_profiles, guilt, in_words, escaping, refusals, gave_up, pipes, interrupts, examples,
     many,
 )
 

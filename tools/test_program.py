@@ -17,6 +17,7 @@ import test_contexts
 import test_conversions
 import test_cuts
 import test_explain
+import test_improper
 import test_install
 import test_names
 import test_order
@@ -41,6 +42,7 @@ PARTS = {
     "conversions": test_conversions,
     "cuts": test_cuts,
     "explain": test_explain,
+    "improper": test_improper,
     "install": test_install,
     "names": test_names,
     "order": test_order,

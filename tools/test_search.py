@@ -9,16 +9,17 @@ import sys
 from collections import namedtuple
 
 from built import Room, Tally
-from cases.contexts import CHUNKS, go, granted
+from cases.contexts import CHUNKS, ack, go, granted
+from cases.sizes import ASKED, export, sizes
 from messages import (
-    BLOCK_STATUS, DONE, READ, REQ_ONE, TRIM, WRITE, WRITE_ZEROES, begun, content, done, extents, failed, request, simple, text, write,
+    BLOCK_STATUS, DONE, GO, READ, REQ_ONE, TRIM, WRITE, WRITE_ZEROES, content, done, extents, failed, request, simple, text, write,
 )
 
-# How many requests, on how many bytes, how many of them outstanding, how many different bytes; and in a hundred: how many steps of a
+# How many requests, on how many bytes, how many of them outstanding, how many different bytes; in a hundred: how many steps of a
 # service serve one byte alone, how many changes and statuses fail, requests get no reply, READs and statuses get a wrong byte, and
-# how many requests ask for a status.
-Shape = namedtuple("Shape", "requests size window letters torn failures unanswered wrong statuses")
-SMALL = Shape(8, 4, 5, 3, 30, 10, 10, 10, 0)
+# how many requests ask for a status; and the least block size, which is the largest too, or 0 where none is in force.
+Shape = namedtuple("Shape", "requests size window letters torn failures unanswered wrong statuses block")
+SMALL = Shape(8, 4, 5, 3, 30, 10, 10, 10, 0, 0)
 SHAPES = {
     "small sessions": SMALL,
     "sessions of one byte": SMALL._replace(requests=10, size=1),
@@ -26,6 +27,8 @@ SHAPES = {
     "sessions with statuses": SMALL._replace(statuses=10),
     "sessions of statuses": SMALL._replace(requests=10, size=3, statuses=33, wrong=20),
     "sessions of statuses of a right server": SMALL._replace(requests=10, size=3, window=9, letters=2, wrong=0, statuses=33),
+    "sessions with requests outside of the block sizes": SMALL._replace(block=2),
+    "sessions with statuses outside of the block sizes": SMALL._replace(statuses=20, block=2),
 }
 SESSIONS = 400
 # How many in a hundred of the bytes that are zero a status does not call so, and how many statuses are cut short, have a last extent
@@ -50,6 +53,11 @@ class Asked:
         if self.command == WRITE:
             return write(self.number, self.offset, bytes(self.data))
         return request(self.command, self.number, self.offset, self.length, flags=self.flags)
+
+    def is_outside(self, block):
+        """Whether it breaks block sizes of which the least and the largest are this."""
+        is_long = self.command in (READ, WRITE) and self.length > block
+        return is_long or self.offset % block != 0 or self.length % block != 0
 
     def act_at(self, offset):
         """What it does to a byte: whether it reads it, and the byte, None of one that is not known; None where it does nothing. A byte
@@ -81,10 +89,15 @@ def drawn(dice, number, shape):
     return one
 
 
-def session(dice, shape, export):
+def negotiation(shape):
+    """The records up to transmission."""
+    told = [ASKED, sizes(shape.block, 512, shape.block), export(size=shape.size), ack(GO)] if shape.block else go(size=shape.size)
+    return CHUNKS + (granted() if shape.statuses else []) + told
+
+
+def session(dice, shape, held):
     """The records of a session, and its requests, from a server that serves them in parts."""
-    records = CHUNKS + granted() + go(size=shape.size) if shape.statuses else begun(True, shape.size)
-    asked, under_way = [], []
+    records, asked, under_way = negotiation(shape), [], []
     for _ in range(40 * shape.requests):
         if len(asked) < shape.requests and len(under_way) < shape.window and dice.randrange(100) < 40:
             one = drawn(dice, len(asked) + 1, shape)
@@ -94,7 +107,7 @@ def session(dice, shape, export):
         elif under_way:
             one = dice.choice(under_way)
             if one.served < one.length:
-                serve(dice, shape, export, one)
+                serve(dice, shape, held, one)
             else:
                 under_way.remove(one)
                 if not one.is_mute:
@@ -102,16 +115,16 @@ def session(dice, shape, export):
     return records, asked
 
 
-def serve(dice, shape, export, one):
+def serve(dice, shape, held, one):
     count = 1 if dice.randrange(100) < shape.torn else one.length
     for index in range(one.served, min(one.served + count, one.length)):
         at = one.offset + index
         if one.reads:
-            one.data[index] = export[at]
+            one.data[index] = held[at]
         elif one.command == TRIM or one.fails:
-            export[at] = dice.randrange(shape.letters)
+            held[at] = dice.randrange(shape.letters)
         else:
-            export[at] = one.data[index]
+            held[at] = one.data[index]
         one.served += 1
 
 
@@ -185,9 +198,9 @@ def entries(order):
     return [(number, tuple(part) or None) for number, *part in words]
 
 
-def explains(order, asked, export):
+def explains(order, asked, start):
     """Whether an order serves each answered request whole, none late and none twice, and gives each READ its bytes."""
-    export, left = list(export), {one.number: set(range(one.offset, one.offset + one.length)) for one in asked}
+    held, left = list(start), {one.number: set(range(one.offset, one.offset + one.length)) for one in asked}
     for number, part in entries(order):
         one = asked[number - 1]
         offsets = range(one.offset, one.offset + one.length) if part is None else range(part[0], part[0] + part[1])
@@ -199,10 +212,10 @@ def explains(order, asked, export):
             left[number].remove(offset)
             if act := one.act_at(offset):
                 reads, own = act
-                if reads and export[offset] not in (None, own):
+                if reads and held[offset] not in (None, own):
                     return False
                 if not reads:
-                    export[offset] = own
+                    held[offset] = own
     return not any(one.before is not None and left[one.number] for one in asked)
 
 
@@ -230,18 +243,30 @@ def start_of(room, seed, size):
     return name, bytearray(image), [None] * size if kind == 0 else list(image)
 
 
+def counted(tally, room, label, words, order, asked, shape):
+    """The line of `check` with an order that was found: the requests outside of the block sizes count as improper in `wide` alone."""
+    answered, outside = sum(one.before is not None for one in asked), sum(one.is_outside(shape.block) for one in asked)
+    profiles = {"wide": outside} if shape.statuses else {"wide": outside, "base": 0}
+    for profile, count in profiles.items():
+        found = room.run("check", words[0], room.put("order", order), *words[1:], "--profile", profile)
+        line = f"yes requests {len(asked)} answered {answered} improper {count}\n".encode()
+        tally.want(f"{label}: the line in {profile}", (found.status, found.out), (0, line))
+
+
 def try_one(tally, room, name, shape, seed):
     """What sort of order was found, or the first two words of what was said in its place."""
     dice = random.Random(f"{name} {seed}")
-    start, export, known = start_of(room, seed, shape.size)
-    records, asked = session(dice, shape, export)
-    profile = ["--profile", "wide"] if shape.statuses else []
-    ended = room.run("order", room.put("capture", text(records)), "--start", start, *profile)
+    start, held, known = start_of(room, seed, shape.size)
+    records, asked = session(dice, shape, held)
+    words = [room.put("capture", text(records)), "--start", start]
+    ended = room.run("order", *words, *(["--profile", "wide"] if shape.statuses or shape.block else []))
     has_all = all(has_order(asked, offset, known[offset]) for offset in range(shape.size))
     label = f"{name}, seed {seed}"
     tally.want(f"{label}: status", (ended.status, ended.err), (0 if has_all else 1, b""))
     if ended.status == 0:
         tally.holds(f"{label}: the order", explains(ended.out, asked, known), ended.out)
+        if shape.block:
+            counted(tally, room, label, words, ended.out, asked, shape)
         return "whole" if all(part is None for _, part in entries(ended.out)) else "in parts"
     tally.holds(f"{label}: the line", refutes(ended.out, asked, known), ended.out)
     return b" ".join(ended.out.split()[:2]).decode()

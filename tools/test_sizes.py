@@ -51,7 +51,14 @@ def long_messages(tally, room):
     tally.want("make of a write of 2 MiB", (made.status, made.out == text(records), made.err), (0, True, b""))
     capture, order = room.put("long", text(records)), room.put("order", b"1\n")
     told = room.run("explain", capture, order)
-    tally.want("explain of a write of 2 MiB", told, yes(1, 1, 1))
+    first = sum(len(data) for _, data in begun()) + 1
+    reason = (
+        "improper: 1 of 1 request\n"
+        f"message: WRITE #1, cookie 0x1, {len(data)} bytes at 0; bytes {first} to {first + 27 + len(data)}\n"
+        f"wrong: its range passes the end of the export of 8 bytes by {len(data) - 8} bytes\n"
+    )
+    wanted = yes(1, 1, 1)
+    tally.want("explain of a write of 2 MiB", told, wanted._replace(out=wanted.out + reason.encode()))
     named = room.run("show", "--names", capture)
     tally.want("names of a write of 2 MiB", (named.status, named.out.endswith(b"\nok\n"), named.err), (0, True, b""))
     records = [greeting(), client_flags(), option(3, data), answer(3, 2**31 + 3, data)]

@@ -16,8 +16,8 @@ READ_ONLY, SEND_FLUSH, SEND_FUA, SEND_TRIM, SEND_WRITE_ZEROES, SEND_DF, SEND_FAS
 FUA, NO_HOLE, DF, REQ_ONE, FAST_ZERO = 1, 2, 4, 8, 16
 DONE = 1
 
-# Where and with what the session was refused (None: it was not), how many requests came, were answered, and were improper; what
-# the negotiation found, and the requests.
+# Where and with what the session was refused (None: it was not), how many requests came, were answered, and were improper or
+# outside the block sizes; what the negotiation found, and the requests.
 Judged = namedtuple("Judged", "place fault requests answered improper found sent")
 
 
@@ -60,6 +60,16 @@ def is_proper(request, found):
              WRITE_ZEROES: NO_HOLE | (FAST_ZERO if flags & SEND_FAST_ZERO else 0)}.get(command, 0)
     known |= FUA if flags & SEND_FUA else 0
     return fits and is_allowed and needed & ~flags == 0 and request.flags & ~known == 0
+
+
+def is_outside(request, found):
+    """Whether a request breaks the block sizes that its client accepted."""
+    has_range = request.command in (READ, WRITE, TRIM, CACHE, WRITE_ZEROES) or request.command == BLOCK_STATUS and found.contexts
+    if not has_range or found.sizes is None:
+        return False
+    least, largest = found.sizes
+    is_long = request.command in (READ, WRITE) and request.length > largest
+    return is_long or request.offset % least != 0 or request.length % least != 0
 
 
 def cut_extents(payload):
@@ -125,7 +135,7 @@ class Reader:
             self.need(request.cookie not in self.outstanding, "CookieInUse")
             self.requests.append(request)
             self.outstanding[request.cookie] = len(self.requests)
-            self.improper += not is_proper(request, self.found)
+            self.improper += not is_proper(request, self.found) or is_outside(request, self.found)
         one.bytes.clear()
         one.need = 28
 

@@ -19,7 +19,7 @@ class Nbdcheck:
 
     def __init__(self, program, capture, order, start, profile=None):
         self.program, self.capture, self.order, self.start = program, capture, order, start
-        self.profile = [] if profile is None else ["--profile", profile]
+        self.profile, self.is_wide = [] if profile is None else ["--profile", profile], profile == "wide"
 
     @contextlib.contextmanager
     def _running(self, words, errors):

@@ -20,7 +20,7 @@ def number(value):
 def read_session(nbdcheck, capture, offset):
     """The session of a capture, and the line in words of each message."""
     with open(capture, "rb") as file:
-        session, told = Session(Places(file), offset), []
+        session, told = Session(Places(file), offset, nbdcheck.is_wide), []
     changed = Fault(FAILED, "the capture changed while it was read")
     for line, words in zip_longest(nbdcheck.lines(), nbdcheck.lines("--names")):
         if line is None or words is None or session.end is not None:

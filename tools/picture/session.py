@@ -13,7 +13,9 @@ PENDING, SUCCESS, FAILURE = range(3)
 # The bytes of each message without its payload.
 HEADS = {"greeting": 18, "client-flags": 4, "option": 16, "answer": 20, "export": 10, "request": 28, "simple": 16, "chunk": 20}
 PADDING = 124
-INFO, INFO_EXPORT = 3, 0
+# The largest block size that is no limit.
+LIMITLESS = 2**32 - 1
+INFO, INFO_EXPORT, INFO_BLOCK_SIZE = 3, 0, 3
 READ_ONLY, SEND_FLUSH, SEND_FUA, SEND_TRIM, SEND_WRITE_ZEROES, SEND_DF, SEND_FAST_ZERO = (1 << at for at in (1, 2, 3, 5, 6, 7, 11))
 FUA, NO_HOLE, DF, REQ_ONE, FAST_ZERO = 1, 2, 4, 8, 16
 EXPORT_NAME, GO, STRUCTURED_REPLY, SET_META_CONTEXT = 1, 7, 8, 10
@@ -66,14 +68,43 @@ class Contexts:
         return self.is_structured and self.is_granted and self.count > 0 and self.selected == self.entered
 
 
-class Export:
-    """The size and the flags of the export, as last told, and its metadata contexts."""
+class Sizes:
+    """The block sizes that a client asked for in its last option, a GO, and was told: docs/PROFILE.md, "Block sizes"."""
 
     def __init__(self):
+        self.is_asked, self.least, self.largest = False, 1, LIMITLESS
+
+    def told(self, kind, fields, payload):
+        if kind == "option":
+            self.is_asked = int(fields["id"]) == GO and self._asks(bytes.fromhex(payload.decode()))
+            self.least, self.largest = 1, LIMITLESS
+        elif kind == "answer" and int(fields["kind"]) == INFO and len(payload) == 28 and int(payload[:4], 16) == INFO_BLOCK_SIZE:
+            self.least, _, self.largest = struct.unpack(">III", bytes.fromhex(payload[4:].decode()))
+
+    @staticmethod
+    def _asks(data):
+        """Whether GO asks for them; one whose data does not have its form leads nowhere."""
+        infos = data[6 + int.from_bytes(data[:4], "big") :]
+        return INFO_BLOCK_SIZE in (int.from_bytes(infos[at : at + 2], "big") for at in range(0, len(infos), 2))
+
+    def are_broken(self, request):
+        if not self.is_asked:
+            return False
+        is_long = request.command in (READ, WRITE) and request.length > self.largest
+        return is_long or request.offset % self.least != 0 or request.length % self.least != 0
+
+
+class Export:
+    """The size and the flags of the export, as last told, its metadata contexts, and its block sizes where they are looked at."""
+
+    def __init__(self, has_sizes):
         self.size, self.flags, self.contexts = None, 0, Contexts()
+        self.sizes = Sizes() if has_sizes else None
 
     def told(self, kind, fields, payload):
         self.contexts.told(kind, fields, payload)
+        if self.sizes is not None:
+            self.sizes.told(kind, fields, payload)
         if kind == "export":
             self.size, self.flags = int(fields["size"]), int(fields["flags"])
         elif kind == "answer" and int(fields["kind"]) == INFO and len(payload) == 24 and int(payload[:4], 16) == INFO_EXPORT:
@@ -91,27 +122,28 @@ class Export:
         return allowed
 
     def is_improper(self, request):
-        """Whether the client should not have sent it: docs/PROFILE.md, "Requests"."""
+        """Whether the client should not have sent it: docs/PROFILE.md, "Requests" and "Block sizes"."""
         command = request.command
         needed = {FLUSH: SEND_FLUSH, TRIM: SEND_TRIM, WRITE_ZEROES: SEND_WRITE_ZEROES}.get(command, 0)
         if command == FLUSH:
-            is_outside = request.offset != 0 or request.length != 0
+            is_beyond = request.offset != 0 or request.length != 0
         else:
-            is_outside = request.offset + request.length > self.size
+            is_beyond = request.offset + request.length > self.size
         may_not_change = command in (WRITE, TRIM, WRITE_ZEROES) and self.flags & READ_ONLY
         is_known = command in (READ, WRITE, FLUSH, TRIM, CACHE, WRITE_ZEROES)
         is_known |= command == BLOCK_STATUS and self.contexts.are_in_force()
-        return bool(not is_known or is_outside or may_not_change or needed & ~self.flags
-                    or request.flags & ~self._allowed(command))
+        has_broken = self.sizes is not None and command != FLUSH and self.sizes.are_broken(request)
+        return bool(not is_known or is_beyond or may_not_change or needed & ~self.flags
+                    or request.flags & ~self._allowed(command) or has_broken)
 
 
 class Session:
-    """What was read of a session. The messages are four lists, since there may be many."""
+    """What was read of a session, in the profile wide with its block sizes. The messages are four lists, since there may be many."""
 
-    def __init__(self, places, offset):
+    def __init__(self, places, offset, is_wide=False):
         self.places, self.offset = places, offset
         self.sides, self.firsts, self.lasts, self.numbers = [], [], [], []
-        self.requests, self.export, self.end = [], Export(), None
+        self.requests, self.export, self.end = [], Export(is_wide), None
         self.read = dict.fromkeys(SIDES, 0)
         self.outstanding = {}
 

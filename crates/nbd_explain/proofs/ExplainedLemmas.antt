@@ -52,12 +52,12 @@ each_ok (Err e) p = tt
 -- the verdict on the entries of an order text, of a session that took all bytes of a capture text
 pub explained : {profile : Profile} (known order : Option (List ℕ)) (entries : List Entry) (start : Option Start) (finished : Result Report SessionFault) (finish : IsFinishOf profile known finished) (beginning : Beginning)
     (begun : IsBeginningOf start (room_in finished) beginning) (answered : Answer) (text : List ℕ) →
-    IfSome order (λ text. IsOrderText text entries) → IsToldOn finished entries beginning answered text → OnWritten text (Explains profile known order start answered)
+    IfSome order (λ text. IsOrderText text entries) → IsToldOn profile finished entries beginning answered text → OnWritten text (Explains profile known order start answered)
 explained {profile} known order entries start finished finish beginning begun answered text is_text told = λ old new appended. record {
   verdict = told.verdict;
   is_verdict = verdict_on profile known order start finish.over.chunks entries begun.initial told.verdict finish.over.is_text is_text begun.is_known
       (checked_over (flat_of finish.over.chunks) finish.session entries begun.initial finished told.verdict finish.over.over finish.fault finish.report finish.wire
-      (told.concludes begun.initial begun.is_read) (λ items is_run reports. told.answers profile begun.initial items begun.is_read is_run reports));
+      (told.concludes begun.initial begun.is_read) (λ items is_run reports. told.answers begun.initial items begun.is_read is_run reports));
   answer = told.answer;
   begins = (told.begins.0, subst (Appends old new) told.begins.1 appended);
 }

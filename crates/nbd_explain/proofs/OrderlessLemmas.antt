@@ -49,10 +49,10 @@ yes_of capture entries initial (verdict.Status request offset) explained judged 
 
 -- what was found of the report of a run, and written
 told_of : {profile : Profile} (capture : List Pair) (initial : Start) (told : Report) (beginning : Beginning) (f : Found) (first rest : List ℕ) (old new : Option (List ℕ)) → (has : HasReport profile capture told) →
-    IsReadAs (size_of told.export) initial beginning → IsFound told initial f → IsWanted Any f → Says profile has.items initial f → IsLineOf told f beginning first → Appends old new (first ++ rest) → IsTold profile capture initial old new (answer_to f)
+    IsReadAs (size_of told.export) initial beginning → IsFound told initial f → IsWanted Any f → Says profile has.items initial f → IsLineOf profile told f beginning first → Appends old new (first ++ rest) → IsTold profile capture initial old new (answer_to f)
 told_of {profile} capture initial told beginning (Order entries) first rest old new has is_read is fits says is_line appended =
     let judged : IsChecked profile capture entries.items initial is_line.verdict =
-    checked profile capture entries.items initial (Ok told) is_line.verdict has tt (is_line.concludes initial is_read) (λ items is_run reported. is_line.answers profile initial items is_read is_run reported) in
+    checked profile capture entries.items initial (Ok told) is_line.verdict has tt (is_line.concludes initial is_read) (λ items is_run reported. is_line.answers initial items is_read is_run reported) in
     let explained : IsExplainedOf profile capture entries.items initial = subst (λ c. IsExplainedOf profile c entries.items initial) has.has_pairs says in
     found entries.items is_line.verdict explained judged (yes_of capture entries.items initial is_line.verdict explained judged)
     (rest, subst (λ text. Appends old new (text ++ rest)) is_line.is_line appended)
@@ -74,14 +74,14 @@ told_of {profile} capture initial told beginning (GaveUp request offset reason) 
 
 -- the same, where the start may be known
 told_from : {profile : Profile} (capture : List Pair) (known : Option Start) (initial : Start) (told : Report) (beginning : Beginning) (f : Found) (first rest : List ℕ) (old new : Option (List ℕ)) → IfSome known (λ s. initial ≡ s) → (has : HasReport profile capture told) →
-    IsReadAs (size_of told.export) initial beginning → IsFound told initial f → IsWanted Any f → Says profile has.items initial f → IsLineOf told f beginning first → Appends old new (first ++ rest) → IsToldFrom profile capture known old new (answer_to f)
+    IsReadAs (size_of told.export) initial beginning → IsFound told initial f → IsWanted Any f → Says profile has.items initial f → IsLineOf profile told f beginning first → Appends old new (first ++ rest) → IsToldFrom profile capture known old new (answer_to f)
 told_from capture None initial told beginning f first rest old new is_known has is_read is fits says is_line appended = tt
 told_from {profile} capture (Some start) initial told beginning f first rest old new is_known has is_read is fits says is_line appended =
     subst (λ s. IsTold profile capture s old new (answer_to f)) is_known (told_of capture initial told beginning f first rest old new has is_read is fits says is_line appended)
 
 -- what the search came to is told
 tells : {profile : Profile} (known : Option (List ℕ)) (start : Option Start) (told : Report) (finish : IsFinishOf profile known (Ok told)) (beginning : Beginning) (begun : IsBeginningOf start (size_of told.export) beginning) (answered : Answer) (text : List ℕ) →
-    IsToldOfFound told beginning answered text → OnWritten text (Tells profile known start answered)
+    IsToldOfFound profile told beginning answered text → OnWritten text (Tells profile known start answered)
 tells {profile} known start told finish beginning begun answered text of = λ old new appended.
     let chunks = finish.over.chunks in
     let has : HasReport profile (flat_of chunks) told = report_over (flat_of chunks) finish.session (Ok told) finish.over.over finish.fault finish.report in
@@ -108,7 +108,7 @@ refuses {profile} known start at fault finish text begins = λ old new appended.
 
 -- without an order
 pub searched : {profile : Profile} (known : Option (List ℕ)) (start : Option Start) (finished : Result Report SessionFault) (finish : IsFinishOf profile known finished) (beginning : Beginning) (begun : IsBeginningOf start (room_in finished) beginning)
-    (answered : Answer) (text : List ℕ) → IsToldBySearch beginning finished answered text → OnWritten text (Tells profile known start answered)
+    (answered : Answer) (text : List ℕ) → IsToldBySearch profile beginning finished answered text → OnWritten text (Tells profile known start answered)
 searched known start (Ok told) finish beginning begun answered text of = tells known start told finish beginning begun answered text of
 searched known start (Err (Wire at fault)) finish beginning begun Yes text of = absurd of.0
 searched known start (Err (Wire at fault)) finish beginning begun Open text of = absurd of.0

@@ -29,9 +29,9 @@ use std::alloc::{AllocError, Global};
 use std::io::{BufRead, Read, Write};
 
 /// Reads a capture text to its end, then an order text and an image, if there are such; writes the line that
-/// `check` writes in the profile `Base`, and behind it why the answer is no. Without an order it looks for one within these limits: it
-/// writes the line that `check` writes of the order that was found, or that with which `order` says that there is none or
-/// that it found none, and behind it what that says.
+/// `check` writes in the profile `Base`, and behind it why the answer is no, or of a yes which requests the client should not have sent.
+/// Without an order it looks for one within these limits: it writes the line that `check` writes of the order that was found, or that
+/// with which `order` says that there is none or that it found none, and behind it what that says.
 ///
 /// Nothing is written unless all were read whole and are well formed. After `Write` some of it may stand written. A
 /// long search says on `progress` how far it is.
@@ -66,9 +66,9 @@ pub fn run_explain<C: BufRead + Drop, O: Read + Drop, I: Measured + Drop, W: Wri
 }
 
 /// Reads a capture text to its end, then an order text and an image, if there are such; writes the line that
-/// `check` writes in this profile, and behind it why the answer is no. Without an order it looks for one within these
-/// limits: it writes the line that `check` writes of the order that was found, or that with which `order` says that there is
-/// none or that it found none, and behind it what that says.
+/// `check` writes in this profile, and behind it why the answer is no, or of a yes which requests the client should not have sent.
+/// Without an order it looks for one within these limits: it writes the line that `check` writes of the order that was found, or that
+/// with which `order` says that there is none or that it found none, and behind it what that says.
 ///
 /// An `Err` is a fault of a text, of a reader or of the writer, or out of memory. Nothing is written unless all were read
 /// whole and are well formed. After `Write` some of it may stand written. A long search says on `progress` how far it is.
@@ -129,6 +129,7 @@ fn told_over<C: BufRead + Drop, O: Read + Drop, I: Measured + Drop>(
     let finished = finished_over(alloc, profile, capture, &mut recorder);
     told_after(
         alloc,
+        profile,
         finished,
         &recorder.story,
         order,
@@ -141,6 +142,7 @@ fn told_over<C: BufRead + Drop, O: Read + Drop, I: Measured + Drop>(
 // The same of a capture that was read, or of the fault that was met.
 fn told_after<O: Read + Drop, I: Measured + Drop>(
     alloc: Global,
+    profile: Profile,
     finished: Result<Result<Transcript, SessionFault>, RunFault>,
     story: &Story,
     order: Option<O>,
@@ -148,7 +150,7 @@ fn told_after<O: Read + Drop, I: Measured + Drop>(
     limits: Limits,
     progress: &mut Progress,
 ) -> Result<(String, Answer), RunFault>
-    ensures told { IfOk result (λ told. (profile : Profile) (known : Option (List ℕ)) → IfOk finished (IsFinishOf profile known) →
+    ensures told { IfOk result (λ told. (known : Option (List ℕ)) → IfOk finished (IsFinishOf profile known) →
         OnWritten told.0.bytes.items
         (IsExplained profile O.remaining known order (initial_from I.remaining start) told.1)) }
     ensures order_limited { OnOk result (IsOrderWithinLimit O.remaining order) }
@@ -159,12 +161,15 @@ fn told_after<O: Read + Drop, I: Measured + Drop>(
     ensures cause { IfErr result (λ fault. (profile : Profile) (known : Option (List ℕ)) →
         IfOk finished (IsFinishOf profile known) → IfErr finished (IsCaptureCause known) → IsExplainCause O.remaining known order start fault) }
 {
-    told_of(alloc, finished?, story, order, start, limits, progress)
+    told_of(
+        alloc, profile, finished?, story, order, start, limits, progress,
+    )
 }
 
 // The same of the session that it came to.
 fn told_of<O: Read + Drop, I: Measured + Drop>(
     alloc: Global,
+    profile: Profile,
     finished: Result<Transcript, SessionFault>,
     story: &Story,
     order: Option<O>,
@@ -172,7 +177,7 @@ fn told_of<O: Read + Drop, I: Measured + Drop>(
     limits: Limits,
     progress: &mut Progress,
 ) -> Result<(String, Answer), RunFault>
-    ensures told { IfOk result (λ told. (profile : Profile) (known : Option (List ℕ)) → IsFinishOf profile known finished →
+    ensures told { IfOk result (λ told. (known : Option (List ℕ)) → IsFinishOf profile known finished →
         OnWritten told.0.bytes.items
         (IsExplained profile O.remaining known order (initial_from I.remaining start) told.1)) }
     ensures order_limited { OnOk result (IsOrderWithinLimit O.remaining order) }
@@ -183,20 +188,21 @@ fn told_of<O: Read + Drop, I: Measured + Drop>(
         IsExplainCause O.remaining known order start fault) }
 {
     match order {
-        Some(order) => told_with(alloc, finished, story, order, start),
-        None => told_searching(alloc, finished, story, start, limits, progress),
+        Some(order) => told_with(alloc, profile, finished, story, order, start),
+        None => told_searching(alloc, profile, finished, story, start, limits, progress),
     }
 }
 
 // With an order: the verdict.
 fn told_with<O: Read + Drop, I: Measured + Drop>(
     alloc: Global,
+    profile: Profile,
     finished: Result<Transcript, SessionFault>,
     story: &Story,
     mut order: O,
     start: StartFrom<I>,
 ) -> Result<(String, Answer), RunFault>
-    ensures told { IfOk result (λ told. (profile : Profile) (known : Option (List ℕ)) → IsFinishOf profile known finished →
+    ensures told { IfOk result (λ told. (known : Option (List ℕ)) → IsFinishOf profile known finished →
         OnWritten told.0.bytes.items (Explains profile known (O.remaining order) (initial_from I.remaining start) told.1)) }
     ensures limited { OnOk result (IsWithinLimit (O.remaining order)) }
     ensures start_limited { OnOk result (IsStartWithinLimit I.remaining start) }
@@ -205,12 +211,13 @@ fn told_with<O: Read + Drop, I: Measured + Drop>(
         IsCause known (O.remaining order) start fault) }
 {
     let order = read_order(alloc, &mut order)?;
-    told_on(alloc, finished, story, &order, start)
+    told_on(alloc, profile, finished, story, &order, start)
 }
 
 // The verdict on the entries of an order.
 fn told_on<I: Measured + Drop>(
     alloc: Global,
+    profile: Profile,
     finished: Result<Transcript, SessionFault>,
     story: &Story,
     entries: &[Entry],
@@ -218,25 +225,26 @@ fn told_on<I: Measured + Drop>(
 ) -> Result<(String, Answer), RunFault>
     ensures told { IfOk result (λ told. (beginning : Beginning)
         × IsBeginningOf (initial_from I.remaining start) (room_in finished) beginning
-        × IsToldOn finished entries.now beginning told.1 told.0.bytes.items) }
+        × IsToldOn profile finished entries.now beginning told.1 told.0.bytes.items) }
     ensures start_limited { OnOk result (IsStartWithinLimit I.remaining start) }
     ensures cause { IfErr result (λ fault. (fault ≡ ImageRead) × HasImage start ⊎ (fault ≡ Memory)) }
 {
     let start = read_start(alloc, start, room_of(&finished))?;
-    Ok(told_from(alloc, finished, story, entries, start)?)
+    Ok(told_from(alloc, profile, finished, story, entries, start)?)
 }
 
 // The verdict on them from what was read of the start.
 fn told_from(
     alloc: Global,
+    profile: Profile,
     finished: Result<Transcript, SessionFault>,
     story: &Story,
     entries: &[Entry],
     start: Beginning,
 ) -> Result<(String, Answer), AllocError>
-    ensures { IfOk result (λ told. IsToldOn finished entries.now start told.1 told.0.bytes.items) }
+    ensures { IfOk result (λ told. IsToldOn profile finished entries.now start told.1 told.0.bytes.items) }
 {
     let kept = copy_of(alloc, &start)?;
-    let verdict = conclude_from(alloc, finished, entries, start)?;
+    let verdict = conclude_from(alloc, profile, finished, entries, start)?;
     told_verdict(alloc, verdict, story.with(entries, kept_of(&kept)))
 }

@@ -13,7 +13,7 @@ pub fn found_explanation(
 ) -> Result<String, AllocError> {
     let text = Text::new(alloc);
     let text = match found {
-        Found::Order(entries) => text.found(entries),
+        Found::Order(entries) => text.found(entries).amiss(sources.story),
         Found::Unexplained(refutation) => text.refutation(contest_of(refutation), sources),
         Found::Image { image, size } => text.image(*image, *size),
         Found::NoneWhole => text.open(),

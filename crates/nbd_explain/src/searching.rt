@@ -3,6 +3,7 @@
 ghost use Rattle.std.specs.Prelude.{◌≡◌, ◌⊎◌, Err, IfErr, IfOk, IsOk, OnOk};
 ghost use Rattle.nbd_tool.specs.declared.fault.RunFault.TheVariants.{ImageRead, Memory};
 ghost use Rattle.nbd_tool.specs.declared.start.Beginning.{Beginning};
+ghost use Rattle.nbd_wire.specs.declared.profile.Profile.{Profile};
 ghost use Rattle.nbd_tool.specs.Beginnings.{IsBeginningOf, room_in};
 ghost use Rattle.nbd_tool.specs.Starts.{HasImage, IsStartWithinLimit, initial_from};
 ghost use Rattle.nbd_explain.specs.Answering.{answer_to};
@@ -20,12 +21,14 @@ use nbd_story::{Sources, Story};
 use nbd_tool::{
     Beginning, Line, Measured, RunFault, StartFrom, conclude_from, read_start, room_of,
 };
+use nbd_wire::Profile;
 use std::alloc::{AllocError, Global};
 
 /// Looks for an order that explains a finished session from the start that is read: the line of what it came to and what that
 /// says; of a session that was refused the verdict's line and why. And the answer.
 pub fn told_searching<I: Measured + Drop>(
     alloc: Global,
+    profile: Profile,
     finished: Result<Transcript, SessionFault>,
     story: &Story,
     start: StartFrom<I>,
@@ -34,27 +37,28 @@ pub fn told_searching<I: Measured + Drop>(
 ) -> Result<(String, Answer), RunFault>
     ensures told { IfOk result (λ told. (beginning : Beginning)
         × IsBeginningOf (initial_from I.remaining start) (room_in finished) beginning
-        × IsToldBySearch beginning finished told.1 told.0.bytes.items) }
+        × IsToldBySearch profile beginning finished told.1 told.0.bytes.items) }
     ensures start_limited { OnOk result (IsStartWithinLimit I.remaining start) }
     ensures cause { IfErr result (λ fault. (fault ≡ ImageRead) × HasImage start ⊎ (fault ≡ Memory)) }
 {
     let start = read_start(alloc, start, room_of(&finished))?;
-    Ok(told_by_search(alloc, finished, story, start, limits, progress)?)
+    Ok(told_by_search(alloc, profile, finished, story, start, limits, progress)?)
 }
 
 // The same from what was read of the start.
 fn told_by_search(
     alloc: Global,
+    profile: Profile,
     finished: Result<Transcript, SessionFault>,
     story: &Story,
     start: Beginning,
     limits: Limits,
     progress: &mut Progress,
 ) -> Result<(String, Answer), AllocError>
-    ensures { IfOk result (λ told. IsToldBySearch start finished told.1 told.0.bytes.items) }
+    ensures { IfOk result (λ told. IsToldBySearch profile start finished told.1 told.0.bytes.items) }
 {
     match finished {
-        Ok(transcript) => told_of_found(alloc, transcript, story, start, limits, progress),
+        Ok(transcript) => told_of_found(alloc, profile, transcript, story, start, limits, progress),
         Err(fault) => told_of_fault(alloc, fault, story.with(&[], kept_of(&start))),
     }
 }
@@ -65,7 +69,7 @@ fn told_of_fault(
     fault: SessionFault,
     sources: Sources<'_>,
 ) -> Result<(String, Answer), AllocError>
-    ensures { IfOk result (λ told. (beginning : Beginning) → IsToldBySearch beginning (Err fault) told.1
+    ensures { IfOk result (λ told. (profile : Profile) (beginning : Beginning) → IsToldBySearch profile beginning (Err fault) told.1
         told.0.bytes.items) }
 {
     match fault {
@@ -79,13 +83,14 @@ fn told_of_fault(
 // What looking for an order comes to, from what was read of the start.
 fn told_of_found(
     alloc: Global,
+    profile: Profile,
     transcript: Transcript,
     story: &Story,
     start: Beginning,
     limits: Limits,
     progress: &mut Progress,
 ) -> Result<(String, Answer), AllocError>
-    ensures { IfOk result (λ told. IsToldOfFound transcript start told.1 told.0.bytes.items) }
+    ensures { IfOk result (λ told. IsToldOfFound profile transcript start told.1 told.0.bytes.items) }
 {
     let kept = copy_of(alloc, &start)?;
     let scope = Scope {
@@ -93,36 +98,41 @@ fn told_of_found(
         limits,
     };
     let found = find_order(alloc, &transcript, start, scope, progress)?;
-    told_found(alloc, transcript, &found, kept, story)
+    told_found(alloc, profile, transcript, &found, kept, story)
 }
 
 // The line of what was found, and what that says, and the answer.
 fn told_found(
     alloc: Global,
+    profile: Profile,
     transcript: Transcript,
     found: &Found,
     start: Beginning,
     story: &Story,
 ) -> Result<(String, Answer), AllocError>
-    ensures begins { IfOk result (λ told. BeginsWithLineOf transcript found.now start told.0.bytes.items) }
+    ensures begins { IfOk result (λ told. BeginsWithLineOf profile transcript found.now start told.0.bytes.items) }
     ensures answer { IfOk result (λ told. told.1 ≡ answer_to found.now) }
 {
-    let text = text_of(alloc, transcript, found, start, story)?;
+    let text = text_of(alloc, profile, transcript, found, start, story)?;
     Ok((text, found_answer(found)))
 }
 
 // The line of what was found, and what that says.
 fn text_of(
     alloc: Global,
+    profile: Profile,
     transcript: Transcript,
     found: &Found,
     start: Beginning,
     story: &Story,
 ) -> Result<String, AllocError>
-    ensures { IfOk result (λ text. BeginsWithLineOf transcript found.now start text.bytes.items) }
+    ensures { IfOk result (λ text. BeginsWithLineOf profile transcript found.now start text.bytes.items) }
 {
     let explanation = found_explanation(alloc, found, story.with(&[], kept_of(&start)));
-    joined(line_of(alloc, transcript, found, start), explanation)
+    joined(
+        line_of(alloc, profile, transcript, found, start),
+        explanation,
+    )
 }
 
 // A text and one behind it, where there was memory for both.
@@ -141,15 +151,16 @@ fn joined(
 // The line of what was found: of an order that of the verdict on it, and that it was found.
 fn line_of(
     alloc: Global,
+    profile: Profile,
     transcript: Transcript,
     found: &Found,
     start: Beginning,
 ) -> Result<String, AllocError>
-    ensures { IfOk result (λ text. IsLineOf transcript found.now start text.bytes.items) }
+    ensures { IfOk result (λ text. IsLineOf profile transcript found.now start text.bytes.items) }
 {
     match found {
         Found::Order(entries) => {
-            let verdict = conclude_from(alloc, Ok(transcript), entries, start)?;
+            let verdict = conclude_from(alloc, profile, Ok(transcript), entries, start)?;
             Ok(format!(in alloc;
                 "{}\norder: found, not given; 'nbdcheck order' with the same words writes it\n",
                 Line { verdict }

@@ -40,7 +40,7 @@ pub record HasVerdict (profile : Profile) (capture : List Pair) (order : List En
   pub is_run : IsRunOf profile items
   pub has_pairs : pairs items ≡ capture
   pub is_verdict : (others : List Item) → IsRunOf profile others → pairs others ≡ capture
-      → IsVerdict (report others) order initial v
+      → IsVerdict profile (report others) order initial v
   pub answers : Answers profile capture order initial v
 
 -- the verdict on a capture: that on its run of the profile, or where no such run has its bytes its wire fault

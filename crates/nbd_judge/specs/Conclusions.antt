@@ -14,11 +14,12 @@ use Rattle.nbd_judge.specs.declared.verdict.Verdict.{Verdict}
 use Rattle.nbd_judge.specs.declared.verdict.Verdict.TheVariants.{Yes, Wire, Image, Order, Content, Status}
 use Rattle.nbd_judge.specs.Verdicts.{IsVerdict}
 
--- the verdict on a finished session: that on its report, or its wire fault; none where it met out of memory
-abbrev pub IsConclusion : Result Report SessionFault → List Entry → Start → Verdict → Type 0
-IsConclusion (Ok r) order initial v = IsVerdict r order initial v
-IsConclusion (Err (session.Wire at fault)) order initial v = v ≡ Wire at fault
-IsConclusion (Err session.Memory) order initial v = ⊥
+-- the verdict on a finished session of the profile: that on its report, or its wire fault; none where it met out of
+-- memory
+abbrev pub IsConclusion : Profile → Result Report SessionFault → List Entry → Start → Verdict → Type 0
+IsConclusion profile (Ok r) order initial v = IsVerdict profile r order initial v
+IsConclusion profile (Err (session.Wire at fault)) order initial v = v ≡ Wire at fault
+IsConclusion profile (Err session.Memory) order initial v = ⊥
 
 -- the session finished with the report of this run
 abbrev pub IsReportOf : List Item → Result Report SessionFault → Type 0
@@ -50,4 +51,5 @@ Answers profile capture order initial (Wire at fault) = ⊥
 -- the verdict on the report of a run of any profile says what holds of its bytes
 abbrev pub VerdictsAnswerRuns : Type 0
 VerdictsAnswerRuns = (profile : Profile) (items : List Item) (order : List Entry) (initial : Start) (v : Verdict)
-    → IsRunOf profile items → IsVerdict (report items) order initial v → Answers profile (pairs items) order initial v
+    → IsRunOf profile items → IsVerdict profile (report items) order initial v
+    → Answers profile (pairs items) order initial v

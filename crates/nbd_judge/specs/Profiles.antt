@@ -1,5 +1,5 @@
--- Where no answer of success on metadata contexts comes the profiles do not count.
-use Rattle.std.specs.Prelude.{List, ◌≡◌, ◌++◌}
+-- Where the profiles take no bytes differently their verdicts differ in a count at most.
+use Rattle.std.specs.Prelude.{ℕ, List, ◌≡◌, ◌++◌}
 use Rattle.nbd_wire.specs.declared.entry.Entry.{Entry}
 use Rattle.nbd_wire.specs.declared.message.Message.{Message}
 use Rattle.nbd_wire.specs.declared.profile.Profile.{Profile}
@@ -7,17 +7,24 @@ use Rattle.nbd_wire.specs.protocol.Captures.{Pair}
 use Rattle.nbd_wire.specs.protocol.Explains.{Start}
 use Rattle.nbd_wire.specs.protocol.Marks.{Item}
 use Rattle.nbd_wire.specs.protocol.Splits.{IsSplitOf}
-use Rattle.nbd_laws.specs.Profiles.{AnswersNoContexts}
+use Rattle.nbd_laws.specs.Profiles.{NothingParts}
 use Rattle.nbd_judge.specs.Captures.{IsChecked}
 use Rattle.nbd_judge.specs.declared.verdict.Verdict.{Verdict}
+use Rattle.nbd_judge.specs.declared.verdict.Verdict.TheVariants.{Yes}
 
--- in no split of a prefix of the capture does the head of an answer of success to an option on metadata contexts
--- complete
-abbrev pub TellsNoContexts : List Pair → Type 0
-TellsNoContexts capture = (profile : Profile) (items : List Item) (ps rest : List Pair) (messages : List Message)
-    → ps ++ rest ≡ capture → IsSplitOf profile items ps messages → AnswersNoContexts items
+-- in no split of a prefix of the capture come bytes that the profiles take differently
+abbrev pub NothingPartsIn : List Pair → Type 0
+NothingPartsIn capture = (profile : Profile) (items : List Item) (ps rest : List Pair) (messages : List Message)
+    → ps ++ rest ≡ capture → IsSplitOf profile items ps messages → NothingParts items
 
--- where that is so both profiles have the same verdict
+-- the same verdict, with this count of requests that a client should not have sent where it is a yes
+abbrev pub with_improper : ℕ → Verdict → Verdict
+with_improper count (Yes of_requests of_answered of_improper) = Yes of_requests of_answered count
+with_improper count v = v
+
+-- where that is so both profiles have the same verdict, but for the count of requests that a client should not have
+-- sent
 abbrev pub VerdictsAgree : Type 0
 VerdictsAgree = (p q : Profile) (capture : List Pair) (order : List Entry) (initial : Start) (v : Verdict)
-    → TellsNoContexts capture → IsChecked p capture order initial v → IsChecked q capture order initial v
+    → NothingPartsIn capture → IsChecked p capture order initial v →
+    (count : ℕ) × IsChecked q capture order initial (with_improper count v)

@@ -12,15 +12,15 @@ use Rattle.nbd_judge.specs.Captures.{IsChecked}
 use Rattle.nbd_judge.specs.Verdicts.{IsJudged, IsVerdict}
 use Rattle.nbd_judge.specs.declared.verdict.Verdict.{Verdict}
 
--- there is one verdict at most, where the export's bytes were these at first
+-- in a profile there is one verdict at most, where the export's bytes were these at first
 abbrev pub OneJudgement : Type 0
-OneJudgement = (r : Report) (order : List Entry) (initial : ℕ → Option ℕ) (v w : Verdict) → IsJudged r order initial v
-    → IsJudged r order initial w → v ≡ w
+OneJudgement = (profile : Profile) (r : Report) (order : List Entry) (initial : ℕ → Option ℕ) (v w : Verdict)
+    → IsJudged profile r order initial v → IsJudged profile r order initial w → v ≡ w
 
--- there is one verdict at most from a start
+-- in a profile there is one verdict at most from a start
 abbrev pub OneVerdict : Type 0
-OneVerdict = (r : Report) (order : List Entry) (initial : Start) (v w : Verdict) → IsVerdict r order initial v
-    → IsVerdict r order initial w → v ≡ w
+OneVerdict = (profile : Profile) (r : Report) (order : List Entry) (initial : Start) (v w : Verdict)
+    → IsVerdict profile r order initial v → IsVerdict profile r order initial w → v ≡ w
 
 -- in a profile a capture is refused in one way at most: at one byte, with one fault, after the same messages
 abbrev pub OneWireFault : Type 0

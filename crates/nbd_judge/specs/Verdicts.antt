@@ -6,6 +6,7 @@ use Rattle.nbd_wire.specs.protocol.Explains.{FitsImage, Start, start_byte}
 use Rattle.nbd_wire.specs.protocol.Orders.{IsFirst}
 use Rattle.nbd_wire.specs.declared.commands.TheConstants as commands
 use Rattle.nbd_wire.specs.protocol.Reports.{Asked, Report, asked_at}
+use Rattle.nbd_wire.specs.declared.profile.Profile.{Profile}
 use Rattle.nbd_wire.specs.protocol.Verdicts.{IsFaultless, answered_count, improper_count, request_count}
 use Rattle.nbd_judge.specs.Images.{IsOtherSize}
 use Rattle.nbd_judge.specs.Orders.{IsOrderFault}
@@ -43,27 +44,27 @@ abbrev pub wrong_verdict : Report → (request offset : ℕ) → Verdict
 wrong_verdict r request offset = wrong_verdict_if (asked_at request r.asked) request offset
 
 -- the verdict where the export's bytes were these at first: Order, Content, Status or Yes
-abbrev pub IsJudged : Report → List Entry → (ℕ → Option ℕ) → Verdict → Type 0
-IsJudged r order initial (Yes of_requests of_answered of_improper) =
+abbrev pub IsJudged : Profile → Report → List Entry → (ℕ → Option ℕ) → Verdict → Type 0
+IsJudged profile r order initial (Yes of_requests of_answered of_improper) =
     IsFaultless r order × HasNoneWrongFrom r order initial
-    × (of_requests ≡ request_count r) × (of_answered ≡ answered_count r) × (of_improper ≡ improper_count r)
-IsJudged r order initial (Order entry fault) = IsOrderFault r order entry fault
-IsJudged r order initial (Content request offset) =
+    × (of_requests ≡ request_count r) × (of_answered ≡ answered_count r) × (of_improper ≡ improper_count profile r)
+IsJudged profile r order initial (Order entry fault) = IsOrderFault r order entry fault
+IsJudged profile r order initial (Content request offset) =
     IsFaultless r order × FirstWrongOf commands.READ r order initial request offset
-IsJudged r order initial (Status request offset) =
+IsJudged profile r order initial (Status request offset) =
     IsFaultless r order × FirstWrongOf commands.BLOCK_STATUS r order initial request offset
-IsJudged r order initial (Wire at fault) = ⊥
-IsJudged r order initial (Image image size) = ⊥
+IsJudged profile r order initial (Wire at fault) = ⊥
+IsJudged profile r order initial (Image image size) = ⊥
 
 -- the verdict from a start: Image where it is an image of another size than the export
-abbrev pub IsVerdict : Report → List Entry → Start → Verdict → Type 0
-IsVerdict r order initial (Image image size) = IsOtherSize r.export initial image size
-IsVerdict r order initial (Yes of_requests of_answered of_improper) =
-    FitsImage r.export initial × IsJudged r order (start_byte initial) (Yes of_requests of_answered of_improper)
-IsVerdict r order initial (Order entry fault) =
-    FitsImage r.export initial × IsJudged r order (start_byte initial) (Order entry fault)
-IsVerdict r order initial (Content request offset) =
-    FitsImage r.export initial × IsJudged r order (start_byte initial) (Content request offset)
-IsVerdict r order initial (Status request offset) =
-    FitsImage r.export initial × IsJudged r order (start_byte initial) (Status request offset)
-IsVerdict r order initial (Wire at fault) = ⊥
+abbrev pub IsVerdict : Profile → Report → List Entry → Start → Verdict → Type 0
+IsVerdict profile r order initial (Image image size) = IsOtherSize r.export initial image size
+IsVerdict profile r order initial (Yes of_requests of_answered of_improper) =
+    FitsImage r.export initial × IsJudged profile r order (start_byte initial) (Yes of_requests of_answered of_improper)
+IsVerdict profile r order initial (Order entry fault) =
+    FitsImage r.export initial × IsJudged profile r order (start_byte initial) (Order entry fault)
+IsVerdict profile r order initial (Content request offset) =
+    FitsImage r.export initial × IsJudged profile r order (start_byte initial) (Content request offset)
+IsVerdict profile r order initial (Status request offset) =
+    FitsImage r.export initial × IsJudged profile r order (start_byte initial) (Status request offset)
+IsVerdict profile r order initial (Wire at fault) = ⊥

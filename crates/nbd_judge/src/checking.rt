@@ -46,7 +46,7 @@ pub fn check_of(
     ensures exactly { IfOk result (AnswersExactly profile (flat (records_of chunks.now)) order.now (initial_of start)) }
 {
     let finished = session_over(alloc, profile, chunks);
-    conclude(alloc, finished, order, start)
+    conclude(alloc, profile, finished, order, start)
 }
 
 // What a session of this profile over these chunks finishes with.

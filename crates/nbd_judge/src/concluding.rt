@@ -15,27 +15,28 @@ ghost use Rattle.nbd_judge.specs.Verdicts.{IsVerdict};
 use crate::{Verdict, judge, laws};
 use nbd_export::{Extents, Start};
 use nbd_session::{SessionFault, Transcript};
-use nbd_wire::Entry;
+use nbd_wire::{Entry, Profile};
 use std::alloc::{AllocError, Global};
 
-/// Concludes what a finished session, an order of service and the export's start come to. A wire fault is
+/// Concludes what a finished session of the profile, an order of service and the export's start come to. A wire fault is
 /// handed on as it is. Out of memory is returned where the session met it, or where it comes here.
 pub fn conclude(
     alloc: Global,
+    profile: Profile,
     finished: Result<Transcript, SessionFault>,
     order: &[Entry],
     start: Start,
 ) -> Result<Verdict, AllocError>
-    ensures verdict { IfOk result (IsConclusion finished order.now (initial_of start)) }
+    ensures verdict { IfOk result (IsConclusion profile finished order.now (initial_of start)) }
     ensures wire { (at : ℕ) (fault : WireFault) → finished ≡ Err (session.Wire at fault) →
         result ≡ Ok (verdict.Wire at fault) }
-    // Of the runs with this report, of any profile, yes is said of exactly those that the order explains, no of the others.
-    ensures answers { IfOk result (λ v. (profile : Profile) (items : List Item) → IsRunOf profile items →
+    // Of the profile's runs with this report yes is said of exactly those that the order explains, no of the others.
+    ensures answers { IfOk result (λ v. (items : List Item) → IsRunOf profile items →
         IsReportOf items finished → Answers profile (pairs items) order.now (initial_of start) v) }
 {
     laws::verdicts_answer_runs();
     match finished {
-        Ok(transcript) => verdict_on(alloc, &transcript, order, start),
+        Ok(transcript) => verdict_on(alloc, profile, &transcript, order, start),
         Err(SessionFault::Wire { at, fault }) => Ok(Verdict::Wire { at, fault }),
         Err(SessionFault::Memory) => Err(AllocError),
     }
@@ -45,15 +46,16 @@ pub fn conclude(
 /// else the judgement from this start. An `Err` is a refusal of memory.
 pub fn verdict_on(
     alloc: Global,
+    profile: Profile,
     transcript: &Transcript,
     order: &[Entry],
     start: Start,
 ) -> Result<Verdict, AllocError>
-    ensures { IfOk result (IsVerdict transcript.now order.now (initial_of start)) }
+    ensures { IfOk result (IsVerdict profile transcript.now order.now (initial_of start)) }
 {
     let Some((size, _)) = transcript.export() else {
         let mut contents = Extents::new(alloc, 0, Start::Zeroes)?;
-        return judge(alloc, transcript, order, &mut contents);
+        return judge(alloc, profile, transcript, order, &mut contents);
     };
     if let Some(image) = image_len(&start) {
         if image != size {
@@ -61,7 +63,7 @@ pub fn verdict_on(
         }
     }
     let mut contents = Extents::new(alloc, size, start)?;
-    judge(alloc, transcript, order, &mut contents)
+    judge(alloc, profile, transcript, order, &mut contents)
 }
 
 // The length of an image in bytes, where the start is one.

@@ -18,21 +18,22 @@ use crate::replay::replay;
 use crate::tally::{answered_count, improper_count};
 use nbd_export::Contents;
 use nbd_session::Transcript;
-use nbd_wire::{Entry, commands};
+use nbd_wire::{Entry, Profile, commands};
 use std::alloc::{AllocError, Global};
 
-/// Judges a session by an order of service and the contents that the export had at first: Yes, Order or
-/// Content. It changes the contents as it goes; what they hold afterwards is not stated. An `Err` is a
+/// Judges a session of the profile by an order of service and the contents that the export had at first: Yes, Order, Content or
+/// Status. It changes the contents as it goes; what they hold afterwards is not stated. An `Err` is a
 /// refusal of memory.
 pub fn judge<C: Contents>(
     alloc: Global,
+    profile: Profile,
     transcript: &Transcript,
     order: &[Entry],
     contents: &mut C,
 ) -> Result<Verdict, AllocError>
     // The contents have the export's size, or none where transmission was not reached.
     requires { C.size contents.old ≡ size_of transcript.now.export }
-    ensures judged { IfOk result (IsJudged transcript.now order.now (C.byte contents.old)) }
+    ensures judged { IfOk result (IsJudged profile transcript.now order.now (C.byte contents.old)) }
     // Order is said only where no run with the bytes of this session, of any profile, is served in that order.
     ensures unserved { IfOk result (λ v. (profile : Profile) (items : List Item) → IsRunOf profile items →
         report items ≡ transcript.now → LeavesUnserved profile (pairs items) order.now v) }
@@ -47,15 +48,16 @@ pub fn judge<C: Contents>(
     Ok(Verdict::Yes {
         requests,
         answered: answered_count(transcript),
-        improper: improper_count(transcript),
+        improper: improper_count(profile, transcript),
     })
 }
 
 /// The verdict on a wrong byte that an entry serves of a request: Status where that is a BLOCK_STATUS, else Content.
 pub fn wrong_of(transcript: &Transcript, request: u64, offset: u64) -> Verdict
     ensures verdict { result ≡ wrong_verdict transcript.now request offset }
-    ensures judged { (order : List Entry) (initial : ℕ → Option ℕ) → IsFaultless transcript.now order →
-        FirstWrongFrom transcript.now order initial request offset → IsJudged transcript.now order initial result }
+    ensures judged { (profile : Profile) (order : List Entry) (initial : ℕ → Option ℕ) →
+        IsFaultless transcript.now order → FirstWrongFrom transcript.now order initial request offset →
+        IsJudged profile transcript.now order initial result }
     ensures unserved { (profile : Profile) (capture : List Pair) (order : List Entry) →
         LeavesUnserved profile capture order result }
 {

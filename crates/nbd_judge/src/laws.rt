@@ -45,8 +45,9 @@ pub fn verdicts_answer_runs()
     same_reports();
 }
 
-/// A capture in which no head of an answer of success to an option on metadata contexts completes has the same verdict
-/// in both profiles.
+/// A capture in which no head of an answer of success to an option on metadata contexts completes, and no announcement of
+/// block sizes that a server may not announce, has the same verdict in both profiles, but for how many requests of a yes a
+/// client should not have sent.
 pub fn verdicts_agree()
     ensures { VerdictsAgree }
 {}

@@ -61,7 +61,7 @@ fn sentence_of(fault: WireFault) -> &'static str {
             "An option is answered only by the kinds of reply that it takes.",
         WireFault::OutOfProfile => "The server granted an option that nbdcheck does not follow.",
         WireFault::BadReplyPayload =>
-            "The data of an option reply has the form of its kind, and an info on the export has HAS_FLAGS.",
+            "The data of an option reply has the form of its kind, an info on the export has HAS_FLAGS, and block sizes are such as a server may announce.",
         WireFault::MissingExportInfo =>
             "INFO and GO are acknowledged only after an info on the export.",
         WireFault::BadExport =>
@@ -82,7 +82,7 @@ fn sentence_of(fault: WireFault) -> &'static str {
         WireFault::IncompleteRead =>
             "The reply to a READ that succeeds has every byte of its range.",
         WireFault::SuccessOfImproper =>
-            "An option or a request that the client should not have sent is answered by an error.",
+            "An option or a request that the client should not have sent is answered by an error, unless block sizes alone forbid it.",
         WireFault::BadDisconnect => "DISC has neither an offset nor a length.",
         WireFault::IncompleteStatus =>
             "The reply to a BLOCK_STATUS that succeeds has the status of each metadata context in force.",
@@ -104,7 +104,8 @@ fn section_of(fault: WireFault) -> &'static str {
         | WireFault::ExportTooLarge
         | WireFault::SuccessOfImproper
         | WireFault::Unfinished => CHOICE,
-        WireFault::BadReplyPayload => "proto.md, \"Option reply types\", \"Transmission flags\"",
+        WireFault::BadReplyPayload =>
+            "proto.md, \"Option reply types\", \"Transmission flags\", \"Block size constraints\"",
         WireFault::BadExport => "proto.md, \"Transmission flags\", \"Newstyle negotiation\"",
         WireFault::CookieInUse => "proto.md, \"Request message\"",
         WireFault::UnknownCookie => "proto.md, \"Transmission\"",

@@ -84,8 +84,24 @@ fn a_transcript_is_judged_over_contents(rt: HostRuntime) -> Result<(), Fail> {
     let (size, _) = transcript.export().expect(&rt, "an export");
     assert!(rt; size <= 1024);
     let mut contents = Flat::new(rt.alloc(), size, Start::Unknown)?;
-    assert!(rt; judge(rt.alloc(), &transcript, &[ONE], &mut contents)? == YES);
+    assert!(rt;
+        judge(
+            rt.alloc(),
+            Profile::Base,
+            &transcript,
+            &[ONE],
+            &mut contents
+        )? == YES
+    );
     let mut contents = Flat::new(rt.alloc(), size, Start::Zeroes)?;
-    assert!(rt; judge(rt.alloc(), &transcript, &[ONE], &mut contents)? == WRONG);
+    assert!(rt;
+        judge(
+            rt.alloc(),
+            Profile::Base,
+            &transcript,
+            &[ONE],
+            &mut contents
+        )? == WRONG
+    );
     Ok(())
 }

@@ -1,4 +1,5 @@
 pub mod AgreeLemmas
+pub mod AnnouncedLemmas
 pub mod BlockLemmas
 pub mod ClearLemmas
 pub mod FollowLemmas

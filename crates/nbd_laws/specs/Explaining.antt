@@ -28,7 +28,7 @@ pub record HasCountsOf (profile : Profile) (capture : List Pair)
   pub answered_are : (items : List Item) → IsRunOf profile items → pairs items ≡ capture
       → answered_count (report items) ≡ of_answered
   pub improper_are : (items : List Item) → IsRunOf profile items → pairs items ≡ capture
-      → improper_count (report items) ≡ of_improper
+      → improper_count profile (report items) ≡ of_improper
 
 -- the same, of the profile Base
 abbrev pub HasCounts : List Pair → (of_requests of_answered of_improper : ℕ) → Type 0

@@ -1,3 +1,4 @@
+pub mod Announcing
 pub mod Bytes
 pub mod Cuts
 pub mod Explaining

@@ -1,5 +1,6 @@
 //! Laws over the definitions of nbd_wire: each is the contract of a function that does nothing.
 ghost use Rattle.nbd_laws.specs.Soundness.{ReportsAreSound};
+ghost use Rattle.nbd_laws.specs.Announcing.{SizesAreAnnounced};
 ghost use Rattle.nbd_laws.specs.Bytes.{OpenBytesEndRuns, RunsHoldEachSide};
 ghost use Rattle.nbd_laws.specs.Prefixes.{CompletionsStandAfterBytes, PrefixesAreRuns, NoProperPrefix, StartsStandBeforeBytes};
 ghost use Rattle.nbd_laws.specs.Cuts.{CutsDoNotCount};
@@ -148,7 +149,7 @@ pub fn ends_ignore_profiles()
     ensures { EndsAgree }
 {}
 
-/// What is explained in the profile Base is explained in the profile Wide.
+/// What is explained in the profile Base is explained in the profile Wide, unless the server announces block sizes that it may not announce.
 pub fn base_is_wide()
     ensures { BaseIsWide }
 {}
@@ -166,6 +167,12 @@ pub fn profiles_agree()
 /// there is no such selection, none is in force.
 pub fn contexts_are_selected()
     ensures { ContextsAreSelected }
+{}
+
+/// The client has to keep the last block sizes that were announced since the last option, where that is a GO that asked for such, and
+/// none otherwise.
+pub fn sizes_are_announced()
+    ensures { SizesAreAnnounced }
 {}
 
 /// The metadata contexts stay as they are in transmission: each request was asked while those were in force that are at the end.

@@ -2,6 +2,7 @@
 use Rattle.std.proofs.Common.{◌≡◌, ℕ, zero, suc, List, [], ◌∷◌, refl, sym, subst, Option, Some, None}
 use Rattle.std.proofs.lemmas.List.Elements.{All-append, All-cons, All-nil}
 use Rattle.nbd_wire.specs.declared.profile.Profile.{Profile}
+use Rattle.nbd_wire.specs.declared.profile.Profile.TheVariants.{Wide}
 use Rattle.nbd_wire.specs.declared.entry.Entry.{Entry}
 use Rattle.nbd_wire.specs.protocol.Entries.{whole}
 use Rattle.nbd_wire.specs.protocol.Explains.{FitsImage, Image, Start, Unknown, Zeroes}
@@ -40,16 +41,16 @@ found_is_so passing only refuted profile items initial NoneWhole is_run found = 
 found_is_so passing only refuted profile items initial (GaveUp request offset reason) is_run found = λ explained.
     found (only profile items (arrival (request_count (report items))) initial is_run explained)
 
-pub passes : (r : Report) (order : List Entry) (initial : Start) (a b c : ℕ) → IsVerdict r order initial (Yes a b c) → Passes r order initial
+pub passes : (r : Report) (order : List Entry) (initial : Start) (a b c : ℕ) → IsVerdict Wide r order initial (Yes a b c) → Passes r order initial
 passes r order initial a b c v = record { faultless = v.1.0; fits_image = v.0; reads = v.1.1 }
 
-judged_yes : (r : Report) (order : List Entry) (initial : Start) → Passes r order initial → IsVerdict r order initial (Yes (request_count r) (answered_count r) (improper_count r))
+judged_yes : (r : Report) (order : List Entry) (initial : Start) → Passes r order initial → IsVerdict Wide r order initial (Yes (request_count r) (answered_count r) (improper_count Wide r))
 judged_yes r order initial p = (p.fits_image, (p.faultless, p.reads, refl, refl, refl))
 
-pub does_not_pass : OneVerdict → (r : Report) (order : List Entry) (initial : Start) (v : Verdict) → IsVerdict r order initial v → ((a b c : ℕ) → v ≡ Yes a b c → ⊥) → Passes r order initial → ⊥
+pub does_not_pass : OneVerdict → (r : Report) (order : List Entry) (initial : Start) (v : Verdict) → IsVerdict Wide r order initial v → ((a b c : ℕ) → v ≡ Yes a b c → ⊥) → Passes r order initial → ⊥
 does_not_pass one r order initial v h other p =
-    other (request_count r) (answered_count r) (improper_count r)
-    (one r order initial v (Yes (request_count r) (answered_count r) (improper_count r)) h (judged_yes r order initial p))
+    other (request_count r) (answered_count r) (improper_count Wide r)
+    (one Wide r order initial v (Yes (request_count r) (answered_count r) (improper_count Wide r)) h (judged_yes r order initial p))
 
 -- what is found of a report is so of the bytes of each run with it
 pub says_of : FoundIsSo → (r : Report) (initial : Start) (found : Found) → IsFound r initial found → (profile : Profile) (items : List Item) → IsRunOf profile items → report items ≡ r

@@ -3,13 +3,14 @@
 ghost use Rattle.std.specs.Prelude.{◌≡◌, ◌≤◌, [], All, IfOk, MatchBool, None, OnErr, OnOk, vec_capacity, vec_len};
 ghost use Rattle.nbd_judge.specs.Beginnings.{initial_of};
 ghost use Rattle.nbd_judge.specs.Verdicts.{IsVerdict};
+ghost use Rattle.nbd_wire.specs.declared.profile.Profile.TheVariants.{Wide};
 ghost use Rattle.nbd_order.specs.Finding.{AreWhole, arrival};
 
 use nbd_export::Start;
 use nbd_judge::{Verdict, verdict_on};
 use nbd_search::Place;
 use nbd_session::Transcript;
-use nbd_wire::Entry;
+use nbd_wire::{Entry, Profile};
 use std::alloc::{AllocError, Global};
 
 /// The order of arrival, which most servers keep: the requests by their numbers, each atomically.
@@ -36,16 +37,18 @@ fn push_arrival(order: &mut Vec<Entry>, count: u64) -> Result<(), AllocError>
     Ok(())
 }
 
-/// The verdict of `check` on an order from this start.
+/// The verdict of `check` on an order from this start, in the profile `Wide`; in `Base` a yes may have another count of requests that
+/// a client should not have sent.
 pub fn verdict_of(
     alloc: Global,
     transcript: &Transcript,
     order: &[Entry],
     start: &Start,
 ) -> Result<Verdict, AllocError>
-    ensures { IfOk result (IsVerdict transcript.now order.now (initial_of start.now)) }
+    ensures { IfOk result (IsVerdict Wide transcript.now order.now (initial_of start.now)) }
 {
-    verdict_on(alloc, transcript, order, copy_of(alloc, start)?)
+    let start = copy_of(alloc, start)?;
+    verdict_on(alloc, Profile::Wide, transcript, order, start)
 }
 
 /// The byte that a verdict on an order tells. Of an order with a fault that is the faulty entry, at offset 0.

@@ -24,7 +24,7 @@ pub(crate) fn last_fault(state: &State, expected: &Expected, payload: &[u8]) -> 
         Expected::Answer {
             head,
             proper: Some(proper),
-        } => payload_fault(&state.selection, head, *proper, payload),
+        } => payload_fault(state.profile, &state.selection, head, *proper, payload),
         Expected::Exported { padded: true, .. } if !are_zeroes(payload) => {
             Some(WireFault::BadExport)
         }

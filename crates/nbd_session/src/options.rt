@@ -17,8 +17,8 @@ use nbd_state::{Chosen, Selection};
 use nbd_wire::answers::is_error;
 use nbd_wire::flags::has;
 use nbd_wire::{
-    AnswerHead, Info, Profile, WireFault, answer_head, answers, choice_head, context_of, info_of,
-    limits, listed_of, options, transmission,
+    AnswerHead, Info, Profile, Sizes, WireFault, answer_head, answers, choice_head, context_of,
+    info_of, limits, listed_of, options, transmission,
 };
 
 /// The client's option, by its head.
@@ -51,7 +51,7 @@ pub(crate) fn abort_answer(head: &[u8]) -> Result<Expected, WireFault>
 /// An answer to another option, by its head, in a session that is held to this profile.
 pub(crate) fn answer(profile: Profile, head: &[u8], chosen: Chosen) -> Result<Expected, WireFault>
     requires { length head.now ≡ 20 }
-    ensures expected { IfOk result (λ expected. (now : Core) (payload : List ℕ) →
+    ensures expected { IfOk result (λ expected. (now : Core) (payload : List ℕ) → now.profile ≡ profile →
         answer profile chosen.option chosen.proper chosen.takes (exporting_if chosen.info) now.selection
         (head.now ++ payload) ≡ expected_decision now expected 20 payload) }
     ensures placed { IfOk result (λ expected. (core : Core) → IsPlaced core expected) }
@@ -70,17 +70,18 @@ pub(crate) fn answer(profile: Profile, head: &[u8], chosen: Chosen) -> Result<Ex
     })
 }
 
-/// The fault at the last byte of an answer of success, by its payload and what is selected.
+/// The fault at the last byte of an answer of success in a session that is held to this profile, by its payload and what is selected.
 pub(crate) fn payload_fault(
+    profile: Profile,
     selection: &Selection,
     head: &AnswerHead,
     proper: bool,
     payload: &[u8],
 ) -> Option<WireFault>
     ensures { (selected : contexts.Selection) → HasSelection selection.now selected →
-        result ≡ payload_fault (earlier_to head.now.option selected) proper head.now.kind payload.now }
+        result ≡ payload_fault profile (earlier_to head.now.option selected) proper head.now.kind payload.now }
 {
-    if is_bad_payload(selection, head, payload) {
+    if is_bad_payload(profile, selection, head, payload) {
         return Some(WireFault::BadReplyPayload);
     }
     if !proper {
@@ -184,13 +185,18 @@ fn may_acknowledge(chosen: Chosen) -> Result<(), WireFault>
 }
 
 /// Whether the payload of a SERVER, INFO or META_CONTEXT answer is not one that may be told.
-fn is_bad_payload(selection: &Selection, head: &AnswerHead, payload: &[u8]) -> bool
+fn is_bad_payload(
+    profile: Profile,
+    selection: &Selection,
+    head: &AnswerHead,
+    payload: &[u8],
+) -> bool
     ensures { (selected : contexts.Selection) → HasSelection selection.now selected →
-        result ≡ is_bad_payload (earlier_to head.now.option selected) head.now.kind payload.now }
+        result ≡ is_bad_payload profile (earlier_to head.now.option selected) head.now.kind payload.now }
 {
     match head.kind {
         answers::SERVER => listed_of(payload).is_none(),
-        answers::INFO => !is_good_info(info_of(payload)),
+        answers::INFO => !is_good_info(profile, info_of(payload)),
         answers::META_CONTEXT => !is_good_context(selection, head.option, payload),
         _ => false,
     }
@@ -207,13 +213,28 @@ fn is_good_context(selection: &Selection, option: u32, payload: &[u8]) -> bool
     }
 }
 
-/// Whether an info has its form, and HAS_FLAGS if it is one on the export.
-fn is_good_info(info: Option<Info>) -> bool
-    ensures { result ≡ is_good_info info }
+/// Whether an info has its form, and HAS_FLAGS if it is one on the export; in `Wide` whether a server may announce its block sizes.
+fn is_good_info(profile: Profile, info: Option<Info>) -> bool
+    ensures { result ≡ is_good_info profile info }
 {
     match info {
         None => false,
         Some(Info::Export { flags, .. }) => has(flags, transmission::HAS_FLAGS),
-        Some(_) => true,
+        Some(
+            Info::BlockSize {
+                least,
+                preferred,
+                most,
+            },
+        ) => {
+            let largest = most;
+            let sizes = Sizes {
+                least,
+                preferred,
+                largest,
+            };
+            profile != Profile::Wide || sizes.are_allowed()
+        }
+        Some(Info::Other { .. }) => true,
     }
 }

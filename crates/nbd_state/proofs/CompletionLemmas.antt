@@ -63,8 +63,8 @@ place_if_last false n j t e = refl
 -- a message of the negotiation changes the phase and what it says of the handshake
 pub negotiation_is_shown : (old new : State) (core next : Core) → Shows old core → export_in core.phase ≡ None → next.entries ≡ core.entries → new.exchanges ≡ old.exchanges → new.outstanding ≡ old.outstanding →
     new.profile ≡ next.profile → new.phase ≡ phase_shown next.phase → new.offered ≡ next.offered → new.client_flags ≡ next.client_flags → new.structured ≡ next.structured → new.disconnected ≡ next.disconnected →
-    HasSelection new.selection next.selection → new.agreed ≡ next.agreed → Shows new next
-negotiation_is_shown old new core next s n entries exchanges outstanding profile phase offered client_flags structured disconnected selection agreed = record {
+    HasSelection new.selection next.selection → new.agreed ≡ next.agreed → new.sizing ≡ next.sizing → Shows new next
+negotiation_is_shown old new core next s n entries exchanges outstanding profile phase offered client_flags structured disconnected selection agreed sizing = record {
   profile_is = profile;
   phase_is = phase;
   offered_is = offered;
@@ -72,6 +72,7 @@ negotiation_is_shown old new core next s n entries exchanges outstanding profile
   structured_is = structured;
   selection_is = selection;
   agreed_is = agreed;
+  sizing_is = sizing;
   disconnected_is = disconnected;
   asked_with = subst (AreAskedWith (in_force next)) (sym entries) (none_asked (export_in core.phase) (in_force next) core.entries old.exchanges.items n s.are_shown);
   are_shown = subst (λ es. AreShown (export_in next.phase) es new.exchanges.items) (sym entries)
@@ -92,6 +93,7 @@ requested_shows old new core export e x s p r asked t h items places kept = reco
   structured_is = ap (λ (z : State). z.structured) kept ∙ s.structured_is;
   selection_is = subst (λ z. HasSelection z core.selection) (sym (ap (λ (z : State). z.selection) kept)) s.selection_is;
   agreed_is = ap (λ (z : State). z.agreed) kept ∙ s.agreed_is;
+  sizing_is = ap (λ (z : State). z.sizing) kept ∙ s.sizing_is;
   disconnected_is = ap (λ (z : State). z.disconnected) kept ∙ s.disconnected_is;
   are_shown = subst (λ (q : definitions.Phase). AreShown (export_in q) (core.entries ++ e ∷ []) new.exchanges.items) (sym p)
       (subst (λ xs. AreShown (Some export) (core.entries ++ e ∷ []) xs) (sym items) (shown_snoc export core.entries old.exchanges.items e x (are_shown_in old core export s p) h));
@@ -129,6 +131,7 @@ replied_shows old mid new core export cookie place m x y r s p c g i step kept l
       structured_is = ap (λ (z : State). z.structured) made ∙ ap (λ (z : State). z.structured) kept ∙ s.structured_is;
       selection_is = subst (λ z. HasSelection z core.selection) (sym (ap (λ (z : State). z.selection) made ∙ ap (λ (z : State). z.selection) kept)) s.selection_is;
       agreed_is = ap (λ (z : State). z.agreed) made ∙ ap (λ (z : State). z.agreed) kept ∙ s.agreed_is;
+      sizing_is = ap (λ (z : State). z.sizing) made ∙ ap (λ (z : State). z.sizing) kept ∙ s.sizing_is;
       disconnected_is = ap (λ (z : State). z.disconnected) made ∙ ap (λ (z : State). z.disconnected) kept ∙ s.disconnected_is;
       are_shown = subst (λ (q : definitions.Phase). AreShown (export_in q) (with_reply_at (suc place) m core.entries) new.exchanges.items) (sym p)
           (subst (λ xs. AreShown (Some export) (with_reply_at (suc place) m core.entries) xs) (sym items)

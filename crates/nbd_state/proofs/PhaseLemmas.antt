@@ -6,6 +6,8 @@ use Rattle.std.specs.Ordering.{nat_cmp}
 use Rattle.nbd_wire.specs.declared.commands.TheConstants as commands
 use Rattle.nbd_wire.specs.declared.message.Message.{Message}
 use Rattle.nbd_wire.specs.declared.message.Message.TheVariants.{Greeting, ClientFlags, Choice, Answer, Exported, Request, Simple, Chunk}
+use Rattle.nbd_wire.specs.declared.sizes.Sizing.{Sizing}
+use Rattle.nbd_wire.specs.protocol.Sizes.{sizing_after, sizing_at}
 use Rattle.nbd_wire.specs.protocol.Options.{agrees, reply_phase, choice_phase, is_proper_option, next_phase, selection_after, selection_at, takes_contexts}
 use Rattle.nbd_wire.specs.protocol.Operations.{Exporting}
 use Rattle.nbd_wire.specs.protocol.Rules.{AnswersOne, MayAsk, MayComplete, complete, grants_structured}
@@ -163,7 +165,7 @@ module _ (old new : State) (core : Core) (s : Shows old core) where
       (ap (λ (z : State). z.profile) made ∙ s.profile_is)
       (ap (λ (z : State). z.phase) made ∙ r.1) (ap (λ (z : State). z.offered) made) (ap (λ (z : State). z.client_flags) made ∙ s.client_flags_are)
       (ap (λ (z : State). z.structured) made ∙ s.structured_is) (ap (λ (z : State). z.disconnected) made ∙ s.disconnected_is)
-      (subst (λ z. HasSelection z core.selection) (sym (ap (λ (z : State). z.selection) made)) s.selection_is) (ap (λ (z : State). z.agreed) made ∙ s.agreed_is)
+      (subst (λ z. HasSelection z core.selection) (sym (ap (λ (z : State). z.selection) made)) s.selection_is) (ap (λ (z : State). z.agreed) made ∙ s.agreed_is) (ap (λ (z : State). z.sizing) made ∙ s.sizing_is)
 
   pub shows_flags : (flags : ℕ) → MayComplete core core.phase (ClientFlags flags) → new ≡ record old { phase = shown.Choosing; client_flags = flags } → Shows new (complete core (ClientFlags flags))
   unfolding complete
@@ -173,29 +175,29 @@ module _ (old new : State) (core : Core) (s : Shows old core) where
       (ap (λ (z : State). z.profile) made ∙ s.profile_is)
       (ap (λ (z : State). z.phase) made ∙ r.1) (ap (λ (z : State). z.offered) made ∙ s.offered_is) (ap (λ (z : State). z.client_flags) made)
       (ap (λ (z : State). z.structured) made ∙ s.structured_is) (ap (λ (z : State). z.disconnected) made ∙ s.disconnected_is)
-      (subst (λ z. HasSelection z core.selection) (sym (ap (λ (z : State). z.selection) made)) s.selection_is) (ap (λ (z : State). z.agreed) made ∙ s.agreed_is)
+      (subst (λ z. HasSelection z core.selection) (sym (ap (λ (z : State). z.selection) made)) s.selection_is) (ap (λ (z : State). z.agreed) made ∙ s.agreed_is) (ap (λ (z : State). z.sizing) made ∙ s.sizing_is)
 
-  pub shows_chosen : (id : ℕ) (payload : List ℕ) (phase : states.Phase) (selection : Selection) (agreed : Bool) → MayComplete core core.phase (Choice id payload) → phase ≡ phase_shown (choice_phase id payload) →
-      agreed ≡ (core.structured && agrees id payload core.selection) → HasSelection selection (selection_at id payload core.selection) → new ≡ record old { phase = phase; selection = selection; agreed = agreed } → Shows new (complete core (Choice id payload))
+  pub shows_chosen : (id : ℕ) (payload : List ℕ) (phase : states.Phase) (selection : Selection) (agreed : Bool) (sizing : Sizing) → MayComplete core core.phase (Choice id payload) → phase ≡ phase_shown (choice_phase id payload) →
+      agreed ≡ (core.structured && agrees id payload core.selection) → HasSelection selection (selection_at id payload core.selection) → sizing ≡ sizing_at id payload → new ≡ record old { phase = phase; selection = selection; agreed = agreed; sizing = sizing } → Shows new (complete core (Choice id payload))
   unfolding complete
-  shows_chosen id payload phase selection agreed ok is agreed_is selected made =
+  shows_chosen id payload phase selection agreed sizing ok is agreed_is selected sized made =
       let r = chooses core core.phase id payload ok in
       negotiation_is_shown old new core (complete core (Choice id payload)) s r.0 refl (ap (λ (z : State). z.exchanges) made) (ap (λ (z : State). z.outstanding) made)
       (ap (λ (z : State). z.profile) made ∙ s.profile_is)
       (ap (λ (z : State). z.phase) made ∙ is ∙ r.1) (ap (λ (z : State). z.offered) made ∙ s.offered_is) (ap (λ (z : State). z.client_flags) made ∙ s.client_flags_are)
       (ap (λ (z : State). z.structured) made ∙ s.structured_is) (ap (λ (z : State). z.disconnected) made ∙ s.disconnected_is)
-      (subst (λ z. HasSelection z (selection_at id payload core.selection)) (sym (ap (λ (z : State). z.selection) made)) selected) (ap (λ (z : State). z.agreed) made ∙ agreed_is)
+      (subst (λ z. HasSelection z (selection_at id payload core.selection)) (sym (ap (λ (z : State). z.selection) made)) selected) (ap (λ (z : State). z.agreed) made ∙ agreed_is) (ap (λ (z : State). z.sizing) made ∙ sized)
 
-  pub shows_answered : (option kind : ℕ) (payload : List ℕ) (phase : states.Phase) (grants : Bool) (selection : Selection) → MayComplete core core.phase (Answer option kind payload) →
-      phase ≡ phase_shown (next_phase core.phase (Answer option kind payload)) → grants ≡ grants_structured option kind → HasSelection selection (selection_after core.phase kind payload core.selection) →
-      new ≡ record old { phase = phase; structured = old.structured || grants; selection = selection } → Shows new (complete core (Answer option kind payload))
+  pub shows_answered : (option kind : ℕ) (payload : List ℕ) (phase : states.Phase) (grants : Bool) (selection : Selection) (sizing : Sizing) → MayComplete core core.phase (Answer option kind payload) →
+      phase ≡ phase_shown (next_phase core.phase (Answer option kind payload)) → grants ≡ grants_structured option kind → HasSelection selection (selection_after core.phase kind payload core.selection) → sizing ≡ sizing_after kind payload core.sizing →
+      new ≡ record old { phase = phase; structured = old.structured || grants; selection = selection; sizing = sizing } → Shows new (complete core (Answer option kind payload))
   unfolding complete
-  shows_answered option kind payload phase grants selection ok is granted selected made =
+  shows_answered option kind payload phase grants selection sizing ok is granted selected sized made =
       negotiation_is_shown old new core (complete core (Answer option kind payload)) s (answers core core.phase option kind payload ok) refl (ap (λ (z : State). z.exchanges) made) (ap (λ (z : State). z.outstanding) made)
       (ap (λ (z : State). z.profile) made ∙ s.profile_is)
       (ap (λ (z : State). z.phase) made ∙ is) (ap (λ (z : State). z.offered) made ∙ s.offered_is) (ap (λ (z : State). z.client_flags) made ∙ s.client_flags_are)
       (ap (λ (z : State). z.structured) made ∙ ap (λ b. b || grants) s.structured_is ∙ ap (λ b. core.structured || b) granted) (ap (λ (z : State). z.disconnected) made ∙ s.disconnected_is)
-      (subst (λ z. HasSelection z (selection_after core.phase kind payload core.selection)) (sym (ap (λ (z : State). z.selection) made)) selected) (ap (λ (z : State). z.agreed) made ∙ s.agreed_is)
+      (subst (λ z. HasSelection z (selection_after core.phase kind payload core.selection)) (sym (ap (λ (z : State). z.selection) made)) selected) (ap (λ (z : State). z.agreed) made ∙ s.agreed_is) (ap (λ (z : State). z.sizing) made ∙ sized)
 
   pub shows_exported : (size flags : ℕ) (padded : Bool) (phase : states.Phase) → MayComplete core core.phase (Exported size flags padded) → phase ≡ shown.Transmission (record { size = size; flags = flags }) → new ≡ record old { phase = phase } → Shows new (complete core (Exported size flags padded))
   unfolding complete
@@ -205,7 +207,7 @@ module _ (old new : State) (core : Core) (s : Shows old core) where
       (ap (λ (z : State). z.profile) made ∙ s.profile_is)
       (ap (λ (z : State). z.phase) made ∙ is ∙ r.1) (ap (λ (z : State). z.offered) made ∙ s.offered_is) (ap (λ (z : State). z.client_flags) made ∙ s.client_flags_are)
       (ap (λ (z : State). z.structured) made ∙ s.structured_is) (ap (λ (z : State). z.disconnected) made ∙ s.disconnected_is)
-      (subst (λ z. HasSelection z core.selection) (sym (ap (λ (z : State). z.selection) made)) s.selection_is) (ap (λ (z : State). z.agreed) made ∙ s.agreed_is)
+      (subst (λ z. HasSelection z core.selection) (sym (ap (λ (z : State). z.selection) made)) s.selection_is) (ap (λ (z : State). z.agreed) made ∙ s.agreed_is) (ap (λ (z : State). z.sizing) made ∙ s.sizing_is)
 
 -- what is said of the message that was matched
 pub shows_same : {new : State} (core : Core) (m n : Message) → m ≡ n → Shows new (complete core n) → Shows new (complete core m)

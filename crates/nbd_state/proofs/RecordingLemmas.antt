@@ -32,6 +32,7 @@ pub record IsKept (x y : Exchange) : Type 0 where
   pub length : y.asked.length ≡ x.asked.length
   pub payload : y.asked.payload ≡ x.asked.payload
   pub proper : y.asked.proper ≡ x.asked.proper
+  pub outside : y.asked.outside ≡ x.asked.outside
 
 outcome-of : (before : Outcome) (e : Operation) (m : Message) (ends fails : Bool) → outcome_of before ≡ outcome e → is_finished e ≡ false → is_finished (with_reply e m) ≡ ends → has_failed (with_reply e m) ≡ fails →
     outcome_of (if ends then (if fails then Failure else Success) else before) ≡ outcome (with_reply e m)
@@ -62,6 +63,7 @@ exchange_shows_reply export e m x y ends fails known s u n f k known_is failed_i
       length = k.length ∙ s.length;
       payload = k.payload ∙ s.payload;
       proper = k.proper ∙ s.proper ∙ sym (proper-same export e m);
+      outside = k.outside ∙ s.outside;
       replied = ap is_some known_is ∙ some x.asked.known_at ∙ sym (ap not (none e.replies));
       outcome_is = ap outcome_of outcome_is ∙ outcome-of x.asked.outcome e m ends y.failed s.outcome_is u finished failed;
       failed = sym failed;
@@ -126,10 +128,10 @@ module _ (export : Exporting) (e : Operation) (m : Message) (x : Exchange) (ends
       ∙ ap (λ ss. tells ss id) (sym (statuses-snoc e.replies m ∙ ap (λ l. statuses e ++ l) none ∙ append-nil (statuses e)))
 
   -- a status adds its id
-  pub told_more : (told more : BTreeSet ℕ) (status : Status) → status_in m ≡ status ∷ [] → ((id : ℕ) → contains nat_cmp more id ≡ (if status.id == id then true else contains nat_cmp x.told id)) → (ends ≡ false → told ≡ more) →
+  pub told_more : (told : BTreeSet ℕ) (status : Status) → status_in m ≡ status ∷ [] → (ends ≡ false → (id : ℕ) → contains nat_cmp told id ≡ (if status.id == id then true else contains nat_cmp x.told id)) →
       is_finished (with_reply e m) ≡ false → (id : ℕ) → contains nat_cmp told id ≡ tells (statuses (with_reply e m)) id
-  told_more told more status is added kept f id =
-      ap (λ t. contains nat_cmp t id) (kept (not_yet f)) ∙ added id ∙ ap (λ b. if status.id == id then true else b) (s.told_are u id)
+  told_more told status is added f id =
+      added (not_yet f) id ∙ ap (λ b. if status.id == id then true else b) (s.told_are u id)
       ∙ sym (tells-snoc (statuses e) status id)
       ∙ ap (λ ss. tells ss id) (sym (statuses-snoc e.replies m ∙ ap (λ l. statuses e ++ l) is))
 

@@ -3,7 +3,7 @@ use Rattle.std.specs.Prelude.{◌≡◌, ℕ, false, not, Option, Some, None, �
 use Rattle.std.specs.BTreeSet.{contains}
 use Rattle.std.specs.Ordering.{nat_cmp}
 use Rattle.nbd_laws.specs.internal.Decisions.{is_none_yet}
-use Rattle.nbd_wire.specs.protocol.Operations.{Operation, Exporting, is_finished, is_proper, has_failed, outcome, pieces}
+use Rattle.nbd_wire.specs.protocol.Operations.{Operation, Exporting, is_finished, is_outside, is_proper, has_failed, outcome, pieces}
 use Rattle.nbd_wire.specs.protocol.Statuses.{statuses, tells, zeroes}
 use Rattle.nbd_wire.specs.protocol.Operations as definitions
 use Rattle.nbd_state.specs.declared.asked.Exchange.{Exchange}
@@ -34,6 +34,7 @@ pub record IsShown (export : Exporting) (e : Operation) (x : Exchange) : Type 0 
   pub length : x.asked.length ≡ e.length
   pub payload : x.asked.payload ≡ e.payload
   pub proper : x.asked.proper ≡ is_proper export e
+  pub outside : x.asked.outside ≡ is_outside e
   pub replied : is_some x.asked.known_at ≡ not (is_none_yet e.replies)
   pub outcome_is : outcome_of x.asked.outcome ≡ outcome e
   pub failed : x.failed ≡ has_failed e

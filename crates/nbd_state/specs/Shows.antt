@@ -82,6 +82,7 @@ pub record Shows (state : State) (core : Core) : Type 0 where
   pub structured_is : state.structured ≡ core.structured
   pub selection_is : HasSelection state.selection core.selection
   pub agreed_is : state.agreed ≡ core.agreed
+  pub sizing_is : state.sizing ≡ core.sizing
   pub disconnected_is : state.disconnected ≡ core.disconnected
   pub asked_with : AreAskedWith (in_force core) core.entries
   pub are_shown : AreShown (export_in core.phase) core.entries state.exchanges.items

@@ -20,6 +20,7 @@ report_of_request a = record {
   length = a.length;
   payload = a.payload;
   proper = a.proper;
+  outside = a.outside;
   known_at = a.known_at;
   outcome = outcome_of a.outcome;
   pieces = a.pieces.items;

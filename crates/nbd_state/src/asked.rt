@@ -29,6 +29,8 @@ pub struct Asked {
     pub payload: Bytes,
     /// Whether a client should send it to this export.
     pub proper: bool,
+    /// Whether its range breaks the block sizes that the client has to keep (proto.md, "Block size constraints").
+    pub outside: bool,
     /// How many numbered requests had completed when its first reply message started; None where none
     /// did.
     pub known_at: Option<u64>,

@@ -14,6 +14,7 @@ ghost use Rattle.nbd_wire.specs.protocol.Sendable.{IsSendable};
 ghost use Rattle.nbd_wire.specs.protocol.States as definitions;
 ghost use Rattle.nbd_wire.specs.protocol.States.{Core, in_force, start_of, target};
 ghost use Rattle.nbd_state.specs.internal.Showing.{operation_of_head};
+ghost use Rattle.nbd_wire.specs.protocol.Sizes.{sizes_kept};
 ghost use Rattle.nbd_wire.specs.protocol.Statuses.{status_in};
 ghost use Rattle.nbd_state.specs.internal.Completing.{AddsUnanswered, IsTransmitting, TellsOne, is_allocation_told};
 ghost use Rattle.nbd_state.specs.Completions.{Answers, MayTake, core_from};
@@ -27,7 +28,7 @@ use crate::recording::told_in;
 use crate::state::{Chosen, Export, Phase, State};
 use nbd_wire::answers::is_error;
 use nbd_wire::flags::has;
-use nbd_wire::{Message, RequestHead, answers, chunks, commands, options};
+use nbd_wire::{Message, RequestHead, Sizing, answers, chunks, commands, options};
 use std::alloc::{AllocError, Global};
 
 impl State {
@@ -71,6 +72,7 @@ impl State {
                 let with = payload.as_slice();
                 self.agreed = self.may_agree(*id, with);
                 self.phase = chosen(*id, with);
+                self.sizing = Sizing::at(*id, with);
                 self.selection.choose(*id, with)
             }
             Message::Answer {
@@ -82,6 +84,7 @@ impl State {
                 let phase = self.phase;
                 let answer = payload.as_slice();
                 self.phase = phase_after_reply(phase, *kind, answer);
+                self.sizing = self.sizing.after(*kind, answer);
                 self.selection.answered(phase, *kind, answer)
             }
             Message::Exported { size, flags, .. } => {
@@ -147,7 +150,7 @@ impl State {
             core.phase ≡ definitions.Transmission export → ((head.now.command == commands.DISC) ≡ false →
             target head.now.cookie core.entries ≡ None) →
             Shows self.new (core_with_request (head.now.command == commands.DISC) core
-            (operation_of_head head.now payload.now (in_force core) []))) }
+            (operation_of_head head.now payload.now (in_force core) (sizes_kept core.sizing) []))) }
         ensures adds { OnOk result (AddsUnanswered self.old.exchanges.items self.new.exchanges.items) }
         ensures profile { self.new.profile ≡ self.old.profile }
     {
@@ -157,7 +160,8 @@ impl State {
         }
         match self.phase {
             Phase::Transmission(export) => {
-                let exchange = Exchange::new(alloc, export, self.has_contexts(), head, payload)?;
+                let (contexts, sizes) = (self.has_contexts(), self.sizing.kept());
+                let exchange = Exchange::new(alloc, export, contexts, sizes, head, payload)?;
                 self.add(head.cookie, exchange)
             }
             _ => unreachable!(),

@@ -20,7 +20,7 @@ mod transcript;
 pub use asked::{Asked, Exchange, Outcome};
 pub use index::SpanIndex;
 pub use offsets::byte_read;
-pub use proper::{ends_by, has_range, is_proper};
+pub use proper::{ends_by, has_range, is_outside, is_proper};
 pub use selection::Selection;
 pub use span::Span;
 pub use state::{Chosen, Export, Phase, State};

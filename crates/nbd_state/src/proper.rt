@@ -1,8 +1,9 @@
 //! Whether a client should send a request (proto.md, "Request types", "Command flags",
 //! "Transmission flags").
 
-ghost use Rattle.std.specs.Prelude.{◌≡◌, ◌+◌, ◌==◌, ◌&&◌, ◌||◌, ℕ, List, length, not, nat_le};
+ghost use Rattle.std.specs.Prelude.{◌≡◌, ◌+◌, ◌==◌, ◌&&◌, ◌||◌, ℕ, List, Option, length, not, nat_le};
 ghost use Rattle.nbd_wire.specs.declared.message.Message.{Message};
+ghost use Rattle.nbd_wire.specs.declared.sizes.Sizes.{Sizes};
 ghost use Rattle.nbd_wire.specs.protocol.Contexts.{Context};
 ghost use Rattle.nbd_wire.specs.protocol.Operations as operations;
 ghost use Rattle.nbd_wire.specs.protocol.Operations.{Operation};
@@ -11,14 +12,14 @@ ghost use Rattle.nbd_state.specs.internal.Showing.{operation_of_head};
 
 use crate::state::Export;
 use nbd_wire::flags::{has, has_only};
-use nbd_wire::{RequestHead, command_flags, commands, transmission};
+use nbd_wire::{RequestHead, Sizes, breaks_sizes, command_flags, commands, transmission};
 
 /// Whether a client should send this request to the export; a BLOCK_STATUS, where a metadata context is in force.
 #[tactic(auto, unfolding(nbd_wire::specs::protocol::Operations::is_proper))]
 pub fn is_proper(export: Export, has_contexts: bool, request: &RequestHead) -> bool
-    ensures { (payload : List ℕ) (contexts : List Context) (replies : List Message) →
-        has_contexts ≡ not (length contexts == 0) →
-        result ≡ operations.is_proper (exporting export) (operation_of_head request.now payload contexts replies) }
+    ensures { (payload : List ℕ) (contexts : List Context) (sizes : Option Sizes) (replies : List Message) →
+        has_contexts ≡ not (length contexts == 0) → result ≡ operations.is_proper (exporting export)
+        (operation_of_head request.now payload contexts sizes replies) }
 {
     is_known(request.command, has_contexts)
         && is_in_range(export.size, request)
@@ -29,6 +30,18 @@ pub fn is_proper(export: Export, has_contexts: bool, request: &RequestHead) -> b
             u32::from(allowed_flags(export.flags, request.command)),
         )
         && (request.command != commands::FLUSH || request.offset == 0 && request.length == 0)
+}
+
+/// Whether the range of this request, if its type is known and has one, breaks the block sizes, if there are some; a BLOCK_STATUS is
+/// known where a metadata context is in force.
+pub fn is_outside(sizes: Option<Sizes>, has_contexts: bool, request: &RequestHead) -> bool
+    ensures { (payload : List ℕ) (contexts : List Context) (replies : List Message) →
+        has_contexts ≡ not (length contexts == 0) →
+        result ≡ operations.is_outside (operation_of_head request.now payload contexts sizes replies) }
+{
+    is_known(request.command, has_contexts)
+        && has_range(request.command)
+        && breaks_sizes(sizes, request.command, request.offset, request.length)
 }
 
 // The type of a numbered request is known.

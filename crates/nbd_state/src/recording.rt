@@ -1,6 +1,8 @@
 //! What the messages of transmission do to a request under way.
 
 ghost use Rattle.std.specs.Prelude.{◌≡◌, ◌≤◌, ◌<◌, ◌+◌, ◌^◌, ◌==◌, ◌&&◌, true, ◌++◌, ◌∷◌, ℕ, List, false, not, IfErr, IfOk, OnErr, MatchOption, [], if◌then◌else◌, is_some, length};
+ghost use Rattle.std.specs.BTreeSet.{contains};
+ghost use Rattle.std.specs.Ordering.{nat_cmp};
 ghost use Rattle.std.specs.Vec.{vec_capacity, vec_len};
 ghost use Rattle.nbd_wire.specs.declared.message.Message.{Message};
 ghost use Rattle.nbd_wire.specs.declared.message.Message.TheVariants.{Chunk, Simple};
@@ -24,11 +26,11 @@ ghost use Rattle.nbd_state.specs.Showing.{IsShown, exporting};
 
 use crate::asked::{Asked, Exchange, Outcome};
 use crate::index::SpanIndex;
-use crate::proper::is_proper;
+use crate::proper::{is_outside, is_proper};
 use crate::state::Export;
 use nbd_wire::flags::{has, has_wide};
 use nbd_wire::{
-    Bytes, Content, Piece, RequestHead, chunks, commands, content_of, first_extent, states,
+    Bytes, Content, Piece, RequestHead, Sizes, chunks, commands, content_of, first_extent, states,
     status_of,
 };
 use std::alloc::{AllocError, Global};
@@ -36,17 +38,18 @@ use std::collections::BTreeSet;
 use std::mem;
 
 impl Exchange {
-    /// A request that has just completed; whether a metadata context is in force. An `Err` says that memory ran
-    /// out.
+    /// A request that has just completed; whether a metadata context is in force, and the block sizes that are, if any. An `Err`
+    /// says that memory ran out.
     pub(crate) fn new(
         alloc: Global,
         export: Export,
         has_contexts: bool,
+        sizes: Option<Sizes>,
         head: &RequestHead,
         payload: &[u8],
     ) -> Result<Exchange, AllocError>
         ensures { IfOk result (λ x. (contexts : List Context) → has_contexts ≡ not (length contexts == 0) →
-            IsShown (exporting export) (operation_of_head head.now payload.now contexts []) x) }
+            IsShown (exporting export) (operation_of_head head.now payload.now contexts sizes []) x) }
     {
         let payload = Bytes::new(Vec::from_slice(alloc, payload)?);
         let asked = Asked {
@@ -57,6 +60,7 @@ impl Exchange {
             length: head.length,
             payload,
             proper: is_proper(export, has_contexts, head),
+            outside: is_outside(sizes, has_contexts, head),
             known_at: None,
             outcome: Outcome::Pending,
             pieces: Vec::new(alloc),
@@ -149,8 +153,7 @@ impl Exchange {
         ensures kept { IfErr result (λ _. self.new.asked.known_at ≡ self.old.asked.known_at) }
     {
         let pieces = zeroes_told(alloc, &self.asked, descriptors, zeroes)?;
-        self.told.insert(id)?;
-        clear_if(&mut self.told, ends);
+        tell(&mut self.told, id, ends)?;
         self.asked.pieces = pieces;
         self.index = SpanIndex::new(alloc);
         self.asked.known_at = first(self.asked.known_at, known);
@@ -171,8 +174,7 @@ impl Exchange {
             IsShown export e self.old → IsShown export e self.new) }
         ensures kept { IfErr result (λ _. self.new.asked.known_at ≡ self.old.asked.known_at) }
     {
-        self.told.insert(id)?;
-        clear_if(&mut self.told, ends);
+        tell(&mut self.told, id, ends)?;
         self.asked.known_at = first(self.asked.known_at, known);
         self.asked.outcome = outcome_after(self.asked.outcome, ends, self.failed);
         Ok(())
@@ -273,6 +275,30 @@ fn zeroes_in(
         rest = later;
     }
     Ok(pieces)
+}
+
+// One more context is told; where the reply ends, none is kept.
+fn tell(told: &mut BTreeSet<u32>, id: u32, ends: bool) -> Result<(), AllocError>
+    ensures told { IfOk result (λ _. ends ≡ false → (q : ℕ) → contains nat_cmp told.new q
+        ≡ (if id == q then true else contains nat_cmp told.old q)) }
+    ensures unchanged { IfErr result (λ _. told.new ≡ told.old) }
+{
+    if ends {
+        told.clear();
+        Ok(())
+    } else {
+        keep_id(told, id)
+    }
+}
+
+// One more id is kept.
+fn keep_id(told: &mut BTreeSet<u32>, id: u32) -> Result<(), AllocError>
+    ensures told { IfOk result (λ _. (q : ℕ) → contains nat_cmp told.new q
+        ≡ (if id == q then true else contains nat_cmp told.old q)) }
+    ensures unchanged { IfErr result (λ _. told.new ≡ told.old) }
+{
+    told.insert(id)?;
+    Ok(())
 }
 
 // Where the reply ends, nothing more is told.

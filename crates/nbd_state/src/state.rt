@@ -3,7 +3,7 @@
 use crate::asked::Exchange;
 use crate::selection::Selection;
 use crate::transcript::Transcript;
-use nbd_wire::Profile;
+use nbd_wire::{Profile, Sizing};
 use std::alloc::Global;
 use std::collections::{BTreeMap, BTreeSet};
 
@@ -61,6 +61,8 @@ pub struct State {
     /// In transmission: the contexts of the selection are in force. Before it: they are if the option that was chosen
     /// last leads there.
     pub agreed: bool,
+    /// What the option that was chosen last asked of block sizes and was told: in transmission the client has to keep these.
+    pub sizing: Sizing,
     /// The client has sent DISC.
     pub disconnected: bool,
     /// The numbered requests, in their order.
@@ -98,6 +100,7 @@ impl State {
             structured: false,
             selection: Selection::none(alloc),
             agreed: false,
+            sizing: Sizing::none(),
             disconnected: false,
             exchanges: Vec::new(alloc),
             outstanding: BTreeMap::new(alloc),

@@ -27,7 +27,7 @@ impl Story {
     }
 }
 
-/// What stands behind the verdict's line: nothing behind a yes.
+/// What stands behind the verdict's line: behind a yes the requests that the client should not have sent, if there are some.
 pub fn explanation_of(
     alloc: Global,
     verdict: &Verdict,
@@ -39,7 +39,7 @@ pub fn explanation_of(
 impl Text {
     fn verdict(self, alloc: Global, verdict: &Verdict, sources: Sources<'_>) -> Text {
         match verdict {
-            Verdict::Yes { .. } => self,
+            Verdict::Yes { .. } => self.amiss(sources.story),
             Verdict::Wire { at, fault } => self.wire_fault(alloc, *at, *fault, sources.story),
             Verdict::Image { image, size } => self.image(*image, *size),
             Verdict::Order { entry, fault } => self.order_fault(alloc, *entry, *fault, sources),

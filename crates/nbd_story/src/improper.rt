@@ -141,15 +141,34 @@ impl Text {
             .wrong(unknown_flags(head.flags))
     }
 
-    // A range that passes the end of an export of this size.
+    // A range that passes the end of an export of this size, and by how much.
     fn beyond(self, head: &RequestHead, size: u64) -> Text {
         if has_range(head.command) && !ends_by(head.offset, u64::from(head.length), size) {
             self.say("wrong: its range passes the end of the export of ")
                 .count(size, "byte")
+                .by(excess(head, size))
                 .end()
         } else {
             self
         }
+    }
+
+    // By how many bytes, where 64 bits hold that.
+    fn by(self, excess: Option<u64>) -> Text {
+        match excess {
+            Some(count) => self.say(" by ").count(count, "byte"),
+            None => self.number(" by more than ", u64::MAX).say(" bytes"),
+        }
+    }
+}
+
+// By how many bytes a range passes the end of an export of this size.
+fn excess(head: &RequestHead, size: u64) -> Option<u64> {
+    let length = u64::from(head.length);
+    if head.offset >= size {
+        (head.offset - size).checked_add(length)
+    } else {
+        Some(length.saturating_sub(size - head.offset))
     }
 }
 

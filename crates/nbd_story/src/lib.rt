@@ -1,10 +1,11 @@
-//! A session in words: the messages with their places in the capture, what became of its requests, the bytes round a place, and why
-//! the answer was no.
+//! A session in words: the messages with their places in the capture, what became of its requests, which of them its client should not
+//! have sent, the bytes round a place, and why the answer was no.
 //!
 //! All of it is told by a `Text`, which takes what is said and notes that memory was refused. Nothing here is proved but that each call
 //! returns. The names of the protocol's numbers stand in `nbd_wire`, the rules in `nbd_judge`.
 #![tactic(auto)]
 
+mod amiss;
 mod arriving;
 mod brief;
 mod content;

@@ -3,7 +3,8 @@
 use crate::brief::Brief;
 use crate::story::{Story, Told};
 use crate::text::Text;
-use nbd_wire::{Side, WireFault, answers, head_lengths, infos, options};
+use nbd_wire::limits::{LEAST_SIZE, NO_LARGEST_SIZE, PREFERRED_SIZE};
+use nbd_wire::{Side, Sizes, WireFault, answers, head_lengths, infos, options, sizes_of};
 
 /// Data of an option or of its reply, and the place of its first byte.
 #[derive(Clone, Copy)]
@@ -180,9 +181,20 @@ impl Text {
     fn bad_reply(self, kind: u32, data: Data<'_>) -> Text {
         match kind {
             answers::SERVER => self.bad_name(data),
-            answers::INFO => self.wrong(info_reason(data.bytes)),
+            answers::INFO => self.bad_info(data.bytes),
             answers::META_CONTEXT => self.wrong(context_reason(data.bytes)),
             _ => self.wrong(Some("an ACK has no data")),
+        }
+    }
+
+    // An INFO that has not its form, or block sizes that no server may announce: each that is wrong.
+    fn bad_info(self, data: &[u8]) -> Text {
+        match sizes_of(data) {
+            Some(sizes) => self
+                .wrong(least_reason(sizes))
+                .wrong(preferred_reason(sizes))
+                .wrong(largest_reason(sizes)),
+            None => self.wrong(info_reason(data)),
         }
     }
 }
@@ -198,6 +210,41 @@ fn info_reason(data: &[u8]) -> Option<&'static str> {
         Some("the data of an info on the export has 12 bytes")
     } else {
         Some("the info on the export lacks HAS_FLAGS (0x1)")
+    }
+}
+
+// Why a server may not announce this least block size.
+fn least_reason(sizes: Sizes) -> Option<&'static str> {
+    if !sizes.least.is_power_of_two() {
+        Some("the least block size is no power of 2")
+    } else if sizes.least > LEAST_SIZE {
+        Some("the least block size is above 65536")
+    } else {
+        None
+    }
+}
+
+// Why a server may not announce this preferred block size.
+fn preferred_reason(sizes: Sizes) -> Option<&'static str> {
+    if !sizes.preferred.is_power_of_two() {
+        Some("the preferred block size is no power of 2")
+    } else if sizes.preferred < PREFERRED_SIZE {
+        Some("the preferred block size is below 512")
+    } else if sizes.preferred < sizes.least {
+        Some("the preferred block size is below the least")
+    } else {
+        None
+    }
+}
+
+// Why a server may not announce this largest block size.
+fn largest_reason(sizes: Sizes) -> Option<&'static str> {
+    if sizes.largest == 0 {
+        Some("the largest block size is 0")
+    } else if sizes.largest == NO_LARGEST_SIZE || sizes.largest.is_multiple_of(sizes.least) {
+        None
+    } else {
+        Some("the largest block size is no multiple of the least")
     }
 }
 

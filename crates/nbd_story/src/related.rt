@@ -1,7 +1,7 @@
 //! What a refused message is to be compared with.
 
 use crate::improper::{chunk_reason, content_reason};
-use crate::parts::Parts;
+use crate::parts::{Parts, shared};
 use crate::story::{Request, Story, Told, range};
 use crate::text::Text;
 use nbd_wire::flags::has;
@@ -10,6 +10,28 @@ use std::alloc::Global;
 
 /// How many outstanding requests are listed.
 const LISTED: usize = 8;
+
+impl Told {
+    // Whether it brings the request with this number content that shares an offset with a part.
+    fn brings(&self, request: u64, part: Part) -> bool {
+        match self.content_to(request) {
+            Some(content) => shared(content, part).is_some(),
+            None => false,
+        }
+    }
+}
+
+impl Story {
+    /// The first message that brings the request with this number content with an offset of a part.
+    pub fn bringer(&self, request: u64, part: Part) -> Option<&Told> {
+        for told in &self.told {
+            if told.brings(request, part) {
+                return Some(told);
+            }
+        }
+        None
+    }
+}
 
 impl Text {
     /// Adds the requests, the chunks and the export that a refused message is to be compared with.

@@ -2,13 +2,13 @@
 
 use crate::brief::Brief;
 use crate::contexts::Contexts;
-use crate::parts::{has_offset, shared};
+use crate::parts::has_offset;
 use crate::recording::Recording;
 use nbd_state::{Export, has_range, is_proper};
 use nbd_wire::flags::has_wide;
 use nbd_wire::{
-    AnswerHead, Info, Message, Part, Profile, RequestHead, Side, answers, commands, handshake,
-    head_lengths, options, side_of,
+    AnswerHead, Info, Message, Part, Profile, RequestHead, Side, Sizing, answers, commands,
+    handshake, head_lengths, options, side_of,
 };
 use std::alloc::{AllocError, Global};
 use std::collections::BTreeMap;
@@ -38,14 +38,6 @@ impl Told {
         match self.request {
             Some(number) if number == request => self.brief.content(),
             _ => None,
-        }
-    }
-
-    // Whether that shares an offset with a part.
-    fn brings(&self, request: u64, part: Part) -> bool {
-        match self.content_to(request) {
-            Some(content) => shared(content, part).is_some(),
-            None => false,
         }
     }
 }
@@ -136,6 +128,8 @@ pub struct Story {
     pub padding: u64,
     /// What was said of metadata contexts.
     pub contexts: Contexts,
+    /// What was said of block sizes.
+    pub sizing: Sizing,
 }
 
 impl Story {
@@ -159,6 +153,7 @@ impl Story {
             option: 0,
             padding: head_lengths::PADDING as u64,
             contexts: Contexts::none(alloc),
+            sizing: Sizing::none(),
         }
     }
 
@@ -191,17 +186,19 @@ impl Story {
         Ok(())
     }
 
-    // What a message of the negotiation says of metadata contexts.
+    // What a message of the negotiation says of metadata contexts and of block sizes.
     fn select(&mut self, told: &Told) -> Result<(), AllocError> {
         let before = told.before;
         match &told.brief {
             Brief::Choice(head) => {
                 let data = payload_of(&self.recording, told, head_lengths::CHOICE);
+                self.sizing = Sizing::at(head.id, data);
                 self.contexts.choose(head.id, data)
             }
             Brief::Answer(head, _) => {
                 let data = payload_of(&self.recording, told, head_lengths::ANSWER);
                 let before = before.saturating_add(head_lengths::ANSWER as u64);
+                self.sizing = self.sizing.after(head.kind, data);
                 self.contexts.answer(head, before, data)
             }
             _ => Ok(()),
@@ -275,16 +272,6 @@ impl Story {
                 self.outstanding.remove(&request.head.cookie);
             }
         }
-    }
-
-    /// The first message that brings the request with this number content with an offset of a part.
-    pub fn bringer(&self, request: u64, part: Part) -> Option<&Told> {
-        for told in &self.told {
-            if told.brings(request, part) {
-                return Some(told);
-            }
-        }
-        None
     }
 
     /// How many bytes the messages of a side have.

@@ -30,19 +30,19 @@ verdict_on profile (Some text) None known chunks entries initial v c o s checked
 verdict_on profile (Some text) (Some order) None chunks entries initial v c o s checked = tt
 
 -- the order's entries are those of its text
-pub with_entries : (order : Option (List ℕ)) (known : Option Start) (finished : Result Report SessionFault) (entries slice : List Entry) (o : Result Verdict RunFault) → slice ≡ entries →
-    IfSome order (λ text. IsOrderText text entries) → IfOk o (IsConcluded known finished slice) →
-    IfOk o (λ v. (entries : List Entry) × IfSome order (λ text. IsOrderText text entries) × IsConcluded known finished entries v)
-with_entries order known finished entries slice (Ok v) same is_text concluded = (entries, is_text, subst (λ e. IsConcluded known finished e v) same concluded)
-with_entries order known finished entries slice (Err fault) same is_text concluded = tt
+pub with_entries : (profile : Profile) (order : Option (List ℕ)) (known : Option Start) (finished : Result Report SessionFault) (entries slice : List Entry) (o : Result Verdict RunFault) → slice ≡ entries →
+    IfSome order (λ text. IsOrderText text entries) → IfOk o (IsConcluded profile known finished slice) →
+    IfOk o (λ v. (entries : List Entry) × IfSome order (λ text. IsOrderText text entries) × IsConcluded profile known finished entries v)
+with_entries profile order known finished entries slice (Ok v) same is_text concluded = (entries, is_text, subst (λ e. IsConcluded profile known finished e v) same concluded)
+with_entries profile order known finished entries slice (Err fault) same is_text concluded = tt
 
 -- the conclusion from a session over a capture text is the verdict on its texts
 pub concluded : {profile : Profile} (capture order : Option (List ℕ)) (known : Option Start) (r : SessionView) (finished : Result Report SessionFault) (entries : List Entry) (v : Verdict) → IsOverText profile capture r →
-    fault_of finished ≡ fault_at_end r → IfOk finished (IsReported r) → IfErr finished (EndsIn r) → IfSome order (λ text. IsOrderText text entries) → IsConcluded known finished entries v →
+    fault_of finished ≡ fault_at_end r → IfOk finished (IsReported r) → IfErr finished (EndsIn r) → IfSome order (λ text. IsOrderText text entries) → IsConcluded profile known finished entries v →
     IsVerdictOn profile capture order known v
 concluded {profile} capture order known r finished entries v over same reported ends is_text c =
     verdict_on profile capture order known over.chunks entries c.initial v over.is_text is_text c.is_known
-    (checked_over (flat_of over.chunks) r entries c.initial finished v over.over same reported ends c.is_conclusion (c.answers profile))
+    (checked_over (flat_of over.chunks) r entries c.initial finished v over.over same reported ends c.is_conclusion c.answers)
 
 -- its line was written
 pub tells : (profile : Profile) (capture order : Option (List ℕ)) (known : Option Start) (old new : Option (List ℕ)) (v : Verdict) (o : Result Bool RunFault) → IsVerdictOn profile capture order known v →

@@ -146,7 +146,7 @@ next_pushed {profile} first old next new chunks s bytes piece before chunk state
 
 -- the conclusion from a session that is over is the verdict on its capture
 pub checked_over : {profile : Profile} (capture : List Pair) (r : SessionView) (order : List Entry) (initial : Start) (finished : Result Report SessionFault) (v : Verdict) → IsOver profile capture r →
-    fault_of finished ≡ fault_at_end r → IfOk finished (IsReported r) → IfErr finished (EndsIn r) → IsConclusion finished order initial v →
+    fault_of finished ≡ fault_at_end r → IfOk finished (IsReported r) → IfErr finished (EndsIn r) → IsConclusion profile finished order initial v →
     ((items : List Item) → IsRunOf profile items → IsReportOf items finished → Answers profile (pairs items) order initial v) → IsChecked profile capture order initial v
 checked_over {profile} capture r order initial finished v over same reported ends =
     checked profile capture order initial finished v (report_over capture r finished over same reported) (fault_over capture r finished over same ends)

@@ -76,19 +76,20 @@ pub fn run_check_of<C: BufRead + Drop, O: Read + Drop, I: Measured + Drop, W: Wr
         (initial_from I.remaining start) (W.contents out.old) (W.contents out.new)) }
 {
     let session = session_over(alloc, profile, capture, &mut Unseen)?;
-    let verdict = verdict_over(alloc, session.finish(), &mut order, start)?;
+    let verdict = verdict_over(alloc, profile, session.finish(), &mut order, start)?;
     write_verdict(alloc, verdict, out)
 }
 
 // The verdict on a finished session, from the order and the image that are read.
 fn verdict_over<O: Read, I: Measured + Drop>(
     alloc: Global,
+    profile: Profile,
     finished: Result<Transcript, SessionFault>,
     order: &mut O,
     start: StartFrom<I>,
 ) -> Result<Verdict, RunFault>
     ensures verdict { IfOk result (λ v. (entries : List Entry) × IfSome (O.remaining order.old)
-        (λ text. IsOrderText text entries) × IsConcluded (initial_from I.remaining start) finished entries v) }
+        (λ text. IsOrderText text entries) × IsConcluded profile (initial_from I.remaining start) finished entries v) }
     ensures well_formed { OnOk result (IsOrder (O.remaining order.old)) }
     ensures limited { OnOk result (IsWithinLimit (O.remaining order.old) × IsStartWithinLimit I.remaining start) }
     ensures cause { IfErr result (λ fault. (known : Option (List ℕ)) → IsCapture known →
@@ -96,22 +97,23 @@ fn verdict_over<O: Read, I: Measured + Drop>(
     ensures reading { IfErr result (λ fault. fault ≢ Write) }
 {
     let order = read_order(alloc, order)?;
-    verdict_from(alloc, finished, order.as_slice(), start)
+    verdict_from(alloc, profile, finished, order.as_slice(), start)
 }
 
 // The verdict on a finished session and an order, from the image that is read.
 fn verdict_from<I: Measured + Drop>(
     alloc: Global,
+    profile: Profile,
     finished: Result<Transcript, SessionFault>,
     order: &[Entry],
     start: StartFrom<I>,
 ) -> Result<Verdict, RunFault>
-    ensures verdict { IfOk result (IsConcluded (initial_from I.remaining start) finished order.now) }
+    ensures verdict { IfOk result (IsConcluded profile (initial_from I.remaining start) finished order.now) }
     ensures limited { OnOk result (IsStartWithinLimit I.remaining start) }
     ensures cause { IfErr result (λ fault. (fault ≡ ImageRead) × HasImage start ⊎ (fault ≡ Memory)) }
 {
     let start = read_start(alloc, start, room_of(&finished))?;
-    Ok(conclude_from(alloc, finished, order, start)?)
+    Ok(conclude_from(alloc, profile, finished, order, start)?)
 }
 
 /// Reads an order text whole, and answers its entries.

@@ -10,6 +10,7 @@ pub mod ListedFormLemmas
 pub mod ListedReadLemmas
 pub mod NumberLemmas
 pub mod QueryLemmas
+pub mod SizeLemmas
 pub mod StatusLemmas
 pub mod ReadLemmas
 pub mod RoundTripLemmas

@@ -130,4 +130,8 @@ LengthsAreLiteral =
 
 -- the largest export in bytes (this project's choice)
 abbrev pub LimitsAreLiteral : Type 0
-LimitsAreLiteral = limits.EXPORT_SIZE ≡ 9223372036854775807
+LimitsAreLiteral =
+    (limits.EXPORT_SIZE ≡ 9223372036854775807)
+    × (limits.LEAST_SIZE ≡ 65536)
+    × (limits.PREFERRED_SIZE ≡ 512)
+    × (limits.NO_LARGEST_SIZE ≡ 4294967295)

@@ -4,6 +4,7 @@ pub mod Encoding
 pub mod Contexts
 pub mod Payloads
 pub mod Forms
+pub mod Sizes
 pub mod Sendable
 pub mod Captures
 pub mod Marks

@@ -30,6 +30,7 @@ pub mod options;
 pub mod payloads;
 pub mod profile;
 pub mod sides;
+pub mod sizes;
 pub mod states;
 pub mod transmission;
 
@@ -49,6 +50,7 @@ pub use option_payloads::{context_of, go_of, info_of, listed_of, name_in, querie
 pub use payloads::{Content, Extent, Failure, Info, Piece};
 pub use profile::Profile;
 pub use sides::{fits, side_of};
+pub use sizes::{Sizes, Sizing, asks_sizes, breaks_sizes, sizes_of};
 
 #[cfg(test)]
 mod tests;

@@ -176,10 +176,11 @@ const EXPLAIN_HELP: &str = "\
 Example:
   nbdcheck explain session.cap session.ord --start zero
 
-Prints the line of 'nbdcheck check', and after a no what an author needs to mend the program: the rule,
-who broke it and where it stands; the message with its first and last byte, counted from 1 over both
-sides; of a wrong byte which one was expected, and which entry of ORDER wrote it; of an order its
-entries, and what is wrong with a part; and the bytes round the place, which stands in brackets.
+Prints the line of 'nbdcheck check', after a yes the requests that the client should not have sent, and
+after a no what an author needs to mend the program: the rule, who broke it and where it stands; the
+message with its first and last byte, counted from 1 over both sides; of a wrong byte which one was
+expected, and which entry of ORDER wrote it; of an order its entries, and what is wrong with a part; and
+the bytes round the place, which stands in brackets.
 Without ORDER it looks for one, as 'nbdcheck order' does:
   nbdcheck explain session.cap --start zero
 Of an order that it finds it prints the line of 'nbdcheck check', and what such a yes is worth; where no

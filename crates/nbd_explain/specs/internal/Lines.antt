@@ -33,28 +33,31 @@ abbrev pub AppendsSome : (old new : Option (List ℕ)) → Type 0
 AppendsSome old new = (text : List ℕ) × Appends old new text
 
 -- the line of the verdict on the order, from each start that was read so, and that the order was found
-pub record HasVerdictLine (told : Report) (entries : List Entry) (beginning : Beginning) (text : List ℕ) : Type 0 where
+pub record HasVerdictLine (profile : Profile) (told : Report) (entries : List Entry) (beginning : Beginning)
+    (text : List ℕ) : Type 0 where
   pub verdict : Verdict
   pub is_line : text ≡ found_lines verdict
   pub concludes : (initial : Start) → IsReadAs (size_of told.export) initial beginning
-      → IsConclusion (Ok told) entries initial verdict
-  pub answers : (profile : Profile) (initial : Start) (items : List Item)
+      → IsConclusion profile (Ok told) entries initial verdict
+  pub answers : (initial : Start) (items : List Item)
       → IsReadAs (size_of told.export) initial beginning → IsRunOf profile items → IsReportOf items (Ok told)
       → Answers profile (pairs items) entries initial verdict
 
 -- the line of what was found: of an order that of the verdict on it, else that of `order`
-abbrev pub IsLineOf : Report → Found → Beginning → List ℕ → Type 0
-IsLineOf told (Order entries) beginning text = HasVerdictLine told entries.items beginning text
-IsLineOf told (Unexplained refutation) beginning text = text ≡ found_text told (Unexplained refutation)
-IsLineOf told (Image image size) beginning text = text ≡ found_text told (Image image size)
-IsLineOf told NoneWhole beginning text = text ≡ found_text told NoneWhole
-IsLineOf told (GaveUp request offset reason) beginning text = text ≡ found_text told (GaveUp request offset reason)
+abbrev pub IsLineOf : Profile → Report → Found → Beginning → List ℕ → Type 0
+IsLineOf profile told (Order entries) beginning text = HasVerdictLine profile told entries.items beginning text
+IsLineOf profile told (Unexplained refutation) beginning text = text ≡ found_text told (Unexplained refutation)
+IsLineOf profile told (Image image size) beginning text = text ≡ found_text told (Image image size)
+IsLineOf profile told NoneWhole beginning text = text ≡ found_text told NoneWhole
+IsLineOf profile told (GaveUp request offset reason) beginning text =
+    text ≡ found_text told (GaveUp request offset reason)
 
 -- a text begins with that line
-pub record BeginsWithLineOf (told : Report) (found : Found) (beginning : Beginning) (text : List ℕ) : Type 0 where
+pub record BeginsWithLineOf (profile : Profile) (told : Report) (found : Found) (beginning : Beginning)
+    (text : List ℕ) : Type 0 where
   pub first : List ℕ
   pub explanation : List ℕ
-  pub is_line : IsLineOf told found beginning first
+  pub is_line : IsLineOf profile told found beginning first
   pub parts : text ≡ first ++ explanation
 
 -- a text is this one, and some text behind it
@@ -75,33 +78,34 @@ pub record IsFinishOf (profile : Profile) (known : Option (List ℕ))
   pub wire : IfErr finished (EndsIn session)
 
 -- the verdict on the entries, from each start that was read so, is answered, and told with an explanation
-pub record IsToldOn (finished : Result Report SessionFault) (entries : List Entry) (beginning : Beginning)
-    (answered : Answer) (text : List ℕ) : Type 0 where
+pub record IsToldOn (profile : Profile) (finished : Result Report SessionFault) (entries : List Entry)
+    (beginning : Beginning) (answered : Answer) (text : List ℕ) : Type 0 where
   pub verdict : Verdict
   pub concludes : (initial : Start) → IsReadAs (room_in finished) initial beginning
-      → IsConclusion finished entries initial verdict
-  pub answers : (profile : Profile) (initial : Start) (items : List Item)
+      → IsConclusion profile finished entries initial verdict
+  pub answers : (initial : Start) (items : List Item)
       → IsReadAs (room_in finished) initial beginning → IsRunOf profile items → IsReportOf items finished
       → Answers profile (pairs items) entries initial verdict
   pub answer : IsAnswerTo verdict answered
   pub begins : Begins (line verdict) text
 
 -- what looking for an order came to, from each start that was read so, is answered, and told with what it says
-pub record IsToldOfFound (told : Report) (beginning : Beginning) (answered : Answer) (text : List ℕ) : Type 0 where
+pub record IsToldOfFound (profile : Profile) (told : Report) (beginning : Beginning) (answered : Answer)
+    (text : List ℕ) : Type 0 where
   pub found : Found
   pub kept : Beginning
   pub copied : (n : ℕ) (initial : Start) → IsReadAs n initial beginning → IsReadAs n initial kept
   pub is_found : (initial : Start) → IsReadAs (size_of told.export) initial beginning → IsFound told initial found
   pub fits : IsWanted Any found
-  pub says : (profile : Profile) (initial : Start) (items : List Item)
-      → IsReadAs (size_of told.export) initial beginning → IsRunOf profile items → report items ≡ told
-      → Says profile items initial found
-  pub begins : BeginsWithLineOf told found kept text
+  pub says : (any : Profile) (initial : Start) (items : List Item)
+      → IsReadAs (size_of told.export) initial beginning → IsRunOf any items → report items ≡ told
+      → Says any items initial found
+  pub begins : BeginsWithLineOf profile told found kept text
   pub answer : answered ≡ answer_to found
 
 -- the same of a finished session: of one that was refused no, the verdict's line and an explanation
-abbrev pub IsToldBySearch : Beginning → Result Report SessionFault → Answer → List ℕ → Type 0
-IsToldBySearch beginning (Ok told) answered text = IsToldOfFound told beginning answered text
-IsToldBySearch beginning (Err (Wire at fault)) answered text = IsAnswerTo (verdict.Wire at fault) answered
+abbrev pub IsToldBySearch : Profile → Beginning → Result Report SessionFault → Answer → List ℕ → Type 0
+IsToldBySearch profile beginning (Ok told) answered text = IsToldOfFound profile told beginning answered text
+IsToldBySearch profile beginning (Err (Wire at fault)) answered text = IsAnswerTo (verdict.Wire at fault) answered
     × Begins (line (verdict.Wire at fault)) text
-IsToldBySearch beginning (Err Memory) answered text = ⊥
+IsToldBySearch profile beginning (Err Memory) answered text = ⊥

@@ -1,6 +1,7 @@
 -- A verdict depends on the bytes at first only below the export's size.
 use Rattle.std.proofs.Common.{◌≡◌, ℕ, ◌+◌, ◌<◌, ◌≤◌, List, refl, sym, ◌∙◌, ap, arith, Option, Some, None, Result, Ok, Err, IfOk, take, inl, inr, ◌⊎◌}
 use Rattle.nbd_wire.specs.declared.commands.TheConstants as commands
+use Rattle.nbd_wire.specs.declared.profile.Profile.{Profile}
 use Rattle.nbd_wire.specs.declared.entry.Entry.{Entry}
 use Rattle.nbd_wire.specs.protocol.Entries.{in_part}
 use Rattle.nbd_wire.specs.protocol.Pieces.{is_in}
@@ -63,28 +64,28 @@ first_same r sound order f g same k x h = (
   first_of {P = IsWrong (effects r) order f h.0} {Q = IsWrong (effects r) order g h.0} x (wrong_same r sound order f g same h.0) (wrong_same r sound order g f (λ y l. sym (same y l)) h.0) h.5,
 )
 
-pub judged_same : (r : Report) → IsSoundReport r → (order : List Entry) (f g : ℕ → Option ℕ) → AreSameBelow (size_of r.export) f g → (v : Verdict) → IsJudged r order f v → IsJudged r order g v
-judged_same r sound order f g same (verdict.Yes a b c) h =
+pub judged_same : (profile : Profile) (r : Report) → IsSoundReport r → (order : List Entry) (f g : ℕ → Option ℕ) → AreSameBelow (size_of r.export) f g → (v : Verdict) → IsJudged profile r order f v → IsJudged profile r order g v
+judged_same profile r sound order f g same (verdict.Yes a b c) h =
     (h.0, (λ i x w. h.1 i x (wrong_same r sound order g f (λ y l. sym (same y l)) i x w)), h.2, h.3, h.4)
-judged_same r sound order f g same (verdict.Order e p) h = h
-judged_same r sound order f g same (verdict.Content k x) h = (h.0, (first_same r sound order f g same k x h.1.0, h.1.1))
-judged_same r sound order f g same (verdict.Status k x) h = (h.0, (first_same r sound order f g same k x h.1.0, h.1.1))
-judged_same r sound order f g same (verdict.Wire at fault) h = h
-judged_same r sound order f g same (verdict.Image i s) h = h
+judged_same profile r sound order f g same (verdict.Order e p) h = h
+judged_same profile r sound order f g same (verdict.Content k x) h = (h.0, (first_same r sound order f g same k x h.1.0, h.1.1))
+judged_same profile r sound order f g same (verdict.Status k x) h = (h.0, (first_same r sound order f g same k x h.1.0, h.1.1))
+judged_same profile r sound order f g same (verdict.Wire at fault) h = h
+judged_same profile r sound order f g same (verdict.Image i s) h = h
 
 -- a judgement is the verdict, where the start fits
-fitting : (r : Report) (order : List Entry) (start : Start) → FitsImage r.export start → (v : Verdict) → IsJudged r order (start_byte start) v → IsVerdict r order start v
-fitting r order start fits (verdict.Yes a b c) h = (fits, h)
-fitting r order start fits (verdict.Order e p) h = (fits, h)
-fitting r order start fits (verdict.Content k x) h = (fits, h)
-fitting r order start fits (verdict.Status k x) h = (fits, h)
-fitting r order start fits (verdict.Wire at fault) h = h
-fitting r order start fits (verdict.Image i s) h = absurd h
+fitting : (profile : Profile) (r : Report) (order : List Entry) (start : Start) → FitsImage r.export start → (v : Verdict) → IsJudged profile r order (start_byte start) v → IsVerdict profile r order start v
+fitting profile r order start fits (verdict.Yes a b c) h = (fits, h)
+fitting profile r order start fits (verdict.Order e p) h = (fits, h)
+fitting profile r order start fits (verdict.Content k x) h = (fits, h)
+fitting profile r order start fits (verdict.Status k x) h = (fits, h)
+fitting profile r order start fits (verdict.Wire at fault) h = h
+fitting profile r order start fits (verdict.Image i s) h = absurd h
 
-pub report_of_conclusion : {E : Type 0} (r : Report) → IsSoundReport r → (order : List Entry) (f : ℕ → Option ℕ) (start : Start) → FitsImage r.export start → AreSameBelow (size_of r.export) f (start_byte start)
-    → (o : Result Verdict E) → IfOk o (IsJudged r order f) → IfOk o (IsVerdict r order start)
-report_of_conclusion r sound order f start fits same (Ok v) h = fitting r order start fits v (judged_same r sound order f (start_byte start) same v h)
-report_of_conclusion r sound order f start fits same (Err e) h = h
+pub report_of_conclusion : {E : Type 0} (profile : Profile) (r : Report) → IsSoundReport r → (order : List Entry) (f : ℕ → Option ℕ) (start : Start) → FitsImage r.export start → AreSameBelow (size_of r.export) f (start_byte start)
+    → (o : Result Verdict E) → IfOk o (IsJudged profile r order f) → IfOk o (IsVerdict profile r order start)
+report_of_conclusion profile r sound order f start fits same (Ok v) h = fitting profile r order start fits v (judged_same profile r sound order f (start_byte start) same v h)
+report_of_conclusion profile r sound order f start fits same (Err e) h = h
 
 -- the export of a transcript that states its size
 pub exporting_of : (o : Option Exporting) (size flags : ℕ) → Some (size, flags) ≡ size_and_flags o → (e : Exporting) × (o ≡ Some e) × (e.size ≡ size)

@@ -47,7 +47,7 @@ module _ (passing : PassingIsExplained) (only : ExplainedPasses) (faultless : Or
     counts = record {
       requests_are = counted profile request_count items a run v.1.2;
       answered_are = counted profile answered_count items b run v.1.3;
-      improper_are = counted profile improper_count items c run v.1.4;
+      improper_are = counted profile (improper_count profile) items c run v.1.4;
     };
   }
   answers_runs profile items order initial (Order e p) run v = (

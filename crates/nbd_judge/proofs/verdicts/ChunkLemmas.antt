@@ -70,22 +70,22 @@ told_of r capture told p same reported = record {
 
 -- the conclusion from what a session over a capture finished with is the verdict on that capture
 pub checked : (profile : Profile) (capture : List Pair) (order : List Entry) (initial : Start) (finished : Result Report SessionFault) (v : Verdict)
-    → IfOk finished (HasReport profile capture) → IfErr finished (IsFaultOf profile capture) → IsConclusion finished order initial v
+    → IfOk finished (HasReport profile capture) → IfErr finished (IsFaultOf profile capture) → IsConclusion profile finished order initial v
     → ((items : List Item) → IsRunOf profile items → IsReportOf items finished → Answers profile (pairs items) order initial v) → IsChecked profile capture order initial v
 checked profile capture order initial (Err session.Memory) v told within is answers = absurd is
 checked profile capture order initial (Err (session.Wire at fault)) v told within is answers = subst (IsChecked profile capture order initial) (sym is) within
 checked profile capture order initial (Ok r) v told within is answers = go v is (answers told.items told.is_run (told.same_report told.items told.is_run told.has_pairs))
   where
-    verdict : (v : Verdict) → IsVerdict r order initial v → Answers profile (pairs told.items) order initial v → HasVerdict profile capture order initial v
+    verdict : (v : Verdict) → IsVerdict profile r order initial v → Answers profile (pairs told.items) order initial v → HasVerdict profile capture order initial v
     verdict v is says = record {
       items = told.items;
       is_run = told.is_run;
       has_pairs = told.has_pairs;
-      is_verdict = λ others run has. subst (λ (q : Report). IsVerdict q order initial v) (sym (told.same_report others run has)) is;
+      is_verdict = λ others run has. subst (λ (q : Report). IsVerdict profile q order initial v) (sym (told.same_report others run has)) is;
       answers = subst (λ (ps : List Pair). Answers profile ps order initial v) told.has_pairs says;
     }
 
-    go : (v : Verdict) → IsVerdict r order initial v → Answers profile (pairs told.items) order initial v → IsChecked profile capture order initial v
+    go : (v : Verdict) → IsVerdict profile r order initial v → Answers profile (pairs told.items) order initial v → IsChecked profile capture order initial v
     go (Wire at fault) is says = absurd is
     go (Yes a b c) is says = verdict (Yes a b c) is says
     go (Image i s) is says = verdict (Image i s) is says
@@ -115,10 +115,10 @@ finish_told r capture (Ok told) p same h = told_of r capture told p same h
 finish_told r capture (Err fault) p same h = h
 
 pub conclusion_checked : {E : Type 0} (profile : Profile) (capture : List Pair) (order : List Entry) (initial : Start) (finished : Result Report SessionFault) (o : Result Verdict E)
-    → IfOk finished (HasReport profile capture) → IfErr finished (IsFaultOf profile capture) → IfOk o (IsConclusion finished order initial)
-    → IfOk o (λ v. (profile : Profile) (items : List Item) → IsRunOf profile items → IsReportOf items finished → Answers profile (pairs items) order initial v)
+    → IfOk finished (HasReport profile capture) → IfErr finished (IsFaultOf profile capture) → IfOk o (IsConclusion profile finished order initial)
+    → IfOk o (λ v. (items : List Item) → IsRunOf profile items → IsReportOf items finished → Answers profile (pairs items) order initial v)
     → IfOk o (IsChecked profile capture order initial)
-conclusion_checked profile capture order initial finished (Ok v) told within is answers = checked profile capture order initial finished v told within is (answers profile)
+conclusion_checked profile capture order initial finished (Ok v) told within is answers = checked profile capture order initial finished v told within is answers
 conclusion_checked profile capture order initial finished (Err e) told within is answers = tt
 
 pub handed_on : {T : Type 0} (o : Result T SessionFault) (fault : SessionFault) (P : SessionFault → Type 0) → IsErrAnd o (λ e. e ≡ fault) → P fault → IfErr o P

@@ -20,7 +20,7 @@ use Rattle.nbd_wire.specs.protocol.Rules.{IsRunBut, IsRunOf, Obeys}
 use Rattle.nbd_wire.specs.protocol.Sendable.{IsSendable}
 use Rattle.nbd_wire.specs.protocol.Splits.{IsPlaceOf, IsSplitOf, IsUnderWayOf, open_bytes}
 use Rattle.nbd_wire.specs.protocol.States.{State, start_of}
-use Rattle.nbd_laws.specs.Profiles.{AnswersNoContexts}
+use Rattle.nbd_laws.specs.Profiles.{NothingParts}
 use Rattle.nbd_laws.specs.internal.Concrete.{concrete}
 use Rattle.nbd_laws.specs.internal.Machine.{Both, fresh_of, get, reads}
 use Rattle.nbd_laws.proofs.judge.ExactLemmas.{exact}
@@ -42,7 +42,8 @@ use Rattle.nbd_judge.specs.declared.verdict.Verdict.{Verdict}
 use Rattle.nbd_judge.specs.declared.verdict.Verdict.TheVariants.{Yes, Wire, Image, Order, Content, Status}
 use Rattle.nbd_judge.specs.Captures.{HasVerdict}
 use Rattle.nbd_judge.specs.Conclusions.{Answers}
-use Rattle.nbd_judge.specs.Profiles.{TellsNoContexts, VerdictsAgree}
+use Rattle.nbd_judge.specs.Profiles.{NothingPartsIn, with_improper, VerdictsAgree}
+use Rattle.nbd_wire.specs.protocol.Verdicts.{improper_count}
 use Rattle.nbd_judge.specs.Verdicts.{IsVerdict}
 use Rattle.nbd_judge.proofs.verdicts.AnswerLemmas.{answers_runs}
 
@@ -128,28 +129,38 @@ place_refuses profile ps messages fault place = record {
       completes_exactly prefix r.end messages (are_prefix prefix (last ∷ []) (subst ArePairs parts place.split.are_pairs)) (ap (reads concrete (fresh_of profile)) (sym same) ∙ r.reads_it) r.messages_are);
 }
 
-module _ (p q : Profile) (capture : List Pair) (tells : TellsNoContexts capture) where
-  none_told : (profile : Profile) (items : List Item) → IsRunOf profile items → pairs items ≡ capture → AnswersNoContexts items
+-- a verdict is one of the other profile too, with its count
+other_count : (p q : Profile) (r : Report) (order : List Entry) (initial : Start) (v : Verdict) → IsVerdict p r order initial v → IsVerdict q r order initial (with_improper (improper_count q r) v)
+other_count p q r order initial (Yes a b c) h = (h.0, (h.1.0, h.1.1, h.1.2, h.1.3, refl))
+other_count p q r order initial (Order e f) h = h
+other_count p q r order initial (Content k x) h = h
+other_count p q r order initial (Status k x) h = h
+other_count p q r order initial (Image i s) h = h
+other_count p q r order initial (Wire at fault) h = h
+
+module _ (p q : Profile) (capture : List Pair) (tells : NothingPartsIn capture) where
+  none_told : (profile : Profile) (items : List Item) → IsRunOf profile items → pairs items ≡ capture → NothingParts items
   none_told profile items run is = tells profile items (pairs items) [] (completed_messages items) (append-nil (pairs items) ∙ is) (run_is_split profile items run)
 
   -- the verdict on a run
-  same_verdict : (order : List Entry) (initial : Start) (v : Verdict) → HasVerdict p capture order initial v → HasVerdict q capture order initial v
+  same_verdict : (order : List Entry) (initial : Start) (v : Verdict) (h : HasVerdict p capture order initial v) → HasVerdict q capture order initial (with_improper (improper_count q (report h.items)) v)
   same_verdict order initial v h =
+      let w : Verdict = with_improper (improper_count q (report h.items)) v in
       let run : IsRunOf q h.items = runs_agree p q h.items (none_told p h.items h.is_run h.has_pairs) h.is_run in
-      let here : IsVerdict (report h.items) order initial v = h.is_verdict h.items h.is_run h.has_pairs in
+      let here : IsVerdict q (report h.items) order initial w = other_count p q (report h.items) order initial v (h.is_verdict h.items h.is_run h.has_pairs) in
       record {
         items = h.items;
         is_run = run;
         has_pairs = h.has_pairs;
-        is_verdict = λ others is has. subst (λ (r : Report). IsVerdict r order initial v) (same_reports q h.items others run is (h.has_pairs ∙ sym has)) here;
-        answers = subst (λ ps. Answers q ps order initial v) h.has_pairs (answers_runs passing_is_explained explained_passes orders_are_faultless same_reports q h.items order initial v run here);
+        is_verdict = λ others is has. subst (λ (r : Report). IsVerdict q r order initial w) (same_reports q h.items others run is (h.has_pairs ∙ sym has)) here;
+        answers = subst (λ ps. Answers q ps order initial w) h.has_pairs (answers_runs passing_is_explained explained_passes orders_are_faultless same_reports q h.items order initial w run here);
       }
 
   -- an end within a message
   same_open_end : (messages : List Message) → IsOpenEndOf p capture messages → IsOpenEndOf q capture messages
   same_open_end messages e =
       let u : IsUnderWayOf p capture messages = e.accepted.under_way in
-      let none : AnswersNoContexts u.items = tells p u.items capture [] messages (append-nil capture) u.split in
+      let none : NothingParts u.items = tells p u.items capture [] messages (append-nil capture) u.split in
       let under : IsUnderWayOf q capture messages = record {
         items = u.items;
         split = split_agrees p q u.items capture messages none u.split;
@@ -174,9 +185,9 @@ module _ (p q : Profile) (capture : List Pair) (tells : TellsNoContexts capture)
   same_wire_fault messages at fault (inr e) = inr (e.0, e.1, same_open_end messages e.2)
 
 pub verdicts_agree : VerdictsAgree
-verdicts_agree p q capture order initial (Wire at fault) tells c = (c.0, same_wire_fault p q capture tells c.0 at fault c.1)
-verdicts_agree p q capture order initial (Yes of_requests of_answered of_improper) tells h = same_verdict p q capture tells order initial (Yes of_requests of_answered of_improper) h
-verdicts_agree p q capture order initial (Image image size) tells h = same_verdict p q capture tells order initial (Image image size) h
-verdicts_agree p q capture order initial (Order entry fault) tells h = same_verdict p q capture tells order initial (Order entry fault) h
-verdicts_agree p q capture order initial (Content request offset) tells h = same_verdict p q capture tells order initial (Content request offset) h
-verdicts_agree p q capture order initial (Status request offset) tells h = same_verdict p q capture tells order initial (Status request offset) h
+verdicts_agree p q capture order initial (Wire at fault) tells c = (0, (c.0, same_wire_fault p q capture tells c.0 at fault c.1))
+verdicts_agree p q capture order initial (Yes a b c) tells h = (improper_count q (report h.items), same_verdict p q capture tells order initial (Yes a b c) h)
+verdicts_agree p q capture order initial (Image image size) tells h = (0, same_verdict p q capture tells order initial (Image image size) h)
+verdicts_agree p q capture order initial (Order entry fault) tells h = (0, same_verdict p q capture tells order initial (Order entry fault) h)
+verdicts_agree p q capture order initial (Content request offset) tells h = (0, same_verdict p q capture tells order initial (Content request offset) h)
+verdicts_agree p q capture order initial (Status request offset) tells h = (0, same_verdict p q capture tells order initial (Status request offset) h)

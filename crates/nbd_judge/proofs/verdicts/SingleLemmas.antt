@@ -142,32 +142,32 @@ module _ (r : Report) (order : List Entry) (initial : ℕ → Option ℕ) where
       sym v.1.2 ∙ ap (λ (z : Asked). z.command) same ∙ w.1.2
 
 pub one_judgement : OneJudgement
-one_judgement r order initial (Yes a b c) (Yes d e f) v w = (let p : a ≡ d = v.2 ∙ sym w.2 in let q : b ≡ e = v.3 ∙ sym w.3 in let s : c ≡ f = v.4 ∙ sym w.4 in cc)
-one_judgement r order initial (Yes a b c) (Order e p) v w = absurd (has_fault r order e p w v.0)
-one_judgement r order initial (Yes a b c) (Content k x) v w = absurd (has_wrong r order initial k x w.1.0 v.1)
-one_judgement r order initial (Yes a b c) (Status k x) v w = absurd (has_wrong r order initial k x w.1.0 v.1)
-one_judgement r order initial (Yes a b c) (Wire at fault) v w = absurd w
-one_judgement r order initial (Yes a b c) (Image image size) v w = absurd w
-one_judgement r order initial (Order e p) (Yes a b c) v w = absurd (has_fault r order e p v w.0)
-one_judgement r order initial (Order d p) (Order e q) v w = one_fault r order d e p q v w
-one_judgement r order initial (Order e p) (Content k x) v w = absurd (has_fault r order e p v w.0)
-one_judgement r order initial (Order e p) (Status k x) v w = absurd (has_fault r order e p v w.0)
-one_judgement r order initial (Order e p) (Wire at fault) v w = absurd w
-one_judgement r order initial (Order e p) (Image image size) v w = absurd w
-one_judgement r order initial (Content k x) (Yes a b c) v w = absurd (has_wrong r order initial k x v.1.0 w.1)
-one_judgement r order initial (Content k x) (Order e p) v w = absurd (has_fault r order e p w v.0)
-one_judgement r order initial (Content j x) (Content k y) v w = let one = one_wrong r order initial j k x y v.1.0 w.1.0 in (λ i. Content (one.0 i) (one.1 i))
-one_judgement r order initial (Content j x) (Status k y) v w = absurd (let q = one_command r order initial j k x y _ _ v.1 w.1 in omega (arith, q))
-one_judgement r order initial (Content k x) (Wire at fault) v w = absurd w
-one_judgement r order initial (Content k x) (Image image size) v w = absurd w
-one_judgement r order initial (Status k x) (Yes a b c) v w = absurd (has_wrong r order initial k x v.1.0 w.1)
-one_judgement r order initial (Status k x) (Order e p) v w = absurd (has_fault r order e p w v.0)
-one_judgement r order initial (Status j x) (Content k y) v w = absurd (let q = one_command r order initial j k x y _ _ v.1 w.1 in omega (arith, q))
-one_judgement r order initial (Status j x) (Status k y) v w = let one = one_wrong r order initial j k x y v.1.0 w.1.0 in (λ i. Status (one.0 i) (one.1 i))
-one_judgement r order initial (Status k x) (Wire at fault) v w = absurd w
-one_judgement r order initial (Status k x) (Image image size) v w = absurd w
-one_judgement r order initial (Wire at fault) u v w = absurd v
-one_judgement r order initial (Image image size) u v w = absurd v
+one_judgement profile r order initial (Yes a b c) (Yes d e f) v w = (let p : a ≡ d = v.2 ∙ sym w.2 in let q : b ≡ e = v.3 ∙ sym w.3 in let s : c ≡ f = v.4 ∙ sym w.4 in cc)
+one_judgement profile r order initial (Yes a b c) (Order e p) v w = absurd (has_fault r order e p w v.0)
+one_judgement profile r order initial (Yes a b c) (Content k x) v w = absurd (has_wrong r order initial k x w.1.0 v.1)
+one_judgement profile r order initial (Yes a b c) (Status k x) v w = absurd (has_wrong r order initial k x w.1.0 v.1)
+one_judgement profile r order initial (Yes a b c) (Wire at fault) v w = absurd w
+one_judgement profile r order initial (Yes a b c) (Image image size) v w = absurd w
+one_judgement profile r order initial (Order e p) (Yes a b c) v w = absurd (has_fault r order e p v w.0)
+one_judgement profile r order initial (Order d p) (Order e q) v w = one_fault r order d e p q v w
+one_judgement profile r order initial (Order e p) (Content k x) v w = absurd (has_fault r order e p v w.0)
+one_judgement profile r order initial (Order e p) (Status k x) v w = absurd (has_fault r order e p v w.0)
+one_judgement profile r order initial (Order e p) (Wire at fault) v w = absurd w
+one_judgement profile r order initial (Order e p) (Image image size) v w = absurd w
+one_judgement profile r order initial (Content k x) (Yes a b c) v w = absurd (has_wrong r order initial k x v.1.0 w.1)
+one_judgement profile r order initial (Content k x) (Order e p) v w = absurd (has_fault r order e p w v.0)
+one_judgement profile r order initial (Content j x) (Content k y) v w = let one = one_wrong r order initial j k x y v.1.0 w.1.0 in (λ i. Content (one.0 i) (one.1 i))
+one_judgement profile r order initial (Content j x) (Status k y) v w = absurd (let q = one_command r order initial j k x y _ _ v.1 w.1 in omega (arith, q))
+one_judgement profile r order initial (Content k x) (Wire at fault) v w = absurd w
+one_judgement profile r order initial (Content k x) (Image image size) v w = absurd w
+one_judgement profile r order initial (Status k x) (Yes a b c) v w = absurd (has_wrong r order initial k x v.1.0 w.1)
+one_judgement profile r order initial (Status k x) (Order e p) v w = absurd (has_fault r order e p w v.0)
+one_judgement profile r order initial (Status j x) (Content k y) v w = absurd (let q = one_command r order initial j k x y _ _ v.1 w.1 in omega (arith, q))
+one_judgement profile r order initial (Status j x) (Status k y) v w = let one = one_wrong r order initial j k x y v.1.0 w.1.0 in (λ i. Status (one.0 i) (one.1 i))
+one_judgement profile r order initial (Status k x) (Wire at fault) v w = absurd w
+one_judgement profile r order initial (Status k x) (Image image size) v w = absurd w
+one_judgement profile r order initial (Wire at fault) u v w = absurd v
+one_judgement profile r order initial (Image image size) u v w = absurd v
 
 one_image : (o : Option Exporting) (start : Start) (i j s t : ℕ) → IsOtherSize o start i s → IsOtherSize o start j t → Image i s ≡ Image j t
 one_image (Some export) (starts.Image bytes) i j s t v w = (let p : i ≡ j = v.0 ∙ sym w.0 in let q : s ≡ t = v.1 ∙ sym w.1 in cc)
@@ -182,34 +182,34 @@ fits_not (Some export) starts.Zeroes i s fits other = other
 fits_not None start i s fits other = other
 
 pub one_verdict : OneVerdict
-one_verdict r order initial (Image i s) (Image j t) v w = one_image r.export initial i j s t v w
-one_verdict r order initial (Image i s) (Yes a b c) v w = absurd (fits_not r.export initial i s w.0 v)
-one_verdict r order initial (Image i s) (Order e p) v w = absurd (fits_not r.export initial i s w.0 v)
-one_verdict r order initial (Image i s) (Content k x) v w = absurd (fits_not r.export initial i s w.0 v)
-one_verdict r order initial (Image i s) (Status k x) v w = absurd (fits_not r.export initial i s w.0 v)
-one_verdict r order initial (Image i s) (Wire at fault) v w = absurd w
-one_verdict r order initial (Yes a b c) (Image i s) v w = absurd (fits_not r.export initial i s v.0 w)
-one_verdict r order initial (Yes a b c) (Wire at fault) v w = absurd w
-one_verdict r order initial (Yes a b c) (Yes d e f) v w = one_judgement r order (start_byte initial) (Yes a b c) (Yes d e f) v.1 w.1
-one_verdict r order initial (Yes a b c) (Order e p) v w = one_judgement r order (start_byte initial) (Yes a b c) (Order e p) v.1 w.1
-one_verdict r order initial (Yes a b c) (Content k x) v w = one_judgement r order (start_byte initial) (Yes a b c) (Content k x) v.1 w.1
-one_verdict r order initial (Yes a b c) (Status k x) v w = one_judgement r order (start_byte initial) (Yes a b c) (Status k x) v.1 w.1
-one_verdict r order initial (Order e p) (Image i s) v w = absurd (fits_not r.export initial i s v.0 w)
-one_verdict r order initial (Order e p) (Wire at fault) v w = absurd w
-one_verdict r order initial (Order e p) (Yes a b c) v w = one_judgement r order (start_byte initial) (Order e p) (Yes a b c) v.1 w.1
-one_verdict r order initial (Order d p) (Order e q) v w = one_judgement r order (start_byte initial) (Order d p) (Order e q) v.1 w.1
-one_verdict r order initial (Order e p) (Content k x) v w = one_judgement r order (start_byte initial) (Order e p) (Content k x) v.1 w.1
-one_verdict r order initial (Order e p) (Status k x) v w = one_judgement r order (start_byte initial) (Order e p) (Status k x) v.1 w.1
-one_verdict r order initial (Content k x) (Image i s) v w = absurd (fits_not r.export initial i s v.0 w)
-one_verdict r order initial (Content k x) (Wire at fault) v w = absurd w
-one_verdict r order initial (Content k x) (Yes a b c) v w = one_judgement r order (start_byte initial) (Content k x) (Yes a b c) v.1 w.1
-one_verdict r order initial (Content k x) (Order e p) v w = one_judgement r order (start_byte initial) (Content k x) (Order e p) v.1 w.1
-one_verdict r order initial (Content j x) (Content k y) v w = one_judgement r order (start_byte initial) (Content j x) (Content k y) v.1 w.1
-one_verdict r order initial (Content j x) (Status k y) v w = one_judgement r order (start_byte initial) (Content j x) (Status k y) v.1 w.1
-one_verdict r order initial (Status k x) (Image i s) v w = absurd (fits_not r.export initial i s v.0 w)
-one_verdict r order initial (Status k x) (Wire at fault) v w = absurd w
-one_verdict r order initial (Status k x) (Yes a b c) v w = one_judgement r order (start_byte initial) (Status k x) (Yes a b c) v.1 w.1
-one_verdict r order initial (Status k x) (Order e p) v w = one_judgement r order (start_byte initial) (Status k x) (Order e p) v.1 w.1
-one_verdict r order initial (Status j x) (Content k y) v w = one_judgement r order (start_byte initial) (Status j x) (Content k y) v.1 w.1
-one_verdict r order initial (Status j x) (Status k y) v w = one_judgement r order (start_byte initial) (Status j x) (Status k y) v.1 w.1
-one_verdict r order initial (Wire at fault) u v w = absurd v
+one_verdict profile r order initial (Image i s) (Image j t) v w = one_image r.export initial i j s t v w
+one_verdict profile r order initial (Image i s) (Yes a b c) v w = absurd (fits_not r.export initial i s w.0 v)
+one_verdict profile r order initial (Image i s) (Order e p) v w = absurd (fits_not r.export initial i s w.0 v)
+one_verdict profile r order initial (Image i s) (Content k x) v w = absurd (fits_not r.export initial i s w.0 v)
+one_verdict profile r order initial (Image i s) (Status k x) v w = absurd (fits_not r.export initial i s w.0 v)
+one_verdict profile r order initial (Image i s) (Wire at fault) v w = absurd w
+one_verdict profile r order initial (Yes a b c) (Image i s) v w = absurd (fits_not r.export initial i s v.0 w)
+one_verdict profile r order initial (Yes a b c) (Wire at fault) v w = absurd w
+one_verdict profile r order initial (Yes a b c) (Yes d e f) v w = one_judgement profile r order (start_byte initial) (Yes a b c) (Yes d e f) v.1 w.1
+one_verdict profile r order initial (Yes a b c) (Order e p) v w = one_judgement profile r order (start_byte initial) (Yes a b c) (Order e p) v.1 w.1
+one_verdict profile r order initial (Yes a b c) (Content k x) v w = one_judgement profile r order (start_byte initial) (Yes a b c) (Content k x) v.1 w.1
+one_verdict profile r order initial (Yes a b c) (Status k x) v w = one_judgement profile r order (start_byte initial) (Yes a b c) (Status k x) v.1 w.1
+one_verdict profile r order initial (Order e p) (Image i s) v w = absurd (fits_not r.export initial i s v.0 w)
+one_verdict profile r order initial (Order e p) (Wire at fault) v w = absurd w
+one_verdict profile r order initial (Order e p) (Yes a b c) v w = one_judgement profile r order (start_byte initial) (Order e p) (Yes a b c) v.1 w.1
+one_verdict profile r order initial (Order d p) (Order e q) v w = one_judgement profile r order (start_byte initial) (Order d p) (Order e q) v.1 w.1
+one_verdict profile r order initial (Order e p) (Content k x) v w = one_judgement profile r order (start_byte initial) (Order e p) (Content k x) v.1 w.1
+one_verdict profile r order initial (Order e p) (Status k x) v w = one_judgement profile r order (start_byte initial) (Order e p) (Status k x) v.1 w.1
+one_verdict profile r order initial (Content k x) (Image i s) v w = absurd (fits_not r.export initial i s v.0 w)
+one_verdict profile r order initial (Content k x) (Wire at fault) v w = absurd w
+one_verdict profile r order initial (Content k x) (Yes a b c) v w = one_judgement profile r order (start_byte initial) (Content k x) (Yes a b c) v.1 w.1
+one_verdict profile r order initial (Content k x) (Order e p) v w = one_judgement profile r order (start_byte initial) (Content k x) (Order e p) v.1 w.1
+one_verdict profile r order initial (Content j x) (Content k y) v w = one_judgement profile r order (start_byte initial) (Content j x) (Content k y) v.1 w.1
+one_verdict profile r order initial (Content j x) (Status k y) v w = one_judgement profile r order (start_byte initial) (Content j x) (Status k y) v.1 w.1
+one_verdict profile r order initial (Status k x) (Image i s) v w = absurd (fits_not r.export initial i s v.0 w)
+one_verdict profile r order initial (Status k x) (Wire at fault) v w = absurd w
+one_verdict profile r order initial (Status k x) (Yes a b c) v w = one_judgement profile r order (start_byte initial) (Status k x) (Yes a b c) v.1 w.1
+one_verdict profile r order initial (Status k x) (Order e p) v w = one_judgement profile r order (start_byte initial) (Status k x) (Order e p) v.1 w.1
+one_verdict profile r order initial (Status j x) (Content k y) v w = one_judgement profile r order (start_byte initial) (Status j x) (Content k y) v.1 w.1
+one_verdict profile r order initial (Status j x) (Status k y) v w = one_judgement profile r order (start_byte initial) (Status j x) (Status k y) v.1 w.1
+one_verdict profile r order initial (Wire at fault) u v w = absurd v

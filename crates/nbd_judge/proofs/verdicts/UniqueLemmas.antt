@@ -80,4 +80,4 @@ one_answer profile capture order initial v w p q = go (parts_of {profile = profi
         a.is ∙ ap (λ at. Wire at a.fault) one.0 ∙ ap (Wire b.at) one.1 ∙ sym b.is
     go (inl a) (inr h) = absurd (no_both v a w h)
     go (inr h) (inl b) = absurd (no_both w b v h)
-    go (inr h) (inr k) = one_verdict (report h.items) order initial v w (h.is_verdict h.items h.is_run h.has_pairs) (k.is_verdict h.items h.is_run h.has_pairs)
+    go (inr h) (inr k) = one_verdict profile (report h.items) order initial v w (h.is_verdict h.items h.is_run h.has_pairs) (k.is_verdict h.items h.is_run h.has_pairs)

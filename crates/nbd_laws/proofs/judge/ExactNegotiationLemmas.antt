@@ -13,6 +13,8 @@ use Rattle.nbd_wire.specs.declared.payloads.Info.{Info}
 use Rattle.nbd_wire.specs.declared.payloads.Info.TheVariants.{Export, BlockSize, Other}
 use Rattle.nbd_wire.specs.declared.transmission.TheConstants as transmission
 use Rattle.nbd_wire.specs.protocol.Encoding.{enc, head, tail}
+use Rattle.nbd_wire.specs.declared.sizes.Sizes.{Sizes}
+use Rattle.nbd_wire.specs.protocol.Sizes.{are_allowed, sizes_of}
 use Rattle.nbd_wire.specs.protocol.Options.{IsInfo, MayAcknowledge, MayAnswer, is_error, is_proper_option, takes_contexts, MayTell, IsFreshFor}
 use Rattle.nbd_wire.specs.protocol.Payloads.{number_at, info_of, is_listed, context_of}
 use Rattle.nbd_wire.specs.protocol.Operations.{Exporting}
@@ -21,10 +23,10 @@ use Rattle.nbd_wire.specs.protocol.Rules.{AreClientFlags, MayEnd}
 use Rattle.nbd_wire.specs.declared.fault.WireFault.{WireFault}
 use Rattle.nbd_wire.specs.declared.fault.WireFault.TheVariants.{NotFixedNewstyle, BadClientFlags, WrongOption, BadReplyKind, OutOfProfile, BadReplyPayload, BadExport, ExportTooLarge, SuccessOfImproper}
 use Rattle.nbd_laws.specs.internal.Decisions.{Decision, fault_if}
-use Rattle.nbd_laws.specs.internal.JudgeNegotiation.{abort_answer, abort_fault, ack_fault, answer, answer_fault, answers_option, are_zeroes, at_ack, choice, choice_fault, client_flags, client_flags_fault, export_fault, export_answer, greeting, greeting_fault, info_fault, is_bad_payload, is_followed, is_good_info, padding_fault, payload_fault, sets_more, success_fault, unless_error, earlier_to, is_good_context}
+use Rattle.nbd_laws.specs.internal.JudgeNegotiation.{abort_answer, abort_fault, ack_fault, answer, answer_fault, answers_option, are_zeroes, at_ack, choice, choice_fault, client_flags, client_flags_fault, export_fault, export_answer, greeting, greeting_fault, info_fault, is_bad_payload, is_followed, is_good_info, padding_fault, payload_fault, sets_more, success_fault, unless_error, earlier_to, is_good_context, is_wide}
 use Rattle.nbd_wire.specs.declared.profile.Profile.{Profile}
 use Rattle.nbd_wire.specs.protocol.Contexts.{Selection, Context, has_id}
-use Rattle.nbd_wire.specs.declared.profile.Profile.TheVariants.{Wide}
+use Rattle.nbd_wire.specs.declared.profile.Profile.TheVariants.{Base, Wide}
 
 -- the head of an encoding has no fault and states its length
 pub record HasHead (d : Decision) (m : Message) : Type 0 where
@@ -248,16 +250,21 @@ record IsGood (profile : Profile) (option : ℕ) (proper takes : Bool) (info : O
   is_followed_one : is_followed profile option ≡ true
   takes_it : answers_option option takes kind ≡ true
   ack : ack_fault kind (length payload) (at_ack (kind == answers.ACK) (info_fault option proper info)) ≡ None
-  has_form : is_bad_payload earlier kind payload ≡ false
+  has_form : is_bad_payload profile earlier kind payload ≡ false
   is_proper : proper ≡ true
 
-info_is_good : (payload : List ℕ) → IsInfo payload → is_good_info (info_of payload) ≡ true
-info_is_good payload (info, is, ok) = ap is_good_info is ∙ go info ok
+wide_or : (profile : Profile) (b : Bool) → (profile ≡ Wide → b ≡ true) → (not (is_wide profile) || b) ≡ true
+wide_or Base b h = refl
+wide_or Wide b h = h refl
+
+info_is_good : (profile : Profile) (payload : List ℕ) → IsInfo profile payload → is_good_info profile (info_of payload) ≡ true
+info_is_good profile payload (info, is, ok, sized) = ap (is_good_info profile) is ∙ go info ok sized
   where
-    go : (x : Info) → ((size flags : ℕ) → x ≡ Export size flags → IsTrue (has flags transmission.HAS_FLAGS)) → is_good_info (Some x) ≡ true
-    go (Export size flags) ok = ok size flags refl
-    go (BlockSize a b c) ok = refl
-    go (Other k) ok = refl
+    go : (x : Info) → ((size flags : ℕ) → x ≡ Export size flags → IsTrue (has flags transmission.HAS_FLAGS)) → (profile ≡ Wide → (sizes : Sizes) → sizes_of (Some x) ≡ Some sizes → IsTrue (are_allowed sizes))
+        → is_good_info profile (Some x) ≡ true
+    go (Export size flags) ok sized = ok size flags refl
+    go (BlockSize a b c) ok sized = wide_or profile (are_allowed (record { least = a; preferred = b; largest = c })) (λ w. sized w (record { least = a; preferred = b; largest = c }) refl)
+    go (Other k) ok sized = refl
 
 -- of an option with this data, where these contexts came before
 module _ (profile : Profile) (option : ℕ) (proper takes : Bool) (info : Option Exporting) (earlier : List Context) (payload : List ℕ) (p : proper ≡ true) where
@@ -279,12 +286,12 @@ module _ (profile : Profile) (option : ℕ) (proper takes : Bool) (info : Option
     is_proper = p;
   }
 
-  good_info : (option ≡ options.INFO) ⊎ (option ≡ options.GO) → IsInfo payload → IsGood profile option proper takes info earlier answers.INFO payload
+  good_info : (option ≡ options.INFO) ⊎ (option ≡ options.GO) → IsInfo profile payload → IsGood profile option proper takes info earlier answers.INFO payload
   good_info o ok = record {
     is_followed_one = elim o [ inl q ↦ subst (λ o. is_followed profile o ≡ true) (sym q) refl | inr q ↦ subst (λ o. is_followed profile o ≡ true) (sym q) refl ];
     takes_it = elim o [ inl q ↦ subst (λ o. answers_option o takes answers.INFO ≡ true) (sym q) refl | inr q ↦ subst (λ o. answers_option o takes answers.INFO ≡ true) (sym q) refl ];
     ack = refl;
-    has_form = ap (λ b. not b || false) (info_is_good payload ok);
+    has_form = ap (λ b. not b || false) (info_is_good profile payload ok);
     is_proper = p;
   }
 
@@ -329,7 +336,7 @@ fresh_is_good option selection payload context is fresh = ap (is_good_context (e
 
 -- what may complete in answer to this option
 abbrev pub MayFollow : Profile → (option : ℕ) (given : List ℕ) (info : Option Exporting) → Selection → (kind : ℕ) (answer : List ℕ) → Type 0
-MayFollow profile option given info selection kind answer = MayAnswer option given info kind answer ⊎ (profile ≡ Wide) × MayTell selection option given kind answer
+MayFollow profile option given info selection kind answer = MayAnswer profile option given info kind answer ⊎ (profile ≡ Wide) × MayTell selection option given kind answer
 
 module _ (profile : Profile) (option : ℕ) (given : List ℕ) (info : Option Exporting) (selection : Selection) (kind : ℕ) (payload : List ℕ) where
   abbrev IsGoodOne : ℕ → Type 0
@@ -351,8 +358,8 @@ success_clean profile option proper takes info earlier kind payload g =
     (no_fault_if (not (is_followed profile option)) OutOfProfile _ (not_so _ g.is_followed_one) g.ack)
 
 payload_clean : (profile : Profile) (option : ℕ) (proper takes : Bool) (info : Option Exporting) (earlier : List Context) (kind : ℕ) (payload : List ℕ) → IsGood profile option proper takes info earlier kind payload →
-    payload_fault earlier proper kind payload ≡ None
-payload_clean profile option proper takes info earlier kind payload g = no_fault_if (is_bad_payload earlier kind payload) BadReplyPayload _ g.has_form (no_fault_if (not proper) SuccessOfImproper None (not_so _ g.is_proper) refl)
+    payload_fault profile earlier proper kind payload ≡ None
+payload_clean profile option proper takes info earlier kind payload g = no_fault_if (is_bad_payload profile earlier kind payload) BadReplyPayload _ g.has_form (no_fault_if (not proper) SuccessOfImproper None (not_so _ g.is_proper) refl)
 
 unless_clean : (b : Bool) (fault : Option WireFault) → (b ≡ false → fault ≡ None) → unless_error b fault ≡ None
 unless_clean true fault h = refl
@@ -368,7 +375,7 @@ answer_accepts profile option given info selection kind payload h k l ok =
     let n : IsAnswer option kind payload (enc (Answer option kind payload)) = is_answer option kind payload h k l in
     let at_kind : unless_error (is_error kind) (success_fault profile option proper takes info kind (length payload)) ≡ None =
     unless_clean (is_error kind) _ (λ e. success_clean profile option proper takes info earlier kind payload (good profile option given info selection kind payload e ok)) in
-    let at_payload : unless_error (is_error kind) (payload_fault earlier proper kind payload) ≡ None =
+    let at_payload : unless_error (is_error kind) (payload_fault profile earlier proper kind payload) ≡ None =
     unless_clean (is_error kind) _ (λ e. payload_clean profile option proper takes info earlier kind payload (good profile option given info selection kind payload e ok)) in
     record {
       at_head = record {
@@ -376,7 +383,7 @@ answer_accepts profile option given info selection kind payload h k l ok =
         clean = (λ i. answer_fault option (n.magic i) (n.option_is i) (unless_error (is_error (n.kind_is i)) (success_fault profile option proper takes info (n.kind_is i) (n.length_is i)))) ∙ answer_clean option _ at_kind;
       };
       at_last = record {
-        clean = (λ i. unless_error (is_error (n.kind_is i)) (payload_fault earlier proper (n.kind_is i) (n.payload_is i))) ∙ at_payload;
+        clean = (λ i. unless_error (is_error (n.kind_is i)) (payload_fault profile earlier proper (n.kind_is i) (n.payload_is i))) ∙ at_payload;
         is = λ i. Answer (n.option_is i) (n.kind_is i) (n.payload_is i);
       };
     }

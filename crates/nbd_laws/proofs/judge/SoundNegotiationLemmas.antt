@@ -14,6 +14,7 @@ use Rattle.nbd_wire.specs.declared.payloads.Info.{Info}
 use Rattle.nbd_wire.specs.declared.payloads.Info.TheVariants.{Export, BlockSize, Other}
 use Rattle.nbd_wire.specs.declared.transmission.TheConstants as transmission
 use Rattle.nbd_wire.specs.protocol.Encoding.{enc, head, tail, AreBytes}
+use Rattle.nbd_wire.specs.protocol.Sizes.{are_allowed}
 use Rattle.nbd_wire.specs.protocol.Options.{FitsLimit, IsInfo, MayAcknowledge, MayAnswer, is_error, is_proper_option, turn, takes_contexts, MayTell, IsFreshFor}
 use Rattle.nbd_wire.proofs.NumberLemmas.{with_number, number_at-lt, AreBytes-drop}
 use Rattle.nbd_wire.specs.protocol.Payloads.{number_at, info_of, is_listed, context_of}
@@ -206,11 +207,11 @@ record IsSuccess (profile : Profile) (option : ℕ) (proper takes : Bool) (info 
   acked : (number_at 12 4 bytes == answers.ACK) ≡ true → (drop 20 bytes ≡ []) × (info_fault option proper info ≡ None)
   is_proper : proper ≡ true
   servers : (number_at 12 4 bytes == answers.SERVER) ≡ true → is_listed (drop 20 bytes) ≡ true
-  infos : (number_at 12 4 bytes == answers.INFO) ≡ true → is_good_info (info_of (drop 20 bytes)) ≡ true
+  infos : (number_at 12 4 bytes == answers.INFO) ≡ true → is_good_info profile (info_of (drop 20 bytes)) ≡ true
   tells : (number_at 12 4 bytes == answers.META_CONTEXT) ≡ true → is_good_context earlier (context_of (drop 20 bytes)) ≡ true
 
 success_of : (profile : Profile) (option : ℕ) (proper takes : Bool) (info : Option Exporting) (earlier : List Context) (bytes : List ℕ) → length bytes ≡ 20 + number_at 16 4 bytes →
-    success_fault profile option proper takes info (number_at 12 4 bytes) (number_at 16 4 bytes) ≡ None → payload_fault earlier proper (number_at 12 4 bytes) (drop 20 bytes) ≡ None →
+    success_fault profile option proper takes info (number_at 12 4 bytes) (number_at 16 4 bytes) ≡ None → payload_fault profile earlier proper (number_at 12 4 bytes) (drop 20 bytes) ≡ None →
     IsSuccess profile option proper takes info earlier bytes
 success_of profile option proper takes info earlier bytes l e f =
     let kind : ℕ = number_at 12 4 bytes in
@@ -219,11 +220,11 @@ success_of profile option proper takes info earlier bytes l e f =
     let on : Bool = is_followed profile option in
     let a : ((on && not (answers_option option takes kind)) ≡ false) × (fault_if (not on) OutOfProfile (ack_fault kind len (at_ack (kind == answers.ACK) (info_fault option proper info))) ≡ None) = fault_none _ _ _ e in
     let b : (not on ≡ false) × (ack_fault kind len (at_ack (kind == answers.ACK) (info_fault option proper info)) ≡ None) = fault_none _ _ _ a.1 in
-    let c : (is_bad_payload earlier kind payload ≡ false) × (fault_if (not proper) SuccessOfImproper None ≡ None) = fault_none _ _ _ f in
+    let c : (is_bad_payload profile earlier kind payload ≡ false) × (fault_if (not proper) SuccessOfImproper None ≡ None) = fault_none _ _ _ f in
     let d : (not proper ≡ false) × (None ≡ None) = fault_none _ SuccessOfImproper None c.1 in
-    let g : (((kind == answers.SERVER) && not (is_listed payload)) ≡ false) × ((((kind == answers.INFO) && not (is_good_info (info_of payload))) || ((kind == answers.META_CONTEXT) && not (is_good_context earlier (context_of payload)))) ≡ false) =
+    let g : (((kind == answers.SERVER) && not (is_listed payload)) ≡ false) × ((((kind == answers.INFO) && not (is_good_info profile (info_of payload))) || ((kind == answers.META_CONTEXT) && not (is_good_context earlier (context_of payload)))) ≡ false) =
     or_false _ _ c.0 in
-    let h : (((kind == answers.INFO) && not (is_good_info (info_of payload))) ≡ false) × (((kind == answers.META_CONTEXT) && not (is_good_context earlier (context_of payload))) ≡ false) = or_false _ _ g.1 in
+    let h : (((kind == answers.INFO) && not (is_good_info profile (info_of payload))) ≡ false) × (((kind == answers.META_CONTEXT) && not (is_good_context earlier (context_of payload))) ≡ false) = or_false _ _ g.1 in
     record {
       followed = not_false _ b.0;
       listed = not_false _ (and_false _ _ a.0 (not_false _ b.0));
@@ -248,11 +249,21 @@ info_at option (Some export) (inr s) e =
 info_or_go : (option : ℕ) → ((option == options.INFO) || (option == options.GO)) ≡ true → (option ≡ options.INFO) ⊎ (option ≡ options.GO)
 info_or_go option e = elim (or_true (option == options.INFO) (option == options.GO) e) [ inl h ↦ inl (eqb-true option options.INFO h) | inr h ↦ inr (eqb-true option options.GO h) ]
 
-good_info : (payload : List ℕ) (o : Option Info) → info_of payload ≡ o → is_good_info o ≡ true → IsInfo payload
-good_info payload None is e = absurd (cc)
-good_info payload (Some (Export size flags)) is e = (Export size flags, is, λ s f q. (let r : flags ≡ f = cc in subst (λ x. has x transmission.HAS_FLAGS ≡ true) r e))
-good_info payload (Some (BlockSize x y z)) is e = (BlockSize x y z, is, λ s f q. absurd (cc))
-good_info payload (Some (Other k)) is e = (Other k, is, λ s f q. absurd (cc))
+good_info : (profile : Profile) (payload : List ℕ) (o : Option Info) → info_of payload ≡ o → is_good_info profile o ≡ true → IsInfo profile payload
+good_info profile payload None is e = absurd (cc)
+good_info profile payload (Some (Export size flags)) is e =
+    (Export size flags, is, λ s f q. (let r : flags ≡ f = cc in subst (λ x. has x transmission.HAS_FLAGS ≡ true) r e), λ w s q. absurd (cc))
+good_info profile payload (Some (BlockSize x y z)) is e = (
+  BlockSize x y z,
+  is,
+  λ s f q. absurd (cc),
+  λ w s q. (
+    let allowed : are_allowed (record { least = x; preferred = y; largest = z }) ≡ true = subst (λ p. (not (is_wide p) || are_allowed (record { least = x; preferred = y; largest = z })) ≡ true) w e in
+    let same : record { least = x; preferred = y; largest = z } ≡ s = cc in
+    subst (λ t. are_allowed t ≡ true) same allowed
+  ),
+)
+good_info profile payload (Some (Other k)) is e = (Other k, is, λ s f q. absurd (cc), λ w s q. absurd (cc))
 
 on_contexts : (option : ℕ) → is_on_contexts option ≡ true → (option ≡ options.LIST_META_CONTEXT) ⊎ (option ≡ options.SET_META_CONTEXT)
 on_contexts option e = elim (or_true (option == options.LIST_META_CONTEXT) (option == options.SET_META_CONTEXT) e) [
@@ -323,7 +334,7 @@ good_context option selection answer e = go (context_of answer) refl e
 
 -- what may complete in answer to this option
 abbrev MayFollow : Profile → (option : ℕ) (given : List ℕ) (info : Option Exporting) → Selection → (kind : ℕ) (answer : List ℕ) → Type 0
-MayFollow profile option given info selection kind answer = MayAnswer option given info kind answer ⊎ (profile ≡ Wide) × MayTell selection option given kind answer
+MayFollow profile option given info selection kind answer = MayAnswer profile option given info kind answer ⊎ (profile ≡ Wide) × MayTell selection option given kind answer
 
 success_may : (profile : Profile) (option : ℕ) (given : List ℕ) (info : Option Exporting) (selection : Selection) (bytes : List ℕ) →
     IsSuccess profile option (is_proper_option option given) (takes_contexts option given) info (earlier_to option selection) bytes →
@@ -338,7 +349,7 @@ success_may profile option given info selection bytes s = elim (or_true (number_
     | inl g ↦ (let q : ((option == options.LIST) ≡ true) × ((number_at 12 4 bytes == answers.SERVER) ≡ true) = and_true _ _ g in inl (inr (inr (inl (s.is_proper, eqb-true _ _ q.1, eqb-true _ _ q.0, s.servers q.1)))))
     | inr h ↦ elim (or_true (((option == options.INFO) || (option == options.GO)) && (number_at 12 4 bytes == answers.INFO)) _ h) [
       | inl g ↦ (let q : (((option == options.INFO) || (option == options.GO)) ≡ true) × ((number_at 12 4 bytes == answers.INFO) ≡ true) = and_true _ _ g in
-          inl (inr (inr (inr (s.is_proper, eqb-true _ _ q.1, info_or_go option q.0, good_info (drop 20 bytes) (info_of (drop 20 bytes)) refl (s.infos q.1))))))
+          inl (inr (inr (inr (s.is_proper, eqb-true _ _ q.1, info_or_go option q.0, good_info profile (drop 20 bytes) (info_of (drop 20 bytes)) refl (s.infos q.1))))))
       | inr g ↦ (let q : (takes_contexts option given ≡ true) × ((number_at 12 4 bytes == answers.META_CONTEXT) ≡ true) = and_true _ _ g in
           let on = takes_on_contexts option given q.0 in
           elim (followed_cases profile option s.followed) [
@@ -369,7 +380,7 @@ answer_sound now option given info bytes m a e =
   where
     by_kind : (b : Bool) → is_error (number_at 12 4 bytes) ≡ b → length bytes ≡ 20 + number_at 16 4 bytes →
         unless_error b (success_fault now.profile option (is_proper_option option given) (takes_contexts option given) info (number_at 12 4 bytes) (number_at 16 4 bytes)) ≡ None →
-        unless_error b (payload_fault (earlier_to option now.selection) (is_proper_option option given) (number_at 12 4 bytes) (drop 20 bytes)) ≡ None → MayFollow now.profile option given info now.selection (number_at 12 4 bytes) (drop 20 bytes)
+        unless_error b (payload_fault now.profile (earlier_to option now.selection) (is_proper_option option given) (number_at 12 4 bytes) (drop 20 bytes)) ≡ None → MayFollow now.profile option given info now.selection (number_at 12 4 bytes) (drop 20 bytes)
     by_kind true is l h f = inl (inl is)
     by_kind false is l h f =
         success_may now.profile option given info now.selection bytes (success_of now.profile option (is_proper_option option given) (takes_contexts option given) info (earlier_to option now.selection) bytes l h f)

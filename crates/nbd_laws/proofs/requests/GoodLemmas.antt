@@ -1,5 +1,5 @@
 -- What a request keeps as replies to it complete.
-use Rattle.std.proofs.Common.{◌≡◌, ℕ, zero, suc, ◌<◌, ◌≤◌, ◌⊎◌, ◌+◌, ◌==◌, List, [], ◌∷◌, ◌++◌, length, refl, sym, ◌∙◌, ap, subst, inl, inr, Some, None, Bool, true, false, not, ◌&&◌, ◌||◌, if◌then◌else◌, eqb-true, eq-eqb, is_some, arith, IsTrue, append-nil, nat_le, nat_lt, le_refl}
+use Rattle.std.proofs.Common.{◌≡◌, Option, ℕ, zero, suc, ◌<◌, ◌≤◌, ◌⊎◌, ◌+◌, ◌==◌, List, [], ◌∷◌, ◌++◌, length, refl, sym, ◌∙◌, ap, subst, inl, inr, Some, None, Bool, true, false, not, ◌&&◌, ◌||◌, if◌then◌else◌, eqb-true, eq-eqb, is_some, arith, IsTrue, append-nil, nat_le, nat_lt, le_refl}
 use Rattle.std.proofs.lemmas.Bool.{leb-true, ltb-true}
 use Rattle.nbd_wire.specs.declared.chunks.TheConstants as chunks
 use Rattle.nbd_wire.specs.declared.command_flags.TheConstants as command_flags
@@ -9,6 +9,7 @@ use Rattle.nbd_wire.specs.declared.message.Message.TheVariants.{Request, Simple,
 use Rattle.nbd_wire.specs.declared.payloads.Failure.{Failure}
 use Rattle.nbd_wire.specs.declared.payloads.Piece.{Piece}
 use Rattle.nbd_wire.specs.declared.payloads.Piece.TheVariants.{Bytes}
+use Rattle.nbd_wire.specs.declared.sizes.Sizes.{Sizes}
 use Rattle.nbd_wire.specs.protocol.Contexts.{Context}
 use Rattle.nbd_wire.specs.protocol.Payloads.{content_of, failure_of, number_at}
 use Rattle.nbd_wire.specs.protocol.Replies.{IsChunk, MayReply, simple_length}
@@ -234,10 +235,10 @@ good_simple structured export e error cookie payload g h =
     } in
     subst (λ rs. IsGood export (record e { replies = rs ++ Simple error cookie payload ∷ [] })) (sym h.0) good
 
-pub good_new : (export : Exporting) (flags command cookie offset len : ℕ) (payload : List ℕ) (contexts : List Context) → IsSendable (Request flags command cookie offset len payload) →
-    IsGood export (record { flags = flags; command = command; cookie = cookie; offset = offset; length = len; payload = payload; contexts = contexts; replies = [] })
+pub good_new : (export : Exporting) (flags command cookie offset len : ℕ) (payload : List ℕ) (contexts : List Context) (sizes : Option Sizes) → IsSendable (Request flags command cookie offset len payload) →
+    IsGood export (record { flags = flags; command = command; cookie = cookie; offset = offset; length = len; payload = payload; contexts = contexts; sizes = sizes; replies = [] })
 unfolding IsSendable
-good_new export flags command cookie offset len payload contexts sn = record {
+good_new export flags command cookie offset len payload contexts sizes sn = record {
   carried = λ c. sn.5 ∙ ap (λ b. if b then len else 0) (eq-eqb command commands.WRITE c);
   inside = tt;
   apart = tt;

@@ -12,6 +12,8 @@ use Rattle.nbd_wire.specs.declared.message.Message.TheVariants.{Greeting, Client
 use Rattle.nbd_wire.specs.declared.payloads.Info.{Info}
 use Rattle.nbd_wire.specs.declared.payloads.Info.TheVariants.{Export, BlockSize, Other}
 use Rattle.nbd_wire.specs.protocol.Marks.{Item, Byte, Starts, Completes, Serves}
+use Rattle.nbd_wire.specs.declared.profile.Profile.{Profile}
+use Rattle.nbd_wire.specs.protocol.Sizes.{sizes_kept}
 use Rattle.nbd_wire.specs.protocol.Options.{IsInfo, MayAcknowledge, MayAnswer, ack_phase, reply_phase, choice_phase, last_info, next_phase, MayTell}
 use Rattle.nbd_wire.specs.protocol.Payloads.{info_of}
 use Rattle.nbd_wire.specs.protocol.Reports.{Asked, operations_of, export_of, known_count, known_from, known_if, first_known, report, asked_of, asked_list}
@@ -62,7 +64,7 @@ good_requested false core export e g h = good_snoc export core.entries e g h
 
 good_transmitted : (core : Core) (export : Exporting) (m : Message) → InTransmission core export m → IsSendable m → AreGood export core.entries → AreGood export (complete core m).entries
 unfolding complete
-good_transmitted core export m (asks flags command cookie offset len p h) sn g = good_requested (command == commands.DISC) core export _ g (good_new export flags command cookie offset len p (in_force core) sn)
+good_transmitted core export m (asks flags command cookie offset len p h) sn g = good_requested (command == commands.DISC) core export _ g (good_new export flags command cookie offset len p (in_force core) (sizes_kept core.sizing) sn)
 good_transmitted core export m (replies error cookie p (k, e, found, is, h)) sn g =
     good_reply_to core export cookie (Simple error cookie p) (target cookie core.entries) g k e found is (good_simple core.structured export e error cookie p (good_entry export k core.entries e g is) h)
 good_transmitted core export m (gives flags kind cookie p (k, e, found, is, h)) sn g =
@@ -77,7 +79,7 @@ module _ (asked : ℕ) (asked_with : List ℕ) (info : Option Exporting) (es : L
   informed (Some (Other k)) h export q = g.1 export q
   informed None h export q = g.1 export q
 
-  told_info : (p : List ℕ) → IsInfo p → (size flags : ℕ) → info_of p ≡ Some (Export size flags) → IsTrue (has flags transmission.HAS_FLAGS)
+  told_info : {profile : Profile} (p : List ℕ) → IsInfo profile p → (size flags : ℕ) → info_of p ≡ Some (Export size flags) → IsTrue (has flags transmission.HAS_FLAGS)
   told_info p i size flags q = i.2 size flags (let r : Some i.0 ≡ Some (Export size flags) = sym i.1 ∙ q in cc)
 
   acknowledged_in : MayAcknowledge asked info → InPhase (ack_phase asked info) es
@@ -109,7 +111,7 @@ module _ (asked : ℕ) (asked_with : List ℕ) (info : Option Exporting) (es : L
   abbrev rest_of : ℕ → List ℕ → Phase
   rest_of kind p = if (kind == answers.SERVER) || (kind == answers.META_CONTEXT) then Answering asked asked_with info else if kind == answers.INFO then Answering asked asked_with (last_info (info_of p) info) else ack_phase asked info
 
-  answered_in : (kind : ℕ) (p : List ℕ) → MayAnswer asked asked_with info kind p → phase_by kind p
+  answered_in : {profile : Profile} (kind : ℕ) (p : List ℕ) → MayAnswer profile asked asked_with info kind p → phase_by kind p
   unfolding has
   answered_in kind p ok = elim ok [
     | inl e ↦ subst (λ b. InPhase (if b then Choosing else rest_of kind p) es) (sym e) g.0

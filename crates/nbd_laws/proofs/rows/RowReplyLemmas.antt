@@ -1,5 +1,5 @@
 -- What is decided of an answer, in the words of the table of faults.
-use Rattle.std.proofs.Common.{◌≡◌, ℕ, ◌+◌, ◌<◌, ◌≤◌, ◌≢◌, ◌⊎◌, ◌==◌, List, length, drop, refl, sym, ◌∙◌, ap, subst, inl, inr, Option, Some, None, Bool, true, false, not, ◌&&◌, IsTrue, arith, nat_lt, if◌then◌else◌, [], eqb-true}
+use Rattle.std.proofs.Common.{◌≡◌, ℕ, ◌+◌, ◌<◌, ◌≤◌, ◌≢◌, ◌⊎◌, ◌==◌, List, length, drop, refl, sym, ◌∙◌, ap, subst, inl, inr, Option, Some, None, Bool, true, false, not, ◌&&◌, IsTrue, arith, nat_lt, if◌then◌else◌, [], eqb-true, ◌||◌}
 use Rattle.nbd_wire.specs.declared.answers.TheConstants as answers
 use Rattle.nbd_wire.specs.declared.fault.WireFault.{WireFault}
 use Rattle.nbd_wire.specs.declared.fault.WireFault.TheVariants.{BadMagic, WrongOption, BadReplyKind, OutOfProfile, BadReplyPayload, MissingExportInfo, ExportTooLarge, SuccessOfImproper}
@@ -10,6 +10,8 @@ use Rattle.nbd_wire.specs.declared.options.TheConstants as options
 use Rattle.nbd_wire.specs.declared.payloads.Info.{Info}
 use Rattle.nbd_wire.specs.declared.payloads.Info.TheVariants.{Export, BlockSize, Other}
 use Rattle.nbd_wire.specs.declared.transmission.TheConstants as transmission
+use Rattle.nbd_wire.specs.declared.sizes.Sizes.{Sizes}
+use Rattle.nbd_wire.specs.protocol.Sizes.{are_allowed, sizes_of}
 use Rattle.nbd_wire.specs.protocol.Options.{FitsLimit, IsInfo, is_error, is_proper_option, takes_contexts, IsFreshFor}
 use Rattle.nbd_wire.specs.protocol.Payloads.{info_of, is_listed, number_at, context_of}
 use Rattle.nbd_wire.specs.protocol.Operations.{Exporting}
@@ -35,33 +37,46 @@ server_succeeds : (kind : ℕ) → kind ≡ answers.SERVER → IsNoError kind
 unfolding has
 server_succeeds kind e h = let q : is_error 2 ≡ true = sym (ap is_error e) ∙ h in (cc)
 
-info_succeeds : (kind : ℕ) → kind ≡ answers.INFO → IsNoError kind
+pub info_succeeds : (kind : ℕ) → kind ≡ answers.INFO → IsNoError kind
 unfolding has
 info_succeeds kind e h = let q : is_error 3 ≡ true = sym (ap is_error e) ∙ h in (cc)
-
--- an INFO payload has its form
-info_link : (payload : List ℕ) → Link (IsInfo payload) (is_good_info (info_of payload))
-info_link payload = go (info_of payload) refl
-  where
-    is_export : (size flags size' flags' : ℕ) → Export size flags ≡ Export size' flags' → flags ≡ flags'
-    is_export size flags size' flags' e = cc
-
-    go : (o : Option Info) → info_of payload ≡ o → Link (IsInfo payload) (is_good_info o)
-    go None e = record { yes = λ q. absurd (cc); no = λ q h. (let w : None ≡ Some h.0 = sym e ∙ h.1 in cc) }
-    go (Some (Export size flags)) e = record {
-      yes = λ q. (Export size flags, e, λ size' flags' is. ap (λ f. has f transmission.HAS_FLAGS) (sym (is_export size flags size' flags' is)) ∙ q);
-      no = λ q h. (let w : Some (Export size flags) ≡ Some h.0 = sym e ∙ h.1 in let v : h.0 ≡ Export size flags = cc in let t : has flags transmission.HAS_FLAGS ≡ true = h.2 size flags v in let z : false ≡ true = sym q ∙ t in cc);
-    }
-    go (Some (BlockSize a b c)) e = record { yes = λ q. (BlockSize a b c, e, λ size flags is. absurd (cc)); no = λ q. absurd (cc) }
-    go (Some (Other kind)) e = record { yes = λ q. (Other kind, e, λ size flags is. absurd (cc)); no = λ q. absurd (cc) }
-
-pub context_succeeds : (kind : ℕ) → kind ≡ answers.META_CONTEXT → IsNoError kind
-unfolding has
-context_succeeds kind e h = let q : is_error 4 ≡ true = sym (ap is_error e) ∙ h in (cc)
 
 link_wide : (profile : Profile) → Link (profile ≡ Wide) (is_wide profile)
 link_wide Base = record { yes = λ e. absurd (cc); no = λ e h. (cc) }
 link_wide Wide = record { yes = λ e. refl; no = λ e. absurd (cc) }
+
+-- in Wide sizes are allowed
+sizes_link : (profile : Profile) (sizes : Sizes) → Link (profile ≡ Wide → IsTrue (are_allowed sizes)) (not (is_wide profile) || are_allowed sizes)
+sizes_link Base sizes = record { yes = λ q w. absurd (cc); no = λ q. absurd (cc) }
+sizes_link Wide sizes = record { yes = λ q w. q; no = λ q h. (let t : are_allowed sizes ≡ true = h refl in cc) }
+
+-- an INFO payload has its form
+info_link : (profile : Profile) (payload : List ℕ) → Link (IsInfo profile payload) (is_good_info profile (info_of payload))
+info_link profile payload = go (info_of payload) refl
+  where
+    is_export : (size flags size' flags' : ℕ) → Export size flags ≡ Export size' flags' → flags ≡ flags'
+    is_export size flags size' flags' e = cc
+
+    same_sizes : (s t : Sizes) → Some s ≡ Some t → s ≡ t
+    same_sizes s t e = cc
+
+    go : (o : Option Info) → info_of payload ≡ o → Link (IsInfo profile payload) (is_good_info profile o)
+    go None e = record { yes = λ q. absurd (cc); no = λ q h. (let w : None ≡ Some h.0 = sym e ∙ h.1 in cc) }
+    go (Some (Export size flags)) e = record {
+      yes = λ q. (Export size flags, e, λ size' flags' is. ap (λ f. has f transmission.HAS_FLAGS) (sym (is_export size flags size' flags' is)) ∙ q, λ w sizes h. absurd (cc));
+      no = λ q h. (let w : Some (Export size flags) ≡ Some h.0 = sym e ∙ h.1 in let v : h.0 ≡ Export size flags = cc in let t : has flags transmission.HAS_FLAGS ≡ true = h.2 size flags v in let z : false ≡ true = sym q ∙ t in cc);
+    }
+    go (Some (BlockSize a b c)) e =
+        let s : Sizes = record { least = a; preferred = b; largest = c } in
+        let l : Link (profile ≡ Wide → IsTrue (are_allowed s)) (not (is_wide profile) || are_allowed s) = sizes_link profile s in record {
+          yes = λ q. (BlockSize a b c, e, λ size flags is. absurd (cc), λ w sizes h. subst (λ z. IsTrue (are_allowed z)) (same_sizes s sizes h) (l.yes q w));
+          no = λ q h. l.no q (λ w. h.3 w s (ap sizes_of (sym h.1 ∙ e)));
+        }
+    go (Some (Other kind)) e = record { yes = λ q. (Other kind, e, λ size flags is. absurd (cc), λ w sizes h. absurd (cc)); no = λ q. absurd (cc) }
+
+pub context_succeeds : (kind : ℕ) → kind ≡ answers.META_CONTEXT → IsNoError kind
+unfolding has
+context_succeeds kind e h = let q : is_error 4 ≡ true = sym (ap is_error e) ∙ h in (cc)
 
 -- a context is one that the option takes
 context_link : (option : ℕ) (selection : Selection) (payload : List ℕ) →
@@ -161,9 +176,9 @@ module _ (since now : Core) (bytes : List ℕ) where
     abbrev pub AnswerLast : WireFault → Type 0
     AnswerLast f =
         (IsTrue (is_error kind) → ⊥)
-        × ((f ≡ BadReplyPayload) × IsBadPayload now.selection asked kind (drop 20 bytes) ⊎ ((f ≡ SuccessOfImproper) × (IsTrue (is_proper_option asked payload) → ⊥) ⊎ ⊥))
+        × ((f ≡ BadReplyPayload) × IsBadPayload now.profile now.selection asked kind (drop 20 bytes) ⊎ ((f ≡ SuccessOfImproper) × (IsTrue (is_proper_option asked payload) → ⊥) ⊎ ⊥))
 
-    bad_succeeds : IsBadPayload now.selection asked kind (drop 20 bytes) → IsNoError kind
+    bad_succeeds : IsBadPayload now.profile now.selection asked kind (drop 20 bytes) → IsNoError kind
     bad_succeeds (inl h) = server_succeeds kind h.0
     bad_succeeds (inr (inl h)) = info_succeeds kind h.0
     bad_succeeds (inr (inr h)) = context_succeeds kind h.0
@@ -276,7 +291,7 @@ module _ (since now : Core) (bytes : List ℕ) where
       last = λ c l. least_unless (link_true (is_error kind))
           (least_if BadReplyPayload
           (link_or (link_and (link_eq kind answers.SERVER) (link_neg (link_true (is_listed (drop 20 bytes)))))
-          (link_or (link_and (link_eq kind answers.INFO) (link_neg (info_link (drop 20 bytes)))) (link_and (link_eq kind answers.META_CONTEXT) (context_link asked now.selection (drop 20 bytes)))))
+          (link_or (link_and (link_eq kind answers.INFO) (link_neg (info_link now.profile (drop 20 bytes)))) (link_and (link_eq kind answers.META_CONTEXT) (context_link asked now.selection (drop 20 bytes)))))
           (least_if SuccessOfImproper (link_neg (link_true (is_proper_option asked payload))) least_none (above_none 19))
           (above_if 8 SuccessOfImproper _ _ (omega arith) (above_none 8)));
       head_is = answer_is info;

@@ -1,6 +1,7 @@
 -- What a session that is held to one profile may do, it may do under the other too, but for answers of success to the options on metadata contexts.
-use Rattle.std.proofs.Common.{◌≡◌, ◌⊎◌, ℕ, ◌<◌, ◌≤◌, ◌^◌, ◌==◌, Bool, true, false, List, [], ◌∷◌, ◌++◌, length, drop, refl, sym, ◌∙◌, ap, subst, inl, inr, Option, Some, nat_lt, arith, length-append, append-nil, not, ◌&&◌, if◌then◌else◌}
+use Rattle.std.proofs.Common.{◌≡◌, ◌⊎◌, ℕ, ◌<◌, ◌≤◌, ◌^◌, ◌==◌, Bool, true, false, List, [], ◌∷◌, ◌++◌, length, drop, refl, sym, ◌∙◌, ap, subst, inl, inr, Option, Some, nat_lt, arith, All, length-append, append-nil, not, ◌&&◌, if◌then◌else◌, ◌+◌}
 use Rattle.std.proofs.lemmas.Bool.{ltb-true, ltb-false}
+use Rattle.std.proofs.lemmas.List.Elements.{All-head, All-tail}
 use Rattle.byteorder.specs.Numbers.{big_number-reads_back}
 use Rattle.nbd_wire.specs.declared.commands.TheConstants as commands
 use Rattle.nbd_wire.specs.declared.entry.Entry.{Entry}
@@ -15,24 +16,27 @@ use Rattle.nbd_wire.specs.declared.profile.Profile.TheVariants.{Base, Wide}
 use Rattle.nbd_wire.specs.protocol.Contexts.{Selection}
 use Rattle.nbd_wire.specs.declared.fault.WireFault.{WireFault}
 use Rattle.nbd_wire.specs.protocol.Captures.{Pair}
-use Rattle.nbd_wire.specs.protocol.Marks.{Item, Byte, Starts, Completes, Serves}
+use Rattle.nbd_wire.specs.protocol.Marks.{Item, Byte, Starts, Completes, Serves, completed_messages}
 use Rattle.nbd_wire.specs.protocol.Encoding.{enc, head, tail}
 use Rattle.nbd_wire.specs.protocol.Operations.{Exporting, Operation}
-use Rattle.nbd_wire.specs.protocol.Options.{MayTell, turn}
-use Rattle.nbd_wire.specs.protocol.Payloads.{number_at}
-use Rattle.nbd_wire.specs.protocol.Rows.{IsNoError, answer_kind, IsAnswered, IsFollowed, IsImproperSuccess, IsOutOfTurn, IsWhole, IsWholeIn, Row, RowIn, wrong_magic, neither_magic, not_fixed_newstyle, bad_client_flags, out_of_turn, wrong_option, bad_reply_kind, out_of_profile, ack_with_payload, bad_reply_payload, missing_export_info, no_has_flags, bad_padding, export_too_large, cookie_in_use, unknown_cookie, simple_forbidden, chunk_forbidden, bad_chunk, bad_content, incomplete_read, incomplete_status, success_of_improper, bad_disconnect, whole_greeting, whole_flags, whole_choice, whole_export, whole_abort_answer, whole_answer, whole_request, whole_simple, whole_chunk}
+use Rattle.nbd_wire.specs.declared.answers.TheConstants as answers
+use Rattle.nbd_wire.specs.declared.sizes.Sizes.{Sizes}
+use Rattle.nbd_wire.specs.protocol.Sizes.{are_allowed, sizes_of}
+use Rattle.nbd_wire.specs.protocol.Options.{IsInfo, MayAnswer, MayTell, turn}
+use Rattle.nbd_wire.specs.protocol.Payloads.{info_of, number_at}
+use Rattle.nbd_wire.specs.protocol.Rows.{IsBadPayload, IsNoError, answer_kind, answer_length, answer_payload, IsAnswered, IsFollowed, IsImproperSuccess, IsOutOfTurn, IsWhole, IsWholeIn, Row, RowIn, wrong_magic, neither_magic, not_fixed_newstyle, bad_client_flags, out_of_turn, wrong_option, bad_reply_kind, out_of_profile, ack_with_payload, bad_reply_payload, missing_export_info, no_has_flags, bad_padding, export_too_large, cookie_in_use, unknown_cookie, simple_forbidden, chunk_forbidden, bad_chunk, bad_content, incomplete_read, incomplete_status, success_of_improper, bad_disconnect, whole_greeting, whole_flags, whole_choice, whole_export, whole_abort_answer, whole_answer, whole_request, whole_simple, whole_chunk}
 use Rattle.nbd_wire.specs.protocol.Sendable.{IsSendable}
 use Rattle.nbd_wire.specs.protocol.Sides.{side, same_side}
 use Rattle.nbd_wire.specs.protocol.Splits.{open_bytes, HasNoneAtOf, HoldsAtOf, IsClearOf, IsSplitOf, IsWholeAtOf, completes_in, since_from}
-use Rattle.nbd_wire.specs.protocol.Rules.{IsRunBut, IsServedFor, MayAsk, MayComplete, MayStart, MayStartIn, Obeys, complete, ends_at}
+use Rattle.nbd_wire.specs.protocol.Rules.{IsRunBut, IsServedFor, MayAsk, MayEnd, MayComplete, MayStart, MayStartIn, Obeys, complete, ends_at}
 use Rattle.nbd_wire.specs.protocol.States.{Core, Phase, Greet, Flags, Choosing, Naming, Aborting, Answering, Ended, Transmission, start_of, start}
 use Rattle.nbd_wire.proofs.FieldLemmas.{number_at-append}
-use Rattle.nbd_laws.specs.Profiles.{AnswersNoContexts, BaseIsWide, IsContextHead, RunsAgree, with_profile, PlacesAgree, UnderWayAgrees}
+use Rattle.nbd_laws.specs.Profiles.{AnnouncesAllowed, IsFalseAnnouncement, IsParting, NothingParts, BaseIsWide, IsContextHead, RunsAgree, with_profile, PlacesAgree, UnderWayAgrees}
 use Rattle.nbd_laws.specs.internal.Machine.{Both, IsFilled, Machine, Rest, fresh_of, get, old_of, put, rest_with}
 use Rattle.nbd_laws.proofs.judge.PhaseLemmas.{Later-turn}
 use Rattle.nbd_laws.proofs.machine.MachineLemmas.{Busy, Idle, Later, Loose, Open, Walk, ended, final, get-put_same, led, loose, middle, old-filled, opening, serving, with_byte}
 use Rattle.nbd_laws.proofs.machine.MarkLemmas.{within_middle, within_opening}
-use Rattle.nbd_laws.proofs.rows.RowReplyLemmas.{ack_succeeds, context_succeeds}
+use Rattle.nbd_laws.proofs.rows.RowReplyLemmas.{ack_succeeds, context_succeeds, info_succeeds}
 use Rattle.nbd_laws.proofs.runs.ProfileLemmas.{complete_with, phase_at_base, ends_agree}
 use Rattle.nbd_laws.proofs.runs.BlockLemmas.{marked_is_walk}
 use Rattle.nbd_laws.proofs.runs.PlacingLemmas.{from_machine}
@@ -53,20 +57,41 @@ asks_with : (q : Profile) (is_disc : Bool) (core : Core) (cookie offset len : �
 asks_with q true core cookie offset len h = h
 asks_with q false core cookie offset len h = h
 
--- what may complete may do so in the other profile, but for what is told of contexts
-may_with : (q : Profile) (core : Core) (phase : Phase) (m : Message) → (IsTold phase m → q ≡ Wide) → MayComplete core phase m → MayComplete (with_profile q core) phase m
+-- an announcement that is allowed is one in both profiles
+pub info_with : {p : Profile} (q : Profile) (payload : List ℕ) → ((sizes : Sizes) → sizes_of (info_of payload) ≡ Some sizes → are_allowed sizes ≡ false → ⊥) → IsInfo p payload → IsInfo q payload
+info_with q payload fair i = (i.0, i.1, i.2, λ w sizes h. go sizes h (are_allowed sizes) refl)
+  where
+    go : (sizes : Sizes) → sizes_of (Some i.0) ≡ Some sizes → (b : Bool) → are_allowed sizes ≡ b → are_allowed sizes ≡ true
+    go sizes h true e = e
+    go sizes h false e = absurd (fair sizes (ap sizes_of i.1 ∙ h) e)
+
+-- so is each answer, contexts aside
+answers_with : {p : Profile} (q : Profile) (option : ℕ) (given : List ℕ) (info : Option Exporting) (kind : ℕ) (payload : List ℕ) → (kind ≡ answers.INFO → (sizes : Sizes) → sizes_of (info_of payload) ≡ Some sizes → are_allowed sizes ≡ false → ⊥)
+    → MayAnswer p option given info kind payload → MayAnswer q option given info kind payload
+answers_with q option given info kind payload fair (inl e) = inl e
+answers_with q option given info kind payload fair (inr (inl a)) = inr (inl a)
+answers_with q option given info kind payload fair (inr (inr (inl a))) = inr (inr (inl a))
+answers_with q option given info kind payload fair (inr (inr (inr a))) = inr (inr (inr (a.0, a.1, a.2, info_with q payload (fair a.1) a.3)))
+
+-- an answer that announces block sizes which a server may not announce
+abbrev pub IsFalse : Message → Type 0
+IsFalse (Answer answered kind given) = (kind ≡ answers.INFO) × ((sizes : Sizes) × (sizes_of (info_of given) ≡ Some sizes) × (are_allowed sizes ≡ false))
+IsFalse m = ⊥
+
+-- what may complete may do so in the other profile, but for what is told of contexts and false announcements
+may_with : (q : Profile) (core : Core) (phase : Phase) (m : Message) → (IsTold phase m → q ≡ Wide) → (IsFalse m → ⊥) → MayComplete core phase m → MayComplete (with_profile q core) phase m
 unfolding MayComplete
-may_with q core Greet (Greeting flags) wide ok = ok
-may_with q core Flags (ClientFlags flags) wide ok = ok
-may_with q core Choosing (Choice id payload) wide ok = ok
-may_with q core Naming (Exported size flags padded) wide ok = ok
-may_with q core Aborting (Answer option kind payload) wide ok = ok
-may_with q core (Answering asked given info) (Answer option kind payload) wide (is, inl may) = (is, inl may)
-may_with q core (Answering asked given info) (Answer option kind payload) wide (is, inr may) = (is, inr (wide (may.1.0, told core.selection asked kind given payload may.1), may.1))
-may_with q core (Transmission export) (Request flags command cookie offset len payload) wide ok = asks_with q (command == commands.DISC) core cookie offset len ok
-may_with q core (Transmission export) (Simple error cookie payload) wide ok = ok
-may_with q core (Transmission export) (Chunk flags kind cookie payload) wide ok = ok
-may_with q core phase m wide ok = absurd ok
+may_with q core Greet (Greeting flags) wide fair ok = ok
+may_with q core Flags (ClientFlags flags) wide fair ok = ok
+may_with q core Choosing (Choice id payload) wide fair ok = ok
+may_with q core Naming (Exported size flags padded) wide fair ok = ok
+may_with q core Aborting (Answer option kind payload) wide fair ok = ok
+may_with q core (Answering asked given info) (Answer option kind payload) wide fair (is, inl may) = (is, inl (answers_with q asked given info kind payload (λ k sizes h e. fair (k, (sizes, h, e))) may))
+may_with q core (Answering asked given info) (Answer option kind payload) wide fair (is, inr may) = (is, inr (wide (may.1.0, told core.selection asked kind given payload may.1), may.1))
+may_with q core (Transmission export) (Request flags command cookie offset len payload) wide fair ok = asks_with q (command == commands.DISC) core cookie offset len ok
+may_with q core (Transmission export) (Simple error cookie payload) wide fair ok = ok
+may_with q core (Transmission export) (Chunk flags kind cookie payload) wide fair ok = ok
+may_with q core phase m wide fair ok = absurd ok
 
 starts_with : (q : Profile) (core : Core) (phase : Phase) (s : Side) (m : Message) → MayStartIn phase core s m → MayStartIn phase (with_profile q core) s m
 unfolding MayStartIn
@@ -100,18 +125,25 @@ obeys_with q (Starts s m ∷ items) core js ob c = ((ob.0.0, ob.0.1, starts_with
 obeys_with q (Completes s m ∷ items) core js ob c = (c.0, subst (λ x. Obeys (record { core = x; served = js }) items) (sym (complete_with q core m)) (obeys_with q items (complete core m) js ob.1 c.1))
 obeys_with q (Serves k ∷ items) core js ob c = (ob.0, obeys_with q items core _ ob.1 c)
 
+allowed_is_no_false : (m : Message) → AnnouncesAllowed m → IsFalse m → ⊥
+allowed_is_no_false (Answer option kind payload) a f = (let t : are_allowed f.1.0 ≡ true = a f.0 f.1.0 f.1.1 in let z : true ≡ false = sym t ∙ f.1.2 in (cc))
+allowed_is_no_false m a f = absurd f
+
 -- in Wide each message may that may in the profile of the core
-carries_wide : (items : List Item) (core : Core) (js : List Entry) → Obeys (record { core = core; served = js }) items → Carries Wide core items
-carries_wide [] core js ob = tt
-carries_wide (Byte s b ∷ items) core js ob = carries_wide items core js ob.1
-carries_wide (Starts s m ∷ items) core js ob = carries_wide items core js ob.1
-carries_wide (Completes s m ∷ items) core js ob = (may_with Wide core core.phase m (λ t. refl) ob.0, carries_wide items (complete core m) js ob.1)
-carries_wide (Serves k ∷ items) core js ob = carries_wide items core _ ob.1
+carries_wide : (items : List Item) (core : Core) (js : List Entry) → All AnnouncesAllowed (completed_messages items) → Obeys (record { core = core; served = js }) items → Carries Wide core items
+carries_wide [] core js all ob = tt
+carries_wide (Byte s b ∷ items) core js all ob = carries_wide items core js all ob.1
+carries_wide (Starts s m ∷ items) core js all ob = carries_wide items core js all ob.1
+carries_wide (Completes s m ∷ items) core js all ob = (
+  may_with Wide core core.phase m (λ t. refl) (allowed_is_no_false m (All-head AnnouncesAllowed m (completed_messages items) all)) ob.0,
+  carries_wide items (complete core m) js (All-tail AnnouncesAllowed m (completed_messages items) all) ob.1,
+)
+carries_wide (Serves k ∷ items) core js all ob = carries_wide items core _ all ob.1
 
 pub base_is_wide : BaseIsWide
-base_is_wide capture order initial ex = record {
+base_is_wide capture order initial ex all = record {
   items = ex.items;
-  is_run = record { marked = ex.is_run.marked; obeys = obeys_with Wide ex.items (start_of Base).core [] ex.is_run.obeys (carries_wide ex.items (start_of Base).core [] ex.is_run.obeys) };
+  is_run = record { marked = ex.is_run.marked; obeys = obeys_with Wide ex.items (start_of Base).core [] ex.is_run.obeys (carries_wide ex.items (start_of Base).core [] all ex.is_run.obeys) };
   has_pairs = ex.has_pairs;
   has_order = ex.has_order;
   fits_image = ex.fits_image;
@@ -149,6 +181,14 @@ told_answer phase m t = absurd t
 answer_kind_is : (option kind : ℕ) (payload : List ℕ) → kind < 2 ^ 32 → answer_kind (enc (Answer option kind payload)) ≡ kind
 unfolding enc head tail
 answer_kind_is option kind payload h = big_number-reads_back 4 kind (drop 16 (enc (Answer option kind payload))) h
+
+answer_payload_is : (option kind : ℕ) (payload : List ℕ) → answer_payload (enc (Answer option kind payload)) ≡ payload
+unfolding enc head tail
+answer_payload_is option kind payload = refl
+
+answer_whole : (option kind : ℕ) (payload : List ℕ) → IsSendable (Answer option kind payload) → length (enc (Answer option kind payload)) ≡ head_lengths.ANSWER + answer_length (enc (Answer option kind payload))
+unfolding enc head tail IsSendable
+answer_whole option kind payload h = (let n : answer_length (enc (Answer option kind payload)) ≡ length payload = big_number-reads_back 4 (length payload) payload h.2.0 in omega (arith, n))
 
 answer_long : (option kind : ℕ) (payload : List ℕ) → 20 ≤ length (enc (Answer option kind payload))
 unfolding enc head tail
@@ -211,7 +251,7 @@ long_filled (b ∷ bytes) h = tt
 
 -- with one more byte
 past_step : (core : Core) (rest : Rest) (b : ℕ) (s : Side) (m : Message) (left : List ℕ) → IsPast rest m → side m ≡ s → IsSendable m → MayStart (rest_with core rest b).since s m → Later s (rest_with core rest b).since core →
-    enc m ≡ (rest_with core rest b).bytes ++ left → (s ≡ Server → IsContextHead core.phase (rest_with core rest b).bytes → ⊥) → IsPast (rest_with core rest b) m
+    enc m ≡ (rest_with core rest b).bytes ++ left → (s ≡ Server → IsParting core.phase (rest_with core rest b).bytes → ⊥) → IsPast (rest_with core rest b) m
 past_step core rest b s m left before sided sendable starts l e none long t = go (nat_lt (length rest.bytes) 20) refl
   where
     go : (c : Bool) → nat_lt (length rest.bytes) 20 ≡ c → ⊥
@@ -219,22 +259,42 @@ past_step core rest b s m left before sided sendable starts l e none long t = go
         let few : length rest.bytes < 20 = ltb-true (length rest.bytes) 20 c in
         let just : length (rest.bytes ++ b ∷ []) ≡ 20 = omega (arith, few, long, length-append rest.bytes (b ∷ [])) in
         let h : (s ≡ Server) × IsContextHead core.phase (rest.bytes ++ b ∷ []) = head_told core (rest_with core rest b).since s m (rest.bytes ++ b ∷ []) left sided sendable starts l e just t in
-        none h.0 h.1
+        none h.0 (inl h.1)
     go false c =
         let many : 20 ≤ length rest.bytes = ltb-false (length rest.bytes) 20 c in
         before many (subst (λ (x : Core). IsTold x.phase m) (old-filled core rest (long_filled rest.bytes many)) t)
 
 -- at no prefix the server's bytes are the head of such an answer
 abbrev TellsNone : Machine → List Item → Type 0
-TellsNone machine items = (before more : List Item) → items ≡ before ++ more → IsContextHead (led machine before).core.phase (get (led machine before).rests Server).bytes → ⊥
+TellsNone machine items = (before more : List Item) → items ≡ before ++ more → IsParting (led machine before).core.phase (get (led machine before).rests Server).bytes → ⊥
 
 tells_byte : (machine : Machine) (s : Side) (b : ℕ) (items : List Item) → TellsNone machine (Byte s b ∷ items) → TellsNone (with_byte machine s b) items
 tells_byte machine s b items none before more e = none (Byte s b ∷ before) more (ap (λ l. Byte s b ∷ l) e)
 
-tells_here : (machine : Machine) (s : Side) (b : ℕ) (items : List Item) → TellsNone machine (Byte s b ∷ items) → s ≡ Server → IsContextHead machine.core.phase (rest_with machine.core (get machine.rests s) b).bytes → ⊥
+tells_here : (machine : Machine) (s : Side) (b : ℕ) (items : List Item) → TellsNone machine (Byte s b ∷ items) → s ≡ Server → IsParting machine.core.phase (rest_with machine.core (get machine.rests s) b).bytes → ⊥
 tells_here machine s b items none e h = none (Byte s b ∷ []) items refl
-    (subst (λ u. IsContextHead machine.core.phase (get (put machine.rests s (rest_with machine.core (get machine.rests s) b)) u).bytes) e
-    (subst (λ (r : Rest). IsContextHead machine.core.phase r.bytes) (sym (get-put_same machine.rests s (rest_with machine.core (get machine.rests s) b))) h))
+    (subst (λ u. IsParting machine.core.phase (get (put machine.rests s (rest_with machine.core (get machine.rests s) b)) u).bytes) e
+    (subst (λ (r : Rest). IsParting machine.core.phase r.bytes) (sym (get-put_same machine.rests s (rest_with machine.core (get machine.rests s) b))) h))
+
+-- the answer to ABORT announces nothing
+no_info_ends : (option kind : ℕ) (payload : List ℕ) → MayEnd option kind payload → kind ≡ answers.INFO → ⊥
+no_info_ends option kind payload ok i = elim ok.1 [
+  | inl e ↦ info_succeeds kind i e
+  | inr a ↦ (let q : answers.ACK ≡ answers.INFO = sym a.0 ∙ i in omega (arith, q))
+]
+
+-- a false announcement that completes is one of the open bytes
+false_here : (core : Core) (phase : Phase) (bytes : List ℕ) (s : Side) (m : Message) → side m ≡ s → IsSendable m → enc m ≡ bytes → MayComplete core phase m → (s ≡ Server → IsParting phase bytes → ⊥) → IsFalse m → ⊥
+unfolding MayComplete
+false_here core (Answering option payload info) bytes s (Answer answered kind given) sided sendable e ok none f =
+    none (sym sided) (inr (subst (IsFalseAnnouncement (Answering option payload info)) e (
+      answer_whole answered kind given sendable,
+      answer_kind_is answered kind given (kind_fits answered kind given sendable) ∙ f.0,
+      (f.1.0, ap (λ p. sizes_of (info_of p)) (answer_payload_is answered kind given) ∙ f.1.1, f.1.2),
+    )))
+false_here core Aborting bytes s (Answer answered kind given) sided sendable e ok none f = no_info_ends answered kind given ok f.0
+false_here core phase bytes s (Answer answered kind given) sided sendable e ok none f = absurd ok
+false_here core phase bytes s m sided sendable e ok none f = absurd f
 
 -- what completes in such items may do so in the other profile
 carries : {P : Type 0} {o : Both Open} {items : List Item} (q : Profile) (w : Walk P o items) (machine : Machine) (js : List Entry) → Obeys (record { core = machine.core; served = js }) items → AreInStep machine o → ArePast machine.rests o →
@@ -262,7 +322,8 @@ carries {o = o} q (final s m b {items = items} is w) machine js ob st past none 
     let p : IsPast (rest_with machine.core (get machine.rests s) b) m =
     past_step machine.core (get machine.rests s) b s m [] (subst (Past (get machine.rests s)) is (past s)) i0.0.sided i0.0.sendable starts later (i0.0.encodes ∙ sym (append-nil ((get machine.rests s).bytes ++ b ∷ []))) (tells_here machine s b (Completes s m ∷ items) none) in
     let next : Machine = record { core = complete machine.core m; rests = put machine.rests s (record (rest_with machine.core (get machine.rests s) b) { bytes = [] }); messages = machine.messages ++ m ∷ [] } in (
-      may_with q machine.core machine.core.phase m (λ t. absurd (whole_told machine.core (rest_with machine.core (get machine.rests s) b) s m starts later i0.0.encodes p t)) ob.1.0,
+      may_with q machine.core machine.core.phase m (λ t. absurd (whole_told machine.core (rest_with machine.core (get machine.rests s) b) s m starts later i0.0.encodes p t))
+      (λ f. false_here machine.core machine.core.phase (rest_with machine.core (get machine.rests s) b).bytes s m i0.0.sided i0.0.sendable i0.0.encodes ob.1.0 (tells_here machine s b (Completes s m ∷ items) none) f) ob.1.0,
       carries q w next js ob.1.1 (in_step_completed machine o s m _ (machine.messages ++ m ∷ []) st i0.0.sided ob.1.0 refl) (past_with machine.rests o s (record (rest_with machine.core (get machine.rests s) b) { bytes = [] }) Idle past tt)
           (subst (λ x. TellsNone x items) (led_whole machine s b m) (λ before more e. none (Byte s b ∷ Completes s m ∷ before) more (ap (λ l. Byte s b ∷ Completes s m ∷ l) e))),
     )
@@ -276,12 +337,12 @@ carries {o = o} q (loose s b {items = items} u is w) machine js ob st past none 
     carries q w (with_byte machine s b) js ob.1 (in_step_with machine o s (rest_with machine.core (get machine.rests s) b) Loose st tt) (past_with machine.rests o s (rest_with machine.core (get machine.rests s) b) Loose past tt) (tells_byte machine s b items none)
 
 -- a run but for open bytes within which no such head completes is one of the other profile
-pub run_agrees : (p q : Profile) (items : List Item) (client server : List ℕ) → AnswersNoContexts items → IsRunBut p items client server → IsRunBut q items client server
+pub run_agrees : (p q : Profile) (items : List Item) (client server : List ℕ) → NothingParts items → IsRunBut p items client server → IsRunBut q items client server
 run_agrees p q items client server none run = record {
   marked = run.marked;
   obeys = obeys_with q items (start_of p).core [] run.obeys
       (carries q (marked_is_walk {P = Unit {0}} items client server (λ f. tt) (λ f. tt) run.marked) (fresh_of p) [] run.obeys (elim [ Client ↦ refl | Server ↦ refl ]) (elim [ Client ↦ tt | Server ↦ tt ])
-      (λ before more e h. none before more e (subst (λ phase. IsContextHead phase (open_bytes Server before)) (phase_at_base p before) (from_machine p (λ since now bytes. IsContextHead now.phase bytes) Server before h))));
+      (λ before more e h. none before more e (subst (λ phase. IsParting phase (open_bytes Server before)) (phase_at_base p before) (from_machine p (λ since now bytes. IsParting now.phase bytes) Server before h))));
 }
 
 pub runs_agree : RunsAgree
@@ -320,13 +381,13 @@ success_with q since now bytes (Transmission export) (e, a, improper, form) = (e
 success_with q since now bytes phase h = absurd h
 
 -- the two profiles follow the same options but for those on metadata contexts
-followed_with : (p q : Profile) (phase : Phase) (bytes : List ℕ) → (IsContextHead phase bytes → ⊥) → length bytes ≡ head_lengths.ANSWER → IsNoError (answer_kind bytes) → IsFollowed p phase → IsFollowed q phase
+followed_with : (p q : Profile) (phase : Phase) (bytes : List ℕ) → (IsParting phase bytes → ⊥) → length bytes ≡ head_lengths.ANSWER → IsNoError (answer_kind bytes) → IsFollowed p phase → IsFollowed q phase
 followed_with p q Aborting bytes none long succeeds f = f
 followed_with p q (Answering option payload info) bytes none long succeeds (inl is) = inl is
 followed_with p q (Answering option payload info) bytes none long succeeds (inr (inl is)) = inr (inl is)
 followed_with p q (Answering option payload info) bytes none long succeeds (inr (inr (inl is))) = inr (inr (inl is))
 followed_with p q (Answering option payload info) bytes none long succeeds (inr (inr (inr (inl is)))) = inr (inr (inr (inl is)))
-followed_with p q (Answering option payload info) bytes none long succeeds (inr (inr (inr (inr is)))) = absurd (none (is.1, long, succeeds))
+followed_with p q (Answering option payload info) bytes none long succeeds (inr (inr (inr (inr is)))) = absurd (none (inl (is.1, long, succeeds)))
 followed_with p q phase bytes none long succeeds f = absurd f
 
 turn_with : (now : Core) (q : Profile) (phase : Phase) (s : Side) → IsOutOfTurn phase now s → IsOutOfTurn phase (with_profile q now) s
@@ -340,8 +401,18 @@ turn_with now q Ended s h = h
 turn_with now q (Transmission export) Client h = h
 turn_with now q (Transmission export) Server h = h
 
+whole_answer_length : {since now : Core} {bytes : List ℕ} {option : ℕ} {payload : List ℕ} {info : Option Exporting} → IsWholeIn since now bytes (Answering option payload info) Server → length bytes ≡ head_lengths.ANSWER + answer_length bytes
+whole_answer_length (whole_answer l) = l
+
+-- a bad payload is one in both profiles, but for a false announcement
+bad_with : (p q : Profile) (selection : Selection) (option : ℕ) (payload : List ℕ) (info : Option Exporting) (bytes : List ℕ) → (IsParting (Answering option payload info) bytes → ⊥) → length bytes ≡ head_lengths.ANSWER + answer_length bytes →
+    IsBadPayload p selection option (answer_kind bytes) (answer_payload bytes) → IsBadPayload q selection option (answer_kind bytes) (answer_payload bytes)
+bad_with p q selection option payload info bytes none long (inl h) = inl h
+bad_with p q selection option payload info bytes none long (inr (inl h)) = inr (inl (h.0, λ i. h.1 (info_with p (answer_payload bytes) (λ sizes is e. none (inr (long, h.0, (sizes, is, e)))) i)))
+bad_with p q selection option payload info bytes none long (inr (inr h)) = inr (inr h)
+
 -- a row that holds of open bytes that are no such head holds in the other profile
-row_with : {since now : Core} {bytes : List ℕ} {fault : WireFault} {phase : Phase} {s : Side} (q : Profile) → (s ≡ Server → IsContextHead phase bytes → ⊥) → RowIn since now bytes fault phase s →
+row_with : {since now : Core} {bytes : List ℕ} {fault : WireFault} {phase : Phase} {s : Side} (q : Profile) → (s ≡ Server → IsParting phase bytes → ⊥) → RowIn since now bytes fault phase s →
     RowIn (with_profile q since) (with_profile q now) bytes fault phase s
 row_with q none (wrong_magic head wrong) = wrong_magic head wrong
 row_with q none (neither_magic long simple chunk) = neither_magic long simple chunk
@@ -353,7 +424,8 @@ row_with {now = now} {bytes = bytes} q none (bad_reply_kind {phase = phase} foll
 row_with {now = now} {bytes = bytes} q none (out_of_profile {option = option} {payload = payload} {info = info} left long succeeds) =
     out_of_profile (λ f. left (followed_with q now.profile (Answering option payload info) bytes (none refl) long succeeds f)) long succeeds
 row_with q none (ack_with_payload asked is long ack more) = ack_with_payload asked is long ack more
-row_with q none (bad_reply_payload whole bad) = bad_reply_payload (whole_with q whole) bad
+row_with {now = now} {bytes = bytes} q none (bad_reply_payload {option = option} {payload = payload} {info = info} whole bad) =
+    bad_reply_payload (whole_with q whole) (bad_with now.profile q now.selection option payload info bytes (none refl) (whole_answer_length whole) bad)
 row_with q none (missing_export_info is proper long ack) = missing_export_info is proper long ack
 row_with q none (no_has_flags long lacks) = no_has_flags long lacks
 row_with q none (bad_padding lacks whole bad) = bad_padding lacks (whole_with q whole) bad
@@ -370,13 +442,13 @@ row_with {since = since} {now = now} {bytes = bytes} q none (success_of_improper
 row_with q none (bad_disconnect long is more) = bad_disconnect long is more
 
 -- at the end of items whose open bytes are no such head the same rows hold in both profiles
-holds_agree : (p q : Profile) (items : List Item) (fault : WireFault) → (IsContextHead (ends_at start items).core.phase (open_bytes Server items) → ⊥) → HoldsAtOf p fault items → HoldsAtOf q fault items
+holds_agree : (p q : Profile) (items : List Item) (fault : WireFault) → (IsParting (ends_at start items).core.phase (open_bytes Server items) → ⊥) → HoldsAtOf p fault items → HoldsAtOf q fault items
 holds_agree p q items fault none h = record {
   s = h.s;
   is_last = h.is_last;
   row = subst (λ c. Row fault c (ends_at (start_of q) items).core h.s (open_bytes h.s items)) (since_with q h.s (start_of p).core items)
       (subst (λ c. Row fault (with_profile q (since_from h.s (start_of p).core items)) c h.s (open_bytes h.s items)) (ends_agree p q items)
-      (row_with q (λ is head. none (subst (λ phase. IsContextHead phase (open_bytes Server items)) (phase_at_base p items) (subst (λ s. IsContextHead (ends_at (start_of p) items).core.phase (open_bytes s items)) is head))) h.row));
+      (row_with q (λ is head. none (subst (λ phase. IsParting phase (open_bytes Server items)) (phase_at_base p items) (subst (λ s. IsParting (ends_at (start_of p) items).core.phase (open_bytes s items)) is head))) h.row));
 }
 
 whole_agrees : (p q : Profile) (items : List Item) → IsWholeAtOf p items → IsWholeAtOf q items
@@ -387,13 +459,13 @@ whole_agrees p q items h = record {
       (subst (λ c. IsWhole (with_profile q (since_from h.s (start_of p).core items)) c h.s (open_bytes h.s items)) (ends_agree p q items) (whole_with q h.whole));
 }
 
-pub none_agrees : (p q : Profile) (items : List Item) → (IsContextHead (ends_at start items).core.phase (open_bytes Server items) → ⊥) → HasNoneAtOf p items → HasNoneAtOf q items
+pub none_agrees : (p q : Profile) (items : List Item) → (IsParting (ends_at start items).core.phase (open_bytes Server items) → ⊥) → HasNoneAtOf p items → HasNoneAtOf q items
 none_agrees p q items none h = ((λ fault holds. h.0 fault (holds_agree q p items fault none holds)), (λ whole. h.1 (whole_agrees q p items whole)))
 
-pub clear_agrees : (p q : Profile) (items : List Item) → AnswersNoContexts items → IsClearOf p items → IsClearOf q items
+pub clear_agrees : (p q : Profile) (items : List Item) → NothingParts items → IsClearOf p items → IsClearOf q items
 clear_agrees p q items none clear before more s b e = none_agrees p q before (none before (Byte s b ∷ more) e) (clear before more s b e)
 
-pub split_agrees : (p q : Profile) (items : List Item) (ps : List Pair) (messages : List Message) → AnswersNoContexts items → IsSplitOf p items ps messages → IsSplitOf q items ps messages
+pub split_agrees : (p q : Profile) (items : List Item) (ps : List Pair) (messages : List Message) → NothingParts items → IsSplitOf p items ps messages → IsSplitOf q items ps messages
 split_agrees p q items ps messages none split = record {
   run = run_agrees p q items (open_bytes Client items) (open_bytes Server items) none split.run;
   are_pairs = split.are_pairs;
@@ -403,7 +475,7 @@ split_agrees p q items ps messages none split = record {
 
 pub places_agree : PlacesAgree
 places_agree p q ps messages fault place none =
-    let here : IsContextHead (ends_at start place.items).core.phase (open_bytes Server place.items) → ⊥ = none place.items [] (sym (append-nil place.items)) in
+    let here : IsParting (ends_at start place.items).core.phase (open_bytes Server place.items) → ⊥ = none place.items [] (sym (append-nil place.items)) in
     record {
       items = place.items;
       split = split_agrees p q place.items ps messages none place.split;

@@ -271,7 +271,7 @@ module _ (profile : Profile) (asked : ℕ) (asked_with : List ℕ) (info : Optio
   abbrev IsOne : Type 0
   IsOne = IsAnswer profile (record { option = asked; payload = asked_with }) info told kind p
 
-  is_answer : MayAnswer asked asked_with info kind p → IsOne
+  is_answer : MayAnswer profile asked asked_with info kind p → IsOne
   is_answer ok = elim ok [
     | inl e ↦ inl e
     | inr ok ↦ elim ok [

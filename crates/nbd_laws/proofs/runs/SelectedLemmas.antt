@@ -195,7 +195,7 @@ IsSaid asked p kind answer =
     ⊎ (kind ≢ answers.ACK) × (asked ≡ options.SET_META_CONTEXT → (kind ≡ answers.META_CONTEXT) × ((context : Context) × (context_of answer ≡ Some context))))
 
 module _ (asked : ℕ) (p : List ℕ) (kind : ℕ) (answer : List ℕ) where
-  said : (info : Option Exporting) → MayAnswer asked p info kind answer → IsSaid asked p kind answer
+  said : {profile : Profile} (info : Option Exporting) → MayAnswer profile asked p info kind answer → IsSaid asked p kind answer
   said info ok = elim ok [
     | inl e ↦ inl e
     | inr ok ↦ elim ok [

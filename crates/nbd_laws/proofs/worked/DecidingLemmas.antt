@@ -17,6 +17,7 @@ use Rattle.nbd_wire.specs.declared.payloads.Info.{Info}
 use Rattle.nbd_wire.specs.declared.payloads.Info.TheVariants.{Export, BlockSize, Other}
 use Rattle.nbd_wire.specs.protocol.Encoding.{AreBytes}
 use Rattle.nbd_wire.specs.protocol.Contexts.{Context, Selection, has_id}
+use Rattle.nbd_wire.specs.declared.profile.Profile.{Profile}
 use Rattle.nbd_wire.specs.protocol.Options.{IsFreshFor, IsInfo, MayAcknowledge, MayAnswer, MayTell, is_error, is_proper_option, takes_contexts, turn}
 use Rattle.nbd_wire.specs.protocol.Payloads.{info_of, is_listed, context_of}
 use Rattle.nbd_wire.specs.protocol.Operations.{Exporting, Operation, has_range, is_proper, proper_on}
@@ -273,17 +274,17 @@ true_is_fresh within before e h = go e.part h
 
 abbrev pub is_info : Option Info → Bool
 is_info (Some (Export size flags)) = has flags transmission.HAS_FLAGS
-is_info (Some (BlockSize least preferred most)) = true
+is_info (Some (BlockSize least preferred most)) = false
 is_info (Some (Other kind)) = true
 is_info None = false
 
-pub info_is : (payload : List ℕ) → IsTrue (is_info (info_of payload)) → IsInfo payload
-info_is payload e = go (info_of payload) refl e
+pub info_is : (profile : Profile) (payload : List ℕ) → IsTrue (is_info (info_of payload)) → IsInfo profile payload
+info_is profile payload e = go (info_of payload) refl e
   where
-    go : (o : Option Info) → info_of payload ≡ o → IsTrue (is_info o) → IsInfo payload
-    go (Some (Export size flags)) q e = (Export size flags, q, λ size' flags' h. (let f : flags ≡ flags' = cc in subst (λ f. IsTrue (has f transmission.HAS_FLAGS)) f e))
-    go (Some (BlockSize least preferred most)) q e = (BlockSize least preferred most, q, λ size flags h. absurd (cc))
-    go (Some (Other kind)) q e = (Other kind, q, λ size flags h. absurd (cc))
+    go : (o : Option Info) → info_of payload ≡ o → IsTrue (is_info o) → IsInfo profile payload
+    go (Some (Export size flags)) q e = (Export size flags, q, λ size' flags' h. (let f : flags ≡ flags' = cc in subst (λ f. IsTrue (has f transmission.HAS_FLAGS)) f e), λ w sizes h. absurd (cc))
+    go (Some (BlockSize least preferred most)) q e = absurd (cc)
+    go (Some (Other kind)) q e = (Other kind, q, λ size flags h. absurd (cc), λ w sizes h. absurd (cc))
     go None q e = absurd (cc)
 
 abbrev pub fits_limit : Option Exporting → Bool
@@ -358,8 +359,8 @@ may_answer option payload info kind answer =
     || (((kind == answers.SERVER) && ((option == options.LIST) && is_listed answer))
     || ((kind == answers.INFO) && (((option == options.INFO) || (option == options.GO)) && is_info (info_of answer))))))
 
-pub answers_it : (option : ℕ) (payload : List ℕ) (info : Option Exporting) (kind : ℕ) (answer : List ℕ) → IsTrue (may_answer option payload info kind answer) → MayAnswer option payload info kind answer
-answers_it option payload info kind answer e = elim (one (is_error kind) _ e) [
+pub answers_it : (profile : Profile) (option : ℕ) (payload : List ℕ) (info : Option Exporting) (kind : ℕ) (answer : List ℕ) → IsTrue (may_answer option payload info kind answer) → MayAnswer profile option payload info kind answer
+answers_it profile option payload info kind answer e = elim (one (is_error kind) _ e) [
   | inl h ↦ inl h
   | inr e ↦ (let p = both (is_proper_option option payload) _ e in
       elim (one ((kind == answers.ACK) && (is_empty answer && may_acknowledge option info)) _ p.1) [
@@ -373,7 +374,7 @@ answers_it option payload info kind answer e = elim (one (is_error kind) _ e) [
                 p.0,
                 eqb-true kind answers.INFO a.0,
                 elim (one (option == options.INFO) (option == options.GO) b.0) [ inl q ↦ inl (eqb-true option options.INFO q) | inr q ↦ inr (eqb-true option options.GO q) ],
-                info_is answer b.1,
+                info_is profile answer b.1,
               ))))
         ]
       ])

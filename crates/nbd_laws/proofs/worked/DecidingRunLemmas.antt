@@ -79,7 +79,7 @@ completes core (Answering asked asked_with info) (Answer option kind payload) h 
     let a = both (option == asked) _ h in (
       eqb-true option asked a.0,
       elim (one (may_answer asked asked_with info kind payload) _ a.1) [
-        | inl q ↦ inl (answers_it asked asked_with info kind payload q)
+        | inl q ↦ inl (answers_it core.profile asked asked_with info kind payload q)
         | inr q ↦ (let b = both (is_wide core.profile) _ q in inr (wide_is core.profile b.0, tells_it core.selection asked asked_with kind payload b.1))
       ],
     )

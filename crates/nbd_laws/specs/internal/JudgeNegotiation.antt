@@ -17,6 +17,7 @@ use Rattle.nbd_wire.specs.declared.profile.Profile.TheVariants.{Base, Wide}
 use Rattle.nbd_wire.specs.protocol.Contexts.{Context, Selection, has_id}
 use Rattle.nbd_wire.specs.protocol.Payloads.{context_of, number_at, info_of, is_listed}
 use Rattle.nbd_wire.specs.protocol.Operations.{Exporting}
+use Rattle.nbd_wire.specs.protocol.Sizes.{are_allowed}
 use Rattle.nbd_wire.specs.protocol.Flags.{has, has_only}
 use Rattle.nbd_wire.specs.declared.fault.WireFault.{WireFault}
 use Rattle.nbd_wire.specs.declared.fault.WireFault.TheVariants.{BadMagic, NotFixedNewstyle, BadClientFlags, WrongOption, BadReplyKind, OutOfProfile, BadReplyPayload, MissingExportInfo, BadExport, ExportTooLarge, SuccessOfImproper}
@@ -176,22 +177,23 @@ success_fault profile option proper takes info kind len =
     (fault_if (not (is_followed profile option)) OutOfProfile
     (ack_fault kind len (at_ack (kind == answers.ACK) (info_fault option proper info))))
 
--- an info on the export has HAS_FLAGS
-abbrev pub is_good_info : Option Info → Bool
-is_good_info None = false
-is_good_info (Some (Export size flags)) = has flags transmission.HAS_FLAGS
-is_good_info (Some (BlockSize least preferred most)) = true
-is_good_info (Some (Other kind)) = true
+-- an info on the export has HAS_FLAGS, and in Wide block sizes are such as a server may announce
+abbrev pub is_good_info : Profile → Option Info → Bool
+is_good_info profile None = false
+is_good_info profile (Some (Export size flags)) = has flags transmission.HAS_FLAGS
+is_good_info profile (Some (BlockSize least preferred most)) =
+    not (is_wide profile) || are_allowed (record { least = least; preferred = preferred; largest = most })
+is_good_info profile (Some (Other kind)) = true
 
 -- a context that has not the id of an earlier one of these
 abbrev pub is_good_context : List Context → Option Context → Bool
 is_good_context earlier None = false
 is_good_context earlier (Some context) = not (has_id earlier context.id)
 
-abbrev pub is_bad_payload : List Context → (kind : ℕ) → List ℕ → Bool
-is_bad_payload earlier kind payload =
+abbrev pub is_bad_payload : Profile → List Context → (kind : ℕ) → List ℕ → Bool
+is_bad_payload profile earlier kind payload =
     ((kind == answers.SERVER) && not (is_listed payload))
-    || (((kind == answers.INFO) && not (is_good_info (info_of payload)))
+    || (((kind == answers.INFO) && not (is_good_info profile (info_of payload)))
     || ((kind == answers.META_CONTEXT) && not (is_good_context earlier (context_of payload))))
 
 -- the contexts whose ids an answer to the option may not have again
@@ -199,9 +201,9 @@ abbrev pub earlier_to : (option : ℕ) → Selection → List Context
 earlier_to option selection = if option == options.SET_META_CONTEXT then selection.contexts else []
 
 -- at the last byte of an answer that is no error
-abbrev pub payload_fault : List Context → (proper : Bool) (kind : ℕ) → List ℕ → Option WireFault
-payload_fault earlier proper kind payload =
-    fault_if (is_bad_payload earlier kind payload) BadReplyPayload
+abbrev pub payload_fault : Profile → List Context → (proper : Bool) (kind : ℕ) → List ℕ → Option WireFault
+payload_fault profile earlier proper kind payload =
+    fault_if (is_bad_payload profile earlier kind payload) BadReplyPayload
     (fault_if (not proper) SuccessOfImproper None)
 
 -- the answer to this option: whether its data was proper and takes contexts, the last EXPORT info since, and what is
@@ -215,6 +217,6 @@ answer profile option proper takes info selection bytes = record {
       (success_fault profile option proper takes info (number_at 12 4 bytes) (number_at 16 4 bytes)));
   payload_length = number_at 16 4 bytes;
   last_fault = unless_error (is_error (number_at 12 4 bytes))
-      (payload_fault (earlier_to option selection) proper (number_at 12 4 bytes) (drop 20 bytes));
+      (payload_fault profile (earlier_to option selection) proper (number_at 12 4 bytes) (drop 20 bytes));
   message = answer_of bytes;
 }

@@ -91,7 +91,7 @@ good_error profile asked proper takes info head payload h now len none is error 
       head_length = 20;
       head_fault = fault i;
       payload_length = (same i).length;
-      last_fault = ap (λ b. unless_error b (payload_fault (earlier_to asked now.selection) proper (number_at 12 4 (head ++ payload)) (drop 20 (head ++ payload)))) kind i;
+      last_fault = ap (λ b. unless_error b (payload_fault profile (earlier_to asked now.selection) proper (number_at 12 4 (head ++ payload)) (drop 20 (head ++ payload)))) kind i;
       message = messages.Answer (same i).option (same i).kind (after_head 20 head payload len i);
     })
 
@@ -105,17 +105,17 @@ right_option asked head h none is = ap (λ (f : AnswerHead). f.option) is ∙ go
     go false false q e = absurd (let w : Some BadMagic ≡ None = e in cc)
 
 -- a success
-pub good_success : (profile : Profile) (asked : ℕ) (proper takes : Bool) (info : Option Exporting) (head payload : List ℕ) (h : AnswerHead) (now : Core) → length head ≡ 20 → h.option ≡ asked → answer_fault asked (number_at 0 8 head) (number_at 8 4 head) None ≡ None → h ≡ answer_fields_of head →
+pub good_success : (profile : Profile) (asked : ℕ) (proper takes : Bool) (info : Option Exporting) (head payload : List ℕ) (h : AnswerHead) (now : Core) → now.profile ≡ profile → length head ≡ 20 → h.option ≡ asked → answer_fault asked (number_at 0 8 head) (number_at 8 4 head) None ≡ None → h ≡ answer_fields_of head →
     is_error h.kind ≡ false → success_fault profile asked proper takes info h.kind h.length ≡ None → answer profile asked proper takes info now.selection (head ++ payload) ≡ expected_decision now (Answer h (Some proper)) 20 payload
-good_success profile asked proper takes info head payload h now len option none is error fits =
+good_success profile asked proper takes info head payload h now held len option none is error fits =
     let same : answer_fields_of (head ++ payload) ≡ h = fields_same head payload len ∙ sym is in
     let kind : is_error (number_at 12 4 (head ++ payload)) ≡ false = ap (λ f. is_error f.kind) same ∙ error in
     let success = success_fault profile asked proper takes info (number_at 12 4 (head ++ payload)) (number_at 16 4 (head ++ payload)) in
     let fault : (answer profile asked proper takes info now.selection (head ++ payload)).head_fault ≡ None =
     right_answer asked (head ++ payload) (unless_error (is_error (number_at 12 4 (head ++ payload))) success) (fault_same asked head payload len ∙ none)
     ∙ ap (λ b. unless_error b success) kind ∙ (λ i. success_fault profile asked proper takes info (same i).kind (same i).length) ∙ fits in
-    let last : (answer profile asked proper takes info now.selection (head ++ payload)).last_fault ≡ payload_fault (earlier_to h.option now.selection) proper h.kind payload =
-    ap (λ b. unless_error b (payload_fault (earlier_to asked now.selection) proper (number_at 12 4 (head ++ payload)) (drop 20 (head ++ payload)))) kind ∙ (λ i. payload_fault (earlier_to (sym option i) now.selection) proper (same i).kind (after_head 20 head payload len i)) in
+    let last : (answer profile asked proper takes info now.selection (head ++ payload)).last_fault ≡ payload_fault now.profile (earlier_to h.option now.selection) proper h.kind payload =
+    ap (λ b. unless_error b (payload_fault profile (earlier_to asked now.selection) proper (number_at 12 4 (head ++ payload)) (drop 20 (head ++ payload)))) kind ∙ (λ i. payload_fault (sym held i) (earlier_to (sym option i) now.selection) proper (same i).kind (after_head 20 head payload len i)) in
     (λ i. record { head_length = 20; head_fault = fault i; payload_length = (same i).length; last_fault = last i; message = messages.Answer (same i).option (same i).kind (after_head 20 head payload len i) })
 
 module _ (asked : ℕ) (head : List ℕ) where

@@ -48,6 +48,7 @@ one_told export e x known s k = λ i. record {
   length = s.length i;
   payload = s.payload i;
   proper = s.proper i;
+  outside = s.outside i;
   known_at = k i;
   outcome = s.outcome_is i;
   pieces = s.pieces_are i;

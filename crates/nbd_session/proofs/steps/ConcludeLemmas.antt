@@ -25,7 +25,7 @@ use Rattle.nbd_session.specs.internal.Holdings.{incoming_of, with_expected}
 use Rattle.nbd_session.specs.internal.Known.{IsCome, IsExpected, IsKnown, decided, is_come_by}
 use Rattle.nbd_session.specs.internal.Logging.{log_of_pairs}
 use Rattle.nbd_session.specs.internal.Standing.{Holding, count_at_server, held_pairs, rest_of, with_bytes}
-use Rattle.nbd_session.specs.internal.Steps.{IsExpecting, IsHeadRefused, IsShut, IsTaken, IsWhole, Knows, Stands, knows_by}
+use Rattle.nbd_session.specs.internal.Steps.{IsExpecting, IsHeadRefused, IsShut, IsTaken, IsWhole, Knows, Stands, knows_by, IsSame}
 use Rattle.nbd_session.proofs.expecting.ReplyLemmas.{placed_within}
 use Rattle.nbd_session.proofs.expecting.KnownLemmas.{expected_bad, expected_more, expected_whole, refused_head, short_more}
 use Rattle.nbd_session.proofs.steps.HoldingLemmas.{holding_expected, incoming_here, incoming_other, rest_is}
@@ -244,3 +244,8 @@ on_ok_both (Err e) P Q R p q f = tt
 pub on_err : {A E : Type 0} (r : Result A E) (P : Type 0) → P → OnErr r P
 on_err (Ok a) P p = tt
 on_err (Err e) P p = p
+
+-- what is expected of a side changes nothing else
+pub same_expected : (old new : Held) (side : Side) (x : Option Expected) → IsSame (with_expected old side x) new → IsSame old new
+same_expected old new Client x s = record { adds = λ t. s.adds t; taken_is = s.taken_is; profile_is = s.profile_is }
+same_expected old new Server x s = record { adds = λ t. s.adds t; taken_is = s.taken_is; profile_is = s.profile_is }

@@ -11,6 +11,7 @@ use Rattle.nbd_wire.specs.declared.magics.TheConstants.{CHUNK_MAGIC, SIMPLE_MAGI
 use Rattle.nbd_wire.specs.declared.message.Message.{Message}
 use Rattle.nbd_wire.specs.declared.message.Message.TheVariants as messages
 use Rattle.nbd_wire.specs.declared.message.Side.{Side}
+use Rattle.nbd_wire.specs.declared.profile.Profile.{Profile}
 use Rattle.nbd_wire.specs.protocol.Contexts.{Context}
 use Rattle.nbd_wire.specs.protocol.Operations.{Exporting, Operation}
 use Rattle.nbd_wire.specs.protocol.States.{Core, Transmission, operation, target, with_reply}
@@ -52,9 +53,9 @@ payload_length_of (Request head) = request_payload_length head.command head.leng
 payload_length_of (Simple head place len) = len
 payload_length_of (Chunk head place) = head.length
 
-abbrev pub success_fault_if : List Context → Option Bool → (kind : ℕ) → List ℕ → Option WireFault
-success_fault_if earlier (Some proper) kind payload = payload_fault earlier proper kind payload
-success_fault_if earlier None kind payload = None
+abbrev pub success_fault_if : Profile → List Context → Option Bool → (kind : ℕ) → List ℕ → Option WireFault
+success_fault_if profile earlier (Some proper) kind payload = payload_fault profile earlier proper kind payload
+success_fault_if profile earlier None kind payload = None
 
 abbrev pub padding_fault_if : Bool → List ℕ → Option WireFault
 padding_fault_if true payload = padding_fault payload
@@ -69,7 +70,7 @@ chunk_fault_to export (Some e) flags kind cookie payload =
 -- what its last byte shows to be wrong, where so much has completed
 abbrev pub last_fault_by : definitions.Phase → Core → Expected → List ℕ → Option WireFault
 last_fault_by phase core (Answer head proper) payload =
-    success_fault_if (earlier_to head.option core.selection) proper head.kind payload
+    success_fault_if core.profile (earlier_to head.option core.selection) proper head.kind payload
 last_fault_by phase core (Exported size flags padded) payload = padding_fault_if padded payload
 last_fault_by phase core (Request head) payload = cookie_fault head.command (target head.cookie core.entries)
 last_fault_by (Transmission export) core (Simple head place len) payload =

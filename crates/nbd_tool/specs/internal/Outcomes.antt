@@ -10,11 +10,11 @@ use Rattle.nbd_session.specs.declared.fault.SessionFault.{SessionFault}
 use Rattle.nbd_judge.specs.Conclusions.{Answers, IsConclusion, IsReportOf}
 use Rattle.nbd_judge.specs.declared.verdict.Verdict.{Verdict}
 
--- a verdict on an ended session of any profile and an order, from the start where it is known
-pub record IsConcluded (known : Option Start) (finished : Result Report SessionFault) (order : List Entry)
-    (verdict : Verdict) : Type 0 where
+-- a verdict on an ended session of the profile and an order, from the start where it is known
+pub record IsConcluded (profile : Profile) (known : Option Start) (finished : Result Report SessionFault)
+    (order : List Entry) (verdict : Verdict) : Type 0 where
   pub initial : Start
   pub is_known : IfSome known (λ start. initial ≡ start)
-  pub is_conclusion : IsConclusion finished order initial verdict
-  pub answers : (profile : Profile) (items : List Item) → IsRunOf profile items → IsReportOf items finished
+  pub is_conclusion : IsConclusion profile finished order initial verdict
+  pub answers : (items : List Item) → IsRunOf profile items → IsReportOf items finished
       → Answers profile (pairs items) order initial verdict

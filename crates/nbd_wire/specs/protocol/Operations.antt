@@ -7,7 +7,9 @@ use Rattle.nbd_wire.specs.declared.chunks.TheConstants as chunks
 use Rattle.nbd_wire.specs.declared.command_flags.TheConstants as command_flags
 use Rattle.nbd_wire.specs.declared.commands.TheConstants as commands
 use Rattle.nbd_wire.specs.declared.transmission.TheConstants as transmission
+use Rattle.nbd_wire.specs.declared.sizes.Sizes.{Sizes}
 use Rattle.nbd_wire.specs.protocol.Contexts.{Context}
+use Rattle.nbd_wire.specs.protocol.Sizes.{breaks_sizes}
 use Rattle.nbd_wire.specs.protocol.Flags.{has, has_only}
 use Rattle.nbd_wire.specs.protocol.Pieces.{piece_of, is_in, byte_at}
 
@@ -16,8 +18,8 @@ pub record Exporting : Type 0 where
   pub size : ℕ
   pub flags : ℕ
 
--- a numbered request, the metadata contexts that were in force for it, and the messages that completed in answer to it,
--- in order
+-- a numbered request, the metadata contexts that were in force for it, the block sizes that the client had to keep, if
+-- any, and the messages that completed in answer to it, in order
 pub record Operation : Type 0 where
   pub flags : ℕ
   pub command : ℕ
@@ -26,6 +28,7 @@ pub record Operation : Type 0 where
   pub length : ℕ
   pub payload : List ℕ
   pub contexts : List Context
+  pub sizes : Option Sizes
   pub replies : List Message
 
 -- an error chunk (proto.md, "Structured reply types")
@@ -133,6 +136,11 @@ is_proper export e =
     && (not (is_change e.command) || not (has export.flags transmission.READ_ONLY))
     && has_only e.flags (allowed_flags export.flags e.command)
     && (not (e.command == commands.FLUSH) || ((e.offset == 0) && (e.length == 0)))
+
+-- a request of a known type with a range that breaks the block sizes (proto.md, "Block size constraints"; that no other
+-- request is outside, and that nothing is refused for it, are this project's choices)
+abbrev pub is_outside : Operation → Bool
+is_outside e = is_known e && has_range e.command && breaks_sizes e.sizes e.command e.offset e.length
 
 -- proper on the export, if there is one
 abbrev pub proper_on : Option Exporting → Operation → Bool

@@ -10,10 +10,14 @@ use Rattle.nbd_wire.specs.declared.payloads.Info.TheVariants.{Export}
 use Rattle.nbd_wire.specs.declared.answers.TheConstants as answers
 use Rattle.nbd_wire.specs.declared.options.TheConstants as options
 use Rattle.nbd_wire.specs.declared.limits.TheConstants.{EXPORT_SIZE}
+use Rattle.nbd_wire.specs.declared.profile.Profile.{Profile}
+use Rattle.nbd_wire.specs.declared.profile.Profile.TheVariants.{Wide}
+use Rattle.nbd_wire.specs.declared.sizes.Sizes.{Sizes}
 use Rattle.nbd_wire.specs.declared.transmission.TheConstants as transmission
 use Rattle.nbd_wire.specs.protocol.Contexts.{Context, Selection, has_id}
 use Rattle.nbd_wire.specs.protocol.Payloads.{context_of, info_of, is_listed, is_go, name_in, queries_of}
 use Rattle.nbd_wire.specs.protocol.Operations.{Exporting}
+use Rattle.nbd_wire.specs.protocol.Sizes.{are_allowed, sizes_of}
 use Rattle.nbd_wire.specs.protocol.Flags.{has}
 use Rattle.nbd_wire.specs.protocol.States.{Phase, Greet, Flags, Choosing, Naming, Aborting, Answering, Ended, Transmission}
 
@@ -56,22 +60,25 @@ MayAcknowledge option info =
     ⊎ (option ≡ options.INFO) × IsTrue (is_some info)
     ⊎ (option ≡ options.GO) × ((export : Exporting) × (info ≡ Some export) × FitsLimit export)
 
--- an info has its form, and one on the export has HAS_FLAGS (proto.md, "Option reply types", "Transmission flags")
-abbrev pub IsInfo : List ℕ → Type 0
-IsInfo payload = (info : Info) × (info_of payload ≡ Some info)
+-- an info has its form, one on the export has HAS_FLAGS, and in Wide block sizes are such as a server may announce
+-- (proto.md, "Option reply types", "Transmission flags", "Block size constraints")
+abbrev pub IsInfo : Profile → List ℕ → Type 0
+IsInfo profile payload = (info : Info) × (info_of payload ≡ Some info)
     × ((size flags : ℕ) → info ≡ Export size flags → IsTrue (has flags transmission.HAS_FLAGS))
+    × (profile ≡ Wide → (sizes : Sizes) → sizes_of (Some info) ≡ Some sizes → IsTrue (are_allowed sizes))
 
 -- an option reply to an option with this data, of which this info has come: an error, or where the option is proper one
 -- of a kind that the option takes, contexts aside (`MayTell`; proto.md, "Option types"; only errors where it is not
 -- proper is this project's choice)
-abbrev pub MayAnswer : (option : ℕ) (payload : List ℕ) (info : Option Exporting) (kind : ℕ) (answer : List ℕ) → Type 0
-MayAnswer option payload info kind answer =
+abbrev pub MayAnswer : Profile → (option : ℕ) (payload : List ℕ) (info : Option Exporting) (kind : ℕ)
+    (answer : List ℕ) → Type 0
+MayAnswer profile option payload info kind answer =
     IsTrue (is_error kind)
     ⊎ IsTrue (is_proper_option option payload) × (kind ≡ answers.ACK) × (answer ≡ []) × MayAcknowledge option info
     ⊎ IsTrue (is_proper_option option payload) × (kind ≡ answers.SERVER) × (option ≡ options.LIST)
     × IsTrue (is_listed answer)
     ⊎ IsTrue (is_proper_option option payload) × (kind ≡ answers.INFO)
-    × ((option ≡ options.INFO) ⊎ (option ≡ options.GO)) × IsInfo answer
+    × ((option ≡ options.INFO) ⊎ (option ≡ options.GO)) × IsInfo profile answer
 
 -- so many queries are none
 abbrev pub asks_nothing : Option ℕ → Bool

@@ -4,7 +4,7 @@ use Rattle.nbd_wire.specs.declared.message.Side.TheVariants.{Client, Server}
 use Rattle.nbd_wire.specs.declared.payloads.Piece.{Piece}
 use Rattle.nbd_wire.specs.protocol.Marks.{Item, Byte, Starts, Completes, Serves}
 use Rattle.nbd_wire.specs.protocol.Entries.{inside_of}
-use Rattle.nbd_wire.specs.protocol.Operations.{Operation, Exporting, Outcome, outcome, pieces, proper_on}
+use Rattle.nbd_wire.specs.protocol.Operations.{Operation, Exporting, Outcome, is_outside, outcome, pieces, proper_on}
 use Rattle.nbd_wire.specs.protocol.Statuses.{zeroes}
 use Rattle.nbd_wire.specs.protocol.Rules.{request_of_reply, complete, ends_at}
 use Rattle.nbd_wire.specs.protocol.States.{Core, export_in, start}
@@ -40,8 +40,9 @@ known_from core k (Serves e ∷ items) = known_from core k items
 abbrev pub known_count : List Item → ℕ → Option ℕ
 known_count items k = known_from start.core k items
 
--- a numbered request as a report states it: whether it is proper, how many numbered requests had
--- completed when its first reply started, what became of it, and the pieces that its reply gives or calls zero
+-- a numbered request as a report states it: whether it is proper, whether it is outside of the block sizes, how many
+-- numbered requests had completed when its first reply started, what became of it, and the pieces that its reply gives
+-- or calls zero
 pub record Asked : Type 0 where
   pub flags : ℕ
   pub command : ℕ
@@ -50,6 +51,7 @@ pub record Asked : Type 0 where
   pub length : ℕ
   pub payload : List ℕ
   pub proper : Bool
+  pub outside : Bool
   pub known_at : Option ℕ
   pub outcome : Outcome
   pub pieces : List Piece
@@ -74,6 +76,7 @@ asked_of export known_at e = record {
   length = e.length;
   payload = e.payload;
   proper = proper_on export e;
+  outside = is_outside e;
   known_at = known_at;
   outcome = outcome e;
   pieces = pieces_told export e;

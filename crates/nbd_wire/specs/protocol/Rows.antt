@@ -245,12 +245,13 @@ TakesKind phase kind = ⊥
 abbrev pub IsNoError : ℕ → Type 0
 IsNoError kind = IsTrue (is_error kind) → ⊥
 
--- a SERVER, INFO or META_CONTEXT payload that does not have its form, an info on the export without HAS_FLAGS, or a
--- context to SET_META_CONTEXT with the id of an earlier one since the option
-abbrev pub IsBadPayload : Selection → (option kind : ℕ) → List ℕ → Type 0
-IsBadPayload selection option kind payload =
+-- a SERVER, INFO or META_CONTEXT payload that does not have its form, an info on the export without HAS_FLAGS, in Wide
+-- block sizes that a server may not announce, or a context to SET_META_CONTEXT with the id of an earlier one since the
+-- option
+abbrev pub IsBadPayload : Profile → Selection → (option kind : ℕ) → List ℕ → Type 0
+IsBadPayload profile selection option kind payload =
     (kind ≡ answers.SERVER) × (IsTrue (is_listed payload) → ⊥)
-    ⊎ (kind ≡ answers.INFO) × (IsInfo payload → ⊥)
+    ⊎ (kind ≡ answers.INFO) × (IsInfo profile payload → ⊥)
     ⊎ (kind ≡ answers.META_CONTEXT)
     × ((context : Context) → context_of payload ≡ Some context → IsFreshFor option selection context → ⊥)
 
@@ -357,7 +358,7 @@ pub data RowIn (since now : Core) (bytes : List ℕ) : WireFault → Phase → S
   -- at the last byte of an answer (proto.md, "Option reply types", "Transmission flags", "Metadata querying")
   bad_reply_payload : {option : ℕ} {payload : List ℕ} {info : Option Exporting}
       → IsWholeIn since now bytes (Answering option payload info) Server
-      → IsBadPayload now.selection option (answer_kind bytes) (answer_payload bytes)
+      → IsBadPayload now.profile now.selection option (answer_kind bytes) (answer_payload bytes)
       → RowIn since now bytes BadReplyPayload (Answering option payload info) Server
   -- at the head of an ACK to a proper INFO or GO: no info on the export came before it (proto.md, "Option types")
   missing_export_info : {option : ℕ} {payload : List ℕ} → ((option ≡ options.INFO) ⊎ (option ≡ options.GO))

@@ -13,6 +13,7 @@ use Rattle.nbd_wire.specs.declared.profile.Profile.{Profile}
 use Rattle.nbd_wire.specs.declared.profile.Profile.TheVariants.{Base, Wide}
 use Rattle.nbd_wire.specs.protocol.Marks.{Item, Byte, Starts, Completes, Serves, IsMarkedBut}
 use Rattle.nbd_wire.specs.protocol.Entries.{IsWhollyServed, MayServe, inside_of}
+use Rattle.nbd_wire.specs.protocol.Sizes.{sizes_kept, sizing_after, sizing_at}
 use Rattle.nbd_wire.specs.protocol.Options.{FitsLimit, MayAnswer, MayTell, agrees, is_error, next_phase, selection_after, selection_at, turn}
 use Rattle.nbd_wire.specs.protocol.Replies.{MayReply}
 use Rattle.nbd_wire.specs.protocol.Operations.{Operation, Exporting, proper_on}
@@ -94,7 +95,7 @@ MayComplete core Naming (Exported size flags padded) = MayExport core (record { 
 MayComplete core Aborting (Answer option kind payload) = MayEnd option kind payload
 MayComplete core (Answering asked asked_with info) (Answer option kind payload) =
     (option ≡ asked)
-    × (MayAnswer asked asked_with info kind payload
+    × (MayAnswer core.profile asked asked_with info kind payload
     ⊎ (core.profile ≡ Wide) × MayTell core.selection asked asked_with kind payload)
 MayComplete core (Transmission export) (Request flags command cookie offset len payload) =
     MayAsk (command == commands.DISC) core cookie offset len
@@ -133,6 +134,7 @@ complete core (Choice id payload) = record core {
   phase = next_phase core.phase (Choice id payload);
   selection = selection_at id payload core.selection;
   agreed = core.structured && agrees id payload core.selection;
+  sizing = sizing_at id payload;
 }
 complete core (Answer option kind payload) =
     record core {
@@ -140,6 +142,7 @@ complete core (Answer option kind payload) =
       structured = core.structured
           || grants_structured option kind;
       selection = selection_after core.phase kind payload core.selection;
+      sizing = sizing_after kind payload core.sizing;
     }
 complete core (Exported size flags padded) = record core { phase = next_phase core.phase (Exported size flags padded) }
 complete core (Request flags command cookie offset len payload) =
@@ -152,6 +155,7 @@ complete core (Request flags command cookie offset len payload) =
       length = len;
       payload = payload;
       contexts = in_force core;
+      sizes = sizes_kept core.sizing;
       replies = [];
     })
 complete core (Simple error cookie payload) = core_with_reply core (Simple error cookie payload)

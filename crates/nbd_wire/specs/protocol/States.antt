@@ -5,7 +5,9 @@ use Rattle.nbd_wire.specs.declared.entry.Entry.{Entry}
 use Rattle.nbd_wire.specs.declared.profile.Profile.{Profile}
 use Rattle.nbd_wire.specs.declared.profile.Profile.TheVariants.{Base}
 use Rattle.nbd_wire.specs.protocol.Contexts.{Context, Selection, no_selection}
+use Rattle.nbd_wire.specs.declared.sizes.Sizing.{Sizing}
 use Rattle.nbd_wire.specs.protocol.Operations.{Exporting, Operation, is_finished}
+use Rattle.nbd_wire.specs.protocol.Sizes.{no_sizing}
 
 -- where the session stands (proto.md, "Newstyle negotiation", "Transmission")
 pub data Phase : Type 0 where
@@ -28,8 +30,8 @@ pub data Phase : Type 0 where
 
 -- the profile that the session is held to, the phase, the server's handshake flags, the client's flags, whether
 -- structured replies are in force, what the last SET_META_CONTEXT selected, whether the option that was chosen last
--- brings that selection in force where it leads into transmission, whether a DISC has completed, and the numbered
--- requests
+-- brings that selection in force where it leads into transmission, what that option asked of block sizes and was told,
+-- whether a DISC has completed, and the numbered requests
 pub record Core : Type 0 where
   pub profile : Profile
   pub phase : Phase
@@ -38,6 +40,7 @@ pub record Core : Type 0 where
   pub structured : Bool
   pub selection : Selection
   pub agreed : Bool
+  pub sizing : Sizing
   pub disconnected : Bool
   pub entries : List Operation
 
@@ -57,6 +60,7 @@ start_of profile = record {
     structured = false;
     selection = no_selection;
     agreed = false;
+    sizing = no_sizing;
     disconnected = false;
     entries = [];
   };

@@ -1,6 +1,8 @@
 -- The tests that part a yes from a no, on the report of a run, and what they answer with.
-use Rattle.std.specs.Prelude.{ℕ, List, Bool, true, false, not, length, count_by}
+use Rattle.std.specs.Prelude.{ℕ, List, Bool, true, false, not, ◌||◌, length, count_by}
 use Rattle.nbd_wire.specs.declared.entry.Entry.{Entry}
+use Rattle.nbd_wire.specs.declared.profile.Profile.{Profile}
+use Rattle.nbd_wire.specs.declared.profile.Profile.TheVariants.{Base, Wide}
 use Rattle.nbd_wire.specs.protocol.Explains.{FitsImage, HasNoWrongByte, Start}
 use Rattle.nbd_wire.specs.protocol.Orders.{HasNoOrderFault}
 use Rattle.nbd_wire.specs.protocol.Reports.{Asked, Report, inside_in, known_in}
@@ -30,6 +32,11 @@ request_count r = length r.asked
 abbrev pub answered_count : Report → ℕ
 answered_count r = count_by (λ (a : Asked). is_answered a.outcome) r.asked
 
--- how many requests were improper
-abbrev pub improper_count : Report → ℕ
-improper_count r = count_by (λ (a : Asked). not a.proper) r.asked
+-- a request that a client should not have sent: an improper one, and in Wide one that is outside of the block sizes
+abbrev pub is_amiss : Profile → Asked → Bool
+is_amiss Base a = not a.proper
+is_amiss Wide a = not a.proper || a.outside
+
+-- how many requests were such
+abbrev pub improper_count : Profile → Report → ℕ
+improper_count profile r = count_by (is_amiss profile) r.asked

@@ -1,7 +1,6 @@
 use Rattle.nbd_explain.proofs.ExplainedLemmas.{map_ok}
 use Rattle.nbd_explain.proofs.OrderlessLemmas.{searched}
 use Rattle.std.proofs.Common.{subst, sym, List, Option, IfOk, ℕ}
-use Rattle.nbd_wire.specs.declared.profile.Profile.{Profile}
 use Rattle.nbd_tool.specs.Starts.{initial_from}
 use Rattle.nbd_explain.specs.Explained.{IsExplained}
 use Rattle.nbd_explain.specs.internal.Lines.{IsFinishOf, OnWritten}
@@ -9,8 +8,8 @@ use Rattle.nbd_explain.proofs.explain.told_of.Goals as goal
 
 pub returns-in-None-clause-told : goal.returns-in-None-clause-told
 returns-in-None-clause-told g c =
-    subst (λ q. IfOk c.told_searching.result (λ told. (profile : Profile) (known : Option (List ℕ)) → IsFinishOf profile known c.args.finished →
-    OnWritten told.0.bytes.items (IsExplained profile g.O.Read.remaining known q (initial_from g.I.Read.remaining c.args.start) told.1))) (sym c.in-None.is)
-    (map_ok c.told_searching.result (λ told of. λ profile known finish.
+    subst (λ q. IfOk c.told_searching.result (λ told. (known : Option (List ℕ)) → IsFinishOf c.args.profile known c.args.finished →
+    OnWritten told.0.bytes.items (IsExplained c.args.profile g.O.Read.remaining known q (initial_from g.I.Read.remaining c.args.start) told.1))) (sym c.in-None.is)
+    (map_ok c.told_searching.result (λ told of. λ known finish.
     searched known (initial_from g.I.Read.remaining c.args.start) c.args.finished finish of.0 of.1 told.1 told.0.bytes.items of.2)
     c.told_searching.ensures.told)

@@ -6,7 +6,7 @@ use Rattle.nbd_explain.proofs.explain.told_with.Goals as goal
 
 pub returns-clause-told : goal.returns-clause-told
 returns-clause-told g c =
-    map_ok c.told_on.result (λ told of. λ profile known finish.
+    map_ok c.told_on.result (λ told of. λ known finish.
     explained known (g.O.Read.remaining c.args.order) c.deref.result.now (initial_from g.I.Read.remaining c.args.start) c.args.finished finish of.0 of.1 told.1 told.0.bytes.items
     (subst (λ e. IfSome (g.O.Read.remaining c.args.order) (λ text. IsOrderText text e)) (sym c.deref.ensures.value) c.in_ok-order.ensures.text) of.2)
     c.told_on.ensures.told

@@ -22,4 +22,4 @@ returns c =
     ]) in
     let same : AreSameBelow (size_of c.args.transcript.now.export) (byte_of c.in_ok-contents-2.contents) (start_byte (initial_of c.args.start)) =
     λ x l. c.in_ok-contents-2.ensures.bytes x (subst (λ (n : ℕ). x < n) sized l) ∙ same_start c.args.start x in
-    report_of_conclusion c.args.transcript.now c.export.ensures.facts c.args.order.now (byte_of c.in_ok-contents-2.contents) (initial_of c.args.start) fits same c.judge-2.result c.judge-2.ensures.judged
+    report_of_conclusion c.args.profile c.args.transcript.now c.export.ensures.facts c.args.order.now (byte_of c.in_ok-contents-2.contents) (initial_of c.args.start) fits same c.judge-2.result c.judge-2.ensures.judged

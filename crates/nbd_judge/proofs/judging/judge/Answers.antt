@@ -24,7 +24,7 @@ replay-requires-clause-well g c = λ i b. (let faultless : IsFaultless c.args.tr
 pub returns-in-Some-2-clause-judged : goal.returns-in-Some-2-clause-judged
 returns-in-Some-2-clause-judged g c =
     let faultless : IsFaultless c.args.transcript.now c.args.order.now = rw c.in_default.is at c.in_ok-entry.ensures in
-    c.wrong_of.ensures.judged c.args.order.now _ faultless (rw c.in-Some-2.is at c.in_ok-request.ensures)
+    c.wrong_of.ensures.judged c.args.profile c.args.order.now _ faultless (rw c.in-Some-2.is at c.in_ok-request.ensures)
 
 pub returns-in-Some-2-clause-unserved : goal.returns-in-Some-2-clause-unserved
 returns-in-Some-2-clause-unserved g c = λ profile items run same. c.wrong_of.ensures.unserved profile (pairs items) c.args.order.now

@@ -1,6 +1,6 @@
-use Rattle.std.proofs.Common.{◌≡◌, ◌≤◌, length, not, take, count_by}
-use Rattle.nbd_wire.specs.protocol.Reports.{Asked}
+use Rattle.std.proofs.Common.{◌≡◌, ◌≤◌, length, take, count_by}
+use Rattle.nbd_wire.specs.protocol.Verdicts.{is_amiss}
 use Rattle.nbd_judge.proofs.tally.improper_count.Given as goal
 
 abbrev pub invariant-loop-i : goal.invariant-loop-i
-invariant-loop-i l = record { count : l.improper ≡ count_by (λ (a : Asked). not a.proper) (take l.i l.transcript.asked); within : l.i ≤ length l.transcript.asked; least : l.improper ≤ l.i }
+invariant-loop-i l = record { count : l.improper ≡ count_by (is_amiss l.profile) (take l.i l.transcript.asked); within : l.i ≤ length l.transcript.asked; least : l.improper ≤ l.i }

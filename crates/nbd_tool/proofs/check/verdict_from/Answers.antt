@@ -10,5 +10,5 @@ returns-clause-verdict g c =
       initial = begun.initial;
       is_known = begun.is_known;
       is_conclusion = c.in_ok-conclude_from.ensures.verdict begun.initial is_read;
-      answers = λ profile items is_run reported. c.in_ok-conclude_from.ensures.answers profile begun.initial items is_read is_run reported;
+      answers = λ items is_run reported. c.in_ok-conclude_from.ensures.answers begun.initial items is_read is_run reported;
     }

@@ -1,9 +1,9 @@
-use Rattle.std.proofs.Common.{◌∙◌, ap, sym, subst}
+use Rattle.std.proofs.Common.{◌∙◌, ap, sym, subst, Some}
 use Rattle.nbd_session.specs.declared.held.Held.{Held}
 use Rattle.nbd_session.specs.declared.fault.SessionFault.TheVariants.{Wire}
 use Rattle.nbd_session.specs.internal.Holdings.{with_expected}
-use Rattle.nbd_session.specs.internal.Steps.{IsExpecting, IsShut, Knows, Stands}
-use Rattle.nbd_session.proofs.steps.ConcludeLemmas.{head_missing, head_shut, is_expecting}
+use Rattle.nbd_session.specs.internal.Steps.{IsExpecting, IsSame, IsShut, Knows, Stands}
+use Rattle.nbd_session.proofs.steps.ConcludeLemmas.{head_missing, head_shut, is_expecting, same_expected}
 use Rattle.nbd_session.proofs.held.Held.settle.Goals as goal
 
 pub conclude-requires : goal.conclude-requires
@@ -19,3 +19,8 @@ returns-in-Ok-None-clause-stands c =
 pub returns-in-Err-clause-shut : goal.returns-in-Err-clause-shut
 returns-in-Err-clause-shut c =
     subst (λ (h : Held). IsShut h (Wire c.args.self.now.taken c.in-Err.fault)) (sym c.in-Err.ensures.same) (head_shut c.args.self.now c.args.side c.requires c.in-Err.fault c.in-Err.ensures.refused)
+
+pub returns-in-Ok-Some-clause-same : goal.returns-in-Ok-Some-clause-same
+returns-in-Ok-Some-clause-same c =
+    same_expected c.args.self.now c.conclude.new.self c.args.side (Some c.in-Ok-Some.expected)
+    (subst (λ h. IsSame h c.conclude.new.self) (c.in-Ok-Some.ensures.kept ∙ ap (with_expected c.args.self.now c.args.side) c.in-Ok-Some.field-0-is) c.conclude.ensures.same)

@@ -9,9 +9,8 @@ pub returns-clause-shown : goal.returns-clause-shown
 returns-clause-shown c = λ export e m status s u some n f p is id.
     let pieces = c.args.self.now.asked.pieces.items in
     exchange_shows_reply export e m c.args.self.now _ c.args.ends false c.args.known s u n f
-    (record { flags = refl; command = refl; cookie = refl; offset = refl; length = refl; payload = refl; proper = refl })
+    (record { flags = refl; command = refl; cookie = refl; offset = refl; length = refl; payload = refl; proper = refl; outside = refl })
     c.first-self.ensures (sym (or-false c.args.self.now.failed)) c.outcome_after-self.ensures
     (pieces_kept export e m pieces pieces s.pieces_are (λ q. absurd (some_reply_yet e.replies _ s.replied some q)) (sym (append-nil pieces) ∙ ap (λ l. pieces ++ l) (sym p)))
-    (told_more export e m c.args.self.now c.args.ends s u n _ c.insert.new.self status is
-    (λ q. c.in_ok-insert.ensures.updates.0 q ∙ ap (λ b. if b then true else contains nat_cmp c.args.self.now.told q) (at-same c.args.id q) ∙ ap (λ k. if k == q then true else contains nat_cmp c.args.self.now.told q) (sym id))
-    c.clear_if.ensures)
+    (told_more export e m c.args.self.now c.args.ends s u n _ status is
+    (λ goes_on q. c.in_ok-tell.ensures.told goes_on q ∙ ap (λ k. if k == q then true else contains nat_cmp c.args.self.now.told q) (sym id)))

@@ -2,6 +2,7 @@ use Rattle.std.proofs.Common.{◌∙◌, ◌==◌, ◌&&◌, [], ap, refl, subst
 use Rattle.nbd_wire.specs.declared.commands.TheConstants as commands
 use Rattle.nbd_wire.specs.declared.message.Message.TheVariants.{Answer, Chunk, Request, Simple}
 use Rattle.nbd_wire.specs.protocol.Options.{agrees, choice_phase, next_phase, selection_after, selection_at}
+use Rattle.nbd_wire.specs.protocol.Sizes.{sizes_kept, sizing_after, sizing_at}
 use Rattle.nbd_wire.specs.protocol.States.{in_force}
 use Rattle.nbd_wire.specs.protocol.Rules.{MayAsk, MayComplete, complete, cookie_of, core_with_reply, core_with_request}
 use Rattle.nbd_state.specs.Completions.{MayTake}
@@ -33,10 +34,10 @@ pub returns-in-Choice-clause-shown : goal.returns-in-Choice-clause-shown
 returns-in-Choice-clause-shown c = on c.choose.result (λ f core r s sn ok.
     let id = c.in-Choice.id in
     shows_same core c.args.message.now _ c.in-Choice.is
-    (shows_chosen c.args.self.now _ core s id c.in-Choice.payload c.chosen-self.result _ c.may_agree-self.result (subst (λ m. MayComplete core core.phase m) c.in-Choice.is ok)
+    (shows_chosen c.args.self.now _ core s id c.in-Choice.payload c.chosen-self.result _ c.may_agree-self.result c.at-self.result (subst (λ m. MayComplete core core.phase m) c.in-Choice.is ok)
     (c.chosen-self.ensures ∙ ap (λ p. phase_shown (choice_phase id p)) c.as_slice-with.ensures)
     (c.may_agree-self.ensures core s ∙ ap (λ p. core.structured && agrees id p core.selection) c.as_slice-with.ensures)
-    (subst (λ p. HasSelection c.choose.new.self (selection_at id p core.selection)) c.as_slice-with.ensures (f core.selection s.selection_is)) refl))
+    (subst (λ p. HasSelection c.choose.new.self (selection_at id p core.selection)) c.as_slice-with.ensures (f core.selection s.selection_is)) (c.at-self.ensures ∙ ap (sizing_at id) c.as_slice-with.ensures) refl))
     c.choose.ensures
 
 pub returns-in-Choice-clause-known : goal.returns-in-Choice-clause-known
@@ -46,11 +47,12 @@ returns-in-Choice-clause-known c = on c.choose.result (λ f core profile log r s
 pub returns-in-Answer-clause-shown : goal.returns-in-Answer-clause-shown
 returns-in-Answer-clause-shown c = on c.answered.result (λ f core r s sn ok.
     shows_same core c.args.message.now _ c.in-Answer.is
-    (shows_answered c.args.self.now _ core s c.in-Answer.option c.in-Answer.kind c.in-Answer.payload c.phase_after_reply-self.result c.grants_structured.result _
+    (shows_answered c.args.self.now _ core s c.in-Answer.option c.in-Answer.kind c.in-Answer.payload c.phase_after_reply-self.result c.grants_structured.result _ c.after-self.result
     (subst (λ m. MayComplete core core.phase m) c.in-Answer.is ok)
     (c.phase_after_reply-self.ensures core.phase c.in-Answer.option s.phase_is ∙ ap (λ p. phase_shown (next_phase core.phase (Answer c.in-Answer.option c.in-Answer.kind p))) c.as_slice-answer.ensures)
     c.grants_structured.ensures
-    (subst (λ p. HasSelection c.answered.new.self (selection_after core.phase c.in-Answer.kind p core.selection)) c.as_slice-answer.ensures (f core.selection core.phase s.selection_is s.phase_is)) refl))
+    (subst (λ p. HasSelection c.answered.new.self (selection_after core.phase c.in-Answer.kind p core.selection)) c.as_slice-answer.ensures (f core.selection core.phase s.selection_is s.phase_is))
+    (c.after-self.ensures ∙ ap (λ p. sizing_after c.in-Answer.kind p c.args.self.now.sizing) c.as_slice-answer.ensures ∙ ap (sizing_after c.in-Answer.kind c.in-Answer.payload) s.sizing_is) refl))
     c.answered.ensures
 
 pub returns-in-Answer-clause-known : goal.returns-in-Answer-clause-known
@@ -86,7 +88,7 @@ returns-in-Request-clause-shown c = on c.request.result (λ f core r s sn ok.
     let a = asked_in core core.phase c.in-Request.flags c.in-Request.command c.in-Request.cookie c.in-Request.offset c.in-Request.length c.in-Request.payload may in
     shows_same core c.args.message.now (Request c.in-Request.flags c.in-Request.command c.in-Request.cookie c.in-Request.offset c.in-Request.length c.in-Request.payload) c.in-Request.is
     (subst (λ p. Shows c.request.new.self (core_with_request (c.in-Request.command == commands.DISC) core
-    (record { flags = c.in-Request.flags; command = c.in-Request.command; cookie = c.in-Request.cookie; offset = c.in-Request.offset; length = c.in-Request.length; payload = p; contexts = in_force core; replies = [] })))
+    (record { flags = c.in-Request.flags; command = c.in-Request.command; cookie = c.in-Request.cookie; offset = c.in-Request.offset; length = c.in-Request.length; payload = p; contexts = in_force core; sizes = sizes_kept core.sizing; replies = [] })))
     c.as_slice.ensures (f core a.0 s a.1 (λ d. subst (λ b. MayAsk b core c.in-Request.cookie c.in-Request.offset c.in-Request.length) d a.2))))
     c.request.ensures.shown
 

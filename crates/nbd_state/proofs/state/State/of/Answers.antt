@@ -12,6 +12,7 @@ returns c = record {
   structured_is = refl;
   selection_is = c.none.ensures;
   agreed_is = refl;
+  sizing_is = c.none-2.ensures;
   disconnected_is = refl;
   asked_with = search rules;
   are_shown = search rules;

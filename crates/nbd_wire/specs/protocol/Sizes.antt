@@ -1,0 +1,81 @@
+-- Block sizes (proto.md, "Block size constraints").
+use Rattle.std.specs.Prelude.{ℕ, zero, suc, List, [], ◌==◌, ◌&&◌, ◌||◌, ◌%◌, not, nat_le, nat_lt, Bool, true, false, if◌then◌else◌, Option, Some, None, drop, count_ones}
+use Rattle.nbd_wire.specs.declared.answers.TheConstants as answers
+use Rattle.nbd_wire.specs.declared.commands.TheConstants as commands
+use Rattle.nbd_wire.specs.declared.infos.TheConstants as infos
+use Rattle.nbd_wire.specs.declared.limits.TheConstants.{LEAST_SIZE, NO_LARGEST_SIZE, PREFERRED_SIZE}
+use Rattle.nbd_wire.specs.declared.options.TheConstants as options
+use Rattle.nbd_wire.specs.declared.payloads.Info.{Info}
+use Rattle.nbd_wire.specs.declared.payloads.Info.TheVariants.{BlockSize}
+use Rattle.nbd_wire.specs.declared.sizes.Sizes.{Sizes}
+use Rattle.nbd_wire.specs.declared.sizes.Sizing.{Sizing}
+use Rattle.nbd_wire.specs.protocol.Payloads.{behind_name, info_of, is_go, number_at}
+
+-- n is a power of 2: one bit of it is set
+abbrev pub is_power : ℕ → Bool
+is_power n = count_ones n == 1
+
+-- 2^32 - 1, which bounds nothing, or a multiple of the least size above 0
+abbrev pub is_bound : (largest least : ℕ) → Bool
+is_bound largest least = (largest == NO_LARGEST_SIZE) || (not (largest == 0) && (largest % least == 0))
+
+-- a server may announce these sizes: the least and the preferred one are powers of 2, the least is 65,536 at most, the
+-- preferred one neither below 512 nor below the least, and the largest is a bound (proto.md, "Block size constraints")
+abbrev pub are_allowed : Sizes → Bool
+are_allowed sizes =
+    is_power sizes.least && nat_le sizes.least LEAST_SIZE
+    && is_power sizes.preferred && nat_le PREFERRED_SIZE sizes.preferred
+    && nat_le sizes.least sizes.preferred
+    && is_bound sizes.largest sizes.least
+
+-- the sizes that an info announces, if it does
+abbrev pub sizes_of : Option Info → Option Sizes
+sizes_of (Some (BlockSize least preferred most)) =
+    Some (record { least = least; preferred = preferred; largest = most })
+sizes_of _ = None
+
+-- one of so many numbers of two bytes is this
+abbrev pub has_number : (wanted count : ℕ) → List ℕ → Bool
+has_number wanted zero bytes = false
+has_number wanted (suc count) bytes = (number_at 0 2 bytes == wanted) || has_number wanted count (drop 2 bytes)
+
+-- INFO or GO data that has its form and asks for block sizes (proto.md, "Option types")
+abbrev pub asks_sizes : List ℕ → Bool
+asks_sizes bytes =
+    is_go bytes && has_number infos.BLOCK_SIZE (number_at 0 2 (behind_name bytes)) (drop 2 (behind_name bytes))
+
+-- no option was chosen
+abbrev pub no_sizing : Sizing
+no_sizing = record { asked = false; told = None }
+
+-- once an option is chosen: GO alone can bring sizes in force, and what came before is forgotten (proto.md, "Block size
+-- constraints")
+abbrev pub sizing_at : (id : ℕ) (payload : List ℕ) → Sizing
+sizing_at id payload = record { asked = (id == options.GO) && asks_sizes payload; told = None }
+
+-- the last sizes that were announced count (this project's choice)
+abbrev pub last_sizes : (now before : Option Sizes) → Option Sizes
+last_sizes (Some sizes) before = Some sizes
+last_sizes None before = before
+
+-- after an answer to that option
+abbrev pub sizing_after : (kind : ℕ) (answer : List ℕ) → Sizing → Sizing
+sizing_after kind answer sizing =
+    if kind == answers.INFO then record sizing { told = last_sizes (sizes_of (info_of answer)) sizing.told } else sizing
+
+-- the sizes that the client has to keep, where that option led into transmission (proto.md, "Block size constraints")
+abbrev pub sizes_kept : Sizing → Option Sizes
+sizes_kept sizing = if sizing.asked then sizing.told else None
+
+-- the payload of a READ or WRITE is longer than the largest size, unless that bounds nothing
+abbrev pub is_too_long : Sizes → (command length : ℕ) → Bool
+is_too_long sizes command length =
+    ((command == commands.READ) || (command == commands.WRITE))
+    && not (sizes.largest == NO_LARGEST_SIZE) && nat_lt sizes.largest length
+
+-- a range breaks the sizes, if there are some: its offset or its length is no multiple of the least, or a payload is
+-- too long (proto.md, "Block size constraints")
+abbrev pub breaks_sizes : Option Sizes → (command offset length : ℕ) → Bool
+breaks_sizes None command offset length = false
+breaks_sizes (Some sizes) command offset length =
+    not (offset % sizes.least == 0) || not (length % sizes.least == 0) || is_too_long sizes command length

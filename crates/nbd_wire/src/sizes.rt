@@ -1,0 +1,166 @@
+//! Block sizes (proto.md, "Block size constraints").
+
+ghost use Rattle.std.specs.Prelude.{◌≡◌, ◌*◌, length};
+ghost use Rattle.nbd_wire.specs.protocol.Payloads.{info_of};
+ghost use Rattle.nbd_wire.specs.protocol.Sizes.{are_allowed, asks_sizes, breaks_sizes, has_number, is_bound, is_too_long, no_sizing, sizes_kept, sizes_of, sizing_after, sizing_at};
+
+use crate::limits::{LEAST_SIZE, NO_LARGEST_SIZE, PREFERRED_SIZE};
+use crate::numbers::u16_at;
+use crate::option_payloads::{go_of, info_of, listed_of};
+use crate::{Info, answers, commands, infos, options};
+
+/// The block sizes that a server announces, in bytes.
+#[derive(Clone, Copy, PartialEq, Eq, Drop)]
+pub struct Sizes {
+    /// Of this an offset and a length are multiples.
+    pub least: u32,
+    /// The size that serves best.
+    pub preferred: u32,
+    /// The longest payload of a READ or a WRITE; 2^32 - 1 bounds nothing.
+    pub largest: u32,
+}
+
+impl Sizes {
+    /// Whether a server may announce them: the least and the preferred one are powers of 2, the least is 65,536 at most, the
+    /// preferred one neither below 512 nor below the least, and the largest is 2^32 - 1 or a multiple of the least above 0.
+    pub fn are_allowed(self) -> bool
+        ensures { result ≡ are_allowed self }
+    {
+        self.least.is_power_of_two()
+            && self.least <= LEAST_SIZE
+            && self.preferred.is_power_of_two()
+            && self.preferred >= PREFERRED_SIZE
+            && self.least <= self.preferred
+            && is_bound(self.largest, self.least)
+    }
+}
+
+// Whether it is a largest size beside this least one.
+fn is_bound(largest: u32, least: u32) -> bool
+    ensures { result ≡ is_bound largest least }
+{
+    largest == NO_LARGEST_SIZE || largest != 0 && largest.is_multiple_of(least)
+}
+
+/// The block sizes that the payload of an INFO answer announces, if it does.
+pub fn sizes_of(answer: &[u8]) -> Option<Sizes>
+    ensures { result ≡ sizes_of (info_of answer.now) }
+{
+    match info_of(answer) {
+        Some(Info::BlockSize {
+            least,
+            preferred,
+            most,
+        }) => Some(Sizes {
+            least,
+            preferred,
+            largest: most,
+        }),
+        _ => None,
+    }
+}
+
+/// Whether the data of INFO or GO has its form and asks for block sizes.
+pub fn asks_sizes(data: &[u8]) -> bool
+    ensures { result ≡ asks_sizes data.now }
+{
+    let Some((_, count)) = go_of(data) else {
+        return false;
+    };
+    let Some((_, rest)) = listed_of(data) else {
+        return false;
+    };
+    has_number(infos::BLOCK_SIZE, count, &rest[2..])
+}
+
+// Whether one of so many numbers of two bytes is this.
+fn has_number(wanted: u16, count: u16, bytes: &[u8]) -> bool
+    requires { length bytes.now ≡ 2 * count }
+    ensures { result ≡ has_number wanted count bytes.now }
+{
+    let mut rest = bytes;
+    let mut left = count;
+    while left > 0 {
+        if u16_at(rest, 0) == wanted {
+            return true;
+        }
+        rest = &rest[2..];
+        left -= 1;
+    }
+    false
+}
+
+/// What the option that was chosen last asked of block sizes, and was told.
+#[derive(Clone, Copy, PartialEq, Eq, Drop)]
+pub struct Sizing {
+    /// It is a GO that asked for them.
+    pub asked: bool,
+    /// The last that came in answer to it.
+    pub told: Option<Sizes>,
+}
+
+impl Sizing {
+    /// Before the first option.
+    pub fn none() -> Sizing
+        ensures { result ≡ no_sizing }
+    {
+        Sizing {
+            asked: false,
+            told: None,
+        }
+    }
+
+    /// Once an option is chosen.
+    pub fn at(option: u32, data: &[u8]) -> Sizing
+        ensures { result ≡ sizing_at option data.now }
+    {
+        Sizing {
+            asked: option == options::GO && asks_sizes(data),
+            told: None,
+        }
+    }
+
+    /// After an answer of this kind to that option.
+    pub fn after(self, kind: u32, answer: &[u8]) -> Sizing
+        ensures { result ≡ sizing_after kind answer.now self }
+    {
+        if kind != answers::INFO {
+            return self;
+        }
+        Sizing {
+            told: sizes_of(answer).or(self.told),
+            ..self
+        }
+    }
+
+    /// The sizes that the client has to keep, where that option led into transmission.
+    pub fn kept(self) -> Option<Sizes>
+        ensures { result ≡ sizes_kept self }
+    {
+        if self.asked { self.told } else { None }
+    }
+}
+
+/// Whether a range breaks the sizes, if there are some: its offset or its length is no multiple of the least, or the payload
+/// of a READ or WRITE is longer than the largest.
+pub fn breaks_sizes(sizes: Option<Sizes>, command: u16, offset: u64, length: u32) -> bool
+    ensures { result ≡ breaks_sizes sizes command offset length }
+{
+    match sizes {
+        Some(sizes) => {
+            !offset.is_multiple_of(u64::from(sizes.least))
+                || !length.is_multiple_of(sizes.least)
+                || is_too_long(sizes, command, length)
+        }
+        None => false,
+    }
+}
+
+// Whether the payload of a READ or WRITE is longer than the largest size, unless that bounds nothing.
+fn is_too_long(sizes: Sizes, command: u16, length: u32) -> bool
+    ensures { result ≡ is_too_long sizes command length }
+{
+    (command == commands::READ || command == commands::WRITE)
+        && sizes.largest != NO_LARGEST_SIZE
+        && length > sizes.largest
+}
