@@ -47,11 +47,13 @@ pub fn sizes_of(answer: &[u8]) -> Option<Sizes>
     ensures { result ≡ sizes_of (info_of answer.now) }
 {
     match info_of(answer) {
-        Some(Info::BlockSize {
-            least,
-            preferred,
-            most,
-        }) => Some(Sizes {
+        Some(
+            Info::BlockSize {
+                least,
+                preferred,
+                most,
+            },
+        ) => Some(Sizes {
             least,
             preferred,
             largest: most,

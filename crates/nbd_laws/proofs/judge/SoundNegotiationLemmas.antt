@@ -258,10 +258,10 @@ good_info profile payload (Some (BlockSize x y z)) is e = (
   is,
   λ s f q. absurd (cc),
   λ w s q. (
-    let allowed : are_allowed (record { least = x; preferred = y; largest = z }) ≡ true = subst (λ p. (not (is_wide p) || are_allowed (record { least = x; preferred = y; largest = z })) ≡ true) w e in
-    let same : record { least = x; preferred = y; largest = z } ≡ s = cc in
-    subst (λ t. are_allowed t ≡ true) same allowed
-  ),
+      let allowed : are_allowed (record { least = x; preferred = y; largest = z }) ≡ true = subst (λ p. (not (is_wide p) || are_allowed (record { least = x; preferred = y; largest = z })) ≡ true) w e in
+      let same : record { least = x; preferred = y; largest = z } ≡ s = cc in
+      subst (λ t. are_allowed t ≡ true) same allowed
+      ),
 )
 good_info profile payload (Some (Other k)) is e = (Other k, is, λ s f q. absurd (cc), λ w s q. absurd (cc))
 

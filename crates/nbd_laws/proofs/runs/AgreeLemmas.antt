@@ -323,7 +323,7 @@ carries {o = o} q (final s m b {items = items} is w) machine js ob st past none 
     past_step machine.core (get machine.rests s) b s m [] (subst (Past (get machine.rests s)) is (past s)) i0.0.sided i0.0.sendable starts later (i0.0.encodes ∙ sym (append-nil ((get machine.rests s).bytes ++ b ∷ []))) (tells_here machine s b (Completes s m ∷ items) none) in
     let next : Machine = record { core = complete machine.core m; rests = put machine.rests s (record (rest_with machine.core (get machine.rests s) b) { bytes = [] }); messages = machine.messages ++ m ∷ [] } in (
       may_with q machine.core machine.core.phase m (λ t. absurd (whole_told machine.core (rest_with machine.core (get machine.rests s) b) s m starts later i0.0.encodes p t))
-      (λ f. false_here machine.core machine.core.phase (rest_with machine.core (get machine.rests s) b).bytes s m i0.0.sided i0.0.sendable i0.0.encodes ob.1.0 (tells_here machine s b (Completes s m ∷ items) none) f) ob.1.0,
+          (λ f. false_here machine.core machine.core.phase (rest_with machine.core (get machine.rests s) b).bytes s m i0.0.sided i0.0.sendable i0.0.encodes ob.1.0 (tells_here machine s b (Completes s m ∷ items) none) f) ob.1.0,
       carries q w next js ob.1.1 (in_step_completed machine o s m _ (machine.messages ++ m ∷ []) st i0.0.sided ob.1.0 refl) (past_with machine.rests o s (record (rest_with machine.core (get machine.rests s) b) { bytes = [] }) Idle past tt)
           (subst (λ x. TellsNone x items) (led_whole machine s b m) (λ before more e. none (Byte s b ∷ Completes s m ∷ before) more (ap (λ l. Byte s b ∷ Completes s m ∷ l) e))),
     )
