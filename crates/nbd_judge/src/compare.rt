@@ -11,7 +11,7 @@ ghost use Rattle.nbd_judge.specs.internal.Servable.{IsServable};
 ghost use Rattle.nbd_state.specs.Showing.{outcome_of};
 
 use crate::least::lesser;
-use crate::sorting::{SortedReads, by_offset, meeting};
+use crate::sorting::{SortedReads, by_offset, keep_sorted, meeting};
 use nbd_export::Contents;
 use nbd_session::{Asked, Outcome};
 use nbd_state::Span;
@@ -140,13 +140,8 @@ fn part_difference<'a, C: Contents>(
     if let [piece] = pieces {
         return Ok(piece_difference_within(piece, part, contents));
     }
-    if let Some(sorted) = reads.get(&request) {
-        return Ok(difference_within(sorted, part, contents));
-    }
-    let sorted = by_offset(alloc, pieces)?;
-    let found = difference_within(&sorted, part, contents);
-    reads.insert(request, sorted)?;
-    Ok(found)
+    keep_sorted(alloc, request, pieces, reads)?;
+    Ok(difference_within(&reads[&request], part, contents))
 }
 
 // The least offset in a part at which one of these pieces differs from the contents.

@@ -1,14 +1,16 @@
 //! The pass over the order that compares and changes contents.
 
-ghost use Rattle.std.specs.Prelude.{◌≡◌, ℕ, IfOk, MatchOption};
+ghost use Rattle.std.specs.Prelude.{◌≡◌, ℕ, IfOk, MatchOption, Some};
 ghost use Rattle.nbd_laws.specs.Soundness.{IsSoundReport};
 ghost use Rattle.nbd_wire.specs.protocol.Orders.{IsBadPart};
-ghost use Rattle.nbd_wire.specs.protocol.Reports.{inside_in};
+ghost use Rattle.nbd_wire.specs.protocol.Reports.{Asked, asked_at, inside_in};
+ghost use Rattle.nbd_judge.specs.internal.Pieces.{IsSortedAt};
 ghost use Rattle.nbd_judge.specs.Servable.{size_of};
 ghost use Rattle.nbd_judge.specs.Verdicts.{FirstWrongFrom, HasWrongFrom};
 
 use crate::change::change;
 use crate::compare::wrong;
+use crate::sorting::SortedReads;
 use nbd_export::Contents;
 use nbd_session::Transcript;
 use nbd_wire::Entry;
@@ -33,10 +35,29 @@ pub fn replay<C: Contents>(
         (λ p. FirstWrongFrom transcript.now order.now (C.byte contents.old) p.0 p.1)) }
 {
     let mut reads = BTreeMap::new(alloc);
+    first_wrong(alloc, transcript, order, &mut reads, contents)
+}
+
+// The same, with what is kept of the requests that are served in parts.
+fn first_wrong<'a, C: Contents>(
+    alloc: Global,
+    transcript: &'a Transcript,
+    order: &[Entry],
+    reads: &mut SortedReads<'a>,
+    contents: &mut C,
+) -> Result<Option<(u64, u64)>, AllocError>
+    requires well { (i : ℕ) → IsBadPart (inside_in transcript.now) order.now i → ⊥ }
+    requires sound { IsSoundReport transcript.now }
+    requires sized { C.size contents.old ≡ size_of transcript.now.export }
+    requires sorted { (k : ℕ) (a : Asked) → asked_at k transcript.now.asked ≡ Some a → IsSortedAt reads.old k a.pieces }
+    ensures { IfOk result (λ found. MatchOption found ((i : ℕ) →
+        HasWrongFrom transcript.now order.now (C.byte contents.old) i → ⊥)
+        (λ p. FirstWrongFrom transcript.now order.now (C.byte contents.old) p.0 p.1)) }
+{
     for i in 0..order.len() {
         let entry = order[i];
         if let Some(one) = transcript.asked(entry.request) {
-            let found = wrong(alloc, entry, one, &mut reads, contents)?;
+            let found = wrong(alloc, entry, one, reads, contents)?;
             if let Some(offset) = found {
                 return Ok(Some((entry.request, offset)));
             }

@@ -1,8 +1,10 @@
 //! The pieces of READs in the order of their offsets.
 
-ghost use Rattle.std.specs.Prelude.{◌≡◌, ◌+◌, ◌-◌, IfOk, IsTrue, map, nat_le, nat_lt};
+ghost use Rattle.std.specs.Prelude.{◌≡◌, ◌+◌, ◌-◌, IfOk, IsSome, IsTrue, OnOk, map, nat_le, nat_lt};
+ghost use Rattle.std.specs.BTreeMap.{get};
+ghost use Rattle.std.specs.Ordering.{nat_cmp};
 ghost use Rattle.nbd_wire.specs.protocol.Pieces.{is_in, piece_offset, piece_size};
-ghost use Rattle.nbd_judge.specs.internal.Pieces.{AreApart, AreInOrder, AreSorted, AreThose};
+ghost use Rattle.nbd_judge.specs.internal.Pieces.{AddsSorted, AreApart, AreInOrder, AreSorted, AreThose};
 
 use nbd_state::{Span, ends_by};
 use nbd_wire::{Part, Piece};
@@ -21,6 +23,23 @@ pub fn by_offset(alloc: Global, pieces: &[Piece]) -> Result<Vec<&Piece>, AllocEr
     sorted.retain(|piece| Span::of(piece).size > 0);
     sorted.sort_by_key(|piece| Span::of(piece).offset)?;
     Ok(sorted)
+}
+
+/// Has the pieces of a request in the order of their offsets, if it does not have them yet.
+pub fn keep_sorted<'a>(
+    alloc: Global,
+    request: u64,
+    pieces: &'a [Piece],
+    reads: &mut SortedReads<'a>,
+) -> Result<(), AllocError>
+    requires apart { AreApart pieces.now }
+    ensures adds { OnOk result (AddsSorted reads.old reads.new request pieces.now) }
+    ensures there { OnOk result (IsSome (get nat_cmp reads.new request)) }
+{
+    if !reads.contains_key(&request) {
+        reads.insert(request, by_offset(alloc, pieces)?)?;
+    }
+    Ok(())
 }
 
 /// Those of the pieces that meet a part. The cost is the logarithm of their number.

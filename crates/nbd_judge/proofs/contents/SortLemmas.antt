@@ -5,7 +5,8 @@ use Rattle.std.proofs.lemmas.List.{length-map}
 use Rattle.std.proofs.lemmas.List.Sums.{sum_by-cons}
 use Rattle.std.proofs.lemmas.List.Sorted.{Contains-permutation, IsPermutation-map, IsPermutation-sym, sum_by-IsPermutation}
 use Rattle.std.proofs.lemmas.Option.{get_or_from_slice_get, slice_get_within, slice_get-get_or}
-use Rattle.std.specs.BTreeMap.{BTreeMap}
+use Rattle.std.specs.BTreeMap.{BTreeMap, get}
+use Rattle.std.specs.Ordering.{nat_cmp}
 use Rattle.std.specs.List.{Contains}
 use Rattle.std.specs.List.Sorted.{IsNonDecreasingBy, IsPartitionPoint, IsPermutation}
 use Rattle.std.specs.declared.vec.Vec.{Vec}
@@ -322,4 +323,12 @@ kept_sorted {A} old new asked k one told adds kept j a at v e = elim (adds j v e
   | inl before ↦ kept j a at v before
   | inr here ↦ (let same : Some one ≡ Some a = sym told ∙ ap (λ n. asked_at n asked) (sym here.0) ∙ at in let is : one ≡ a = cc in
       subst (λ (b : Asked). AreSorted b.pieces (seen v.items)) is here.1)
+]
+
+-- what a map has of a request, once it has these pieces, are they
+pub sorted_there : {A : Type 0} (old new : BTreeMap ℕ (Vec (Bor Piece) A)) (k : ℕ) (pieces : List Piece) (v : Vec (Bor Piece) A) → IsSortedAt old k pieces
+    → AddsSorted old new k pieces → get nat_cmp new k ≡ Some v → AreSorted pieces (seen v.items)
+sorted_there {A} old new k pieces v kept adds at = elim (adds k v at) [
+  | inl before ↦ kept v before
+  | inr here ↦ here.1
 ]

@@ -4,7 +4,7 @@ use Rattle.nbd_wire.specs.protocol.Verdicts.{IsFaultless}
 use Rattle.std.proofs.Common.{MatchOption, is_some, ◌≡◌, ℕ, zero, suc, ◌+◌, ◌-◌, ◌<◌, ◌≤◌, ◌==◌, ◌&&◌, ◌⊎◌, inl, inr, List, [], ◌∷◌, ◌++◌, length, refl, sym, ◌∙◌, ap, subst, Option, Some, None, Result, Ok, Err, Bool, true, false, if◌then◌else◌, arith, nat_le, nat_lt, min, eqb-true, slice_get, slice_set, take, replicate, add-one, ◌||◌, not}
 use Rattle.std.proofs.lemmas.Bool.{leb-true, le-leb, lt-ltb, ltb-true, ltb-false}
 use Rattle.nbd_wire.specs.declared.entry.Entry.{Entry}
-use Rattle.nbd_wire.specs.protocol.Entries.{HasBadPart, IsTwice, IsWhollyServed, MayServe, NamesWhole, inside, numbers, inside_of}
+use Rattle.nbd_wire.specs.protocol.Entries.{HasBadPart, IsTwice, IsWhollyServed, MayServe, NamesWhole, numbers, inside_of}
 use Rattle.nbd_wire.specs.declared.commands.TheConstants as commands
 use Rattle.nbd_wire.specs.protocol.Operations.{Exporting, has_range}
 use Rattle.nbd_wire.specs.protocol.Orders.{HasReplyStarted, IsBad, IsLate, IsUnserved, NamesNone}

@@ -1,21 +1,24 @@
-use Rattle.std.proofs.Common.{◌≡◌, ℕ, Option, Some, Bor, List, length, map, rules, subst}
-use Rattle.std.specs.BTreeMap.{get}
-use Rattle.std.specs.Ordering.{nat_cmp}
+use Rattle.std.proofs.Common.{ℕ, Option, Bor, List, length, map, rules, subst}
 use Rattle.nbd_export.specs.Ranges.{IsLeast}
 use Rattle.nbd_wire.specs.declared.payloads.Piece.{Piece}
-use Rattle.nbd_judge.specs.internal.Pieces.{DiffersInOneWithin}
-use Rattle.nbd_judge.proofs.contents.SortLemmas.{least_in_part}
+use Rattle.nbd_judge.specs.internal.Pieces.{AreInOrder, AreInside, DiffersInOneWithin}
+use Rattle.nbd_judge.proofs.contents.SortLemmas.{inside_those, least_in_part, sorted_there}
 use Rattle.nbd_judge.proofs.compare.part_difference.Goals as goal
 
-pub returns-in-Some-clause-least : goal.returns-in-Some-clause-least
-returns-in-Some-clause-least g c =
-    let byte : ℕ → Option ℕ = g.C.Contents.byte c.args.contents.now in
-    let at : get nat_cmp c.args.reads.now c.args.request ≡ Some c.in-Some.sorted.now = search rules in
-    least_in_part byte c.args.part c.args.pieces.now c.in-Some.sorted.now.items c.difference_within.result (c.requires.sorted c.in-Some.sorted.now at)
-    (subst (λ (l : List (Bor Piece)). IsLeast (DiffersInOneWithin byte (map (λ p. p.now) l) (length l) c.args.part) c.difference_within.result) c.deref.ensures.value c.difference_within.ensures.least)
+pub difference_within-requires-clause-inside : goal.difference_within-requires-clause-inside
+difference_within-requires-clause-inside g c =
+    let s = sorted_there c.args.reads.now c.keep_sorted.new.reads c.args.request c.args.pieces.now c.index.result.now c.requires.sorted c.in_ok-keep_sorted.ensures.adds c.index.ensures in
+    subst (λ (l : List (Bor Piece)). AreInside (g.C.Contents.size c.args.contents.now) (map (λ p. p.now) l)) (search rules)
+    (inside_those (λ x. Unit {0}) (g.C.Contents.size c.args.contents.now) c.args.pieces.now (map (λ p. p.now) c.index.result.now.items) s.those c.requires.inside)
+
+pub difference_within-requires-clause-in_order : goal.difference_within-requires-clause-in_order
+difference_within-requires-clause-in_order g c =
+    let s = sorted_there c.args.reads.now c.keep_sorted.new.reads c.args.request c.args.pieces.now c.index.result.now c.requires.sorted c.in_ok-keep_sorted.ensures.adds c.index.ensures in
+    subst (λ (l : List (Bor Piece)). AreInOrder (map (λ p. p.now) l)) (search rules) s.in_order
 
 pub returns-clause-least : goal.returns-clause-least
 returns-clause-least g c =
     let byte : ℕ → Option ℕ = g.C.Contents.byte c.args.contents.now in
-    least_in_part byte c.args.part c.args.pieces.now c.in_ok-sorted.sorted.items c.difference_within-found.result c.in_ok-sorted.ensures
-    (subst (λ (l : List (Bor Piece)). IsLeast (DiffersInOneWithin byte (map (λ p. p.now) l) (length l) c.args.part) c.difference_within-found.result) c.deref-2.ensures.value c.difference_within-found.ensures.least)
+    let s = sorted_there c.args.reads.now c.keep_sorted.new.reads c.args.request c.args.pieces.now c.index.result.now c.requires.sorted c.in_ok-keep_sorted.ensures.adds c.index.ensures in
+    least_in_part byte c.args.part c.args.pieces.now c.index.result.now.items c.difference_within.result s
+    (subst (λ (l : List (Bor Piece)). IsLeast (DiffersInOneWithin byte (map (λ p. p.now) l) (length l) c.args.part) c.difference_within.result) (search rules) c.difference_within.ensures.least)

@@ -5,7 +5,7 @@ use Rattle.nbd_export.specs.Ranges.{AreSameBelow}
 use Rattle.nbd_judge.specs.Folding.{contents_after}
 use Rattle.nbd_judge.specs.internal.Pieces.{IsSortedAt}
 use Rattle.nbd_judge.specs.Verdicts.{HasWrongFrom}
-use Rattle.nbd_judge.proofs.replay.replay.Given as goal
+use Rattle.nbd_judge.proofs.replay.first_wrong.Given as goal
 
 abbrev pub invariant-loop-i : goal.invariant-loop-i
 invariant-loop-i g l = record {

@@ -11,8 +11,8 @@ use Rattle.nbd_judge.proofs.contents.EffectLemmas.{next, none_through, served}
 use Rattle.nbd_judge.proofs.contents.PartLemmas.{well_placed}
 use Rattle.nbd_judge.proofs.contents.SortLemmas.{kept_sorted}
 use Rattle.nbd_judge.proofs.verdicts.SoundLemmas.{servable}
-use Rattle.nbd_judge.proofs.replay.replay.Goals as goal
-use Rattle.nbd_judge.proofs.replay.replay.Goals.{in-Some+in_ok-found+in_default-found+in_ok-change, in_default}
+use Rattle.nbd_judge.proofs.replay.first_wrong.Goals as goal
+use Rattle.nbd_judge.proofs.replay.first_wrong.Goals.{in-Some+in_ok-found+in_default-found+in_ok-change, in_default}
 
 pub wrong-requires-clause-sorted : goal.wrong-requires-clause-sorted
 wrong-requires-clause-sorted g c =
