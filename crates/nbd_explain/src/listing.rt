@@ -61,7 +61,25 @@ pub fn run_names_of<C: BufRead + Drop, W: Write>(
     ensures left { IfErr result (KeepsUnread (W.contents out.old) (W.contents out.new)) }
 {
     let mut recorder = Recorder::of(alloc, profile);
-    let session = session_over(alloc, profile, capture, &mut recorder)?;
+    write_recorded(alloc, profile, capture, &mut recorder, out)
+}
+
+// The same, with what keeps the capture's bytes.
+fn write_recorded<C: BufRead + Drop, W: Write>(
+    alloc: Global,
+    profile: Profile,
+    capture: C,
+    recorder: &mut Recorder,
+    out: &mut W,
+) -> Result<bool, RunFault>
+    ensures answer { IfOk result
+        (λ yes. Settles profile (C.remaining capture) yes (W.contents out.old) (W.contents out.new)) }
+    ensures well_formed { OnOk result (IsCapture (C.remaining capture)) }
+    ensures limited { OnOk result (IsWithinLimit (C.remaining capture)) }
+    ensures cause { IfErr result (IsShowCause (C.remaining capture)) }
+    ensures left { IfErr result (KeepsUnread (W.contents out.old) (W.contents out.new)) }
+{
+    let session = session_over(alloc, profile, capture, recorder)?;
     write_names(alloc, session, &mut recorder.story, out)
 }
 

@@ -1,5 +1,5 @@
 use Rattle.nbd_explain.proofs.SettledLemmas.{cause_of, settled_of}
-use Rattle.nbd_explain.proofs.listing.run_names_of.Goals as goal
+use Rattle.nbd_explain.proofs.listing.write_recorded.Goals as goal
 
 pub returns-clause-answer : goal.returns-clause-answer
 returns-clause-answer g c =
