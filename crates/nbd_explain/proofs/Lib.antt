@@ -1,4 +1,5 @@
 pub mod ExplainedLemmas
+pub mod FateLemmas
 pub mod OrderingLemmas
 pub mod OrderlessLemmas
-pub mod SettledLemmas
+pub mod NamedLemmas

@@ -1,7 +1,7 @@
 pub mod Answering
 pub mod Arrival
 pub mod Explained
+pub mod Named
 pub mod Ordering
 pub mod Orderless
-pub mod Settled
 pub mod internal

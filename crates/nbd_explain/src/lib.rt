@@ -4,6 +4,7 @@
 pub mod answer;
 mod arrival;
 mod explain;
+mod fates;
 mod found;
 mod listing;
 pub mod ordering;

@@ -1,23 +1,26 @@
 //! The command `show --names`, over any reader and writer.
 
-ghost use Rattle.std.specs.Prelude.{◌≡◌, ◌⊎◌, ℕ, List, Option, IfErr, IfOk, OnOk};
+ghost use Rattle.std.specs.Prelude.{◌≡◌, ◌⊎◌, ℕ, List, Option, Some, IfErr, IfOk, OnOk};
+ghost use Rattle.nbd_wire.specs.declared.message.Message.{Message};
 ghost use Rattle.nbd_wire.specs.declared.profile.Profile.{Profile};
 ghost use Rattle.nbd_wire.specs.declared.profile.Profile.TheVariants.{Base};
+ghost use Rattle.nbd_state.specs.declared.asked.Outcome.TheVariants.{Failure};
 ghost use Rattle.nbd_tool.specs.declared.fault.RunFault.TheVariants.{Memory, Write};
 ghost use Rattle.nbd_tool.specs.Ends.{IsOverText};
 ghost use Rattle.nbd_tool.specs.Runs.{IsCapture};
 ghost use Rattle.nbd_tool.specs.Shown.{IsShowCause};
 ghost use Rattle.nbd_tool.specs.Starts.{IsWithinLimit};
-ghost use Rattle.nbd_explain.specs.Settled.{KeepsUnread, Settles};
-ghost use Rattle.nbd_explain.specs.internal.Lines.{AppendsSome};
+ghost use Rattle.nbd_explain.specs.Named.{KeepsUnread, NamesAll};
+ghost use Rattle.nbd_explain.specs.internal.Fates.{AddsEnding, AppendsLine, AppendsNames, IsLine, fates_behind};
 
+use crate::fates::fates_of;
 use crate::reading::Recorder;
 use nbd_capture::write_whole;
-use nbd_session::Session;
-use nbd_story::{Story, Told, told_line};
+use nbd_session::{Outcome, Session};
+use nbd_story::{Story, Told, told_error, told_words};
 use nbd_tool::{RunFault, session_over, write_end};
 use nbd_wire::{Message, Profile};
-use std::alloc::Global;
+use std::alloc::{AllocError, Global};
 use std::io::{BufRead, Write};
 
 /// Reads a capture text to its end, and writes each message that its session of the profile `Base` accepts in words, a line
@@ -31,8 +34,8 @@ pub fn run_names<C: BufRead + Drop, W: Write>(
     capture: C,
     out: &mut W,
 ) -> Result<bool, RunFault>
-    ensures answer { IfOk result
-        (λ yes. Settles Base (C.remaining capture) yes (W.contents out.old) (W.contents out.new)) }
+    ensures written { IfOk result
+        (λ yes. NamesAll Base (C.remaining capture) yes (W.contents out.old) (W.contents out.new)) }
     ensures well_formed { OnOk result (IsCapture (C.remaining capture)) }
     ensures limited { OnOk result (IsWithinLimit (C.remaining capture)) }
     ensures cause { IfErr result (IsShowCause (C.remaining capture)) }
@@ -53,8 +56,8 @@ pub fn run_names_of<C: BufRead + Drop, W: Write>(
     capture: C,
     out: &mut W,
 ) -> Result<bool, RunFault>
-    ensures answer { IfOk result
-        (λ yes. Settles profile (C.remaining capture) yes (W.contents out.old) (W.contents out.new)) }
+    ensures written { IfOk result
+        (λ yes. NamesAll profile (C.remaining capture) yes (W.contents out.old) (W.contents out.new)) }
     ensures well_formed { OnOk result (IsCapture (C.remaining capture)) }
     ensures limited { OnOk result (IsWithinLimit (C.remaining capture)) }
     ensures cause { IfErr result (IsShowCause (C.remaining capture)) }
@@ -72,8 +75,8 @@ fn write_recorded<C: BufRead + Drop, W: Write>(
     recorder: &mut Recorder,
     out: &mut W,
 ) -> Result<bool, RunFault>
-    ensures answer { IfOk result
-        (λ yes. Settles profile (C.remaining capture) yes (W.contents out.old) (W.contents out.new)) }
+    ensures written { IfOk result
+        (λ yes. NamesAll profile (C.remaining capture) yes (W.contents out.old) (W.contents out.new)) }
     ensures well_formed { OnOk result (IsCapture (C.remaining capture)) }
     ensures limited { OnOk result (IsWithinLimit (C.remaining capture)) }
     ensures cause { IfErr result (IsShowCause (C.remaining capture)) }
@@ -90,8 +93,8 @@ fn write_names<W: Write>(
     story: &mut Story,
     out: &mut W,
 ) -> Result<bool, RunFault>
-    ensures answer { IfOk result (λ yes. (profile : Profile) (known : Option (List ℕ)) → IsOverText profile known session →
-        Settles profile known yes (W.contents out.old) (W.contents out.new)) }
+    ensures written { IfOk result (λ yes. (profile : Profile) (known : Option (List ℕ)) → IsOverText profile known session →
+        NamesAll profile known yes (W.contents out.old) (W.contents out.new)) }
     ensures cause { IfErr result (λ fault. (profile : Profile) (known : Option (List ℕ)) → IsOverText profile known session →
         IsShowCause known fault) }
     ensures left { IfErr result (KeepsUnread (W.contents out.old) (W.contents out.new)) }
@@ -107,26 +110,99 @@ fn write_story<W: Write>(
     story: &mut Story,
     out: &mut W,
 ) -> Result<(), RunFault>
-    ensures appends { OnOk result (AppendsSome (W.contents out.old) (W.contents out.new)) }
+    ensures appends { OnOk result (AppendsNames messages.now (W.contents out.old) (W.contents out.new)) }
     ensures fault { IfErr result (λ fault. (fault ≡ Write) ⊎ (fault ≡ Memory)) }
 {
     story.tell(messages)?;
-    for told in &story.told {
-        write_told(alloc, told, story, out)?;
+    write_lines(alloc, fates_of(alloc, messages)?, story, out)
+}
+
+// Writes a line for each message, whose fates these are, the last one first.
+fn write_lines<W: Write>(
+    alloc: Global,
+    fates: Vec<Option<Outcome>>,
+    story: &Story,
+    out: &mut W,
+) -> Result<(), RunFault>
+    ensures appends { OnOk result ((messages : List Message) → fates.items ≡ fates_behind messages →
+        AppendsNames messages (W.contents out.old) (W.contents out.new)) }
+    ensures fault { IfErr result (λ fault. (fault ≡ Write) ⊎ (fault ≡ Memory)) }
+{
+    for place in 0..fates.len() {
+        let fate = fates[fates.len() - 1 - place];
+        write_line(alloc, story.told.get(place), fate, story, out)?;
     }
     Ok(())
 }
 
 // Writes the line of a message.
-fn write_told<W: Write>(
+fn write_line<W: Write>(
     alloc: Global,
-    told: &Told,
+    told: Option<&Told>,
+    fate: Option<Outcome>,
     story: &Story,
     out: &mut W,
 ) -> Result<(), RunFault>
-    ensures appends { OnOk result (AppendsSome (W.contents out.old) (W.contents out.new)) }
+    ensures appends { OnOk result (AppendsLine fate (W.contents out.old) (W.contents out.new)) }
     ensures fault { IfErr result (λ fault. (fault ≡ Write) ⊎ (fault ≡ Memory)) }
 {
-    let line = told_line(alloc, told, story)?;
+    let line = line_of(alloc, told, fate, story)?;
     Ok(write_whole(out, line.as_bytes())?)
+}
+
+// The line of a message: its words, and what became of it.
+fn line_of(
+    alloc: Global,
+    told: Option<&Told>,
+    fate: Option<Outcome>,
+    story: &Story,
+) -> Result<String, AllocError>
+    ensures { IfOk result (λ line. IsLine fate line.bytes.items) }
+{
+    match told {
+        Some(told) => ended(
+            told_words(alloc, told, story)?,
+            fate,
+            told_error(alloc, told, story),
+        ),
+        None => ended(String::new(alloc), fate, Ok(String::new(alloc))),
+    }
+}
+
+// Words with what became of their message, and the end of the line. The error is said of a failure.
+fn ended(
+    words: String,
+    fate: Option<Outcome>,
+    error: Result<String, AllocError>,
+) -> Result<String, AllocError>
+    ensures { IfOk result (λ line. IsLine fate line.bytes.items) }
+{
+    let mut line = words;
+    push_fate(&mut line, fate, error)?;
+    line.push_str("\n")?;
+    Ok(line)
+}
+
+// Adds what became of a message.
+fn push_fate(
+    line: &mut String,
+    fate: Option<Outcome>,
+    error: Result<String, AllocError>,
+) -> Result<(), AllocError>
+    ensures { OnOk result (AddsEnding fate line.old.bytes.items line.new.bytes.items) }
+{
+    match fate {
+        None => Ok(()),
+        Some(Outcome::Success) => line.push_str(": success"),
+        Some(Outcome::Pending) => line.push_str(": pending"),
+        Some(Outcome::Failure) => push_error(line, &error?),
+    }
+}
+
+// Adds that a request failed.
+fn push_error(line: &mut String, error: &str) -> Result<(), AllocError>
+    ensures { OnOk result (AddsEnding (Some Failure) line.old.bytes.items line.new.bytes.items) }
+{
+    line.push_str(": failure, ")?;
+    line.push_str(error)
 }

@@ -35,7 +35,7 @@ mod worth;
 mod zeroes;
 
 pub use explanation::{Sources, explanation_of};
-pub use messages::told_line;
+pub use messages::{told_error, told_words};
 pub use recording::Recording;
 pub use refutation::Contest;
 pub use story::{Story, Told};

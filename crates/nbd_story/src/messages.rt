@@ -10,32 +10,25 @@ use nbd_wire::{
 };
 use std::alloc::{AllocError, Global};
 
-/// A line with a message in words; of a request with what became of it.
-pub fn told_line(alloc: Global, told: &Told, story: &Story) -> Result<String, AllocError> {
-    let text = Text::new(alloc)
+/// A message in words, behind the letter of its sender.
+pub fn told_words(alloc: Global, told: &Told, story: &Story) -> Result<String, AllocError> {
+    Text::new(alloc)
         .say(letter_of(told.side))
         .say(" ")
-        .message(told, story);
-    let text = match told.side {
-        Side::Client => text.outcome(story.request_in(told)),
-        Side::Server => text,
+        .message(told, story)
+        .finish()
+}
+
+/// The error that a request's reply told.
+pub fn told_error(alloc: Global, told: &Told, story: &Story) -> Result<String, AllocError> {
+    let error = match story.request_in(told) {
+        Some(request) => request.error,
+        None => 0,
     };
-    text.end().finish()
+    Text::new(alloc).error(error).finish()
 }
 
 impl Text {
-    // What became of a request.
-    fn outcome(self, request: Option<&Request>) -> Text {
-        match request {
-            Some(request) => match request.finished {
-                None => self.say(": pending"),
-                Some(_) if request.error == 0 => self.say(": success"),
-                Some(_) => self.say(": failure, ").error(request.error),
-            },
-            None => self,
-        }
-    }
-
     /// A message, and the request that it is or answers.
     pub fn message(self, told: &Told, story: &Story) -> Text {
         match &told.brief {

@@ -21,8 +21,8 @@ use Rattle.nbd_lines.specs.declared.output.OutputFault.TheVariants as output
 use Rattle.nbd_tool.specs.Faults.{of_output}
 use Rattle.nbd_tool.specs.Runs.{IsCapture, flat_of}
 use Rattle.nbd_tool.specs.Ends.{IsOver, IsOverText, IsWireAt, LeavesLast, is_accepted, last_line}
-use Rattle.nbd_tool.specs.Shown.{IsOutput, IsShowCause, Leads, LeavesShown, WritesAll, WritesSome, WritesMessages}
-use Rattle.nbd_tool.specs.Shown.IsOutput.{accepted, refused}
+use Rattle.nbd_tool.specs.Shown.{IsShowCause, IsShown, Leads, LeavesShown, WritesAll, WritesSome, WritesMessages}
+use Rattle.nbd_tool.specs.Shown.IsShown.{accepted, refused}
 use Rattle.nbd_tool.proofs.OverLemmas.{took_all}
 
 -- the messages of a session that is over are those of a prefix of the capture
@@ -31,7 +31,7 @@ leads capture r over run = record { rest = over.left; client = r.client; server 
 
 -- what a session shows that ends in this way
 abbrev EndsAs : Profile → List Pair → SessionView → Option SessionFault → Type 0
-EndsAs profile capture r ended = IsOutput profile capture (is_accepted ended) (message_lines r.messages ++ last_line ended)
+EndsAs profile capture r ended = IsShown profile capture (is_accepted ended) r.messages (last_line ended)
 
 refused_at : {profile : Profile} (capture : List Pair) (r : SessionView) (at : ℕ) (fault : WireFault) → IsOver profile capture r → IsOfRun r → at ≡ bytes_taken r → IsWireFaultOf profile capture r.messages at fault → EndsAs profile capture r (Some (session.Wire at fault))
 refused_at {profile} capture r at fault over run e why =
@@ -74,7 +74,8 @@ module _ {profile : Profile} (known : Option (List ℕ)) (r : SessionView) (sess
     chunks = session.chunks;
     is_text = session.is_text;
     yes = is_accepted (fault_at_end r);
-    lines = message_lines r.messages ++ last_line (fault_at_end r);
+    messages = r.messages;
+    last = last_line (fault_at_end r);
     is_shown = told;
     appended = a;
   }
@@ -103,8 +104,9 @@ module _ {profile : Profile} (known : Option (List ℕ)) (r : SessionView) (sess
   all_shown old mid new ended (Ok answered) same first answer last = record {
     chunks = session.chunks;
     is_text = session.is_text;
-    lines = message_lines r.messages ++ last_line (fault_at_end r);
-    is_shown = subst (λ y. IsOutput profile (flat_of session.chunks) y (message_lines r.messages ++ last_line (fault_at_end r))) (sym (answer ∙ ap is_accepted same)) told;
+    messages = r.messages;
+    last = last_line (fault_at_end r);
+    is_shown = subst (λ y. IsShown profile (flat_of session.chunks) y r.messages (last_line (fault_at_end r))) (sym (answer ∙ ap is_accepted same)) told;
     appended = Appends-trans old mid new (message_lines r.messages) (last_line (fault_at_end r)) first (subst (λ e. Appends mid new (last_line e)) same last);
   }
 

@@ -1,6 +1,5 @@
 -- Each run has one line, or one output, to write.
-use Rattle.std.proofs.Common.{◌≡◌, List, [], ◌∷◌, ◌++◌, length, refl, sym, ◌∙◌, ap, subst}
-use Rattle.std.specs.Prelude.{codes}
+use Rattle.std.proofs.Common.{◌≡◌, List, [], ◌∷◌, length, refl, sym, ◌∙◌, ap, subst}
 use Rattle.nbd_wire.specs.declared.profile.Profile.{Profile}
 use Rattle.nbd_wire.specs.declared.entry.Entry.{Entry}
 use Rattle.nbd_wire.specs.declared.message.Message.{Message}
@@ -16,9 +15,8 @@ use Rattle.nbd_session.specs.Sessions.{HasRunOf}
 use Rattle.nbd_judge.specs.Captures.{IsChecked}
 use Rattle.nbd_judge.specs.declared.verdict.Verdict.TheVariants.{Wire}
 use Rattle.nbd_judge.proofs.verdicts.UniqueLemmas.{one_answer, one_wire_fault}
-use Rattle.nbd_lines.specs.Script.{message_lines}
 use Rattle.nbd_tool.specs.Runs.{flat_of}
-use Rattle.nbd_tool.specs.Shown.IsOutput.{accepted, refused}
+use Rattle.nbd_tool.specs.Shown.IsShown.{accepted, refused}
 use Rattle.nbd_tool.specs.Uniqueness.{OneLine, OneOutput}
 use Rattle.nbd_tool.specs.Verdicts.{line}
 
@@ -47,13 +45,9 @@ one_run profile capture messages more a b =
     ∙ b.has_messages
 
 pub one_output : OneOutput
-one_output profile capture _ _ _ _ (accepted messages run) (accepted more other) = (refl, ap (λ ms. message_lines ms ++ codes "ok\n") (one_run profile capture messages more run other))
-one_output profile capture _ _ _ _ (accepted messages run) (refused prefix more fault leads is none) = absurd (none run.items run.is_run run.has_pairs)
-one_output profile capture _ _ _ _ (refused prefix more fault leads is none) (accepted messages run) = absurd (none run.items run.is_run run.has_pairs)
-one_output profile capture _ _ _ _ (refused prefix messages fault leads is none) (refused other more again leads' is' none') =
-    let one = one_wire_fault profile capture messages more (length prefix) (length other) fault again is is' in (
-      refl,
-      ap (λ ms. message_lines ms ++ line (Wire (length prefix) fault)) one.2
-          ∙ ap (λ n. message_lines more ++ line (Wire n fault)) one.0
-          ∙ ap (λ f. message_lines more ++ line (Wire (length other) f)) one.1,
-    )
+one_output profile capture _ _ _ _ _ _ (accepted messages run) (accepted more other) = (refl, one_run profile capture messages more run other, refl)
+one_output profile capture _ _ _ _ _ _ (accepted messages run) (refused prefix more fault leads is none) = absurd (none run.items run.is_run run.has_pairs)
+one_output profile capture _ _ _ _ _ _ (refused prefix more fault leads is none) (accepted messages run) = absurd (none run.items run.is_run run.has_pairs)
+one_output profile capture _ _ _ _ _ _ (refused prefix messages fault leads is none) (refused other more again leads' is' none') =
+    let one = one_wire_fault profile capture messages more (length prefix) (length other) fault again is is' in
+    (refl, one.2, ap (λ n. line (Wire n fault)) one.0 ∙ ap (λ f. line (Wire (length other) f)) one.1)

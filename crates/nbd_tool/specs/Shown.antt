@@ -26,34 +26,36 @@ pub record Leads (profile : Profile) (capture prefix : List Pair) (messages : Li
   pub parts : prefix ++ rest ≡ capture
   pub run : HasRunOf profile prefix messages client server
 
--- what is to be written of a capture's bytes, and the answer. A run of the profile has exactly these bytes: the lines
--- of all its messages and `ok`. Or no such run has them: the lines of the messages that completed before the fault, and
--- the line of the wire fault.
-pub data IsOutput (profile : Profile) (capture : List Pair) : Bool → List ℕ → Type 0 where
+-- what is to be shown of a capture's bytes: the answer, the messages and the last line. A run of the profile has
+-- exactly these bytes: all its messages and `ok`. Or no such run has them: the messages that completed before the
+-- fault, and the line of the wire fault.
+pub data IsShown (profile : Profile) (capture : List Pair) : Bool → List Message → List ℕ → Type 0 where
   accepted : (messages : List Message) → HasRunOf profile capture messages [] []
-      → IsOutput profile capture true (message_lines messages ++ codes "ok\n")
+      → IsShown profile capture true messages (codes "ok\n")
   refused : (prefix : List Pair) (messages : List Message) (fault : WireFault)
       → Leads profile capture prefix messages → IsWireFaultOf profile capture messages (length prefix) fault
       → IsOfNoRunOf profile capture
-      → IsOutput profile capture false (message_lines messages ++ line (Wire (length prefix) fault))
+      → IsShown profile capture false messages (line (Wire (length prefix) fault))
 
 -- a capture's session of the profile was shown
 pub record WritesAll (profile : Profile) (known : Option (List ℕ)) (yes : Bool)
     (old new : Option (List ℕ)) : Type 0 where
   pub chunks : List Chunk
   pub is_text : IfSome known (λ text. IsCaptureText text chunks)
-  pub lines : List ℕ
-  pub is_shown : IsOutput profile (flat_of chunks) yes lines
-  pub appended : Appends old new lines
+  pub messages : List Message
+  pub last : List ℕ
+  pub is_shown : IsShown profile (flat_of chunks) yes messages last
+  pub appended : Appends old new (message_lines messages ++ last)
 
 -- a prefix of what is to be shown of a session of the profile was written
 pub record WritesSome (profile : Profile) (known old new : Option (List ℕ)) : Type 0 where
   pub chunks : List Chunk
   pub is_text : IfSome known (λ text. IsCaptureText text chunks)
   pub yes : Bool
-  pub lines : List ℕ
-  pub is_shown : IsOutput profile (flat_of chunks) yes lines
-  pub appended : AppendsPrefix old new lines
+  pub messages : List Message
+  pub last : List ℕ
+  pub is_shown : IsShown profile (flat_of chunks) yes messages last
+  pub appended : AppendsPrefix old new (message_lines messages ++ last)
 
 -- a prefix of what is to be shown of a session of the profile was written, of its message lines alone
 pub record WritesMessages (profile : Profile) (known old new : Option (List ℕ)) : Type 0 where
@@ -62,7 +64,7 @@ pub record WritesMessages (profile : Profile) (known old new : Option (List ℕ)
   pub yes : Bool
   pub messages : List Message
   pub last : List ℕ
-  pub is_shown : IsOutput profile (flat_of chunks) yes (message_lines messages ++ last)
+  pub is_shown : IsShown profile (flat_of chunks) yes messages last
   pub appended : AppendsPrefix old new (message_lines messages)
 
 -- what a fault says of the known bytes of the capture

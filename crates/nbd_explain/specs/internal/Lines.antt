@@ -28,10 +28,6 @@ use Rattle.nbd_explain.specs.Orderless.{found_lines}
 use Rattle.nbd_tool.specs.declared.start.Beginning.{Beginning}
 use Rattle.nbd_wire.specs.declared.entry.Entry.{Entry}
 
--- some text was written
-abbrev pub AppendsSome : (old new : Option (List ℕ)) → Type 0
-AppendsSome old new = (text : List ℕ) × Appends old new text
-
 -- the line of the verdict on the order, from each start that was read so, and that the order was found
 pub record HasVerdictLine (profile : Profile) (told : Report) (entries : List Entry) (beginning : Beginning)
     (text : List ℕ) : Type 0 where

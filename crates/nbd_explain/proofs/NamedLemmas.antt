@@ -1,0 +1,79 @@
+-- What the end of a session says of its capture.
+use Rattle.std.proofs.Common.{◌≡◌, ℕ, List, Bool, sym, ◌∙◌, subst, Option, Result, Ok, Err, IfOk, IfErr, IsErrAnd, OnOk, ◌⊎◌, inl, inr}
+use Rattle.std.specs.Io.KnownBytes.{Appends}
+use Rattle.std.proofs.KnownBytes.{Appends-trans}
+use Rattle.nbd_wire.specs.declared.profile.Profile.{Profile}
+use Rattle.nbd_session.specs.declared.fault.SessionFault.{SessionFault}
+use Rattle.nbd_session.specs.Refusals.{IsComplete}
+use Rattle.nbd_session.specs.Sessions.{IsOfRun, SessionView, fault_at_end, fault_of}
+use Rattle.nbd_tool.specs.declared.fault.RunFault.{RunFault}
+use Rattle.nbd_tool.specs.declared.fault.RunFault.TheVariants as faults
+use Rattle.nbd_tool.specs.Ends.{IsOverText, LeavesLast, is_accepted, last_line}
+use Rattle.nbd_tool.specs.Runs.{flat_of}
+use Rattle.nbd_tool.specs.Shown.{IsShowCause, IsShown}
+use Rattle.nbd_tool.proofs.LastLineLemmas.{capture_over, shown}
+use Rattle.nbd_explain.specs.Named.{NamesAll}
+use Rattle.nbd_explain.specs.internal.Fates.{AppendsNames}
+
+-- the end of a session that is over, behind the lines of its messages
+pub named : {A : Type 0} {profile : Profile} (known : Option (List ℕ)) (r : SessionView) (finished : Result A SessionFault) (answer : Bool) (old mid new : Option (List ℕ)) → IsOverText profile known r → IsOfRun r → IsComplete r →
+    fault_of finished ≡ fault_at_end r → answer ≡ is_accepted (fault_of finished) → AppendsNames r.messages old mid → Appends mid new (last_line (fault_of finished)) → NamesAll profile known answer old new
+named {profile = profile} known r finished answer old mid new session run complete same is front written = record {
+  chunks = session.chunks;
+  is_text = session.is_text;
+  messages = r.messages;
+  last = last_line (fault_of finished);
+  is_shown = subst (λ yes. IsShown profile (flat_of session.chunks) yes r.messages (last_line (fault_of finished))) (sym is)
+      (subst (λ ended. IsShown profile (flat_of session.chunks) (is_accepted ended) r.messages (last_line ended)) (sym same) (shown (flat_of session.chunks) r session.over run complete));
+  lines = front.0;
+  are_named = front.1;
+  appended = Appends-trans old mid new front.0 (last_line (fault_of finished)) front.2 written;
+}
+
+-- what a fault of the last line says of the capture
+pub last_cause : {profile : Profile} (known : Option (List ℕ)) (r : SessionView) (ended : Option SessionFault) (old new : Option (List ℕ)) (o : Result Bool RunFault) → IsOverText profile known r →
+    IfErr o (LeavesLast ended old new) → IfErr o (IsShowCause known)
+last_cause known r ended old new (Ok b) session left = tt
+last_cause known r ended old new (Err faults.Write) session left = capture_over known r session
+last_cause known r ended old new (Err faults.Memory) session left = tt
+last_cause known r ended old new (Err (faults.CaptureLine n)) session left = absurd left
+last_cause known r ended old new (Err faults.CaptureRead) session left = absurd left
+last_cause known r ended old new (Err (faults.OrderLine n)) session left = absurd left
+last_cause known r ended old new (Err faults.OrderRead) session left = absurd left
+last_cause known r ended old new (Err faults.ImageRead) session left = absurd left
+last_cause known r ended old new (Err (faults.ScriptLine n)) session left = absurd left
+last_cause known r ended old new (Err faults.ScriptRead) session left = absurd left
+
+-- what a fault says of the capture where the writer failed or memory ran out
+pub told_cause : {profile : Profile} (A : Type 0) (known : Option (List ℕ)) (r : SessionView) (o : Result A RunFault) (fault : RunFault) → IsOverText profile known r → IsErrAnd o (λ f. f ≡ fault) →
+    (fault ≡ faults.Write) ⊎ (fault ≡ faults.Memory) → IfErr o (IsShowCause known)
+told_cause A known r (Ok a) fault session is either = tt
+told_cause A known r (Err f) fault session is (inl e) = subst (IsShowCause known) (sym (is ∙ e)) (capture_over known r session)
+told_cause A known r (Err f) fault session is (inr e) = subst (IsShowCause known) (sym (is ∙ e)) tt
+
+-- the same of each capture text whose bytes a session took
+pub named_over : {A : Type 0} (r : SessionView) (finished : Result A SessionFault) (o : Result Bool RunFault) (old mid new : Option (List ℕ)) → IsOfRun r → IsComplete r →
+    fault_of finished ≡ fault_at_end r → AppendsNames r.messages old mid → IfOk o (λ b. b ≡ is_accepted (fault_of finished)) → OnOk o (Appends mid new (last_line (fault_of finished))) →
+    IfOk o (λ b. (profile : Profile) (known : Option (List ℕ)) → IsOverText profile known r → NamesAll profile known b old new)
+named_over r finished (Ok b) old mid new run complete same front is written = λ profile known session. named known r finished b old mid new session run complete same is front written
+named_over r finished (Err fault) old mid new run complete same front is written = tt
+
+pub last_cause_over : (r : SessionView) (ended : Option SessionFault) (old new : Option (List ℕ)) (o : Result Bool RunFault) → IfErr o (LeavesLast ended old new) →
+    IfErr o (λ fault. (profile : Profile) (known : Option (List ℕ)) → IsOverText profile known r → IsShowCause known fault)
+last_cause_over r ended old new (Ok b) left = tt
+last_cause_over r ended old new (Err fault) left = λ profile known session. last_cause known r ended old new (Err fault) session left
+
+pub told_cause_over : (A : Type 0) (r : SessionView) (o : Result A RunFault) (fault : RunFault) → IsErrAnd o (λ f. f ≡ fault) → (fault ≡ faults.Write) ⊎ (fault ≡ faults.Memory) →
+    IfErr o (λ f. (profile : Profile) (known : Option (List ℕ)) → IsOverText profile known r → IsShowCause known f)
+told_cause_over A r (Ok a) fault is either = tt
+told_cause_over A r (Err f) fault is either = λ profile known session. told_cause A known r (Err f) fault session is either
+
+-- of the capture text whose bytes it took
+pub named_of : {profile : Profile} (known : Option (List ℕ)) (r : SessionView) (o : Result Bool RunFault) (old new : Option (List ℕ)) → IsOverText profile known r →
+    IfOk o (λ b. (p : Profile) (k : Option (List ℕ)) → IsOverText p k r → NamesAll p k b old new) → IfOk o (λ b. NamesAll profile known b old new)
+named_of {profile} known r (Ok b) old new session names_all = names_all profile known session
+named_of known r (Err fault) old new session names_all = tt
+
+pub cause_of : {profile : Profile} (known : Option (List ℕ)) (r : SessionView) (o : Result Bool RunFault) → IsOverText profile known r → IfErr o (λ fault. (p : Profile) (k : Option (List ℕ)) → IsOverText p k r → IsShowCause k fault) → IfErr o (IsShowCause known)
+cause_of known r (Ok b) session cause = tt
+cause_of {profile} known r (Err fault) session cause = cause profile known session

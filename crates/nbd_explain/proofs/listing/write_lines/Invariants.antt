@@ -1,0 +1,9 @@
+-- Lines were written that name the messages before a place.
+use Rattle.std.proofs.Common.{◌≡◌, List, drop}
+use Rattle.nbd_wire.specs.declared.message.Message.{Message}
+use Rattle.nbd_explain.specs.internal.Fates.{AppendsFront, fates_behind}
+use Rattle.nbd_explain.proofs.listing.write_lines.Given as goal
+
+abbrev pub invariant-loop-place : goal.invariant-loop-place
+invariant-loop-place g l = (messages : List Message) → l.fates.items ≡ fates_behind messages
+    → AppendsFront messages (drop l.place messages) (g.W.Write.contents l.initial.out) (g.W.Write.contents l.out)

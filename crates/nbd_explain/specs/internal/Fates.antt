@@ -1,0 +1,57 @@
+-- What replies say of the requests before them.
+use Rattle.std.specs.Prelude.{◌≡◌, ◌++◌, ◌∷◌, ℕ, List, [], false, Option, Some, None, codes, if◌then◌else◌}
+use Rattle.std.specs.Io.KnownBytes.{Appends}
+use Rattle.std.specs.BTreeMap.{BTreeMap, get}
+use Rattle.std.specs.Ordering.{nat_cmp}
+use Rattle.nbd_wire.specs.declared.message.Message.{Message}
+use Rattle.nbd_wire.specs.protocol.Operations.{any, ends_reply, is_failing}
+use Rattle.nbd_state.specs.declared.asked.Outcome.{Outcome}
+use Rattle.nbd_state.specs.declared.asked.Outcome.TheVariants.{Failure, Pending, Success}
+use Rattle.nbd_explain.specs.declared.fates.Reply.{Reply}
+use Rattle.nbd_explain.specs.Named.{AreNamed, IsEnding, fate, reply_in}
+
+-- what became of each message, the last one first
+abbrev pub fates_behind : List Message → List (Option Outcome)
+fates_behind [] = []
+fates_behind (m ∷ later) = fates_behind later ++ (fate m later ∷ [])
+
+-- what the messages of a reply say
+abbrev pub told_by : List Message → Reply
+told_by reply = record { ends = any ends_reply reply; fails = any is_failing reply }
+
+abbrev pub outcome_told : Reply → Outcome
+outcome_told reply = if reply.ends then (if reply.fails then Failure else Success) else Pending
+
+-- a reply without a message says nothing
+abbrev pub told_if : Option Reply → Reply
+told_if (Some reply) = reply
+told_if None = record { ends = false; fails = false }
+
+abbrev pub told_in : BTreeMap ℕ Reply → ℕ → Reply
+told_in replies cookie = told_if (get nat_cmp replies cookie)
+
+-- these are the replies in the messages
+abbrev pub AreReplies : List Message → BTreeMap ℕ Reply → Type 0
+AreReplies later replies = (cookie : ℕ) → told_in replies cookie ≡ told_by (reply_in cookie later)
+
+-- the line of a message with this fate
+abbrev pub IsLine : Option Outcome → List ℕ → Type 0
+IsLine fate line = (words : List ℕ) × (ending : List ℕ) × IsEnding fate ending
+    × (line ≡ words ++ (ending ++ codes "\n"))
+
+-- the end of such a line, but for its line feed, was added
+abbrev pub AddsEnding : Option Outcome → (old new : List ℕ) → Type 0
+AddsEnding fate old new = (ending : List ℕ) × IsEnding fate ending × (new ≡ old ++ ending)
+
+-- such a line was written
+abbrev pub AppendsLine : Option Outcome → (old new : Option (List ℕ)) → Type 0
+AppendsLine fate old new = (line : List ℕ) × IsLine fate line × Appends old new line
+
+-- lines that name these messages were written
+abbrev pub AppendsNames : List Message → (old new : Option (List ℕ)) → Type 0
+AppendsNames messages old new = (lines : List ℕ) × AreNamed messages lines × Appends old new lines
+
+-- lines were written that name messages, whatever names the rest of them is written behind
+abbrev pub AppendsFront : (messages later : List Message) → (old new : Option (List ℕ)) → Type 0
+AppendsFront messages later old new = (front : List ℕ)
+    × ((rest : List ℕ) → AreNamed later rest → AreNamed messages (front ++ rest)) × Appends old new front
