@@ -7,8 +7,8 @@ use crate::{OrderFault, Verdict, check, judge};
 use countable::are_countable;
 use nbd_export::{Flat, Start};
 use nbd_session::Session;
-use nbd_wire::Entry;
 use nbd_wire::Side::{self, Client, Server};
+use nbd_wire::{Entry, Profile};
 use std::alloc::Global;
 use std::test::Fail;
 
