@@ -163,9 +163,22 @@ fn line_of(
         Some(told) => ended(
             told_words(alloc, told, story)?,
             fate,
-            told_error(alloc, told, story),
+            error_of(alloc, told, fate, story),
         ),
         None => ended(String::new(alloc), fate, Ok(String::new(alloc))),
+    }
+}
+
+// The error of a request that failed, and of any other message nothing, which takes no memory.
+fn error_of(
+    alloc: Global,
+    told: &Told,
+    fate: Option<Outcome>,
+    story: &Story,
+) -> Result<String, AllocError> {
+    match fate {
+        Some(Outcome::Failure) => told_error(alloc, told, story),
+        _ => Ok(String::new(alloc)),
     }
 }
 
