@@ -1,15 +1,18 @@
 //! The public calls over records, and the rules in words. Sessions as data are run by the built program, from tools/cases/.
 
+ghost use Rattle.std.specs.Prelude.{ℕ};
+ghost use Rattle.nbd_export.specs.Starts.{FitsSize};
+
 mod countable;
 mod rules;
 
 use crate::{OrderFault, Verdict, check, judge};
 use countable::are_countable;
 use nbd_export::{Flat, Start};
-use nbd_session::Session;
+use nbd_session::{Session, Transcript};
 use nbd_wire::Side::{self, Client, Server};
 use nbd_wire::{Entry, Profile};
-use std::alloc::Global;
+use std::alloc::{AllocError, Global};
 use std::test::Fail;
 
 /// A negotiation of an export of 8 bytes, and a READ of one byte at 0, which gives 05.
@@ -59,49 +62,78 @@ const WRONG: Verdict = Verdict::Content {
     offset: 0,
 };
 
+/// The READ is answered and not served.
+const MISSING: Verdict = Verdict::Order {
+    entry: 1,
+    fault: OrderFault::Missing,
+};
+
 #[test]
 fn records_are_checked(rt: HostRuntime) -> Result<(), Fail> {
     let records = records(rt.alloc())?;
-    assert!(rt; are_countable(&records));
-    assert!(rt; check(rt.alloc(), &records, &[ONE], Start::Unknown)? == YES);
-    assert!(rt; check(rt.alloc(), &records, &[ONE], Start::Zeroes)? == WRONG);
-    let missing = Verdict::Order {
-        entry: 1,
-        fault: OrderFault::Missing,
-    };
-    assert!(rt; check(rt.alloc(), &records, &[], Start::Unknown)? == missing);
+    assert!(rt; is_checked(rt.alloc(), &records, &[ONE], Start::Unknown, &YES)?);
+    assert!(rt; is_checked(rt.alloc(), &records, &[ONE], Start::Zeroes, &WRONG)?);
+    assert!(rt; is_checked(rt.alloc(), &records, &[], Start::Unknown, &MISSING)?);
     Ok(())
+}
+
+/// Whether `check` has this verdict on records.
+fn is_checked(
+    alloc: Global,
+    records: &[(Side, Vec<u8>)],
+    order: &[Entry],
+    start: Start,
+    wanted: &Verdict,
+) -> Result<bool, AllocError> {
+    if !are_countable(records) {
+        return Ok(false);
+    }
+    Ok(check(alloc, records, order, start)? == *wanted)
 }
 
 #[test]
 fn a_transcript_is_judged_over_contents(rt: HostRuntime) -> Result<(), Fail> {
-    let mut session = Session::new(rt.alloc());
-    for (side, bytes) in &records(rt.alloc())? {
-        assert!(rt; session.taken() < 1000 && bytes.len() < 1000);
-        assert!(rt; session.push(*side, bytes) == Ok(()));
-    }
-    let transcript = session.finish().ok().expect(&rt, "a whole session");
-    let (size, _) = transcript.export().expect(&rt, "an export");
-    assert!(rt; size <= 1024);
-    let mut contents = Flat::new(rt.alloc(), size, Start::Unknown)?;
-    assert!(rt;
-        judge(
-            rt.alloc(),
-            Profile::Base,
-            &transcript,
-            &[ONE],
-            &mut contents
-        )? == YES
-    );
-    let mut contents = Flat::new(rt.alloc(), size, Start::Zeroes)?;
-    assert!(rt;
-        judge(
-            rt.alloc(),
-            Profile::Base,
-            &transcript,
-            &[ONE],
-            &mut contents
-        )? == WRONG
-    );
+    let transcript = transcript(rt.alloc())?.expect(&rt, "a whole session");
+    assert!(rt; is_judged(rt.alloc(), &transcript, Start::Unknown, &YES)?);
+    assert!(rt; is_judged(rt.alloc(), &transcript, Start::Zeroes, &WRONG)?);
     Ok(())
+}
+
+/// The transcript of the records' session, if it takes them and is whole.
+fn transcript(alloc: Global) -> Result<Option<Transcript>, Fail> {
+    let mut session = Session::new(alloc);
+    if are_taken(&records(alloc)?, &mut session) {
+        Ok(session.finish().ok())
+    } else {
+        Ok(None)
+    }
+}
+
+/// Whether a session takes records, which are short.
+fn are_taken(records: &[(Side, Vec<u8>)], session: &mut Session) -> bool {
+    for (side, bytes) in records {
+        let is_short = session.taken() < 1000 && bytes.len() < 1000;
+        if !is_short || session.push(*side, bytes).is_err() {
+            return false;
+        }
+    }
+    true
+}
+
+/// Whether `judge` has this verdict where the order serves the first request alone.
+fn is_judged(
+    alloc: Global,
+    transcript: &Transcript,
+    start: Start,
+    wanted: &Verdict,
+) -> Result<bool, AllocError>
+    requires no_image { (size : ℕ) → FitsSize size start }
+{
+    match transcript.export() {
+        Some((size, _)) if size <= 1024 => {
+            let mut contents = Flat::new(alloc, size, start)?;
+            Ok(judge(alloc, Profile::Base, transcript, &[ONE], &mut contents)? == *wanted)
+        }
+        _ => Ok(false),
+    }
 }
