@@ -47,6 +47,9 @@ WRITES = {
 # Runs in which the pieces of a READ are sorted.
 SORTED = ("check chunks", "check over an image", "explain over an image")
 
+# Runs in which payloads come into more room than they need, and how many: they are cut down to it.
+CUT = {"check statuses": 2}
+
 
 class Refusing(Room):
     """Runs of the program in which one thing is refused."""
@@ -148,9 +151,10 @@ def growths(tally, room, name, words, whole, most):
             tally.want(told, (found.status, found.err), (4, b"fault memory\n"))
             tally.holds(told, is_prefix(found.out, whole.out[:most]), found.out[-80:])
     # The standard library makes room for the words of the command line by a hint, and where that is refused without it; so does
-    # its sort, where a READ has several pieces. Behind a no the capture is looked at once more, with four growths. No other
-    # refusal is without a consequence.
-    tally.want(f"{name}, growths without a consequence", hinted, 1 + (name in SORTED) + 4 * looks_again(whole))
+    # its sort, where a READ has several pieces. A payload that is not cut down keeps its room. Behind a no the capture is looked at
+    # once more, with three growths. No other refusal is without a consequence.
+    wanted = 1 + (name in SORTED) + CUT.get(name, 0) + 3 * looks_again(whole)
+    tally.want(f"{name}, growths without a consequence", hinted, wanted)
 
 
 def reads(tally, room, name, words, whole):
