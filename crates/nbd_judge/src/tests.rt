@@ -1,4 +1,5 @@
-//! The public calls over records, and the rules in words. Sessions as data are run by the built program, from tools/cases/.
+//! The public functions over records, and the rules in words. The built program is tested with sessions as data, in
+//! tools/cases/.
 
 ghost use Rattle.std.specs.Prelude.{ℕ};
 ghost use Rattle.nbd_export.specs.Starts.{FitsSize};
@@ -99,7 +100,7 @@ fn a_transcript_is_judged_over_contents(rt: HostRuntime) -> Result<(), Fail> {
     Ok(())
 }
 
-/// The transcript of the records' session, if it takes them and is whole.
+/// The transcript of the session of the records, if all of them are taken and every message is whole.
 fn transcript(alloc: Global) -> Result<Option<Transcript>, Fail> {
     let mut session = Session::new(alloc);
     if are_taken(&records(alloc)?, &mut session) {
@@ -109,7 +110,7 @@ fn transcript(alloc: Global) -> Result<Option<Transcript>, Fail> {
     }
 }
 
-/// Whether a session takes records, which are short.
+/// Whether a session takes these records without a fault, and they are short.
 fn are_taken(records: &[(Side, Vec<u8>)], session: &mut Session) -> bool {
     for (side, bytes) in records {
         let is_short = session.taken() < 1000 && bytes.len() < 1000;

@@ -132,19 +132,17 @@ pub fn replies_end_as_they_start()
     ensures { RepliesEndAsTheyStart }
 {}
 
-/// Each side's bytes in a run but for open bytes are the encodings of its completed messages, and after them the
-/// open ones.
+/// In a run with open bytes each side's bytes are the encodings of its completed messages, followed by its open bytes.
 pub fn runs_hold_each_side()
     ensures { RunsHoldEachSide }
 {}
 
-/// A run but for open bytes is worth a run: one with the same completed messages, whose bytes are those without the
-/// open ones.
+/// If the open bytes are taken away from a run with open bytes, a run is left, and it has the same completed messages.
 pub fn open_bytes_end_runs()
     ensures { OpenBytesEndRuns }
 {}
 
-/// What items lead to does not hang on the profile that a session is held to, but for the profile itself.
+/// What items lead to does not depend on the profile that a session is held to, except for the profile itself.
 pub fn ends_ignore_profiles()
     ensures { EndsAgree }
 {}

@@ -1,4 +1,4 @@
-//! A recorded session, read message by message as its pieces come.
+//! A recorded session, read message by message as its bytes come.
 #![tactic(auto)]
 
 mod chunks;

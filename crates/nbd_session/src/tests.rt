@@ -9,11 +9,11 @@ use nbd_wire::Side;
 use nbd_wire::Side::{Client, Server};
 use std::alloc::{AllocError, Global};
 
-/// A piece of a capture: its sender, and its bytes as hexadecimal digits.
+/// A record of a capture: its sender, and its bytes as hexadecimal digits.
 type Sent = (Side, &'static str);
 
-/// A negotiation by GO. The export has 8 bytes and the flags 0x006d: it offers FLUSH, FUA, TRIM and
-/// WRITE_ZEROES. Its pieces end at the bytes 18, 22, 44, 76 and 96.
+/// A negotiation by GO. The export has 8 bytes and the flags 0x006d: it offers FLUSH, FUA, TRIM and WRITE_ZEROES. Its
+/// records end at the bytes 18, 22, 44, 76 and 96.
 const BEGUN: &[Sent] = &[
     // The greeting, with fixed newstyle and no zeroes.
     (Server, "4e42444d4147494349484156454f50540003"),
@@ -63,7 +63,7 @@ fn value_of(digit: u8) -> u8 {
     }
 }
 
-/// Pushes a piece, whole. No session of these tests is as long as a million bytes.
+/// Pushes the bytes of a record. No session of these tests is as long as a million bytes.
 fn push(session: &mut Session, side: Side, piece: &[u8]) -> Result<(), SessionFault> {
     if session.taken() >= 1_000_000 || piece.len() >= 1_000_000 {
         return Err(SessionFault::Memory);
@@ -71,7 +71,7 @@ fn push(session: &mut Session, side: Side, piece: &[u8]) -> Result<(), SessionFa
     session.push(side, piece)
 }
 
-/// Pushes pieces one after the other, each in parts of at most so many bytes.
+/// Pushes records one after the other, at most so many bytes at a time.
 fn push_all(
     alloc: Global,
     session: &mut Session,
@@ -84,7 +84,7 @@ fn push_all(
     Ok(())
 }
 
-/// Pushes a piece in parts of at most so many bytes.
+/// Pushes a record, at most so many bytes at a time.
 fn push_in_parts(
     session: &mut Session,
     side: Side,
