@@ -1,7 +1,6 @@
 pub mod DigitLemmas
 pub mod FaultLemmas
 pub mod FormLemmas
-pub mod KeptLemmas
 pub mod NumeralLemmas
 pub mod OrderLineLemmas
 pub mod PieceLemmas
@@ -10,6 +9,8 @@ pub mod ReadToEndLemmas
 pub mod ReadingLemmas
 pub mod ReadingStepLemmas
 pub mod SizeLemmas
+pub mod SpellLemmas
+pub mod TableLemmas
 pub mod TotalLemmas
 pub mod TotalTextLemmas
 pub mod WriterLemmas

@@ -1,49 +1,38 @@
--- The numbers of order lines, next to what `std` says of `parse`.
-use Rattle.std.proofs.Common.{◌≡◌, ◌≢◌, ℕ, ◌^◌, ◌<◌, List, length, get_or, Some, Result, Ok, Err, inl, inr, ap, ◌∙◌, arith, MatchOption}
-use Rattle.std.specs.Prelude.{MatchResult, false, is_ok}
-use Rattle.std.specs.Borrow.{Bor}
-use Rattle.std.specs.Result.{OkIff, result_ok}
-use Rattle.std.specs.Str.{IsAscii, IsUtf8}
-use Rattle.std.specs.Str.Parse.{IsNumeral, ParsesUnsigned, digits_value}
-use Rattle.std.proofs.lemmas.Bool.{cases_lt}
-use Rattle.std.proofs.lemmas.List.{get_or_past}
-use Rattle.std.proofs.lemmas.Str.{IsUtf8-from_ascii}
-use Rattle.std.proofs.lemmas.Str.Parse.{digit_at, without_leading_plus_none}
-use Rattle.nbd_capture.specs.Order.{BeginsPlainly, IsNumber}
+-- The numbers of order lines, digit by digit.
+use Rattle.std.proofs.Common.{◌≡◌, ℕ, ◌+◌, ◌-◌, ◌*◌, ◌^◌, ◌<◌, ◌≤◌, List, [], ◌∷◌, inl, inr, length, get_or, take, sym, ap, ◌∙◌, arith}
+use Rattle.std.specs.Char.{IsNotAsciiDigit, digit_value}
+use Rattle.std.specs.Str.Parse.{AllDigits, digits_value}
+use Rattle.std.proofs.lemmas.Int.Digits.{digits_more, digits_value_more}
+use Rattle.std.proofs.lemmas.Str.Parse.{digit_at, digits_value-take-le}
+use Rattle.std.proofs.lemmas.Str.{digit_value_digit}
+use Rattle.nbd_capture.specs.Order.{IsNumber}
 
-ascii : (digits : List ℕ) → IsNumeral 10 digits → IsAscii digits
-ascii digits n i =
-    elim (cases_lt i (length digits)) [
-      | inl inside ↦ let d = digit_at digits i n.1 inside in omega (arith, d)
-      | inr past ↦ let e = get_or_past digits i 0 past in omega (arith, e)
-    ]
+-- the digits up to one, by the number of those before it
+pub with_digit : (digits : List ℕ) (i number : ℕ) → i < length digits → number ≡ digits_value 10 (take i digits) → (48 ≤ get_or digits i 0) × (get_or digits i 0 ≤ 57)
+    → number * 10 + (get_or digits i 0 - 48) ≡ digits_value 10 (take (i + 1) digits)
+with_digit digits i number inside is d =
+    let value : digit_value (get_or digits i 0) ≡ get_or digits i 0 - 48 = (let v = digit_value_digit (get_or digits i 0) d in omega (arith, v)) in
+    let more = digits_value_more 10 digits i inside in
+    sym (more ∙ ap (λ v. v * 10 + digit_value (get_or digits i 0)) (sym is) ∙ ap (λ v. number * 10 + v) value)
 
--- what is no text is no number
-pub no_text : (digits : List ℕ) → (IsUtf8 digits → ⊥) → (n : ℕ) → IsNumber digits n → ⊥
-no_text digits none n f = none (IsUtf8-from_ascii digits (ascii digits f.0))
+pub all_with : (digits : List ℕ) (i : ℕ) → i < length digits → AllDigits 10 (take i digits) → (48 ≤ get_or digits i 0) × (get_or digits i 0 ≤ 57) → AllDigits 10 (take (i + 1) digits)
+all_with digits i inside all d =
+    let value : digit_value (get_or digits i 0) ≡ get_or digits i 0 - 48 = (let v = digit_value_digit (get_or digits i 0) d in omega (arith, v)) in
+    digits_more 10 digits i inside all (omega (arith, value, d))
 
--- what `parse` answers for bytes that begin with a digit
-parsed_plain : {E : Type 0} (digits : List ℕ) (r : Result ℕ E) → BeginsPlainly digits
-    → OkIff r (IsNumeral 10 digits × (digits_value 10 digits < 2 ^ 64)) (digits_value 10 digits)
-    → MatchOption (result_ok r) ((n : ℕ) → IsNumber digits n → ⊥) (IsNumber digits)
-parsed_plain digits (Ok n) plain h = (h.0.0, plain, h.0.1, h.1)
-parsed_plain digits (Err e) plain h = λ n f. h (f.0, f.2)
+-- some of the digits are no number of 64 bits
+pub too_large : (digits : List ℕ) (i value : ℕ) → value ≤ digits_value 10 (take i digits) → (value < 2 ^ 64 → ⊥) → (n : ℕ) → IsNumber digits n → ⊥
+too_large digits i value least large n f =
+    let within = digits_value-take-le 10 digits i (omega arith) in
+    large (omega (arith, least, within, f.2))
 
-pub parsed : {E : Type 0} (digits : List ℕ) (r : Result ℕ E) → BeginsPlainly digits → ParsesUnsigned 64 10 digits r
-    → MatchOption (result_ok r) ((n : ℕ) → IsNumber digits n → ⊥) (IsNumber digits)
-parsed digits r plain h =
-    let digit = plain.0 in
-    let no_plus : get_or digits 0 0 ≢ 43 = omega (arith, digit) in
-    let same = without_leading_plus_none digits no_plus in
-    parsed_plain digits r plain (rw same at h)
+-- a byte that is no digit
+pub no_digit : (digits : List ℕ) (i : ℕ) → i < length digits → IsNotAsciiDigit (get_or digits i 0) → (n : ℕ) → IsNumber digits n → ⊥
+no_digit digits i inside other n f =
+    let d = digit_at digits i f.0.1 inside in
+    elim other [ inl low ↦ absurd (omega (arith, low, d)) | inr high ↦ absurd (omega (arith, high, d)) ]
 
--- what `from_utf8` says of the line, by its answer
-pub not_utf8 : {E : Type 0} (Q : E → Type 0) (line : List ℕ) (r : Result (Bor (List ℕ)) E) → false ≡ is_ok r
-    → MatchResult r (λ s. (s.now ≡ line) × IsUtf8 line) (λ e. (IsUtf8 line → ⊥) × Q e) → IsUtf8 line → ⊥
-not_utf8 Q line (Ok s) e h = cc e
-not_utf8 Q line (Err x) e h = h.0
-
-pub utf8_text : {E : Type 0} (Q : E → Type 0) (line : List ℕ) (r : Result (Bor (List ℕ)) E) (s : Bor (List ℕ)) → Some s ≡ result_ok r
-    → MatchResult r (λ s. (s.now ≡ line) × IsUtf8 line) Q → s.now ≡ line
-utf8_text Q line (Ok t) s e h = let same : s ≡ t = cc in ap (λ x. x.now) same ∙ h.0
-utf8_text Q line (Err x) s e h = cc e
+-- digits that begin plainly are some
+pub some_digits : (digits : List ℕ) → 48 ≤ get_or digits 0 0 → 0 < length digits
+some_digits [] d = absurd (omega arith)
+some_digits (c ∷ digits) d = omega arith

@@ -15,10 +15,9 @@ use Rattle.nbd_capture.specs.declared.source.Piece.TheVariants.{Part, Last}
 use Rattle.nbd_capture.specs.Capture.{Chunk, IsCaptureLine}
 use Rattle.nbd_capture.specs.Reading.{IsReaderFault, Reading, Reads, Refuses, Takes}
 use Rattle.nbd_capture.specs.internal.Steps.{IsChunkFault}
-use Rattle.nbd_capture.specs.declared.line_buffer.LineBuffer.{LineBuffer}
-use Rattle.nbd_capture.specs.internal.Kept.{IsAdded, IsKept}
+use Rattle.nbd_capture.specs.internal.Kept.{IsAdded, IsKept, Kept}
 use Rattle.nbd_capture.specs.internal.Pieces.{IsLine, IsPiece}
-use Rattle.nbd_capture.proofs.ReadingStepLemmas.{none_ended, one_ended, reads-append, reads_line, refuses_chunk, refuses_end, stops, takes-append}
+use Rattle.nbd_capture.proofs.ReadingStepLemmas.{none_ended, one_ended, reads-append, reads_line, refuses_chunk, refuses_end, stops, takes-append, unbroken-append}
 
 pub at_end : (a b : Option (List ℕ)) (shown : List ℕ) → length shown ≡ 0 → IfSome a (λ xs. length shown ≡ 0 → xs ≡ []) → Keeps a b → OnSome a (IsAtEnd b)
 at_end None b shown none end kept = tt
@@ -42,7 +41,7 @@ consumed a b c buffered shown bytes n look within same =
     subst (Consumes a c) same (Consumes_shown a b c buffered shown n within look.front look.end look.kept look.fits look.drops).0
 
 -- a line ends within the part of what was shown that the text may have
-pub takes_last : (old new : Reading) (b : Option (List ℕ)) (buffered : Option ℕ) (shown : List ℕ) (m n : ℕ) (before after : LineBuffer)
+pub takes_last : (old new : Reading) (b : Option (List ℕ)) (buffered : Option ℕ) (shown : List ℕ) (m n : ℕ) (before after : Kept)
     → Look old.rest b new.rest buffered shown n → m ≤ length shown → m ≤ old.room → IsAdded (take m shown) before after n true
     → new.room ≡ old.room - n → new.lines ≡ old.lines + 1 → IsPiece old new before after (Ok Last)
 takes_last old new b buffered shown m n before after look within fits (part, rest, split, u, count, adds) room lines =
@@ -64,7 +63,7 @@ takes_last old new b buffered shown m n before after look within fits (part, res
     )
 
 -- no line ends within it
-pub takes_part : (old new : Reading) (b : Option (List ℕ)) (buffered : Option ℕ) (shown : List ℕ) (m n : ℕ) (before after : LineBuffer)
+pub takes_part : (old new : Reading) (b : Option (List ℕ)) (buffered : Option ℕ) (shown : List ℕ) (m n : ℕ) (before after : Kept)
     → Look old.rest b new.rest buffered shown n → m ≤ length shown → m ≤ old.room → IsAdded (take m shown) before after n false → 0 < length (take m shown)
     → new.room ≡ old.room - n → new.lines ≡ old.lines → IsPiece old new before after (Ok Part)
 takes_part old new b buffered shown m n before after look within fits (u, count, adds) some room lines =
@@ -81,32 +80,41 @@ takes_part old new b buffered shown m n before after look within fits (u, count,
     )
 
 -- of a line these bytes were taken, and they are kept
-pub record Begins (old new : Reading) (kept : LineBuffer) : Type 0 where
+pub record Begins (old new : Reading) (kept : Kept) : Type 0 where
   pub bytes : List ℕ
   pub takes : Takes old new bytes
   pub unbroken : IsUnbroken bytes
   pub is_kept : IsKept kept bytes
 
+-- one more part of it
+pub begins_on : (start now next : Reading) (before after : Kept) → Begins start now before → IsPiece now next before after (Ok Part) → Begins start next after
+begins_on start now next before after b (bytes, takes, unbroken, some, adds) = record {
+  bytes = b.bytes ++ bytes;
+  takes = takes-append start now next b.bytes bytes b.takes takes;
+  unbroken = unbroken-append b.bytes bytes b.unbroken unbroken;
+  is_kept = adds b.bytes b.is_kept;
+}
+
 -- a line that could not be read whole, after lines that give no chunk
-pub no_line : (a b c : Reading) (kept : LineBuffer) (fault : CaptureFault) → Reads a b [] → IsLine b c kept (Err fault) → IsReaderFault a c fault
+pub no_line : (a b c : Reading) (kept : Kept) (fault : CaptureFault) → Reads a b [] → IsLine b c kept (Err fault) → IsReaderFault a c fault
 no_line a b c kept (Line n) past h = absurd h
 no_line a b c kept Read past h = stops a b c h.0 past h.1 h.2
 no_line a b c kept Memory past h = (past.bytes ++ h.0, takes-append a b c past.bytes h.0 past.takes h.1)
 
 -- a line that was read, after lines that give no chunk
-pub next_line : (a b c : Reading) (kept : LineBuffer) (said : List Chunk) → Reads a b [] → IsLine b c kept (Ok LineFeed) → ((line : List ℕ) → IsKept kept line → IsCaptureLine line said) → Reads a c said
+pub next_line : (a b c : Reading) (kept : Kept) (said : List Chunk) → Reads a b [] → IsLine b c kept (Ok LineFeed) → ((line : List ℕ) → IsKept kept line → IsCaptureLine line said) → Reads a c said
 next_line a b c kept said past h form = reads-append a b c [] said past (reads_line b c h.0 said h.1 h.2 (form h.0 h.3))
 
-pub bad_line : (a b c : Reading) (kept : LineBuffer) (fault : CaptureFault) → Reads a b [] → IsLine b c kept (Ok LineFeed)
+pub bad_line : (a b c : Reading) (kept : Kept) (fault : CaptureFault) → Reads a b [] → IsLine b c kept (Ok LineFeed)
     → ((line : List ℕ) → IsKept kept line → IsChunkFault line c.lines fault) → IsReaderFault a c fault
 bad_line a b c kept fault past h bad = refuses_chunk a b c h.0 fault past h.1 h.2 (bad h.0 h.3)
 
 -- the text ended within a line, or at one's begin
-pub unended_line : (a b c : Reading) (kept : LineBuffer) (empty : Bool) → Reads a b [] → IsLine b c kept (Ok Text) → ((line : List ℕ) → IsKept kept line → (IsTrue empty → line ≡ []) × (line ≡ [] → IsTrue empty))
+pub unended_line : (a b c : Reading) (kept : Kept) (empty : Bool) → Reads a b [] → IsLine b c kept (Ok Text) → ((line : List ℕ) → IsKept kept line → (IsTrue empty → line ≡ []) × (line ≡ [] → IsTrue empty))
     → empty ≡ false → Refuses a c (c.lines + 1)
 unended_line a b c kept empty past h tests none = refuses_end a b c h.0 past h.1 h.2 (λ nothing. true≢false (sym ((tests h.0 h.3).1 nothing) ∙ none)) h.4
 
-pub countable_end : (b c : Reading) (kept : LineBuffer) (empty : Bool) → IsLine b c kept (Ok Text) → ((line : List ℕ) → IsKept kept line → (IsTrue empty → line ≡ []) × (line ≡ [] → IsTrue empty))
+pub countable_end : (b c : Reading) (kept : Kept) (empty : Bool) → IsLine b c kept (Ok Text) → ((line : List ℕ) → IsKept kept line → (IsTrue empty → line ≡ []) × (line ≡ [] → IsTrue empty))
     → empty ≡ false → c.lines + 1 ≤ b.lines + b.room
 countable_end b c kept empty h tests none =
     let lines = none_ended h.0 h.2 in

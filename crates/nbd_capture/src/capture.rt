@@ -1,11 +1,8 @@
 //! The lines of captures: chunk lines, empty lines and comments.
 
-ghost use Rattle.std.specs.Prelude.{◌≡◌, ◌↔◌, ◌∷◌, [], ℕ, List, IsTrue, MatchOption};
-ghost use Rattle.nbd_capture.specs.Capture.{IsCaptureLine, letter, space};
-ghost use Rattle.nbd_wire.specs.declared.message.Side.{Side};
+ghost use Rattle.std.specs.Prelude.{◌≡◌};
 ghost use Rattle.nbd_capture.specs.declared.capture.CaptureFault.TheVariants.{Memory};
 
-use nbd_wire::Side;
 use std::alloc::{AllocError, AllocFailed};
 use thiserror::Error;
 
@@ -36,28 +33,5 @@ impl From<AllocError> for CaptureFault {
 
     fn from(_e: AllocError) -> CaptureFault {
         CaptureFault::Memory
-    }
-}
-
-// Whether a line stands for no chunk: an empty line, or a comment.
-pub(crate) fn is_silent(line: &[u8]) -> bool
-    ensures { IsTrue result ↔ IsCaptureLine line.now [] }
-{
-    match line {
-        [] => true,
-        [first, ..] => *first == b'#',
-    }
-}
-
-// The side and the digits of a line that begins as a chunk line does.
-pub(crate) fn sender_of(line: &[u8]) -> Option<(Side, &[u8])>
-    ensures { MatchOption result
-        ((side : Side) (digits : List ℕ) → line.now ≡ letter side ∷ space ∷ digits → ⊥)
-        (λ parts. line.now ≡ letter parts.0 ∷ space ∷ parts.1.now) }
-{
-    match line {
-        [b'C', b' ', digits @ ..] => Some((Side::Client, digits)),
-        [b'S', b' ', digits @ ..] => Some((Side::Server, digits)),
-        _ => None,
     }
 }

@@ -4,8 +4,9 @@
 #![tactic(auto)]
 
 pub mod capture;
+mod digits;
+mod form;
 pub mod laws;
-mod line_buffer;
 mod lines;
 pub mod order;
 pub mod reader;

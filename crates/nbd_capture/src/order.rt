@@ -13,7 +13,6 @@ use crate::lines::first_line;
 use memchr::memchr;
 use nbd_wire::{Entry, Part};
 use std::alloc::{AllocFailed, Global};
-use std::str;
 use thiserror::Error;
 
 /// Why an order text gave no entries. Nothing is kept of a text after a fault.
@@ -122,8 +121,16 @@ fn number_on(digits: &[u8]) -> Option<u64>
     if !is_plain(digits) {
         return None;
     }
-    let text = str::from_utf8(digits).ok()?;
-    text.parse().ok()
+    let mut number = 0u64;
+    for i in 0..digits.len() {
+        if !digits[i].is_ascii_digit() {
+            return None;
+        }
+        number = number
+            .checked_mul(10)?
+            .checked_add(u64::from(digits[i] - b'0'))?;
+    }
+    Some(number)
 }
 
 // Whether these bytes begin with a digit, and with `0` only where that is all of them.

@@ -31,7 +31,7 @@ pub enum State {
 /// In a contract it is what it has still to read (`specs/Reading.antt`): the bytes that its reader has left,
 /// where these are known, how many bytes these may be, how many lines were read, and its state.
 ///
-/// A line is judged when its LF was read, or where the text ends. The memory is that of one line and grows
+/// A line is judged when its LF was read, or where the text ends. The memory is that of one line's bytes and grows
 /// with the bytes that come; empty lines and comments take none.
 #[derive(Drop)]
 pub struct CaptureReader<R: BufRead> {
@@ -61,7 +61,7 @@ impl<R: BufRead> CaptureReader<R> {
     {
         CaptureReader {
             alloc,
-            source: Source::new(alloc, reader, limit),
+            source: Source::new(reader, limit),
             state: State::Open,
         }
     }

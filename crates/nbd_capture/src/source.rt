@@ -3,9 +3,8 @@
 ghost use Rattle.std.specs.Prelude.{◌+◌, ◌<◌, ◌^◌};
 
 use crate::capture::CaptureFault;
-use crate::line_buffer::LineBuffer;
+use crate::form::Form;
 use nbd_wire::Side;
-use std::alloc::Global;
 use std::io::BufRead;
 
 // What one look at a reader's bytes gave.
@@ -34,7 +33,7 @@ pub(crate) struct Source<R> {
     room: u64,
     // How many lines were read.
     lines: u64,
-    line: LineBuffer,
+    line: Form,
     ghost countable: { lines + room < 2 ^ 64 },
 }
 
@@ -42,17 +41,18 @@ impl<R: BufRead> Source<R> {
     ghost use Rattle.std.specs.Prelude.{◌≡◌, IfOk, IfSome, length};
     ghost use Rattle.nbd_capture.specs.declared.reader.State.TheVariants.{Open};
     ghost use Rattle.nbd_capture.specs.Reading.{at_start};
+    ghost use Rattle.nbd_capture.specs.internal.Kept.{kept};
     ghost use Rattle.nbd_capture.specs.internal.Pieces.{IsAnswer, IsLine, IsPiece, reading};
 
     // A text that may have `limit` bytes. It takes no memory and reads nothing yet.
-    pub(crate) fn new(alloc: Global, reader: R, limit: u64) -> Source<R>
+    pub(crate) fn new(reader: R, limit: u64) -> Source<R>
         ensures { reading R.remaining result Open ≡ at_start (R.remaining reader) limit }
     {
         Source {
             reader,
             room: limit,
             lines: 0,
-            line: LineBuffer::new(alloc),
+            line: Form::Empty,
         }
     }
 
@@ -64,25 +64,26 @@ impl<R: BufRead> Source<R> {
             (λ side. length bytes.new.items + self.new.room < self.old.room)) }
     {
         loop {
-            match self.read_line()? {
+            match self.read_line(bytes)? {
                 Ending::LineFeed => {}
                 Ending::Text if self.line.is_empty() => return Ok(None),
                 Ending::Text => return Err(CaptureFault::Line(self.lines + 1)),
             }
-            if let Some(side) = self.line.chunk_into(self.lines, bytes)? {
+            if let Some(side) = self.line.sender(self.lines)? {
                 return Ok(Some(side));
             }
         }
     }
 
-    // Reads a line.
-    fn read_line(&mut self) -> Result<Ending, CaptureFault>
-        ensures { IsLine (reading R.remaining self.old Open) (reading R.remaining self.new Open) self.new.line
-            result }
+    // Reads a line, whose digits spell the bytes then.
+    fn read_line(&mut self, bytes: &mut Vec<u8>) -> Result<Ending, CaptureFault>
+        ensures { IsLine (reading R.remaining self.old Open) (reading R.remaining self.new Open)
+            (kept self.new.line bytes.new.items) result }
     {
-        self.line.clear();
+        self.line = Form::Empty;
+        bytes.clear();
         loop {
-            match self.read_piece()? {
+            match self.read_piece(bytes)? {
                 Piece::Part => {}
                 Piece::Last => return Ok(Ending::LineFeed),
                 Piece::End => return Ok(Ending::Text),
@@ -91,9 +92,9 @@ impl<R: BufRead> Source<R> {
     }
 
     // Reads what the reader has at hand of a line. Memory comes first, so that a refusal loses no byte.
-    fn read_piece(&mut self) -> Result<Piece, CaptureFault>
-        ensures { IsPiece (reading R.remaining self.old Open) (reading R.remaining self.new Open) self.old.line
-            self.new.line result }
+    fn read_piece(&mut self, bytes: &mut Vec<u8>) -> Result<Piece, CaptureFault>
+        ensures { IsPiece (reading R.remaining self.old Open) (reading R.remaining self.new Open)
+            (kept self.old.line bytes.old.items) (kept self.new.line bytes.new.items) result }
     {
         let Ok(shown) = self.reader.fill_buf() else {
             return Err(CaptureFault::Read);
@@ -105,7 +106,7 @@ impl<R: BufRead> Source<R> {
         if within.is_empty() {
             return Err(CaptureFault::Read);
         }
-        let (read, ends) = self.line.add_line(within)?;
+        let (read, ends) = self.line.add_line(within, bytes)?;
         self.reader.consume(read);
         self.room -= read as u64;
         if ends {

@@ -65,13 +65,13 @@ fn end_at(alloc: Global, form: Form, end: &[u8]) -> Result<Option<Bytes>, AllocE
         if !end.is_empty() {
             return Ok(None);
         }
-        return Ok(Some(Bytes::new(Vec::new(alloc))));
+        return Ok(Some(Bytes::none()));
     }
     let Some(digits) = after_prefix(b" payload=", end) else {
         return Ok(None);
     };
     match hex::decode(alloc, digits) {
-        Ok(bytes) => Ok(Some(Bytes::new(bytes))),
+        Ok(mut bytes) => Ok(Some(Bytes::take(alloc, &mut bytes)?)),
         Err(e) => match e {
             FromHexError::OutOfMemory => Err(AllocError),
             _ => Ok(None),

@@ -70,10 +70,9 @@ impl Expected {
     }
 
     /// The message, with the bytes that followed its head.
-    pub(crate) fn message(self, payload: Vec<u8>) -> Message
-        ensures { result ≡ message_of self payload.items }
+    pub(crate) fn message(self, payload: Bytes) -> Message
+        ensures { result ≡ message_of self payload }
     {
-        let payload = Bytes::new(payload);
         match self {
             Expected::Greeting { flags } => Message::Greeting { flags },
             Expected::ClientFlags { flags } => Message::ClientFlags { flags },

@@ -19,7 +19,7 @@ use crate::fault::SessionFault;
 use crate::incoming::Incoming;
 use crate::stretches::Stretch;
 use nbd_state::{State, Transcript};
-use nbd_wire::{Message, Profile, Side, WireFault};
+use nbd_wire::{Bytes, Message, Profile, Side, WireFault};
 use std::alloc::{AllocError, Global};
 
 /// What a session holds of the bytes that it was given.
@@ -241,17 +241,19 @@ impl Held {
         ensures shut { OnErr result (IsShut self.new Memory) }
     {
         self.messages.reserve(1)?;
+        let payload = self.take_payload(alloc, side)?;
         let place = expected.place();
-        let message = expected.message(self.take_payload(alloc, side));
+        let message = expected.message(payload);
         let completed = self.state.complete(alloc, &message, place, self.counted);
         self.messages.push(message)?;
         completed
     }
 
-    // Empties what has come of a side, and returns the bytes after the head.
-    fn take_payload(&mut self, alloc: Global, side: Side) -> Vec<u8>
-        ensures payload { result.items ≡ (incoming_of self.old side).payload }
-        ensures empty { self.new ≡ with_incoming self.old side nothing_come }
+    // Empties what has come of a side, and returns the bytes after the head. After an `Err`, that memory ran out, all is as it was.
+    fn take_payload(&mut self, alloc: Global, side: Side) -> Result<Bytes, AllocError>
+        ensures payload { IfOk result (λ payload. payload ≡ (incoming_of self.old side).payload) }
+        ensures empty { OnOk result (self.new ≡ with_incoming self.old side nothing_come) }
+        ensures unchanged { OnErr result (self.new ≡ self.old) }
     {
         match side {
             Side::Client => self.client.take(alloc),

@@ -1,6 +1,6 @@
 //! The bytes of a side that belong to no completed message.
 
-ghost use Rattle.std.specs.Prelude.{◌≡◌, ◌+◌, ◌≤◌, ◌<◌, ◌^◌, ◌++◌, ◌⊎◌, length, None, OnErr, OnOk, Some};
+ghost use Rattle.std.specs.Prelude.{◌≡◌, ◌+◌, ◌≤◌, ◌<◌, ◌^◌, ◌++◌, ◌⊎◌, length, IfOk, None, OnErr, OnOk, Some};
 ghost use Rattle.std.specs.Vec.{vec_capacity, vec_len};
 ghost use Rattle.nbd_session.specs.Incoming.{incoming_with, nothing_come};
 ghost use Rattle.nbd_session.specs.Views.{stretches_of};
@@ -9,7 +9,7 @@ ghost use Rattle.nbd_session.specs.internal.Standing.{stretch_total, stretches_w
 
 use crate::expected::Expected;
 use crate::stretches::{Stretch, note};
-use nbd_wire::Side;
+use nbd_wire::{Bytes, Side};
 use std::alloc::{AllocError, Global};
 use std::marker::Model;
 
@@ -115,14 +115,16 @@ impl Incoming {
         self.expected = Some(expected);
     }
 
-    /// Makes it empty, and returns the bytes after the head.
-    pub(crate) fn take(&mut self, alloc: Global) -> Vec<u8>
-        ensures payload { result.items ≡ self.old.payload }
-        ensures empty { self.new ≡ nothing_come }
+    /// Makes it empty, and returns the bytes after the head. After an `Err`, that memory ran out, all is as it was.
+    pub(crate) fn take(&mut self, alloc: Global) -> Result<Bytes, AllocError>
+        ensures payload { IfOk result (λ payload. payload ≡ self.old.payload) }
+        ensures empty { OnOk result (self.new ≡ nothing_come) }
+        ensures unchanged { OnErr result (self.new ≡ self.old) }
     {
+        let payload = Bytes::take(alloc, &mut self.payload)?;
         self.len = 0;
         self.expected = None;
-        std::mem::replace(&mut self.payload, Vec::new(alloc))
+        Ok(payload)
     }
 }
 

@@ -4,6 +4,7 @@ ghost use Rattle.nbd_state.specs.Indexes.{Indexes};
 
 use crate::index::SpanIndex;
 use nbd_wire::{Bytes, Piece};
+use smallvec::SmallVec;
 use std::collections::BTreeSet;
 
 /// What became of a request.
@@ -20,35 +21,35 @@ pub enum Outcome {
 pub struct Asked {
     pub flags: u16,
     pub command: u16,
-    pub cookie: u64,
-    /// Where its range begins, in bytes from the export's start.
-    pub offset: u64,
     /// The length of its range in bytes.
     pub length: u32,
-    /// The bytes of a WRITE.
-    pub payload: Bytes,
-    /// Whether a client should send it to this export.
-    pub proper: bool,
-    /// Whether its range breaks the block sizes that the client has to keep (proto.md, "Block size constraints").
-    pub outside: bool,
     /// How many numbered requests had completed when its first reply message started; None where none
     /// did.
     pub known_at: Option<u64>,
     pub outcome: Outcome,
-    /// What a READ was answered, in the order of the reply messages.
-    pub pieces: Vec<Piece>,
+    /// Whether a client should send it to this export.
+    pub proper: bool,
+    /// Whether its range breaks the block sizes that the client has to keep (proto.md, "Block size constraints").
+    pub outside: bool,
+    pub cookie: u64,
+    /// Where its range begins, in bytes from the export's start.
+    pub offset: u64,
+    /// The bytes of a WRITE.
+    pub payload: Bytes,
+    /// What a READ was answered, in the order of the reply messages. Most have one piece, which stands here.
+    pub pieces: SmallVec<Piece, 1>,
 }
 
-/// A request under way.
+/// A request under way. What a reply reads and changes stands together.
 #[derive(Drop)]
 pub struct Exchange {
-    pub asked: Asked,
     /// A reply message told a failure.
     pub failed: bool,
     /// The ids of the metadata contexts that have a status chunk in the reply, until it ends.
     pub told: BTreeSet<u32>,
     // The pieces by their offsets, from the second one on and until the reply ends.
     pub(crate) index: SpanIndex,
+    pub asked: Asked,
     // What lies apart from the pieces that the index holds, where it holds any, lies apart from all.
     ghost indexed: { Indexes index.sizes asked.pieces.items },
 }

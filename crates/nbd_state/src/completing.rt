@@ -28,7 +28,7 @@ use crate::recording::told_in;
 use crate::state::{Chosen, Export, Phase, State};
 use nbd_wire::answers::is_error;
 use nbd_wire::flags::has;
-use nbd_wire::{Message, RequestHead, Sizing, answers, chunks, commands, options};
+use nbd_wire::{Bytes, Message, RequestHead, Sizing, answers, chunks, commands, options};
 use std::alloc::{AllocError, Global};
 
 impl State {
@@ -106,13 +106,13 @@ impl State {
                     offset: *offset,
                     length: *length,
                 };
-                self.request(alloc, &head, payload.as_slice())
+                self.request(alloc, &head, payload)
             }
             Message::Simple {
                 error,
                 cookie,
                 payload,
-            } => self.simple(alloc, *error, *cookie, place, payload.as_slice(), known),
+            } => self.simple(alloc, *error, *cookie, place, payload, known),
             Message::Chunk {
                 flags,
                 kind,
@@ -143,7 +143,7 @@ impl State {
         &mut self,
         alloc: Global,
         head: &RequestHead,
-        payload: &[u8],
+        payload: &Bytes,
     ) -> Result<(), AllocError>
         requires { IsTransmitting self.old.phase }
         ensures shown { OnOk result ((core : Core) (export : Exporting) → Shows self.old core →
@@ -194,7 +194,7 @@ impl State {
         error: u32,
         cookie: u64,
         place: usize,
-        payload: &[u8],
+        payload: &Bytes,
         known: u64,
     ) -> Result<(), AllocError>
         requires place { get nat_cmp self.old.outstanding cookie ≡ Some place }

@@ -3,7 +3,7 @@
 ghost use Rattle.std.specs.Prelude.{◌≡◌, ◌≤◌, ◌<◌, ◌+◌, ◌^◌, ◌==◌, ◌&&◌, true, ◌++◌, ◌∷◌, ℕ, List, false, not, IfErr, IfOk, OnErr, MatchOption, [], if◌then◌else◌, is_some, length};
 ghost use Rattle.std.specs.BTreeSet.{contains};
 ghost use Rattle.std.specs.Ordering.{nat_cmp};
-ghost use Rattle.std.specs.Vec.{vec_capacity, vec_len};
+ghost use Rattle.smallvec.specs.SmallVec.{HasRoomFor};
 ghost use Rattle.nbd_wire.specs.declared.message.Message.{Message};
 ghost use Rattle.nbd_wire.specs.declared.message.Message.TheVariants.{Chunk, Simple};
 ghost use Rattle.nbd_wire.specs.codec.Contents.{piece_of};
@@ -33,6 +33,7 @@ use nbd_wire::{
     Bytes, Content, Piece, RequestHead, Sizes, chunks, commands, content_of, first_extent, states,
     status_of,
 };
+use smallvec::SmallVec;
 use std::alloc::{AllocError, Global};
 use std::collections::BTreeSet;
 use std::mem;
@@ -46,24 +47,24 @@ impl Exchange {
         has_contexts: bool,
         sizes: Option<Sizes>,
         head: &RequestHead,
-        payload: &[u8],
+        payload: &Bytes,
     ) -> Result<Exchange, AllocError>
         ensures { IfOk result (λ x. (contexts : List Context) → has_contexts ≡ not (length contexts == 0) →
             IsShown (exporting export) (operation_of_head head.now payload.now contexts sizes []) x) }
     {
-        let payload = Bytes::new(Vec::from_slice(alloc, payload)?);
+        let payload = payload.share()?;
         let asked = Asked {
             flags: head.flags,
             command: head.command,
+            length: head.length,
             cookie: head.cookie,
             offset: head.offset,
-            length: head.length,
             payload,
-            proper: is_proper(export, has_contexts, head),
-            outside: is_outside(sizes, has_contexts, head),
+            pieces: SmallVec::new(alloc),
             known_at: None,
             outcome: Outcome::Pending,
-            pieces: Vec::new(alloc),
+            proper: is_proper(export, has_contexts, head),
+            outside: is_outside(sizes, has_contexts, head),
         };
         Ok(Exchange {
             asked,
@@ -79,7 +80,7 @@ impl Exchange {
         &mut self,
         alloc: Global,
         error: u32,
-        payload: &[u8],
+        payload: &Bytes,
         known: u64,
     ) -> Result<(), AllocError>
         ensures shown { IfOk result (λ _. (export : Exporting) (e : Operation) (cookie : ℕ) →
@@ -92,7 +93,7 @@ impl Exchange {
             IsShown export e self.old → IsShown export e self.new) }
         ensures kept { IfErr result (λ _. self.new.asked.known_at ≡ self.old.asked.known_at) }
     {
-        let piece = simple_piece(alloc, self.asked.offset, payload)?;
+        let piece = simple_piece(self.asked.offset, payload)?;
         self.take(alloc, piece, known, true, error != 0)
     }
 
@@ -154,7 +155,7 @@ impl Exchange {
     {
         let pieces = zeroes_told(alloc, &self.asked, descriptors, zeroes)?;
         tell(&mut self.told, id, ends)?;
-        self.asked.pieces = pieces;
+        self.asked.pieces = SmallVec::from_vec(pieces);
         self.index = SpanIndex::new(alloc);
         self.asked.known_at = first(self.asked.known_at, known);
         self.asked.outcome = outcome_after(self.asked.outcome, ends, self.failed);
@@ -330,16 +331,13 @@ fn index_after(
     }
 }
 
-// The piece, if any, after the others. Most READs have one, so the first takes room for itself alone.
-fn push_if(pieces: &mut Vec<Piece>, piece: Option<Piece>) -> Result<(), AllocError>
+// The piece, if any, after the others.
+fn push_if(pieces: &mut SmallVec<Piece, 1>, piece: Option<Piece>) -> Result<(), AllocError>
     ensures pushed { IfOk result (λ _. pieces.new.items ≡ pieces.old.items ++ chunk_piece piece) }
     ensures unchanged { IfErr result (λ _. pieces.new.items ≡ pieces.old.items) }
-    ensures full { OnErr result (vec_capacity pieces.old ≤ vec_len pieces.old) }
+    ensures full { OnErr result (HasRoomFor pieces.old 1 → ⊥) }
 {
     if let Some(piece) = piece {
-        if pieces.is_empty() {
-            pieces.reserve_exact(1)?;
-        }
         pieces.push(piece)?;
     }
     Ok(())
@@ -374,13 +372,13 @@ fn is_error_chunk(kind: u16) -> bool
 }
 
 // The bytes of a simple reply as a piece, unless there are none.
-fn simple_piece(alloc: Global, offset: u64, payload: &[u8]) -> Result<Option<Piece>, AllocError>
+fn simple_piece(offset: u64, payload: &Bytes) -> Result<Option<Piece>, AllocError>
     ensures { IfOk result (λ piece. chunk_piece piece ≡ pieces.simple_piece offset payload.now) }
 {
-    if payload.is_empty() {
+    if payload.as_slice().is_empty() {
         return Ok(None);
     }
-    let bytes = Bytes::new(Vec::from_slice(alloc, payload)?);
+    let bytes = payload.share()?;
     Ok(Some(Piece::Bytes { offset, bytes }))
 }
 
@@ -401,7 +399,7 @@ fn owned_piece(alloc: Global, content: &Content<'_>) -> Result<Piece, AllocError
     match content {
         Content::Bytes { offset, bytes } => Ok(Piece::Bytes {
             offset: *offset,
-            bytes: Bytes::new(Vec::from_slice(alloc, bytes)?),
+            bytes: Bytes::from_slice(alloc, bytes)?,
         }),
         Content::Hole { offset, size } => Ok(Piece::Hole {
             offset: *offset,

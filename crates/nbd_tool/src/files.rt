@@ -6,6 +6,7 @@ ghost use Rattle.nbd_tool.specs.CommandLine.{exit_status};
 use crate::check::run_check;
 use crate::command_line::{StartWord, exit_status};
 use crate::fault::RunFault;
+use crate::input::PORTION;
 use crate::opening::{Opener, open_inputs};
 use crate::saying::{hint, tell};
 use std::fs::File;
@@ -80,7 +81,8 @@ pub fn check_files(
 ) -> Result<bool, RunFault> {
     let (rt, alloc) = (files.rt, files.rt.alloc());
     let inputs = open_inputs(files, capture, order, start)?;
-    let capture = BufReader::new(alloc, inputs.capture).map_err(|_| RunFault::Memory)?;
+    let capture = BufReader::with_capacity(alloc, PORTION, inputs.capture)
+        .map_err(|_| RunFault::Memory)?;
     run_check(
         alloc,
         capture,

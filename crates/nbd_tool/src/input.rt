@@ -12,7 +12,7 @@ use std::io::Read;
 pub const READ_LIMIT: usize = 1 << 40;
 
 /// The bytes that are asked of a reader at a time.
-const PORTION: usize = 1 << 16;
+pub(crate) const PORTION: usize = 1 << 16;
 
 /// Why an input was not read whole.
 #[derive(Drop)]

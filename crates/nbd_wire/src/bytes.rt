@@ -1,22 +1,44 @@
 //! A payload that its owner keeps.
-ghost use Rattle.std.specs.Prelude.{◌≡◌, ◌==◌};
+ghost use Rattle.std.specs.Prelude.{◌≡◌, ◌==◌, ◌≤◌, ℕ, List, [], length, take, IfOk, IfSome, OnErr, OnOk};
 ghost use Rattle.std.specs.Cmp.{partial_equiv_from_equiv};
 ghost use Rattle.std.specs.Cmp.Lexicographic.{nat_list_eq_equiv, pointwise};
 
+use std::alloc::{AllocError, Global};
 use std::marker::Model;
+use std::rc::Rc;
 
-/// A payload, seen by contracts as the list of its bytes.
+/// The longest payload that stands in its owner.
+const SHORT: usize = 14;
+
+/// A payload, seen by contracts as the list of its bytes. A short one stands in its owner; a longer one stands in memory once, however
+/// many owners share it.
 #[derive(Drop)]
 pub struct Bytes {
-    bytes: Vec<u8>,
+    kept: Kept,
+}
+
+// The bytes, or where they stand.
+#[derive(Drop)]
+enum Kept {
+    Short(Short),
+    Long(Rc<Vec<u8>>),
+}
+
+// So many bytes.
+#[derive(Clone, Copy, Drop)]
+struct Short {
+    len: u8,
+    bytes: [u8; SHORT],
+    ghost fits: { len ≤ 14 },
 }
 
 impl Model for Bytes {
     ghost use Rattle.std.specs.Prelude.{ℕ, List};
+    ghost use Rattle.nbd_wire.specs.internal.Keeping.{bytes_kept};
 
     ghost Value = { List ℕ };
 
-    ghost view = { λ b. b.bytes.items };
+    ghost view = { λ b. bytes_kept b.kept };
 }
 
 /// Payloads are equal where their bytes are.
@@ -35,17 +57,111 @@ impl Eq for Bytes {
 }
 
 impl Bytes {
-    /// Makes a payload of a vector; takes no memory.
-    pub fn new(bytes: Vec<u8>) -> Bytes
-        ensures { result ≡ bytes.items }
+    /// No bytes; takes no memory.
+    pub fn none() -> Bytes
+        ensures { result ≡ [] }
     {
-        Bytes { bytes }
+        Bytes {
+            kept: Kept::Short(Short {
+                len: 0,
+                bytes: [0; SHORT],
+            }),
+        }
+    }
+
+    /// A copy of these bytes.
+    pub fn from_slice(alloc: Global, bytes: &[u8]) -> Result<Bytes, AllocError>
+        ensures { IfOk result (λ payload. payload ≡ bytes.now) }
+    {
+        match Short::of(bytes) {
+            Some(short) => Ok(Bytes {
+                kept: Kept::Short(short),
+            }),
+            None => Bytes::long(alloc, Vec::from_slice(alloc, bytes)?),
+        }
+    }
+
+    /// Takes the bytes out of a vector. A short payload leaves the vector its memory. After an `Err` the vector is as it was.
+    pub fn take(alloc: Global, bytes: &mut Vec<u8>) -> Result<Bytes, AllocError>
+        ensures taken { IfOk result (λ payload. payload ≡ bytes.old.items) }
+        ensures empty { OnOk result (bytes.new.items ≡ []) }
+        ensures unchanged { OnErr result (bytes.new.items ≡ bytes.old.items) }
+    {
+        if let Some(short) = Short::of(bytes.as_slice()) {
+            bytes.clear();
+            return Ok(Bytes {
+                kept: Kept::Short(short),
+            });
+        }
+        bytes.shrink_to_fit();
+        match Rc::new(alloc, std::mem::replace(bytes, Vec::new(alloc))) {
+            Ok(shared) => Ok(Bytes {
+                kept: Kept::Long(shared),
+            }),
+            Err(refused) => {
+                *bytes = refused.value;
+                Err(AllocError)
+            }
+        }
+    }
+
+    // A payload that stands in memory.
+    fn long(alloc: Global, bytes: Vec<u8>) -> Result<Bytes, AllocError>
+        ensures { IfOk result (λ payload. payload ≡ bytes.items) }
+    {
+        let shared = Rc::new(alloc, bytes)?;
+        Ok(Bytes {
+            kept: Kept::Long(shared),
+        })
+    }
+
+    /// The same payload for another owner; copies no more than a short one.
+    pub fn share(&self) -> Result<Bytes, AllocError>
+        ensures { IfOk result (λ payload. payload ≡ self.now) }
+    {
+        match &self.kept {
+            Kept::Short(short) => Ok(Bytes {
+                kept: Kept::Short(*short),
+            }),
+            Kept::Long(shared) => Ok(Bytes {
+                kept: Kept::Long(shared.clone()?),
+            }),
+        }
     }
 
     /// The payload's bytes.
     pub fn as_slice(&self) -> &[u8]
         ensures { result.now ≡ self.now }
     {
-        self.bytes.as_slice()
+        match &self.kept {
+            Kept::Short(short) => short.as_slice(),
+            Kept::Long(shared) => shared.as_slice(),
+        }
+    }
+}
+
+impl Short {
+    ghost use Rattle.nbd_wire.specs.internal.Keeping.{short_bytes};
+
+    // These bytes, unless they are too many.
+    fn of(from: &[u8]) -> Option<Short>
+        ensures { IfSome result (λ short. short_bytes short ≡ from.now) }
+    {
+        if from.len() > SHORT {
+            return None;
+        }
+        let mut bytes = [0; SHORT];
+        bytes[..from.len()].copy_from_slice(from);
+        Some(Short {
+            len: from.len() as u8,
+            bytes,
+        })
+    }
+
+    // The bytes.
+    fn as_slice(&self) -> &[u8]
+        ensures { result.now ≡ short_bytes self.now }
+    {
+        &self.bytes[..self.len as usize]
     }
 }

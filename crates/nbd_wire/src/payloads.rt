@@ -75,6 +75,13 @@ pub enum Piece {
     },
 }
 
+/// A hole of no bytes.
+impl Default for Piece {
+    fn default() -> Piece {
+        Piece::Hole { offset: 0, size: 0 }
+    }
+}
+
 /// What an error chunk states (proto.md, "Structured reply types").
 #[derive(Clone, Copy, PartialEq, Eq, Drop)]
 pub struct Failure {

@@ -11,7 +11,7 @@ mod transmission;
 
 // A payload of these bytes.
 fn payload(alloc: Global, bytes: &[u8]) -> Result<Bytes, AllocError> {
-    Ok(Bytes::new(bytes.to_vec(alloc)?))
+    Bytes::from_slice(alloc, bytes)
 }
 
 // Whether these bytes are the encoding of a message of this side.

@@ -4,7 +4,6 @@ use Rattle.std.specs.Io.KnownBytes.{IsAtEnd}
 use Rattle.nbd_wire.specs.declared.message.Side.{Side}
 use Rattle.nbd_capture.specs.declared.capture.CaptureFault.{CaptureFault}
 use Rattle.nbd_capture.specs.declared.capture.CaptureFault.TheVariants.{Line}
-use Rattle.nbd_capture.specs.declared.line_buffer.LineBuffer.{LineBuffer}
 use Rattle.nbd_capture.specs.declared.reader.State.{State}
 use Rattle.nbd_capture.specs.declared.source.Ending.{Ending}
 use Rattle.nbd_capture.specs.declared.source.Ending.TheVariants.{LineFeed, Text}
@@ -13,14 +12,14 @@ use Rattle.nbd_capture.specs.declared.source.Piece.TheVariants.{Part, Last, End}
 use Rattle.nbd_capture.specs.declared.source.Source.{Source}
 use Rattle.nbd_capture.specs.Lines.{IsUnbroken, line_feed}
 use Rattle.nbd_capture.specs.Reading.{IsReaderFault, Reading, Reads, ReadsToEnd, Takes}
-use Rattle.nbd_capture.specs.internal.Kept.{Adds, IsKept}
+use Rattle.nbd_capture.specs.internal.Kept.{Adds, IsKept, Kept}
 
 -- a source in this state, as a contract of the capture reader sees it
 abbrev pub reading : {R : Type 0} → (R → Option (List ℕ)) → Source R → State → Reading
 reading remaining s state = record { rest = remaining s.reader; room = s.room; lines = s.lines; state = state }
 
 -- a part of a line was read and kept, if any
-abbrev pub IsPiece : (old new : Reading) → (before after : LineBuffer) → Result Piece CaptureFault → Type 0
+abbrev pub IsPiece : (old new : Reading) → (before after : Kept) → Result Piece CaptureFault → Type 0
 IsPiece old new before after (Ok Part) =
     (bytes : List ℕ) × Takes old new bytes × IsUnbroken bytes × (0 < length bytes) × Adds before after bytes
 IsPiece old new before after (Ok Last) =
@@ -30,7 +29,7 @@ IsPiece old new before after (Err (Line n)) = ⊥
 IsPiece old new before after (Err fault) = Takes old new []
 
 -- a line was read and kept
-abbrev pub IsLine : (old new : Reading) → LineBuffer → Result Ending CaptureFault → Type 0
+abbrev pub IsLine : (old new : Reading) → Kept → Result Ending CaptureFault → Type 0
 IsLine old new kept (Ok LineFeed) =
     (bytes : List ℕ) × Takes old new (bytes ++ line_feed ∷ []) × IsUnbroken bytes × IsKept kept bytes
 IsLine old new kept (Ok Text) =

@@ -1,12 +1,13 @@
 //! The plain form of reading a capture: a text that is at hand, read whole.
 
-ghost use Rattle.std.specs.Prelude.{◌≡◌, List, IfOk, IfErr, MatchResult};
-ghost use Rattle.nbd_capture.specs.Capture.{Chunk, IsCaptureLine, IsCaptureText, chunks_of};
+ghost use Rattle.std.specs.Prelude.{◌≡◌, ◌↔◌, ◌∷◌, [], ℕ, List, IfOk, IfErr, IsTrue, MatchOption, MatchResult};
+ghost use Rattle.nbd_wire.specs.declared.message.Side.{Side};
+ghost use Rattle.nbd_capture.specs.Capture.{Chunk, IsCaptureLine, IsCaptureText, chunks_of, letter, space};
 ghost use Rattle.nbd_capture.specs.Faults.{IsCaptureFault};
 ghost use Rattle.nbd_capture.specs.internal.Steps.{IsChunkFault, said_by};
 ghost use Rattle.nbd_capture.specs.declared.capture.CaptureFault.TheVariants.{Memory};
 
-use crate::capture::{CaptureFault, is_silent, sender_of};
+use crate::capture::CaptureFault;
 use crate::lines::first_line;
 use hex::FromHexError;
 use nbd_wire::Side;
@@ -62,5 +63,28 @@ fn chunk_on(
             FromHexError::OutOfMemory => Err(CaptureFault::Memory),
             _ => Err(CaptureFault::Line(number)),
         },
+    }
+}
+
+// Whether a line stands for no chunk: an empty line, or a comment.
+fn is_silent(line: &[u8]) -> bool
+    ensures { IsTrue result ↔ IsCaptureLine line.now [] }
+{
+    match line {
+        [] => true,
+        [first, ..] => *first == b'#',
+    }
+}
+
+// The side and the digits of a line that begins as a chunk line does.
+fn sender_of(line: &[u8]) -> Option<(Side, &[u8])>
+    ensures { MatchOption result
+        ((side : Side) (digits : List ℕ) → line.now ≡ letter side ∷ space ∷ digits → ⊥)
+        (λ parts. line.now ≡ letter parts.0 ∷ space ∷ parts.1.now) }
+{
+    match line {
+        [b'C', b' ', digits @ ..] => Some((Side::Client, digits)),
+        [b'S', b' ', digits @ ..] => Some((Side::Server, digits)),
+        _ => None,
     }
 }

@@ -108,7 +108,7 @@ impl Recording {
     }
 
     fn payload(&self, bytes: &[u8]) -> Result<Bytes, Fail> {
-        Ok(Bytes::new(bytes.to_vec(self.alloc)?))
+        Ok(Bytes::from_slice(self.alloc, bytes)?)
     }
 
     fn request(
@@ -136,7 +136,7 @@ impl Recording {
             flags: chunks::DONE,
             kind: chunks::ERROR,
             cookie,
-            payload: Bytes::new(bytes),
+            payload: Bytes::take(self.alloc, &mut bytes)?,
         })
     }
 
@@ -153,7 +153,7 @@ impl Recording {
             flags,
             kind: chunks::OFFSET_DATA,
             cookie,
-            payload: Bytes::new(bytes),
+            payload: Bytes::take(self.alloc, &mut bytes)?,
         })
     }
 }

@@ -1,5 +1,5 @@
 -- Block sizes (proto.md, "Block size constraints").
-use Rattle.std.specs.Prelude.{ℕ, zero, suc, List, [], ◌==◌, ◌&&◌, ◌||◌, ◌%◌, not, nat_le, nat_lt, Bool, true, false, if◌then◌else◌, Option, Some, None, drop, count_ones}
+use Rattle.std.specs.Prelude.{ℕ, zero, suc, List, ◌==◌, ◌&&◌, ◌||◌, ◌%◌, not, nat_le, nat_lt, Bool, false, if◌then◌else◌, Option, Some, None, drop, count_ones}
 use Rattle.nbd_wire.specs.declared.answers.TheConstants as answers
 use Rattle.nbd_wire.specs.declared.commands.TheConstants as commands
 use Rattle.nbd_wire.specs.declared.infos.TheConstants as infos

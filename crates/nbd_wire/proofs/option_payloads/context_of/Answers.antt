@@ -1,4 +1,4 @@
-use Rattle.std.proofs.Common.{None, Some, refl, sym, ◌∙◌, ap, ℕ, List, arith}
+use Rattle.std.proofs.Common.{None, Some, sym, ◌∙◌, arith}
 use Rattle.nbd_wire.specs.protocol.Contexts.{Context}
 use Rattle.nbd_wire.proofs.ListedReadLemmas.{cut_behind}
 use Rattle.nbd_wire.proofs.NumberLemmas.{AreBytes-from_places}

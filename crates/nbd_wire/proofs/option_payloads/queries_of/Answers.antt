@@ -1,6 +1,6 @@
 use Rattle.std.proofs.Common.{None, Some, refl, sym, ◌∙◌, ap, ℕ, List, Bor, drop, subst, arith}
 use Rattle.std.specs.Option.{option_map}
-use Rattle.nbd_wire.specs.protocol.Payloads.{are_queries, queries_of}
+use Rattle.nbd_wire.specs.protocol.Payloads.{are_queries}
 use Rattle.nbd_wire.specs.codec.Reads.{ReadsAs}
 use Rattle.nbd_wire.proofs.ListedReadLemmas.{cut_behind}
 use Rattle.nbd_wire.proofs.NumberLemmas.{AreBytes-from_places}

@@ -1,4 +1,4 @@
-use Rattle.std.proofs.Common.{◌≡◌, ◌-◌, ◌+◌, ◌*◌, ◌&&◌, ℕ, List, Bool, true, false, length, drop, take, refl, sym, ◌∙◌, ap, arith, length-drop}
+use Rattle.std.proofs.Common.{◌≡◌, ◌+◌, ◌*◌, ◌&&◌, true, false, length, drop, refl, sym, ◌∙◌, ap, arith, length-drop}
 use Rattle.nbd_wire.specs.declared.infos.TheConstants as infos
 use Rattle.nbd_wire.specs.protocol.Payloads.{behind_name, is_go, is_listed, number_at}
 use Rattle.nbd_wire.specs.protocol.Sizes.{has_number}

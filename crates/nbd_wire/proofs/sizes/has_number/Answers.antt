@@ -1,7 +1,7 @@
 use Rattle.std.proofs.Common.{◌-◌, length, sym, ◌∙◌, ap, arith, length-drop, ◌≡◌, ◌*◌}
 use Rattle.nbd_wire.specs.protocol.Sizes.{has_number}
 use Rattle.nbd_wire.proofs.ListedReadLemmas.{cut_behind}
-use Rattle.nbd_wire.proofs.SizeLemmas.{first_is, first_is_not, none_left}
+use Rattle.nbd_wire.proofs.SizeLemmas.{first_is_not}
 use Rattle.nbd_wire.proofs.sizes.has_number.Goals as goal
 
 pub loop-left-preserved : goal.loop-left-preserved

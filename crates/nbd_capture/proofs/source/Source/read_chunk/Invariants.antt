@@ -4,8 +4,8 @@ use Rattle.nbd_capture.specs.declared.reader.State.TheVariants.{Open}
 use Rattle.nbd_capture.specs.internal.Pieces.{reading}
 use Rattle.nbd_capture.proofs.source.Source.read_chunk.Given as goal
 
-abbrev pub invariant-loop-self : goal.invariant-loop-self
-invariant-loop-self g l = Reads (reading g.R.Read.remaining l.initial.self Open) (reading g.R.Read.remaining l.self Open) []
+abbrev pub invariant-loop-side : goal.invariant-loop-side
+invariant-loop-side g l = Reads (reading g.R.Read.remaining l.initial.self Open) (reading g.R.Read.remaining l.self Open) []
 
-abbrev pub decreases-loop-self : goal.decreases-loop-self
-decreases-loop-self g l = l.self.room
+abbrev pub decreases-loop-side : goal.decreases-loop-side
+decreases-loop-side g l = l.self.room

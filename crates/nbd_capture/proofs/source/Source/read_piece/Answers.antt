@@ -1,5 +1,6 @@
 use Rattle.std.proofs.Common.{sym, ◌∙◌, subst, arith, refl}
 use Rattle.std.specs.Io.BufRead.{FillKeeps}
+use Rattle.nbd_capture.specs.internal.Kept.{kept}
 use Rattle.nbd_capture.proofs.PieceLemmas.{some_left, takes_last, takes_part}
 use Rattle.nbd_capture.proofs.source.Source.read_piece.Goals as goal
 
@@ -9,7 +10,7 @@ returns-then-ends g c =
     let filled = subst (FillKeeps _ (g.R.Read.remaining rested) (g.R.BufRead.consumable_len rested)) c.in-Ok.is c.fill_buf.follows.holds-at-none in
     let added = rw c.if-ends.true at c.in_ok-read.ensures in
     let size = c.min.ensures in
-    takes_last _ _ (g.R.Read.remaining rested) (g.R.BufRead.consumable_len rested) c.in-Ok.shown.now c.min.result c.in_ok-read.read c.args.self.now.line c.add_line.new.self
+    takes_last _ _ (g.R.Read.remaining rested) (g.R.BufRead.consumable_len rested) c.in-Ok.shown.now c.min.result c.in_ok-read.read (kept c.args.self.now.line c.args.bytes.now.items) (kept c.add_line.new.self c.add_line.new.bytes.items)
     (record { front = c.in-Ok.ensures.front; end = c.in-Ok.ensures.end; kept = filled.0; fits = filled.1; drops = c.consume.ensures.bytes })
     (omega (arith, size)) (omega (arith, size)) added refl refl
 
@@ -19,6 +20,6 @@ returns-else-ends g c =
     let filled = subst (FillKeeps _ (g.R.Read.remaining rested) (g.R.BufRead.consumable_len rested)) c.in-Ok.is c.fill_buf.follows.holds-at-none in
     let added = rw c.if-ends.false at c.in_ok-read.ensures in
     let size = c.min.ensures in
-    takes_part _ _ (g.R.Read.remaining rested) (g.R.BufRead.consumable_len rested) c.in-Ok.shown.now c.min.result c.in_ok-read.read c.args.self.now.line c.add_line.new.self
+    takes_part _ _ (g.R.Read.remaining rested) (g.R.BufRead.consumable_len rested) c.in-Ok.shown.now c.min.result c.in_ok-read.read (kept c.args.self.now.line c.args.bytes.now.items) (kept c.add_line.new.self c.add_line.new.bytes.items)
     (record { front = c.in-Ok.ensures.front; end = c.in-Ok.ensures.end; kept = filled.0; fits = filled.1; drops = c.consume.ensures.bytes })
     (omega (arith, size)) (omega (arith, size)) added (some_left _ (sym c.if-is_empty-2.false ∙ c.is_empty-2.ensures)) refl refl

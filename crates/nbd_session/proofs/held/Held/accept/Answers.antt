@@ -8,7 +8,7 @@ use Rattle.nbd_laws.specs.internal.Machine.{Whole, fresh_of}
 use Rattle.nbd_session.specs.declared.held.Held.{Held}
 use Rattle.nbd_session.specs.Incoming.{IncomingView}
 use Rattle.nbd_session.specs.internal.Expecting.{message_of}
-use Rattle.nbd_session.specs.internal.Holdings.{incoming_of}
+use Rattle.nbd_session.specs.internal.Holdings.{holding_of, incoming_of}
 use Rattle.nbd_session.specs.internal.Logging.{log_of_pairs}
 use Rattle.nbd_session.specs.internal.Standing.{held_pairs}
 use Rattle.nbd_session.specs.internal.Steps.{Stands}
@@ -23,6 +23,14 @@ returns-in_err-reserve-clause-shut c =
     let held = c.args.self.now in
     on_err c.from_residual.result _ (shut_memory held c.args.side c.requires.expecting.taken (record held { messages = c.reserve.new.self }) (same_room held (record held { messages = c.reserve.new.self }) refl c.reserve.ensures.items refl refl refl refl) refl)
 
+pub returns-in_err-payload-clause-shut : goal.returns-in_err-payload-clause-shut
+returns-in_err-payload-clause-shut c =
+    let held = c.args.self.now in
+    let roomy : Held = record held { messages = c.reserve.new.self } in
+    let same : c.take_payload.new.self ≡ roomy = c.in_err-payload.ensures.unchanged in
+    on_err c.from_residual-in_err-payload.result _ (shut_memory held c.args.side c.requires.expecting.taken c.take_payload.new.self
+    (ap holding_of same ∙ same_room held roomy refl c.reserve.ensures.items refl refl refl refl) (ap (λ (h : Held). h.taken) same))
+
 pub complete-completed-requires : goal.complete-completed-requires
 complete-completed-requires c =
     let held = c.args.self.now in
@@ -31,9 +39,9 @@ complete-completed-requires c =
     let mid = c.take_payload.new.self in
     let m = c.message-message.result in
     let sides : (u : Side) → incoming_of roomy u ≡ incoming_of held u = sides_same roomy held refl refl in
-    let is = c.take_payload.ensures.empty in
+    let is = c.in_ok-payload.ensures.empty in
     let t = c.requires.expecting.taken in
-    let payload = c.take_payload.ensures.payload ∙ ap (λ (v : IncomingView). v.payload) (sides s) in
+    let payload = c.in_ok-payload.ensures.payload ∙ ap (λ (v : IncomingView). v.payload) (sides s) in
     let is_m : m ≡ message_of c.args.expected (incoming_of held s).payload = c.message-message.ensures ∙ ap (message_of c.args.expected) payload in
     let whole : IsRead held s t (Whole m) = subst (λ n. IsRead held s t (Whole n)) (sym is_m) (whole_read held s c.args.expected c.requires) in
     let state = mid_state held roomy mid mid s is sides refl refl in
@@ -54,9 +62,9 @@ returns-clause-stands c =
     let m = c.message-message.result in
     let new : Held = record mid { state = c.complete-completed.new.self; messages = c.push.new.self } in
     let sides : (u : Side) → incoming_of roomy u ≡ incoming_of held u = sides_same roomy held refl refl in
-    let is = c.take_payload.ensures.empty in
+    let is = c.in_ok-payload.ensures.empty in
     let t = c.requires.expecting.taken in
-    let payload = c.take_payload.ensures.payload ∙ ap (λ (v : IncomingView). v.payload) (sides s) in
+    let payload = c.in_ok-payload.ensures.payload ∙ ap (λ (v : IncomingView). v.payload) (sides s) in
     let is_m : m ≡ message_of c.args.expected (incoming_of held s).payload = c.message-message.ensures ∙ ap (message_of c.args.expected) payload in
     let whole : IsRead held s t (Whole m) = subst (λ n. IsRead held s t (Whole n)) (sym is_m) (whole_read held s c.args.expected c.requires) in
     let messages = c.in_ok-push.ensures.items ∙ ap (λ l. l ++ m ∷ []) (ap (λ v. v.items) (mid_messages held roomy mid new s is sides refl refl) ∙ c.reserve.ensures.items) in
@@ -82,9 +90,9 @@ returns-clause-same c =
     let m = c.message-message.result in
     let new : Held = record mid { state = c.complete-completed.new.self; messages = c.push.new.self } in
     let sides : (u : Side) → incoming_of roomy u ≡ incoming_of held u = sides_same roomy held refl refl in
-    let is = c.take_payload.ensures.empty in
+    let is = c.in_ok-payload.ensures.empty in
     let t = c.requires.expecting.taken in
-    let payload = c.take_payload.ensures.payload ∙ ap (λ (v : IncomingView). v.payload) (sides s) in
+    let payload = c.in_ok-payload.ensures.payload ∙ ap (λ (v : IncomingView). v.payload) (sides s) in
     let is_m : m ≡ message_of c.args.expected (incoming_of held s).payload = c.message-message.ensures ∙ ap (message_of c.args.expected) payload in
     let whole : IsRead held s t (Whole m) = subst (λ n. IsRead held s t (Whole n)) (sym is_m) (whole_read held s c.args.expected c.requires) in
     let messages = c.in_ok-push.ensures.items ∙ ap (λ l. l ++ m ∷ []) (ap (λ v. v.items) (mid_messages held roomy mid new s is sides refl refl) ∙ c.reserve.ensures.items) in
@@ -101,9 +109,9 @@ returns-clause-shut c =
     let m = c.message-message.result in
     let new : Held = record mid { state = c.complete-completed.new.self; messages = c.push.new.self } in
     let sides : (u : Side) → incoming_of roomy u ≡ incoming_of held u = sides_same roomy held refl refl in
-    let is = c.take_payload.ensures.empty in
+    let is = c.in_ok-payload.ensures.empty in
     let t = c.requires.expecting.taken in
-    let payload = c.take_payload.ensures.payload ∙ ap (λ (v : IncomingView). v.payload) (sides s) in
+    let payload = c.in_ok-payload.ensures.payload ∙ ap (λ (v : IncomingView). v.payload) (sides s) in
     let is_m : m ≡ message_of c.args.expected (incoming_of held s).payload = c.message-message.ensures ∙ ap (message_of c.args.expected) payload in
     let whole : IsRead held s t (Whole m) = subst (λ n. IsRead held s t (Whole n)) (sym is_m) (whole_read held s c.args.expected c.requires) in
     let messages = c.in_ok-push.ensures.items ∙ ap (λ l. l ++ m ∷ []) (ap (λ v. v.items) (mid_messages held roomy mid new s is sides refl refl) ∙ c.reserve.ensures.items) in

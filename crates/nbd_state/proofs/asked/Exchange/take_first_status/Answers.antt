@@ -18,6 +18,6 @@ returns-clause-shown c = λ export e m s u fits none n f p is z.
     exchange_shows_reply export e m c.args.self.now _ c.args.ends false c.args.known s u n f
     (record { flags = refl; command = refl; cookie = refl; offset = refl; length = refl; payload = refl; proper = refl; outside = refl })
     c.first-self.ensures (sym (or-false c.args.self.now.failed)) c.outcome_after-self.ensures
-    (pieces_first export e m c.in_ok-pieces.pieces.items status (no_reply_yet e.replies asked.known_at s.replied none) is p
+    (c.from_vec.ensures.items ∙ pieces_first export e m c.in_ok-pieces.pieces.items status (no_reply_yet e.replies asked.known_at s.replied none) is p
     (if_proper export e asked.command asked.offset asked.length asked.proper c.args.zeroes c.in_ok-pieces.pieces.items status fits s.command s.offset s.length s.proper z c.in_ok-pieces.ensures))
     (told_more export e m c.args.self.now c.args.ends s u n _ status is c.in_ok-tell.ensures.told)

@@ -87,9 +87,7 @@ returns-in-Request-clause-shown c = on c.request.result (λ f core r s sn ok.
     let may : MayComplete core core.phase (Request c.in-Request.flags c.in-Request.command c.in-Request.cookie c.in-Request.offset c.in-Request.length c.in-Request.payload) = subst (λ m. MayComplete core core.phase m) c.in-Request.is ok in
     let a = asked_in core core.phase c.in-Request.flags c.in-Request.command c.in-Request.cookie c.in-Request.offset c.in-Request.length c.in-Request.payload may in
     shows_same core c.args.message.now (Request c.in-Request.flags c.in-Request.command c.in-Request.cookie c.in-Request.offset c.in-Request.length c.in-Request.payload) c.in-Request.is
-    (subst (λ p. Shows c.request.new.self (core_with_request (c.in-Request.command == commands.DISC) core
-    (record { flags = c.in-Request.flags; command = c.in-Request.command; cookie = c.in-Request.cookie; offset = c.in-Request.offset; length = c.in-Request.length; payload = p; contexts = in_force core; sizes = sizes_kept core.sizing; replies = [] })))
-    c.as_slice.ensures (f core a.0 s a.1 (λ d. subst (λ b. MayAsk b core c.in-Request.cookie c.in-Request.offset c.in-Request.length) d a.2))))
+    (f core a.0 s a.1 (λ d. subst (λ b. MayAsk b core c.in-Request.cookie c.in-Request.offset c.in-Request.length) d a.2)))
     c.request.ensures.shown
 
 pub returns-in-Request-clause-known : goal.returns-in-Request-clause-known
@@ -102,7 +100,7 @@ unfolding complete
 returns-in-Simple-clause-shown c = on c.simple.result (λ f core r s sn ok.
     let a = simple_in core core.phase c.in-Simple.error c.in-Simple.cookie c.in-Simple.payload (subst (λ m. MayComplete core core.phase m) c.in-Simple.is ok) in
     shows_same core c.args.message.now (Simple c.in-Simple.error c.in-Simple.cookie c.in-Simple.payload) c.in-Simple.is
-    (subst (λ p. Shows c.simple.new.self (core_with_reply core (Simple c.in-Simple.error c.in-Simple.cookie p))) c.as_slice-in-Simple.ensures (f core a.0 r s a.1)))
+    (f core a.0 r s a.1))
     c.simple.ensures.shown
 
 pub returns-in-Simple-clause-known : goal.returns-in-Simple-clause-known
@@ -115,7 +113,7 @@ unfolding complete
 returns-in-Chunk-clause-shown c = on c.chunk.result (λ f core r s sn ok.
     let a = chunk_in core core.phase c.in-Chunk.flags c.in-Chunk.kind c.in-Chunk.cookie c.in-Chunk.payload (subst (λ m. MayComplete core core.phase m) c.in-Chunk.is ok) in
     shows_same core c.args.message.now (Chunk c.in-Chunk.flags c.in-Chunk.kind c.in-Chunk.cookie c.in-Chunk.payload) c.in-Chunk.is
-    (subst (λ p. Shows c.chunk.new.self (core_with_reply core (Chunk c.in-Chunk.flags c.in-Chunk.kind c.in-Chunk.cookie p))) c.as_slice-in-Chunk.ensures (f core a.0 r s a.1)))
+    (subst (λ p. Shows c.chunk.new.self (core_with_reply core (Chunk c.in-Chunk.flags c.in-Chunk.kind c.in-Chunk.cookie p))) c.as_slice.ensures (f core a.0 r s a.1)))
     c.chunk.ensures.shown
 
 pub returns-in-Chunk-clause-known : goal.returns-in-Chunk-clause-known

@@ -1,6 +1,6 @@
 use Rattle.std.proofs.Common.{arith}
 use Rattle.nbd_capture.proofs.FormLemmas.{from_nil, from_first}
-use Rattle.nbd_capture.proofs.capture.is_silent.Goals as goal
+use Rattle.nbd_capture.proofs.tests.parse.is_silent.Goals as goal
 
 pub returns-in-empty : goal.returns-in-empty
 returns-in-empty c = from_nil c.args.line.now (omega (arith, c.in-empty.len_below))

@@ -1,0 +1,160 @@
+-- Digits that come in parts, and the lines that they stand in.
+use Rattle.std.proofs.Common.{◌≡◌, ℕ, ◌+◌, ◌*◌, ◌%◌, ◌≤◌, Bool, true, false, List, [], ◌∷◌, ◌++◌, length, Option, Some, None, Result, Ok, Err, refl, sym, ap, ◌∙◌, arith, subst, append_assoc, append-nil, ◌⊎◌, inl, inr, IfOk, MatchBool, take, slice_get}
+use Rattle.std.proofs.Math.Seq.{take-append_seam}
+use Rattle.std.proofs.lemmas.List.{length-append, take_all}
+use Rattle.nbd_wire.specs.declared.message.Side.{Side}
+use Rattle.nbd_capture.specs.Capture.{AreDigits, Chunk, IsCaptureLine, hash, letter, space}
+use Rattle.nbd_capture.specs.Capture.AreDigits.{none, byte}
+use Rattle.nbd_capture.specs.Capture.IsCaptureLine.{blank, chunk, comment}
+use Rattle.nbd_capture.specs.declared.form.Form.{Form}
+use Rattle.nbd_capture.specs.declared.form.Form.TheVariants.{Empty, Letter, Digits, Comment, Bad}
+use Rattle.nbd_capture.specs.internal.Kept.{IsOf, Spell}
+use Rattle.nbd_capture.proofs.DigitLemmas.{even}
+use Rattle.nbd_capture.proofs.FormLemmas.{forms, same_parts, silent_sends}
+
+pub join : (a b x y : List ℕ) → AreDigits a x → AreDigits b y → AreDigits (a ++ b) (x ++ y)
+join a b x y none d = d
+join a b x y (byte first second high low digits bytes df ds rest) d = byte first second high low (digits ++ b) (bytes ++ y) df ds (join digits b bytes y rest d)
+
+-- the digits behind whole bytes are digits
+behind : (a b x z : List ℕ) → AreDigits a x → AreDigits (a ++ b) z → (y : List ℕ) × AreDigits b y
+behind a b x z none d = (z, d)
+behind a b x z (byte first second high low digits bytes df ds rest) (byte first2 second2 high2 low2 digits2 bytes2 df2 ds2 more) = behind digits b bytes bytes2 rest more
+
+-- an even number of the first digits are digits
+in_front : (a b z : List ℕ) → length a % 2 ≡ 0 → AreDigits (a ++ b) z → (y : List ℕ) × AreDigits a y
+in_front [] b z pairwise d = ([], none)
+in_front (c ∷ []) b z pairwise d = absurd (omega (arith, pairwise))
+in_front (c ∷ e ∷ a) b z pairwise (byte first second high low digits bytes df ds rest) =
+    let more = in_front a b bytes (omega (arith, pairwise)) rest in
+    ((high * 16 + low) ∷ more.0, byte first second high low a more.0 df ds more.1)
+
+-- what stands behind is what was decoded, where it was
+pub seam : (len : ℕ) (front out rest old : List ℕ) → front ≡ old → len ≡ length old + length out → take len ((front ++ out) ++ rest) ≡ old ++ out
+seam len front out rest old same is =
+    ap (λ k. take k ((front ++ out) ++ rest)) (is ∙ sym (length-append front out ∙ ap (λ l. length l + length out) same))
+    ∙ take-append_seam (front ++ out) rest ∙ ap (λ l. l ++ out) same
+
+-- a vector that grew begins as it did
+pub begins : (old grown more : List ℕ) (n start : ℕ) → grown ≡ take n old ++ more → start ≡ length old → start ≤ n → take start grown ≡ old
+begins old grown more n start is at within =
+    ap (take start) (is ∙ ap (λ l. l ++ more) (take_all n old (omega (arith, at, within)))) ∙ ap (λ k. take k (old ++ more)) at ∙ take-append_seam old more
+
+-- bytes that were decoded behind others, or none
+pub decoded : (digits old out new : List ℕ) (ok : Bool) → MatchBool ok (AreDigits digits out) ((bytes : List ℕ) → AreDigits digits bytes → ⊥) → new ≡ old ++ out
+    → MatchBool ok ((more : List ℕ) × (new ≡ old ++ more) × AreDigits digits more) ((more : List ℕ) → AreDigits digits more → ⊥)
+decoded digits old out new true d grown = (out, grown, d)
+decoded digits old out new false none_of grown = none_of
+
+-- a line's digits with more, but for a last one that waits
+pub with_pairs : (side : Side) (digits pairs last before old new : List ℕ) (half : Option ℕ) → pairs ++ last ≡ digits → length last ≤ 1 → half ≡ slice_get last 0
+    → (more : List ℕ) × (new ≡ old ++ more) × AreDigits pairs more → AreDigits before old
+    → (x : List ℕ) × (letter side ∷ space ∷ (before ++ digits) ≡ letter side ∷ space ∷ x) × Spell x half new
+with_pairs side digits pairs [] before old new half parts short is (more, grown, d) b =
+    let whole : AreDigits (before ++ pairs) new = subst (AreDigits (before ++ pairs)) (sym grown) (join before pairs old more b d) in
+    let same : before ++ pairs ≡ before ++ digits = ap (λ l. before ++ l) (sym (append-nil pairs) ∙ parts) in
+    (before ++ digits, refl, subst (λ h. Spell (before ++ digits) h new) (sym is) (subst (λ l. AreDigits l new) same whole))
+with_pairs side digits pairs (c ∷ []) before old new half parts short is (more, grown, d) b =
+    let whole : AreDigits (before ++ pairs) new = subst (AreDigits (before ++ pairs)) (sym grown) (join before pairs old more b d) in
+    let same : before ++ digits ≡ (before ++ pairs) ++ c ∷ [] = ap (λ l. before ++ l) (sym parts) ∙ sym (append_assoc before pairs (c ∷ [])) in
+    (before ++ digits, refl, subst (λ h. Spell (before ++ digits) h new) (sym is) (before ++ pairs, same, whole))
+with_pairs side digits pairs (c ∷ e ∷ last) before old new half parts short is d b = absurd (omega (arith, short))
+
+-- no line has what spells no bytes behind whole bytes
+pub no_line : (side : Side) (digits pairs last before old : List ℕ) → pairs ++ last ≡ digits → length pairs % 2 ≡ 0 → ((more : List ℕ) → AreDigits pairs more → ⊥)
+    → AreDigits before old → (more : List ℕ) (said : List Chunk) → IsCaptureLine (letter side ∷ space ∷ ((before ++ digits) ++ more)) said → ⊥
+no_line side digits pairs last before old parts pairwise none_of b more said f =
+    elim (forms (letter side ∷ space ∷ ((before ++ digits) ++ more)) said f) [
+      | inl silent ↦ silent_sends _ side ((before ++ digits) ++ more) silent.0 refl
+      | inr sends ↦
+          let same : (before ++ digits) ++ more ≡ sends.digits = (same_parts side sends.side ((before ++ digits) ++ more) sends.digits sends.whole).1 in
+          let split : (before ++ digits) ++ more ≡ before ++ (pairs ++ (last ++ more)) =
+          append_assoc before digits more ∙ ap (λ l. before ++ (l ++ more)) (sym parts) ∙ ap (λ l. before ++ l) (append_assoc pairs last more) in
+          let d : AreDigits (before ++ (pairs ++ (last ++ more))) sends.bytes = subst (λ l. AreDigits l sends.bytes) (sym same ∙ split) sends.spelled in
+          let rest = behind before (pairs ++ (last ++ more)) old sends.bytes b d in
+          let front = in_front pairs (last ++ more) rest.0 pairwise rest.1 in
+          none_of front.0 front.1
+    ]
+
+-- a side's letter is followed by a space
+pub no_space : (side : Side) (first : ℕ) (rest more : List ℕ) (said : List Chunk) → (first ≡ space → ⊥) → IsCaptureLine (letter side ∷ first ∷ (rest ++ more)) said → ⊥
+no_space side first rest more said other f =
+    elim (forms (letter side ∷ first ∷ (rest ++ more)) said f) [
+      | inl silent ↦ elim silent.0 [
+        | inl nothing ↦ cc nothing
+        | inr remark ↦ silent_sends (letter side ∷ space ∷ []) side [] (inr (rest_of remark)) refl
+      ]
+      | inr sends ↦ other (cc sends.whole)
+    ]
+  where
+    rest_of : ((anything : List ℕ) × (letter side ∷ first ∷ (rest ++ more) ≡ hash ∷ anything)) → (anything : List ℕ) × (letter side ∷ space ∷ [] ≡ hash ∷ anything)
+    rest_of (anything, same) = let first_is : letter side ≡ hash = cc same in (space ∷ [], ap (λ c. c ∷ space ∷ []) first_is)
+
+-- a pair whose second digit came with the next part
+pub with_second : (side : Side) (before rest old more middle new : List ℕ) (first second : ℕ) (half : Option ℕ) (form : Form) → half ≡ Some first
+    → middle ≡ old ++ more → AreDigits (first ∷ second ∷ []) more → Spell before half old
+    → ((digits : List ℕ) → AreDigits digits middle → IsOf form new (letter side ∷ space ∷ (digits ++ rest)))
+    → IsOf form new (letter side ∷ space ∷ (before ++ second ∷ rest))
+with_second side before rest old more middle new first second half form is grown d s next =
+    let h = subst (λ h. Spell before h old) is s in
+    let whole : AreDigits (h.0 ++ first ∷ second ∷ []) middle = subst (AreDigits (h.0 ++ first ∷ second ∷ [])) (sym grown) (join h.0 (first ∷ second ∷ []) old more h.2 d) in
+    let same : (h.0 ++ first ∷ second ∷ []) ++ rest ≡ before ++ second ∷ rest =
+    append_assoc h.0 (first ∷ second ∷ []) rest ∙ sym (append_assoc h.0 (first ∷ []) (second ∷ rest)) ∙ ap (λ l. l ++ second ∷ rest) (sym h.1) in
+    subst (λ l. IsOf form new (letter side ∷ space ∷ l)) same (next (h.0 ++ first ∷ second ∷ []) whole)
+
+-- one whose second is no digit
+pub no_second : (side : Side) (before rest old : List ℕ) (first second : ℕ) (half : Option ℕ) → half ≡ Some first
+    → ((more : List ℕ) → AreDigits (first ∷ second ∷ []) more → ⊥) → Spell before half old
+    → (more : List ℕ) (said : List Chunk) → IsCaptureLine (letter side ∷ space ∷ ((before ++ second ∷ rest) ++ more)) said → ⊥
+no_second side before rest old first second half is none_of s more said f =
+    let h = subst (λ h. Spell before h old) is s in
+    let same : before ++ second ∷ rest ≡ h.0 ++ first ∷ second ∷ rest = ap (λ l. l ++ second ∷ rest) h.1 ∙ append_assoc h.0 (first ∷ []) (second ∷ rest) in
+    no_line side (first ∷ second ∷ rest) (first ∷ second ∷ []) rest h.0 old refl refl none_of h.2 more said
+    (subst (λ l. IsCaptureLine (letter side ∷ space ∷ (l ++ more)) said) same f)
+
+-- what a line of a form is
+pub filled : (form : Form) (bytes line : List ℕ) → IsOf form bytes line → (form ≡ Empty → ⊥) → line ≡ [] → ⊥
+filled Empty bytes line h other nothing = other refl
+filled (Letter side) bytes line h other nothing = cc (sym h.0 ∙ nothing)
+filled (Digits side half) bytes line h other nothing = cc (sym h.1 ∙ nothing)
+filled Comment bytes line h other nothing = cc (sym h.1 ∙ nothing)
+filled Bad bytes line h other nothing = h [] [] (subst (λ l. IsCaptureLine l []) (sym (append-nil line ∙ nothing)) blank)
+
+pub silent : (form : Form) (bytes line : List ℕ) → (form ≡ Empty) ⊎ (form ≡ Comment) → IsOf form bytes line → IsCaptureLine line []
+silent form bytes line (inl is) h = let e = subst (λ f. IsOf f bytes line) is h in subst (λ l. IsCaptureLine l []) (sym e.0) blank
+silent form bytes line (inr is) h = let e = subst (λ f. IsOf f bytes line) is h in subst (λ l. IsCaptureLine l []) (sym e.1) (comment e.0)
+
+pub sent : (side : Side) (bytes line : List ℕ) → IsOf (Digits side None) bytes line → IsCaptureLine line (record { side = side; bytes = bytes } ∷ [])
+sent side bytes line h = subst (λ l. IsCaptureLine l (record { side = side; bytes = bytes } ∷ [])) (sym h.1) (chunk side h.0 bytes h.2)
+
+-- a letter alone is no line
+pub letter_alone : (side : Side) (bytes line : List ℕ) → IsOf (Letter side) bytes line → (said : List Chunk) → IsCaptureLine line said → ⊥
+letter_alone side bytes line h said f =
+    elim (forms line said f) [
+      | inl quiet ↦ elim quiet.0 [
+        | inl nothing ↦ cc (sym h.0 ∙ nothing)
+        | inr remark ↦ let first_is : letter side ≡ hash = cc (sym h.0 ∙ remark.1) in silent_sends (letter side ∷ space ∷ []) side [] (inr (space ∷ [], ap (λ c. c ∷ space ∷ []) first_is)) refl
+      ]
+      | inr sends ↦ cc (sym h.0 ∙ sends.whole)
+    ]
+
+-- digits of odd number are no line
+pub odd_digits : (side : Side) (last : ℕ) (bytes line : List ℕ) → IsOf (Digits side (Some last)) bytes line → (said : List Chunk) → IsCaptureLine line said → ⊥
+odd_digits side last bytes line h said f =
+    elim (forms line said f) [
+      | inl quiet ↦ silent_sends line side h.0 quiet.0 h.1
+      | inr sends ↦
+          let same : h.0 ≡ sends.digits = (same_parts side sends.side h.0 sends.digits (sym h.1 ∙ sends.whole)).1 in
+          let pairs = even h.2.0 bytes h.2.2 in
+          let all = even sends.digits sends.bytes sends.spelled in
+          let size : length sends.digits ≡ length h.2.0 + 1 = ap length (sym same ∙ h.2.1) ∙ length-append h.2.0 (last ∷ []) in
+          absurd (omega (arith, pairs, all, size))
+    ]
+
+pub bad : (bytes line : List ℕ) → IsOf Bad bytes line → (said : List Chunk) → IsCaptureLine line said → ⊥
+bad bytes line h said f = h [] said (subst (λ l. IsCaptureLine l said) (sym (append-nil line)) f)
+
+-- a form, if there is one
+pub on_form : {E : Type 0} (r : Result Form E) (P Q : Form → Type 0) → IfOk r P → ((form : Form) → P form → Q form) → IfOk r Q
+on_form (Ok form) P Q p f = f form p
+on_form (Err e) P Q p f = tt

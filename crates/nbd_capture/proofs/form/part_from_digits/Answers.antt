@@ -1,0 +1,12 @@
+use Rattle.std.proofs.Common.{◌∷◌, ◌∙◌, [], sym, ap, subst}
+use Rattle.nbd_capture.specs.Capture.{AreDigits, letter}
+use Rattle.nbd_capture.specs.Capture.AreDigits.{none}
+use Rattle.nbd_capture.specs.internal.Kept.{IsOf}
+use Rattle.nbd_capture.proofs.SpellLemmas.{on_form}
+use Rattle.nbd_capture.proofs.form.part_from_digits.Goals as goal
+
+pub returns-in-Some : goal.returns-in-Some
+returns-in-Some c =
+    on_form c.spell.result _ _ c.spell.ensures (λ form next nothing.
+    subst (λ l. IsOf form c.spell.new.bytes.items (letter c.args.side ∷ l)) (sym (c.in-Some.ensures.cases.0 ∙ ap (λ b. b ∷ c.in-Some.digits.now) c.if-first-eq32.true))
+    (next [] (subst (AreDigits []) (sym nothing) none)))
