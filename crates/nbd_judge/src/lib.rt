@@ -15,8 +15,6 @@ mod rules;
 mod service;
 mod sorting;
 mod tally;
-#[cfg(test)]
-mod tests;
 pub mod verdict;
 
 pub use checking::{check, check_of};

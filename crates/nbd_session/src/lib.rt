@@ -17,8 +17,6 @@ mod session;
 mod spans;
 mod statuses;
 mod stretches;
-#[cfg(test)]
-mod tests;
 
 pub use fault::SessionFault;
 pub use nbd_state::{Asked, Outcome, Transcript};

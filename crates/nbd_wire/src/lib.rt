@@ -51,6 +51,3 @@ pub use payloads::{Content, Extent, Failure, Info, Piece};
 pub use profile::Profile;
 pub use sides::{fits, side_of};
 pub use sizes::{Sizes, Sizing, asks_sizes, breaks_sizes, sizes_of};
-
-#[cfg(test)]
-mod tests;
