@@ -1,13 +1,14 @@
 //! How many bytes of a READ are wrong, or of those that a BLOCK_STATUS called zero, and the first of them beside those that the export
 //! held.
 
-use crate::content::{expected_byte, found_byte, is_hole};
+use crate::content::{expected_byte, found_byte};
 use crate::explanation::Sources;
-use crate::layers::{Layers, Origin, Stretch, end_of};
-use crate::parts::inside;
-use crate::story::{Request, Story, Told};
+use crate::layers::{Layers, Origin, Stretch, Stretches};
+use crate::parts::end_of;
+use crate::requests::Request;
+use crate::story::Story;
 use crate::text::Text;
-use crate::zeroes::Zeroes;
+use crate::told::Told;
 use nbd_wire::{Entry, Part, Side};
 use std::alloc::{AllocError, Global};
 
@@ -47,20 +48,14 @@ impl Differing {
     }
 
     // These and those at which a stretch that came is not the one that was expected, which begins at the same offset.
-    fn between(self, came: Stretch, expected: Stretch, sources: Sources<'_>) -> Differing {
+    fn between(mut self, came: Stretch, expected: Stretch, sources: Sources<'_>) -> Differing {
         let offset = came.part.offset;
-        let among = self.more(came.part.length);
+        self.among = self.among.saturating_add(came.part.length);
         match (came.origin, expected.origin) {
-            (_, Origin::Unknown) => among,
-            (Origin::Zeroes, _) => among.compared(offset, expected.bytes(sources), &[]),
-            _ => among.compared(offset, came.bytes(sources), expected.bytes(sources)),
+            (_, Origin::Unknown) => self,
+            (Origin::Zeroes, _) => self.compared(offset, expected.bytes(sources), &[]),
+            _ => self.compared(offset, came.bytes(sources), expected.bytes(sources)),
         }
-    }
-
-    // The same, among so many more.
-    fn more(mut self, count: u64) -> Differing {
-        self.among = self.among.saturating_add(count);
-        self
     }
 }
 
@@ -74,26 +69,8 @@ impl Text {
         entry: &Entry,
         sources: Sources<'_>,
     ) -> Text {
-        match sources.story.request(entry.request) {
-            Some(read) => self.differing_in(
-                alloc,
-                place,
-                read,
-                served(entry, read, sources),
-                sources,
-            ),
-            None => self,
-        }
-    }
-
-    fn differing_in(
-        self,
-        alloc: Global,
-        place: usize,
-        read: &Request,
-        part: Part,
-        sources: Sources<'_>,
-    ) -> Text {
+        let read = sources.story.request(entry.request);
+        let part = entry.part.unwrap_or(read.inside(sources.story.export.size));
         match differing_of(alloc, place, read, part, sources) {
             Ok(differing) => self
                 .counted(differing, read)
@@ -105,36 +82,32 @@ impl Text {
     // How many bytes differ, the first and the last of them.
     fn counted(self, differing: Differing, read: &Request) -> Text {
         let text = self
-            .number("differ: ", differing.count)
-            .say(" of ")
-            .count(differing.among, "byte")
-            .say(if read.is_status() { " called zero" } else { "" });
+            .fill("differ: {} of {byte}", &[differing.count, differing.among])
+            .say_if(read.is_status(), " called zero");
         if differing.count == 1 {
             text.number(", at offset ", differing.first)
         } else {
-            text.number(", from offset ", differing.first)
-                .number(" to ", differing.last)
+            text.fill(", from offset {} to {}", &[differing.first, differing.last])
         }
     }
 
     // The bytes that came for a part and those that were expected, one line below the other.
     fn beside(self, place: usize, read: &Request, part: Part, sources: Sources<'_>) -> Text {
-        let mut came = self
-            .number("\nfrom offset ", part.offset)
-            .say(":\n  ")
+        let mut text = self
+            .fill("\nfrom offset {}:\n  ", &[part.offset])
             .say(if read.is_status() {
                 "called  "
             } else {
                 "came    "
             });
         for offset in part.offset..end_of(part) {
-            came = came.known(byte_in(read, offset, sources));
+            text = text.known(found_byte(read.number, offset, sources.story).known());
         }
-        let mut expected = came.say("\n  expected");
+        text = text.say("\n  expected");
         for offset in part.offset..end_of(part) {
-            expected = expected.known(expected_byte(place, offset, sources));
+            text = text.known(expected_byte(place, offset, sources));
         }
-        expected.end()
+        text.end()
     }
 
     // A byte, or two points of one that is not known.
@@ -146,27 +119,11 @@ impl Text {
     }
 }
 
-// The byte that a READ got for an offset; 00 where a BLOCK_STATUS called it zero.
-fn byte_in(read: &Request, offset: u64, sources: Sources<'_>) -> Option<u8> {
-    match found_byte(read.number, offset, sources.story) {
-        Some(came) => Some(came.byte),
-        None => None,
-    }
-}
-
 // The first offsets of a part from the first that differs on.
 fn first_of(differing: Differing, part: Part) -> Part {
     Part {
         offset: differing.first,
         length: end_of(part).saturating_sub(differing.first).min(SHOWN),
-    }
-}
-
-// What an entry serves of a READ or a BLOCK_STATUS.
-fn served(entry: &Entry, read: &Request, sources: Sources<'_>) -> Part {
-    match entry.part {
-        Some(part) => part,
-        None => inside(read, sources.story.size()),
     }
 }
 
@@ -179,13 +136,31 @@ fn differing_of(
     part: Part,
     sources: Sources<'_>,
 ) -> Result<Differing, AllocError> {
-    let mut layers = Layers::before(alloc, place, part, sources)?;
-    let expected = layers.stretches(alloc, part, sources.start)?;
-    let came = stretches_of(alloc, read, sources)?;
-    Ok(differing_between(&came, &expected, sources))
+    let expected = Layers::before(alloc, place, part, sources).stretches(
+        alloc,
+        part,
+        sources.start,
+    )?;
+    differing_from(alloc, read, &expected, sources)
 }
 
-// The offsets at which stretches that came are not those that were expected; both lie in the order of their offsets.
+// The same where what was expected is known, in the order of the offsets.
+fn differing_from(
+    alloc: Global,
+    read: &Request,
+    expected: &[Stretch],
+    sources: Sources<'_>,
+) -> Result<Differing, AllocError> {
+    let came = with_contents(
+        Stretches::called_zero(alloc, sources.story.zeroes_of(read.number)),
+        read.number,
+        sources.story,
+    )
+    .sorted()?;
+    Ok(differing_between(&came, expected, sources))
+}
+
+// The offsets at which stretches that came are not those that were expected; both lie in the order of their offsets and share none.
 fn differing_between(came: &[Stretch], expected: &[Stretch], sources: Sources<'_>) -> Differing {
     let mut differing = Differing {
         among: 0,
@@ -193,73 +168,40 @@ fn differing_between(came: &[Stretch], expected: &[Stretch], sources: Sources<'_
         first: 0,
         last: 0,
     };
-    for stretch in expected {
-        let from = came.partition_point(|it| end_of(it.part) <= stretch.part.offset);
-        for it in came.get(from..).unwrap_or(&[]) {
-            match (it.inside(stretch.part), stretch.inside(it.part)) {
-                (Some(came), Some(expected)) => differing = differing.between(
-                    came, expected, sources,
-                ),
-                _ => break,
+    let mut ours = 0usize;
+    let mut theirs = 0usize;
+    for _ in 0..came.len().saturating_add(expected.len()) {
+        if let (Some(one), Some(other)) = (came.get(ours), expected.get(theirs)) {
+            differing = differing.between(one.inside(other.part), other.inside(one.part), sources);
+            // The one that ends first is done.
+            if end_of(one.part) <= end_of(other.part) {
+                ours = ours.saturating_add(1);
+            } else {
+                theirs = theirs.saturating_add(1);
             }
         }
     }
     differing
 }
 
-// What a READ got or a BLOCK_STATUS called zero, in the order of the offsets.
-fn stretches_of(
-    alloc: Global,
-    read: &Request,
-    sources: Sources<'_>,
-) -> Result<Vec<Stretch>, AllocError> {
-    let mut stretches = Vec::new(alloc);
-    match sources.story.zeroes_of(read.number) {
-        Some(zeroes) => push_zeroes(&mut stretches, &zeroes)?,
-        None => push_contents(&mut stretches, read.number, sources.story)?,
+/// Stretches and what the READ with this number got.
+pub fn with_contents(stretches: Stretches, number: u64, story: &Story) -> Stretches {
+    let mut all = stretches;
+    for message in &story.told {
+        all = all.with(content_in(message, number));
     }
-    stretches.sort_by_key(|stretch| stretch.part.offset)?;
-    Ok(stretches)
+    all
 }
 
-// Adds what the READ with this number got.
-fn push_contents(
-    stretches: &mut Vec<Stretch>,
-    number: u64,
-    story: &Story,
-) -> Result<(), AllocError> {
-    for told in &story.told {
-        if let Some(part) = told.content_to(number) {
-            stretches.push(Stretch {
-                part,
-                origin: origin_in(told, part),
-            })?;
-        }
-    }
-    Ok(())
-}
-
-// Adds what a BLOCK_STATUS called zero.
-fn push_zeroes(stretches: &mut Vec<Stretch>, zeroes: &Zeroes<'_>) -> Result<(), AllocError> {
-    let mut rest = zeroes.descriptors;
-    for _ in 0..rest.count() {
-        let one = rest.next();
-        if let Some(part) = zeroes.part_of(one) {
-            stretches.push(Stretch {
-                part,
-                origin: Origin::Zeroes,
-            })?;
-        }
-    }
-    Ok(())
-}
-
-// Where the content of a message comes from, with which the message ends.
-fn origin_in(told: &Told, part: Part) -> Origin {
-    if is_hole(&told.brief) {
-        Origin::Zeroes
-    } else {
-        let end = told.before.saturating_add(told.length);
-        Origin::Wire(Side::Server, end.saturating_sub(part.length))
+// The content that a message brings the request with this number: the message ends with it, or is a hole.
+fn content_in(told: &Told, request: u64) -> Stretch {
+    Stretch {
+        part: told.content_to(request),
+        origin: if told.is_hole() {
+            Origin::Zeroes
+        } else {
+            Origin::Wire(Side::Server)
+        },
+        before: told.before_last(told.part.length),
     }
 }

@@ -50,37 +50,25 @@ impl Text {
 
     /// Adds why an image of so many bytes does not fit an export of this size.
     pub fn image(self, image: u64, size: u64) -> Text {
-        self.rule(&IMAGE_RULE, "the image that was given")
-            .say("sizes: the image has ")
-            .count(image, "byte")
-            .say(", the export ")
-            .count(size, "byte")
-            .end()
+        self.rule(&IMAGE_RULE, "the image that was given").fill(
+            "sizes: the image has {byte}, the export {byte}\n",
+            &[image, size],
+        )
     }
 
     /// Adds a rule, who broke it, and where it stands.
     pub fn rule(self, rule: &Rule, breaker: &str) -> Text {
-        self.sentence(rule).breaker(breaker).section(rule)
+        self.line("rule: ", rule.sentence)
+            .line("broken by: ", breaker)
+            .line("section: ", rule.section)
     }
 
     /// Adds two rules of which one or the other was broken, who broke it, and where they stand.
     pub fn one_of_rules(self, first: &Rule, second: &Rule, breaker: &str) -> Text {
-        self.sentence(first)
-            .sentence(second)
-            .breaker(breaker)
-            .section(first)
-            .section(second)
-    }
-
-    fn sentence(self, rule: &Rule) -> Text {
-        self.say("rule: ").say(rule.sentence).end()
-    }
-
-    fn breaker(self, breaker: &str) -> Text {
-        self.say("broken by: ").say(breaker).end()
-    }
-
-    fn section(self, rule: &Rule) -> Text {
-        self.say("section: ").say(rule.section).end()
+        self.line("rule: ", first.sentence)
+            .line("rule: ", second.sentence)
+            .line("broken by: ", breaker)
+            .line("section: ", first.section)
+            .line("section: ", second.section)
     }
 }

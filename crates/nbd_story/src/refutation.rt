@@ -1,11 +1,10 @@
 //! Why no order explains a session.
 
-use crate::content::{byte_at_first, byte_by, found_byte, place_of};
+use crate::content::{byte_at_first, byte_by, found_byte, rule_of};
 use crate::explanation::Sources;
-use crate::story::{Request, Story};
+use crate::requests::Request;
+use crate::story::Story;
 use crate::text::Text;
-use crate::zeroes::is_status;
-use nbd_judge::{CONTENT_RULE, STATUS_RULE};
 
 /// READs of an offset of the export, and BLOCK_STATUSes that call it zero, of which each order of the session has one wrong there, and
 /// the changes that it takes to show that, by their numbers.
@@ -16,25 +15,13 @@ pub struct Contest<'a> {
     pub offset: u64,
 }
 
-impl Contest<'_> {
-    // How many of the requests are BLOCK_STATUSes.
-    fn count_of_statuses(&self, story: &Story) -> usize {
-        let mut count = 0usize;
-        for number in self.reads {
-            if is_status(story.request(*number)) {
-                count = count.saturating_add(1);
-            }
-        }
-        count
+// How many of these requests are BLOCK_STATUSes.
+fn count_of_statuses(requests: &[u64], story: &Story) -> usize {
+    let mut count = 0usize;
+    for number in requests {
+        count = count.saturating_add(usize::from(story.request(*number).is_status()));
     }
-}
-
-fn label_of(request: Option<&Request>) -> &'static str {
-    if is_status(request) {
-        "status: "
-    } else {
-        "read: "
-    }
+    count
 }
 
 impl Text {
@@ -43,26 +30,29 @@ impl Text {
         match contest.reads {
             [request] => self.no_source(*request, contest.offset, sources),
             _ => self
-                .rules(contest, sources.story)
+                .rules(contest.reads, sources.story)
                 .byte_of_start(contest.offset, sources)
-                .changes(contest, sources.story)
-                .reads(contest, sources.story)
+                .changes(contest.changes, contest.offset, sources.story)
+                .reads(contest.reads, contest.offset, sources.story)
                 .deduction(contest, sources)
                 .assumed(),
         }
     }
 
     // The rule of READs, that of BLOCK_STATUSes, or both where there are both.
-    fn rules(self, contest: Contest<'_>, story: &Story) -> Text {
-        let breaker = "the server, in whatever order it served";
-        match (contest.count_of_statuses(story), contest.reads.len()) {
-            (0, _) => self.rule(&CONTENT_RULE, breaker),
-            (statuses, all) if statuses == all => self.rule(&STATUS_RULE, breaker),
-            _ => self.one_of_rules(
-                &CONTENT_RULE,
-                &STATUS_RULE,
+    fn rules(self, reads: &[u64], story: &Story) -> Text {
+        let statuses = count_of_statuses(reads, story);
+        if statuses == 0 || statuses == reads.len() {
+            self.rule(
+                &rule_of(statuses != 0),
+                "the server, in whatever order it served",
+            )
+        } else {
+            self.one_of_rules(
+                &rule_of(false),
+                &rule_of(true),
                 "the server, one or the other, in whatever order it served",
-            ),
+            )
         }
     }
 
@@ -71,20 +61,19 @@ impl Text {
         match byte_at_first(sources.start, offset) {
             Some(byte) => self
                 .byte("start: ", byte)
-                .number(" at offset ", offset)
-                .end(),
+                .fill(" at offset {}\n", &[offset]),
             None => self,
         }
     }
 
     // Each change, when it can have been served, and the byte that it left.
-    fn changes(self, contest: Contest<'_>, story: &Story) -> Text {
+    fn changes(self, numbers: &[u64], offset: u64, story: &Story) -> Text {
         let mut text = self;
-        for number in contest.changes {
+        for number in numbers {
             let change = story.request(*number);
             text = text
                 .between("change: ", change)
-                .left(byte_by(change, contest.offset, story));
+                .left(byte_by(change, offset, story));
         }
         text
     }
@@ -97,25 +86,26 @@ impl Text {
     }
 
     // Each READ and BLOCK_STATUS, when it can have been served, and the byte that it got or called zero.
-    fn reads(self, contest: Contest<'_>, story: &Story) -> Text {
+    fn reads(self, numbers: &[u64], offset: u64, story: &Story) -> Text {
         let mut text = self;
-        for number in contest.reads {
-            let request = story.request(*number);
-            text = text
-                .between(label_of(request), request)
-                .got(*number, contest.offset, story);
+        for number in numbers {
+            text = text.read(story.request(*number), offset, story);
         }
         text
     }
 
-    fn got(self, read: u64, offset: u64, story: &Story) -> Text {
-        match found_byte(read, offset, story) {
-            Some(came) => self
-                .told_byte(came.descriptor.is_some(), came.byte)
-                .say(place_of(&came.reply.brief))
-                .number("", came.place)
-                .end(),
-            None => self.say("got no byte\n"),
+    fn read(self, request: &Request, offset: u64, story: &Story) -> Text {
+        let came = found_byte(request.number, offset, story);
+        let label = if request.is_status() {
+            "status: "
+        } else {
+            "read: "
+        };
+        let text = self.between(label, request);
+        if came.place == 0 {
+            text.say("got no byte\n")
+        } else {
+            text.told_byte(came.is_status(), came.byte).place_of(&came)
         }
     }
 
@@ -129,20 +119,14 @@ impl Text {
     }
 
     // A request with its places, and between which bytes of the capture it can have been served.
-    fn between(self, label: &str, request: Option<&Request>) -> Text {
-        match request {
-            Some(request) => self
-                .asked(label, request)
-                .number("; served after byte ", request.last)
-                .before(request.replied),
-            None => self,
-        }
-    }
-
-    fn before(self, replied: Option<u64>) -> Text {
-        match replied {
-            Some(first) => self.number(" and before byte ", first).say("; "),
-            None => self.say(" or never; "),
+    fn between(self, label: &str, request: &Request) -> Text {
+        let text = self
+            .asked(label, request)
+            .number("; served after byte ", request.last);
+        if request.replied == 0 {
+            text.say(" or never; ")
+        } else {
+            text.fill(" and before byte {}; ", &[request.replied])
         }
     }
 }

@@ -1,51 +1,35 @@
 //! What a refused message is to be compared with.
 
+use crate::arriving::last_told;
+use crate::content::bringer;
+use crate::differing::with_contents;
 use crate::improper::{chunk_reason, content_reason};
-use crate::parts::{Parts, shared};
-use crate::story::{Request, Story, Told, range};
+use crate::layers::{Stretch, Stretches, gap_between};
+use crate::requests::{NO_REQUEST, Request, range};
+use crate::story::Story;
 use crate::text::Text;
+use crate::told::Told;
 use nbd_wire::flags::has;
 use nbd_wire::{Part, Side, WireFault, command_flags};
 use std::alloc::Global;
 
 /// How many outstanding requests are listed.
-const LISTED: usize = 8;
-
-impl Told {
-    // Whether it brings the request with this number content that shares an offset with a part.
-    fn brings(&self, request: u64, part: Part) -> bool {
-        match self.content_to(request) {
-            Some(content) => shared(content, part).is_some(),
-            None => false,
-        }
-    }
-}
-
-impl Story {
-    /// The first message that brings the request with this number content with an offset of a part.
-    pub fn bringer(&self, request: u64, part: Part) -> Option<&Told> {
-        for told in &self.told {
-            if told.brings(request, part) {
-                return Some(told);
-            }
-        }
-        None
-    }
-}
+const LISTED: u64 = 8;
 
 impl Text {
     /// Adds the requests, the chunks and the export that a refused message is to be compared with.
     pub fn related(self, alloc: Global, fault: WireFault, told: &Told, story: &Story) -> Text {
-        match told.brief.cookie() {
-            Some(cookie) if fault == WireFault::UnknownCookie => self
-                .answered_before(cookie, story)
+        let request = story.answered(told.cookie);
+        if !told.has_cookie() {
+            self.negotiation_reason(fault, told, story)
+        } else if fault == WireFault::UnknownCookie {
+            self.answered_before(answered_before(&story.requests, told.cookie))
                 .outstanding(story)
-                .arriving(told, story),
-            Some(cookie) => match story.answered(cookie) {
-                Some(request) => self.holder(alloc, fault, told, request, story),
-                None => self,
-            },
-            None => self.negotiation_reason(fault, told, story),
+                .arriving(told, story)
+        } else if request.is_there() {
+            self.holder(alloc, fault, told, request, story)
+        } else {
+            self
         }
     }
 
@@ -58,16 +42,27 @@ impl Text {
         request: &Request,
         story: &Story,
     ) -> Text {
-        match told.side {
-            Side::Server => self
+        match (told.side, fault) {
+            (Side::Server, _) => self
                 .asked("request: ", request)
                 .end()
                 .reason(alloc, fault, told, request, story),
-            _ if fault == WireFault::CookieInUse => self
+            (Side::Client, WireFault::CookieInUse) => self
                 .asked("outstanding: ", request)
                 .end()
-                .without_done(request, story),
+                .without_done(last_told(&story.told, Side::Server, request.number), story),
             _ => self,
+        }
+    }
+
+    // The last message of a reply that has begun and not ended, and who is to mend that where the server took it for ended.
+    fn without_done(self, reply: &Told, story: &Story) -> Text {
+        if reply.is_there() {
+            self.told_so_far("reply so far: ", reply, story).say(
+                "; no DONE (0x1), so the request is outstanding; if the server left DONE out, it is the one to mend\n",
+            )
+        } else {
+            self
         }
     }
 
@@ -81,13 +76,22 @@ impl Text {
         story: &Story,
     ) -> Text {
         match fault {
-            WireFault::SuccessOfImproper => self.export_told(request, story),
+            WireFault::SuccessOfImproper => self
+                .export("export: ", story.export.size, story.export.flags)
+                .end()
+                .improper(&request.head, story),
             WireFault::BadChunk => self.wrong(chunk_reason(told, story)),
-            WireFault::BadContent => self
-                .wrong(content_reason(told, request, story))
-                .rival(told, request, story),
+            WireFault::BadContent => self.wrong(content_reason(told, request, story)).told(
+                "content before: ",
+                bringer(&story.told, request.number, rivalled(told.part, request)),
+                story,
+            ),
             WireFault::IncompleteRead => self.gap(
-                parts_brought(alloc, told, request, story),
+                with_contents(
+                    Stretches::new(alloc).with(Stretch::of(told.part)),
+                    request.number,
+                    story,
+                ),
                 range(&request.head),
                 ", which no chunk brings\n",
             ),
@@ -96,90 +100,71 @@ impl Text {
         }
     }
 
-    fn export_told(self, request: &Request, story: &Story) -> Text {
-        match story.export {
-            Some(export) => self
-                .say("export: ")
-                .export(export)
-                .end()
-                .improper(&request.head, export, story),
-            None => self,
-        }
-    }
-
-    // The last request with this cookie whose reply is finished.
-    fn answered_before(self, cookie: u64, story: &Story) -> Text {
-        let mut found = None;
-        for request in &story.requests {
-            if request.head.cookie == cookie && request.finished.is_some() {
-                found = Some(request);
-            }
-        }
-        match found {
-            Some(request) => self
-                .asked("answered before: ", request)
-                .number("; its reply ended at byte ", request.finished.unwrap_or(0))
-                .end(),
-            None => self,
-        }
-    }
-
-    // The first outstanding requests, and how many more there are.
-    fn outstanding(self, story: &Story) -> Text {
-        let mut text = self;
-        let mut listed = 0;
-        for request in &story.requests {
-            if request.finished.is_none() && listed < LISTED {
-                text = text.asked("outstanding: ", request).end();
-                listed += 1;
-            }
-        }
-        text.more(story.outstanding.len(), listed)
-    }
-
-    // How many more there are than were listed.
-    fn more(self, count: usize, listed: usize) -> Text {
-        if count == 0 {
-            self.say("outstanding: no request\n")
-        } else if count > listed {
-            self.number("outstanding: ", (count - listed) as u64)
-                .say(" more\n")
+    // The last request with a cookie whose reply is finished.
+    fn answered_before(self, request: &Request) -> Text {
+        if request.is_there() {
+            self.asked("answered before: ", request)
+                .fill("; its reply ended at byte {}\n", &[request.finished])
         } else {
             self
         }
     }
 
-    // The first content to a request that shares an offset with that of a refused chunk, or with DF the first content.
-    fn rival(self, chunk: &Told, request: &Request, story: &Story) -> Text {
-        match chunk.brief.content() {
-            Some(part) => self.content_before(
-                story.bringer(request.number, rivalled(part, request)),
-                story,
-            ),
-            None => self,
-        }
+    // The first outstanding requests, and how many more there are.
+    fn outstanding(self, story: &Story) -> Text {
+        let count = story.outstanding.len() as u64;
+        self.first_outstanding(&story.requests)
+            .say_if(count == 0, "outstanding: no request\n")
+            .fill_if(
+                count > LISTED,
+                "outstanding: {} more\n",
+                &[count.saturating_sub(LISTED)],
+            )
     }
 
-    fn content_before(self, told: Option<&Told>, story: &Story) -> Text {
-        match told {
-            Some(told) => self.told("content before: ", told, story).end(),
-            None => self,
+    fn first_outstanding(self, requests: &[Request]) -> Text {
+        let mut text = self;
+        let mut listed = 0u64;
+        for request in requests {
+            if request.finished == 0 && listed < LISTED {
+                text = text.asked("outstanding: ", request).end();
+                listed += 1;
+            }
         }
+        text
     }
 
     /// Adds the first bytes of a range that no part has, where there are some, and what of them is said.
-    pub fn gap(self, parts: Parts, range: Part, what: &str) -> Text {
-        match parts.first_gap(range) {
-            Ok(Some(part)) => self.part("first gap: ", part).say(what),
-            Ok(None) => self,
+    pub fn gap(self, parts: Stretches, range: Part, what: &str) -> Text {
+        match parts.sorted() {
+            Ok(parts) => self.gap_told(gap_between(&parts, range), what),
             Err(_) => self.refused(),
+        }
+    }
+
+    fn gap_told(self, gap: Part, what: &str) -> Text {
+        if gap.length == 0 {
+            self
+        } else {
+            self.part("first gap: ", gap).say(what)
         }
     }
 }
 
+// The last request with this cookie whose reply is finished.
+fn answered_before(requests: &[Request], cookie: u64) -> &Request {
+    let mut last = &NO_REQUEST;
+    for request in requests {
+        if request.head.cookie == cookie && request.finished != 0 {
+            last = request;
+        }
+    }
+    last
+}
+
 // What other content may not share with this part of a READ: with DF any offset.
 fn rivalled(part: Part, request: &Request) -> Part {
-    if has(request.head.flags, command_flags::DF) {
+    if part.length != 0 && has(request.head.flags, command_flags::DF) {
         Part {
             offset: 0,
             length: u64::MAX,
@@ -187,13 +172,4 @@ fn rivalled(part: Part, request: &Request) -> Part {
     } else {
         part
     }
-}
-
-// The parts that a refused chunk and the messages before it bring to a request.
-fn parts_brought(alloc: Global, chunk: &Told, request: &Request, story: &Story) -> Parts {
-    let mut parts = Parts::new(alloc).with(chunk.brief.content());
-    for told in &story.told {
-        parts = parts.with(told.content_to(request.number));
-    }
-    parts
 }

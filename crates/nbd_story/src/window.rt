@@ -12,15 +12,16 @@ impl Text {
     pub fn window(self, recording: &Recording, place: u64) -> Text {
         let first = place.saturating_sub(AROUND).max(1);
         let last = place.saturating_add(AROUND).min(recording.len());
-        let mut text = self.places(first, last).say(":");
+        let mut text = self.places("", first, last).say(":");
         let mut line = None;
         for at in first..last.saturating_add(1) {
-            if let Some((side, byte)) = recording.byte(at) {
-                if line != Some(side) {
+            let sender = recording.sender(at);
+            if let Some(side) = sender {
+                if line != sender {
                     text = text.say("\n  ").say(letter_of(side));
                 }
-                line = Some(side);
-                text = text.cell(byte, at == place);
+                line = sender;
+                text = text.cell(recording.byte(side, at), at == place);
             }
         }
         text.end()
