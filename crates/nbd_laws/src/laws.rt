@@ -114,9 +114,9 @@ pub fn handshakes_are_fair()
     ensures { HandshakesAreFair }
 {}
 
-/// An answer is one to the option that was chosen last: an error, or where the option's data has its
-/// form an ACK without payload, a name for LIST, an info for INFO and GO. The ACK to INFO or GO comes
-/// after an info on an export.
+/// An option reply answers the option that was chosen last: it is an error, or where the option's data is well-formed an ACK without
+/// payload, a name for LIST, an info for INFO and GO, in Wide a context for the options on contexts. The ACK to INFO or GO comes after an
+/// info on an export.
 pub fn answers_follow_choices()
     ensures { AnswersFollowChoices }
 {}

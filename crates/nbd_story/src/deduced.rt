@@ -6,6 +6,7 @@ use crate::explanation::Sources;
 use crate::refutation::Contest;
 use crate::requests::{NO_REQUEST, Request};
 use crate::story::Story;
+use nbd_wire::bit;
 
 /// The most requests of which something is deduced.
 pub const MOST: usize = 64;
@@ -63,11 +64,6 @@ pub struct Deduced {
     pub reads: usize,
     /// How many places are taken.
     pub count: usize,
-}
-
-/// The bit of a place.
-pub fn bit(place: usize) -> u128 {
-    1u128 << (place % PLACES)
 }
 
 // One with what it left or got, which none was served after.

@@ -4,7 +4,7 @@ use crate::requests::range;
 use crate::story::Story;
 use crate::told::{Form, NO_MESSAGE, Told};
 use nbd_wire::{
-    Content, Part, RequestHead, Side, SimpleHead, answer_head, choice_head, chunk_head,
+    Content, Part, RequestHead, Side, SimpleHead, answer_head, bytes_in, choice_head, chunk_head,
     client_flags_head, commands, content_of, export_head, failure_of, greeting_head, head_lengths,
     options, request_head, simple_head,
 };
@@ -50,7 +50,7 @@ impl Story {
     }
 
     fn reply(&self, bytes: &[u8]) -> Told {
-        match simple_head(slice(bytes, 0, head_lengths::SIMPLE)) {
+        match simple_head(bytes_in(bytes, 0, head_lengths::SIMPLE)) {
             Some(head) => self.simple(head),
             None => chunk(bytes),
         }
@@ -81,7 +81,7 @@ fn message(form: Form, head: usize, payload: u64) -> Told {
 }
 
 fn request(bytes: &[u8]) -> Told {
-    let Some(head) = request_head(slice(bytes, 0, head_lengths::REQUEST)) else {
+    let Some(head) = request_head(bytes_in(bytes, 0, head_lengths::REQUEST)) else {
         return NO_MESSAGE;
     };
     let mut told = message(Form::Request, head_lengths::REQUEST, written(&head));
@@ -102,7 +102,7 @@ fn written(head: &RequestHead) -> u64 {
 }
 
 fn client_flags(bytes: &[u8]) -> Told {
-    let Some(flags) = client_flags_head(slice(bytes, 0, head_lengths::CLIENT_FLAGS)) else {
+    let Some(flags) = client_flags_head(bytes_in(bytes, 0, head_lengths::CLIENT_FLAGS)) else {
         return NO_MESSAGE;
     };
     let mut told = message(Form::ClientFlags, head_lengths::CLIENT_FLAGS, 0);
@@ -111,7 +111,7 @@ fn client_flags(bytes: &[u8]) -> Told {
 }
 
 fn choice(bytes: &[u8]) -> Told {
-    let Some(head) = choice_head(slice(bytes, 0, head_lengths::CHOICE)) else {
+    let Some(head) = choice_head(bytes_in(bytes, 0, head_lengths::CHOICE)) else {
         return NO_MESSAGE;
     };
     let mut told = message(Form::Choice, head_lengths::CHOICE, u64::from(head.length));
@@ -120,7 +120,7 @@ fn choice(bytes: &[u8]) -> Told {
 }
 
 fn greeting(bytes: &[u8]) -> Told {
-    let Some(flags) = greeting_head(slice(bytes, 0, head_lengths::GREETING)) else {
+    let Some(flags) = greeting_head(bytes_in(bytes, 0, head_lengths::GREETING)) else {
         return NO_MESSAGE;
     };
     let mut told = message(Form::Greeting, head_lengths::GREETING, 0);
@@ -130,7 +130,7 @@ fn greeting(bytes: &[u8]) -> Told {
 
 // An export, and so many zeroes behind it.
 fn exported(bytes: &[u8], padding: u64) -> Told {
-    let Some((size, flags)) = export_head(slice(bytes, 0, head_lengths::EXPORT)) else {
+    let Some((size, flags)) = export_head(bytes_in(bytes, 0, head_lengths::EXPORT)) else {
         return NO_MESSAGE;
     };
     let mut told = message(Form::Exported, head_lengths::EXPORT, padding);
@@ -140,7 +140,7 @@ fn exported(bytes: &[u8], padding: u64) -> Told {
 }
 
 fn answer(bytes: &[u8]) -> Told {
-    let Some(head) = answer_head(slice(bytes, 0, head_lengths::ANSWER)) else {
+    let Some(head) = answer_head(bytes_in(bytes, 0, head_lengths::ANSWER)) else {
         return NO_MESSAGE;
     };
     let mut told = message(Form::Answer, head_lengths::ANSWER, u64::from(head.length));
@@ -150,10 +150,10 @@ fn answer(bytes: &[u8]) -> Told {
 }
 
 fn chunk(bytes: &[u8]) -> Told {
-    let Some(head) = chunk_head(slice(bytes, 0, head_lengths::CHUNK)) else {
+    let Some(head) = chunk_head(bytes_in(bytes, 0, head_lengths::CHUNK)) else {
         return NO_MESSAGE;
     };
-    let payload = slice(bytes, head_lengths::CHUNK, head.length as usize);
+    let payload = bytes_in(bytes, head_lengths::CHUNK, head.length as usize);
     let mut told = message(Form::Chunk, head_lengths::CHUNK, u64::from(head.length));
     told.flags = head.flags;
     told.kind = head.kind;
@@ -182,15 +182,10 @@ fn part_of(content: Content<'_>) -> Part {
     }
 }
 
-// So many bytes from an index on; none where not all of them are there.
-fn slice(bytes: &[u8], from: usize, length: usize) -> &[u8] {
-    bytes.get(from..from.saturating_add(length)).unwrap_or(&[])
-}
-
 /// The number that so many bytes from an index on are; of bytes that are not there all, 0.
 pub fn number_in(bytes: &[u8], from: u64, length: u64) -> u64 {
     let mut number = 0u64;
-    for byte in slice(bytes, from as usize, length as usize) {
+    for byte in bytes_in(bytes, from as usize, length as usize) {
         number = number.wrapping_mul(256).wrapping_add(u64::from(*byte));
     }
     number

@@ -1,10 +1,11 @@
 //! Why READs of one offset can't all have their bytes, step by step. A BLOCK_STATUS that calls the offset zero counts as a READ that got
 //! 00.
 
-use crate::deduced::{Deduced, Hindrance, MOST, START, Step, bit};
+use crate::deduced::{Deduced, Hindrance, MOST, START, Step};
 use crate::explanation::Sources;
 use crate::refutation::Contest;
 use crate::text::Text;
+use nbd_wire::bit;
 
 /// How many steps are told.
 const MOST_STEPS: u64 = 10;

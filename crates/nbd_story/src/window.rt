@@ -3,6 +3,7 @@
 use crate::recording::Recording;
 use crate::text::Text;
 use crate::words::letter_of;
+use nbd_wire::place_before;
 
 /// How many bytes are shown before a place, and behind it.
 const AROUND: u64 = 16;
@@ -10,7 +11,7 @@ const AROUND: u64 = 16;
 impl Text {
     /// Adds the bytes round this place of the capture, with the place in brackets: a line for each stretch of one side.
     pub fn window(self, recording: &Recording, place: u64) -> Text {
-        let first = place.saturating_sub(AROUND).max(1);
+        let first = place_before(place, AROUND);
         let last = place.saturating_add(AROUND).min(recording.len());
         let mut text = self.places("", first, last).say(":");
         let mut line = None;
