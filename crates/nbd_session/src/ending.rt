@@ -1,8 +1,6 @@
 //! What the last byte of a message shows to be wrong with it.
 
-ghost use Rattle.std.specs.Prelude.{◌≡◌, Some, is_some};
-ghost use Rattle.std.specs.BTreeMap.{get};
-ghost use Rattle.std.specs.Ordering.{nat_cmp};
+ghost use Rattle.std.specs.Prelude.{◌≡◌, Some};
 ghost use Rattle.nbd_wire.specs.protocol.Operations.{Exporting, Operation};
 ghost use Rattle.nbd_wire.specs.protocol.States.{Core};
 ghost use Rattle.nbd_laws.specs.internal.JudgeNegotiation.{are_zeroes};
@@ -31,7 +29,7 @@ pub(crate) fn last_fault(state: &State, expected: &Expected, payload: &[u8]) -> 
             Some(WireFault::BadExport)
         }
         Expected::Request(head)
-            if head.command != commands::DISC && is_in_use(state, head.cookie) => {
+            if head.command != commands::DISC && state.outstanding.get(head.cookie).is_some() => {
             Some(WireFault::CookieInUse)
         }
         Expected::Simple { head, place, .. } => success_fault(head.error, &state.exchanges[*place]),
@@ -40,16 +38,6 @@ pub(crate) fn last_fault(state: &State, expected: &Expected, payload: &[u8]) -> 
             chunk_fault(state, head.flags, head.kind, payload, exchange)
         }
         _ => None,
-    }
-}
-
-// Whether a request with this cookie is outstanding. Clients mostly count their cookies up, so the largest is looked at first.
-fn is_in_use(state: &State, cookie: u64) -> bool
-    ensures { result ≡ is_some (get nat_cmp state.now.outstanding cookie) }
-{
-    match state.outstanding.last_key_value() {
-        Some((last, _)) if cookie > *last => false,
-        _ => state.outstanding.contains_key(&cookie),
     }
 }
 

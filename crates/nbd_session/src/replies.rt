@@ -84,7 +84,7 @@ fn place_of(state: &State, cookie: u64, counted: u64) -> Option<usize>
         core.phase ≡ definitions.Transmission export →
         IsPlaceOf export core counted cookie state.now.exchanges.items result }
 {
-    let place = *state.outstanding.get(&cookie)?;
+    let place = state.outstanding.get(cookie)?;
     if (place as u64) < counted {
         Some(place)
     } else {

@@ -1,8 +1,7 @@
 -- What a state shows once a message has completed.
 use Rattle.std.proofs.Common.{◌≡◌, ℕ, zero, suc, ◌<◌, ◌≤◌, ◌⊎◌, ◌==◌, ◌&&◌, List, [], ◌∷◌, ◌++◌, length, refl, sym, ◌∙◌, ap, subst, Option, Some, None, Bool, true, false, if◌then◌else◌, arith, slice_get, slice_index_or, slice_set, Result, Ok, Err, IfOk, OnOk, inl, inr, not, is_some, ◌^◌}
 use Rattle.std.proofs.lemmas.Option.{slice_get_read}
-use Rattle.std.specs.BTreeMap.{get}
-use Rattle.std.specs.Ordering.{nat_cmp}
+use Rattle.nbd_state.specs.Places.{place_at}
 use Rattle.nbd_wire.specs.declared.message.Message.{Message}
 use Rattle.nbd_wire.specs.protocol.Operations.{Operation, Exporting, ends_reply, is_finished}
 use Rattle.nbd_wire.specs.protocol.Rules.{cookie_of, core_with_reply, reply_to, target_of}
@@ -77,12 +76,12 @@ negotiation_is_shown old new core next s n entries exchanges outstanding profile
   asked_with = subst (AreAskedWith (in_force next)) (sym entries) (none_asked (export_in core.phase) (in_force next) core.entries old.exchanges.items n s.are_shown);
   are_shown = subst (λ es. AreShown (export_in next.phase) es new.exchanges.items) (sym entries)
       (subst (λ v. AreShown (export_in next.phase) core.entries v.items) (sym exchanges) (none_shown (export_in core.phase) (export_in next.phase) core.entries old.exchanges.items n s.are_shown));
-  places = λ cookie. ap (λ o. get nat_cmp o cookie) outstanding ∙ s.places cookie ∙ ap (λ es. place_of (target cookie es)) (sym entries);
+  places = λ cookie. ap (λ o. place_at o cookie) outstanding ∙ s.places cookie ∙ ap (λ es. place_of (target cookie es)) (sym entries);
 }
 
 -- one more request
 pub requested_shows : (old new : State) (core : Core) (export : Exporting) (e : Operation) (x : Exchange) → Shows old core → core.phase ≡ Transmission export → e.replies ≡ [] → e.contexts ≡ in_force core → target e.cookie core.entries ≡ None → IsShown export e x →
-    new.exchanges.items ≡ old.exchanges.items ++ x ∷ [] → ((q : ℕ) → get nat_cmp new.outstanding q ≡ (if e.cookie == q then Some (length old.exchanges.items) else get nat_cmp old.outstanding q)) →
+    new.exchanges.items ≡ old.exchanges.items ++ x ∷ [] → ((q : ℕ) → place_at new.outstanding q ≡ (if e.cookie == q then Some (length old.exchanges.items) else place_at old.outstanding q)) →
     new ≡ record old { exchanges = new.exchanges; outstanding = new.outstanding } → Shows new (record core { entries = core.entries ++ e ∷ [] })
 requested_shows old new core export e x s p r asked t h items places kept = record {
   asked_with = asked_snoc (in_force core) core.entries e s.asked_with asked;
@@ -104,8 +103,8 @@ requested_shows old new core export e x s p r asked t h items places kept = reco
 
 -- one more reply to the request with this cookie
 pub replied_shows : (old mid new : State) (core : Core) (export : Exporting) (cookie place : ℕ) (m : Message) (x y : Exchange) → IsReached core → Shows old core → core.phase ≡ Transmission export → cookie_of m ≡ Some cookie →
-    get nat_cmp old.outstanding cookie ≡ Some place → slice_get old.exchanges.items place ≡ Some x → ((e : Operation) → e.contexts ≡ in_force core → IsShown export e x → is_finished e ≡ false → IsShown export (with_reply e m) y) →
-    mid ≡ record old { outstanding = mid.outstanding } → ((q : ℕ) → get nat_cmp mid.outstanding q ≡ (if ends_reply m && (cookie == q) then None else get nat_cmp old.outstanding q)) →
+    place_at old.outstanding cookie ≡ Some place → slice_get old.exchanges.items place ≡ Some x → ((e : Operation) → e.contexts ≡ in_force core → IsShown export e x → is_finished e ≡ false → IsShown export (with_reply e m) y) →
+    mid ≡ record old { outstanding = mid.outstanding } → ((q : ℕ) → place_at mid.outstanding q ≡ (if ends_reply m && (cookie == q) then None else place_at old.outstanding q)) →
     new ≡ record mid { exchanges = new.exchanges } → new.exchanges.items ≡ slice_set old.exchanges.items place y → Shows new (core_with_reply core m)
 replied_shows old mid new core export cookie place m x y r s p c g i step kept left made items = subst (λ t. Shows new (reply_to t core m)) (sym named) shows
   where
@@ -136,7 +135,7 @@ replied_shows old mid new core export cookie place m x y r s p c g i step kept l
       are_shown = subst (λ (q : definitions.Phase). AreShown (export_in q) (with_reply_at (suc place) m core.entries) new.exchanges.items) (sym p)
           (subst (λ xs. AreShown (Some export) (with_reply_at (suc place) m core.entries) xs) (sym items)
           (shown_answered export place m core.entries old.exchanges.items a.e y (are_shown_in old core export s p) a.numbered shown));
-      places = λ q. ap (λ (z : State). get nat_cmp z.outstanding q) made ∙ left q ∙ ap (λ o. if ends_reply m && (cookie == q) then None else o) (s.places q)
+      places = λ q. ap (λ (z : State). place_at z.outstanding q) made ∙ left q ∙ ap (λ o. if ends_reply m && (cookie == q) then None else o) (s.places q)
           ∙ place_if (ends_reply m && (cookie == q)) (target q core.entries)
           ∙ ap place_of (sym (target_replied q cookie (suc place) m core.entries (distinct_reached r) a.found));
     }

@@ -2,6 +2,7 @@ pub mod CompletionLemmas
 pub mod IndexLemmas
 pub mod KnownLemmas
 pub mod PhaseLemmas
+pub mod PlaceLemmas
 pub mod PlacedLemmas
 pub mod RecordingLemmas
 pub mod SelectionLemmas

@@ -1,8 +1,7 @@
 -- What a state shows once a message of the negotiation has completed.
 use Rattle.std.proofs.Common.{◌≡◌, ℕ, ◌<◌, ◌||◌, ◌&&◌, ◌==◌, List, length, refl, sym, ◌∙◌, ap, subst, Option, Some, None, Bool}
 use Rattle.std.proofs.lemmas.Option.{slice_get_within}
-use Rattle.std.specs.BTreeMap.{get}
-use Rattle.std.specs.Ordering.{nat_cmp}
+use Rattle.nbd_state.specs.Places.{place_at}
 use Rattle.nbd_wire.specs.declared.commands.TheConstants as commands
 use Rattle.nbd_wire.specs.declared.message.Message.{Message}
 use Rattle.nbd_wire.specs.declared.message.Message.TheVariants.{Greeting, ClientFlags, Choice, Answer, Exported, Request, Simple, Chunk}
@@ -220,17 +219,17 @@ transmits state flags command cookie offset len payload t =
     (export_shown a.0, t.shows.phase_is ∙ ap phase_shown a.1)
 
 -- the request that a reply answers has its exchange
-answered : (state : State) (core : Core) (export : Exporting) (cookie place : ℕ) → Shows state core → core.phase ≡ Transmission export → get nat_cmp state.outstanding cookie ≡ Some place → place < length state.exchanges.items
+answered : (state : State) (core : Core) (export : Exporting) (cookie place : ℕ) → Shows state core → core.phase ≡ Transmission export → place_at state.outstanding cookie ≡ Some place → place < length state.exchanges.items
 answered state core export cookie place s p g =
     let placed = place_shows_operation state core export cookie place s p g in
     slice_get_within state.exchanges.items place placed.x placed.stands
 
-pub answered_simple : (state : State) (error cookie : ℕ) (payload : List ℕ) (place : ℕ) → MayTake state (Simple error cookie payload) → get nat_cmp state.outstanding cookie ≡ Some place → place < length state.exchanges.items
+pub answered_simple : (state : State) (error cookie : ℕ) (payload : List ℕ) (place : ℕ) → MayTake state (Simple error cookie payload) → place_at state.outstanding cookie ≡ Some place → place < length state.exchanges.items
 answered_simple state error cookie payload place t g =
     let a = simple_in t.core t.core.phase error cookie payload t.completes in
     answered state t.core a.0 cookie place t.shows a.1 g
 
-pub answered_chunk : (state : State) (flags kind cookie : ℕ) (payload : List ℕ) (place : ℕ) → MayTake state (Chunk flags kind cookie payload) → get nat_cmp state.outstanding cookie ≡ Some place → place < length state.exchanges.items
+pub answered_chunk : (state : State) (flags kind cookie : ℕ) (payload : List ℕ) (place : ℕ) → MayTake state (Chunk flags kind cookie payload) → place_at state.outstanding cookie ≡ Some place → place < length state.exchanges.items
 answered_chunk state flags kind cookie payload place t g =
     let a = chunk_in t.core t.core.phase flags kind cookie payload t.completes in
     answered state t.core a.0 cookie place t.shows a.1 g

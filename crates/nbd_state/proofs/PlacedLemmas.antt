@@ -1,7 +1,6 @@
 -- The exchanges of a state, and the requests that they show.
 use Rattle.std.proofs.Common.{◌≡◌, ℕ, zero, suc, ◌-◌, List, [], ◌∷◌, length, refl, sym, ◌∙◌, ap, subst, Option, Some, None, arith, slice_get}
-use Rattle.std.specs.BTreeMap.{get}
-use Rattle.std.specs.Ordering.{nat_cmp}
+use Rattle.nbd_state.specs.Places.{place_at}
 use Rattle.nbd_wire.specs.protocol.Operations.{Operation, Exporting}
 use Rattle.nbd_wire.specs.protocol.States as definitions
 use Rattle.nbd_wire.specs.protocol.States.{Core, Transmission, operation, target, export_in}
@@ -51,7 +50,7 @@ pub record IsPlaced (core : Core) (export : Exporting) (cookie place : ℕ) (exc
   pub shown : IsShown export e x
 
 pub place_shows_operation : (state : State) (core : Core) (export : Exporting) (cookie place : ℕ) → Shows state core → core.phase ≡ Transmission export →
-    get nat_cmp state.outstanding cookie ≡ Some place → IsPlaced core export cookie place state.exchanges.items
+    place_at state.outstanding cookie ≡ Some place → IsPlaced core export cookie place state.exchanges.items
 place_shows_operation state core export cookie place s p g = go (target cookie core.entries) refl
   where
     go : (t : Option ℕ) → target cookie core.entries ≡ t → IsPlaced core export cookie place state.exchanges.items

@@ -1,7 +1,6 @@
 -- What the exchanges know once a message has completed, against the log.
 use Rattle.std.proofs.Common.{◌≡◌, ℕ, zero, suc, ◌+◌, ◌-◌, ◌<◌, ◌≤◌, ◌⊎◌, inl, inr, List, [], ◌∷◌, ◌++◌, length, refl, sym, ◌∙◌, ap, subst, Option, Some, None, arith, slice_get, slice_set}
-use Rattle.std.specs.BTreeMap.{get}
-use Rattle.std.specs.Ordering.{nat_cmp}
+use Rattle.nbd_state.specs.Places.{place_at}
 use Rattle.nbd_wire.specs.declared.message.Message.{Message}
 use Rattle.nbd_wire.specs.declared.profile.Profile.{Profile}
 use Rattle.nbd_wire.specs.declared.profile.Profile.TheVariants.{Base}
@@ -78,11 +77,11 @@ module _ (core : Core) (profile : Profile) (log : List LogEntry) (m : Message) (
   ]
 
   -- a reply says of the request that it answers
-  pub known_told : (state : State) (cookie : ℕ) (new : List Exchange) → Shows state core → cookie_of m ≡ Some cookie → TellsOne (get nat_cmp state.outstanding cookie) n state.exchanges.items new →
+  pub known_told : (state : State) (cookie : ℕ) (new : List Exchange) → Shows state core → cookie_of m ≡ Some cookie → TellsOne (place_at state.outstanding cookie) n state.exchanges.items new →
       AreKnown log state.exchanges.items → AreKnown (log ++ record { message = m; known = n } ∷ []) new
   known_told state cookie new s c tells h place x q = go (target cookie core.entries) refl
     where
-      t : (y : Exchange) × (slice_get state.exchanges.items place ≡ Some y) × (get nat_cmp state.outstanding cookie ≡ Some place → x.asked.known_at ≡ known_first y.asked.known_at n) × ((get nat_cmp state.outstanding cookie ≡ Some place → ⊥) → x.asked.known_at ≡ y.asked.known_at)
+      t : (y : Exchange) × (slice_get state.exchanges.items place ≡ Some y) × (place_at state.outstanding cookie ≡ Some place → x.asked.known_at ≡ known_first y.asked.known_at n) × ((place_at state.outstanding cookie ≡ Some place → ⊥) → x.asked.known_at ≡ y.asked.known_at)
       t = tells place x q
 
       named : request_of_reply core m ≡ target cookie core.entries
@@ -91,14 +90,14 @@ module _ (core : Core) (profile : Profile) (log : List LogEntry) (m : Message) (
       knew : t.0.asked.known_at ≡ known_by start.core (place + 1) log
       knew = h place t.0 t.1
 
-      other : (get nat_cmp state.outstanding cookie ≡ Some place → ⊥) → (request_of_reply core m ≡ Some (place + 1) → ⊥) → x.asked.known_at ≡ known_by start.core (place + 1) (log ++ record { message = m; known = n } ∷ [])
+      other : (place_at state.outstanding cookie ≡ Some place → ⊥) → (request_of_reply core m ≡ Some (place + 1) → ⊥) → x.asked.known_at ≡ known_by start.core (place + 1) (log ++ record { message = m; known = n } ∷ [])
       other ne na = t.3 ne ∙ knew ∙ sym (untold (place + 1) na)
 
       go : (o : Option ℕ) → target cookie core.entries ≡ o → x.asked.known_at ≡ known_by start.core (place + 1) (log ++ record { message = m; known = n } ∷ [])
       go None a = other (λ g. (let w : Some place ≡ None = sym g ∙ s.places cookie ∙ ap place_of a in cc)) (λ g. (let w : Some (place + 1) ≡ None = sym g ∙ named ∙ a in cc))
       go (Some zero) a = absurd (let f = find cookie core.entries zero a in no_entry core.entries f.found f.numbered)
       go (Some (suc k)) a = elim (same_number k place) [
-        | inl same ↦ (let g : get nat_cmp state.outstanding cookie ≡ Some place = s.places cookie ∙ ap place_of a ∙ ap Some (let z : suc k - 1 ≡ place = omega (arith, same) in z) in
+        | inl same ↦ (let g : place_at state.outstanding cookie ≡ Some place = s.places cookie ∙ ap place_of a ∙ ap Some (let z : suc k - 1 ≡ place = omega (arith, same) in z) in
             let b : request_of_reply core m ≡ Some (place + 1) = named ∙ a ∙ ap Some (let z : suc k ≡ place + 1 = omega (arith, same) in z) in
             t.2 g ∙ ap (λ o. known_first o n) knew ∙ sym (told (place + 1) b))
         | inr ne ↦ other (λ g. ne (let w : Some place ≡ Some (suc k - 1) = sym g ∙ s.places cookie ∙ ap place_of a in let v : place ≡ suc k - 1 = cc in omega (arith, v)))

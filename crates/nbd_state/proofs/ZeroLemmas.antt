@@ -1,8 +1,8 @@
 -- What descriptors call zero, one after the other.
-use Rattle.std.proofs.Common.{◌≡◌, ℕ, ◌+◌, ◌-◌, ◌<◌, ◌≤◌, ◌^◌, ◌==◌, ◌&&◌, List, [], ◌∷◌, ◌++◌, append_assoc, append-nil, min, refl, sym, ◌∙◌, ap, Bool, true, false, not, if◌then◌else◌, nat_le, arith, leb-true, leb-false}
+use Rattle.std.proofs.Common.{◌≡◌, ℕ, ◌+◌, ◌-◌, ◌<◌, ◌≤◌, ◌^◌, ◌==◌, ◌&&◌, List, [], min, refl, sym, ◌∙◌, ap, Bool, true, false, if◌then◌else◌, nat_le, arith, leb-true, leb-false}
 use Rattle.nbd_wire.specs.declared.payloads.Piece.{Piece}
 use Rattle.nbd_wire.specs.protocol.Contexts.{Extent, Status}
-use Rattle.nbd_wire.specs.protocol.Statuses.{is_allocation, zero_part, zeroes_in}
+use Rattle.nbd_wire.specs.protocol.Statuses.{is_allocation, zeroes_in}
 use Rattle.nbd_wire.specs.declared.commands.TheConstants as commands
 use Rattle.nbd_wire.specs.protocol.Operations.{Exporting, Operation, has_range, is_proper}
 use Rattle.nbd_laws.proofs.requests.SoundnessLemmas.{proper_range}

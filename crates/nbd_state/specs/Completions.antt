@@ -1,7 +1,6 @@
 -- What messages lead to, one after the other, which one may come next, and which request a reply answers.
 use Rattle.std.specs.Prelude.{◌≡◌, ℕ, List, [], ◌∷◌, Some}
-use Rattle.std.specs.BTreeMap.{get}
-use Rattle.std.specs.Ordering.{nat_cmp}
+use Rattle.nbd_state.specs.Places.{place_at}
 use Rattle.nbd_wire.specs.declared.message.Message.{Message}
 use Rattle.nbd_wire.specs.protocol.Rules.{MayComplete, complete, cookie_of}
 use Rattle.nbd_wire.specs.protocol.States.{Core}
@@ -24,4 +23,4 @@ pub record MayTake (state : State) (message : Message) : Type 0 where
 -- where the message is a reply, the request that it answers has its exchange at this place
 abbrev pub Answers : State → Message → ℕ → Type 0
 Answers state message place = (cookie : ℕ) → cookie_of message ≡ Some cookie
-    → get nat_cmp state.outstanding cookie ≡ Some place
+    → place_at state.outstanding cookie ≡ Some place

@@ -1,6 +1,6 @@
 -- How the program's state shows what the completed messages have led to.
 use Rattle.std.specs.Prelude.{◌≡◌, ℕ, ◌+◌, ◌-◌, ◌==◌, ◌||◌, Bool, false, List, [], ◌∷◌, Option, Some, None, slice_get}
-use Rattle.std.specs.BTreeMap.{get}
+use Rattle.nbd_state.specs.Places.{place_at}
 use Rattle.std.specs.BTreeSet.{BTreeSet, contains}
 use Rattle.std.specs.Ordering.{nat_cmp}
 use Rattle.nbd_wire.specs.protocol.Options.{is_proper_option, takes_contexts}
@@ -86,7 +86,7 @@ pub record Shows (state : State) (core : Core) : Type 0 where
   pub disconnected_is : state.disconnected ≡ core.disconnected
   pub asked_with : AreAskedWith (in_force core) core.entries
   pub are_shown : AreShown (export_in core.phase) core.entries state.exchanges.items
-  pub places : (cookie : ℕ) → get nat_cmp state.outstanding cookie ≡ place_of (target cookie core.entries)
+  pub places : (cookie : ℕ) → place_at state.outstanding cookie ≡ place_of (target cookie core.entries)
 
 -- each exchange knows what the log says of its request
 abbrev pub AreKnown : List LogEntry → List Exchange → Type 0

@@ -1,8 +1,7 @@
 //! What a completed message leads to.
 
 ghost use Rattle.std.specs.Prelude.{◌≡◌, ◌<◌, ◌==◌, ◌&&◌, ◌++◌, ◌∷◌, ℕ, List, [], Option, Some, None, false, if◌then◌else◌, length, OnOk};
-ghost use Rattle.std.specs.BTreeMap.{get};
-ghost use Rattle.std.specs.Ordering.{nat_cmp};
+ghost use Rattle.nbd_state.specs.Places.{place_at};
 ghost use Rattle.nbd_wire.specs.declared.commands.TheConstants as commands;
 ghost use Rattle.nbd_wire.specs.declared.message.Message.TheVariants.{Answer, Chunk, Simple};
 ghost use Rattle.nbd_wire.specs.declared.profile.Profile.{Profile};
@@ -173,8 +172,8 @@ impl State {
         ensures profile { self.new.profile ≡ self.old.profile }
         ensures items { OnOk result (self.new.exchanges.items ≡ self.old.exchanges.items ++ exchange ∷ []) }
         ensures places { OnOk result ((q : ℕ) →
-            get nat_cmp self.new.outstanding q ≡ (if cookie == q then Some (length self.old.exchanges.items)
-            else get nat_cmp self.old.outstanding q)) }
+            place_at self.new.outstanding q ≡ (if cookie == q then Some (length self.old.exchanges.items)
+            else place_at self.old.outstanding q)) }
         ensures kept { OnOk result (self.new ≡ record self.old {
           exchanges = self.new.exchanges;
           outstanding =
@@ -197,13 +196,13 @@ impl State {
         payload: &Bytes,
         known: u64,
     ) -> Result<(), AllocError>
-        requires place { get nat_cmp self.old.outstanding cookie ≡ Some place }
+        requires place { place_at self.old.outstanding cookie ≡ Some place }
         requires within { place < length self.old.exchanges.items }
         ensures profile { self.new.profile ≡ self.old.profile }
         ensures shown { OnOk result ((core : Core) (export : Exporting) → IsReached core →
             Shows self.old core → core.phase ≡ definitions.Transmission export →
             Shows self.new (core_with_reply core (Simple error cookie payload.now))) }
-        ensures tells { OnOk result (TellsOne (get nat_cmp self.old.outstanding cookie) known
+        ensures tells { OnOk result (TellsOne (place_at self.old.outstanding cookie) known
             self.old.exchanges.items self.new.exchanges.items) }
     {
         self.end_if(true, cookie);
@@ -221,13 +220,13 @@ impl State {
         payload: &[u8],
         known: u64,
     ) -> Result<(), AllocError>
-        requires place { get nat_cmp self.old.outstanding cookie ≡ Some place }
+        requires place { place_at self.old.outstanding cookie ≡ Some place }
         requires within { place < length self.old.exchanges.items }
         ensures profile { self.new.profile ≡ self.old.profile }
         ensures shown { OnOk result ((core : Core) (export : Exporting) → IsReached core →
             Shows self.old core → core.phase ≡ definitions.Transmission export →
             Shows self.new (core_with_reply core (Chunk flags kind cookie payload.now))) }
-        ensures tells { OnOk result (TellsOne (get nat_cmp self.old.outstanding cookie) known
+        ensures tells { OnOk result (TellsOne (place_at self.old.outstanding cookie) known
             self.old.exchanges.items self.new.exchanges.items) }
     {
         let zeroes = self.is_allocation_told(kind, payload);
@@ -249,12 +248,11 @@ impl State {
     // The request with this cookie is no longer outstanding where its reply ends.
     fn end_if(&mut self, ends: bool, cookie: u64)
         ensures left { (q : ℕ) →
-            get nat_cmp self.new.outstanding q ≡ (if ends && (cookie == q) then None else get nat_cmp
-            self.old.outstanding q) }
+            place_at self.new.outstanding q ≡ (if ends && (cookie == q) then None else place_at self.old.outstanding q) }
         ensures kept { self.new ≡ record self.old { outstanding = self.new.outstanding } }
     {
         if ends {
-            self.outstanding.remove(&cookie);
+            self.outstanding.remove(cookie);
         }
     }
 }

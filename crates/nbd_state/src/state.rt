@@ -1,11 +1,12 @@
 //! What the completed messages of a session have led to.
 
 use crate::asked::Exchange;
+use crate::outstanding::Outstanding;
 use crate::selection::Selection;
 use crate::transcript::Transcript;
 use nbd_wire::{Profile, Sizing};
 use std::alloc::Global;
-use std::collections::{BTreeMap, BTreeSet};
+use std::collections::BTreeSet;
 
 /// An export as the server described it: its size in bytes and its transmission flags.
 #[derive(Clone, Copy, PartialEq, Eq, Drop)]
@@ -68,7 +69,7 @@ pub struct State {
     /// The numbered requests, in their order.
     pub exchanges: Vec<Exchange>,
     /// The places of the outstanding ones, by their cookies.
-    pub outstanding: BTreeMap<u64, usize>,
+    pub outstanding: Outstanding,
 }
 
 impl State {
@@ -103,7 +104,7 @@ impl State {
             sizing: Sizing::none(),
             disconnected: false,
             exchanges: Vec::new(alloc),
-            outstanding: BTreeMap::new(alloc),
+            outstanding: Outstanding::none(alloc),
         }
     }
 

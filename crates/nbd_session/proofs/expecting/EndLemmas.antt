@@ -1,8 +1,7 @@
 -- What the last byte of a message shows to be wrong, where the exchanges show the requests.
 use Rattle.std.proofs.Common.{◌≡◌, ◌<◌, ◌+◌, ℕ, zero, suc, List, [], ◌∷◌, length, refl, sym, ◌∙◌, ap, subst, Option, Some, None, false, arith, add-one, slice_get, slice_index_or}
 use Rattle.std.proofs.lemmas.Option.{slice_get_read, same_Some}
-use Rattle.std.specs.BTreeMap.{get}
-use Rattle.std.specs.Ordering.{nat_cmp}
+use Rattle.nbd_state.specs.Places.{place_at}
 use Rattle.nbd_laws.proofs.requests.SoundnessLemmas.{open_target}
 use Rattle.nbd_laws.proofs.requests.ContextLemmas.{asked_at}
 use Rattle.nbd_state.proofs.PlacedLemmas.{place_shows_operation}
@@ -80,7 +79,7 @@ module _ (state : State) (core : Core) (place : ℕ) (s : Shows state core) (l :
       ∙ ap (λ to. simple_last_fault a.export to head.error) (sym a.numbered)
       ∙ ap (λ (p : definitions.Phase). last_fault_by p core (Simple head place len) payload) (sym a.phase_is)
 
-  pub chunk_end : (head : ChunkHead) → get nat_cmp state.outstanding head.cookie ≡ Some place → (payload : List ℕ) (r : Option WireFault) →
+  pub chunk_end : (head : ChunkHead) → place_at state.outstanding head.cookie ≡ Some place → (payload : List ℕ) (r : Option WireFault) →
       ((export : Exporting) (e : Operation) → e.contexts ≡ in_force core → IsShown export e x → is_finished e ≡ false → r ≡ chunk_fault_to export (Some e) head.flags head.kind head.cookie payload) →
       r ≡ last_fault_by core.phase core (Chunk head place) payload
   chunk_end head g payload r o =

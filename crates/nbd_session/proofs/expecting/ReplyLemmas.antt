@@ -1,5 +1,5 @@
 -- A reply whose head has come.
-use Rattle.std.proofs.Common.{◌≡◌, ℕ, zero, suc, ◌+◌, ◌<◌, [], ◌∷◌, ◌==◌, ◌&&◌, ◌||◌, ◌++◌, not, List, length, drop, arith, nat_le, inl, inr, Result, Ok, Err, IfOk, IfErr, refl, sym, ◌∙◌, ap, subst, Option, Some, None, Bool, true, false, is_some, if◌then◌else◌, slice_get}
+use Rattle.std.proofs.Common.{◌≡◌, ℕ, zero, suc, ◌+◌, ◌<◌, [], ◌∷◌, ◌==◌, ◌&&◌, ◌||◌, ◌++◌, not, List, length, drop, arith, nat_le, inl, inr, Result, Ok, Err, IfOk, IfErr, refl, sym, ◌∙◌, ap, subst, Option, Some, None, true, false, if◌then◌else◌, slice_get}
 use Rattle.nbd_wire.specs.declared.commands.TheConstants as commands
 use Rattle.nbd_wire.specs.declared.fault.WireFault.{WireFault}
 use Rattle.nbd_wire.specs.declared.fault.WireFault.TheVariants.{SimpleForbidden, ChunkForbidden}

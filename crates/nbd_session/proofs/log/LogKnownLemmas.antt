@@ -5,7 +5,7 @@ use Rattle.nbd_wire.specs.declared.message.Message.{Message}
 use Rattle.nbd_wire.specs.declared.message.Side.{Side}
 use Rattle.nbd_wire.specs.protocol.Captures.{Pair, side_pairs}
 use Rattle.nbd_wire.specs.protocol.Rules.{request_of_reply}
-use Rattle.nbd_wire.specs.protocol.States.{start, start_of}
+use Rattle.nbd_wire.specs.protocol.States.{start}
 use Rattle.nbd_laws.specs.internal.Concrete.{concrete}
 use Rattle.nbd_laws.specs.internal.Judge.{awaited_length}
 use Rattle.nbd_state.specs.Logs.{LogEntry, known_by}

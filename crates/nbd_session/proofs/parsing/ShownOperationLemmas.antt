@@ -2,10 +2,9 @@
 use Rattle.std.proofs.Common.{◌≡◌, ℕ, suc, ◌<◌, ◌≤◌, List, length, refl, sym, ◌∙◌, ap, Option, Some, None, if◌then◌else◌, arith, add-one, slice_get, Bor}
 use Rattle.std.proofs.lemmas.Bool.{le-leb, lt-leb}
 use Rattle.std.proofs.lemmas.Option.{slice_get_past, slice_get_read}
-use Rattle.std.specs.BTreeMap.{get}
+use Rattle.nbd_state.specs.Places.{place_at}
 use Rattle.std.specs.Option.{option_copied}
 use Rattle.std.specs.Slice.{IsItemAt}
-use Rattle.std.specs.Ordering.{nat_cmp}
 use Rattle.nbd_wire.specs.protocol.Operations.{Exporting}
 use Rattle.nbd_wire.specs.protocol.States.{Core, Transmission, operation}
 use Rattle.nbd_state.specs.declared.asked.Exchange.{Exchange}
@@ -15,7 +14,7 @@ use Rattle.nbd_laws.specs.internal.JudgeTransmission.{operation_counted, operati
 use Rattle.nbd_state.specs.Shows.{Shows}
 use Rattle.nbd_state.proofs.PlacedLemmas.{place_shows_operation}
 
-module _ (state : State) (core : Core) (export : Exporting) (cookie counted place : ℕ) (s : Shows state core) (p : core.phase ≡ Transmission export) (g : get nat_cmp state.outstanding cookie ≡ Some place) where
+module _ (state : State) (core : Core) (export : Exporting) (cookie counted place : ℕ) (s : Shows state core) (p : core.phase ≡ Transmission export) (g : place_at state.outstanding cookie ≡ Some place) where
   -- the place of a cookie is that of its request, where that is one of those up to the count
   pub place_within : place < counted → IsPlaceOf export core counted cookie state.exchanges.items (Some place)
   place_within l =

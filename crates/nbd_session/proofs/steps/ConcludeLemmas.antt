@@ -1,8 +1,7 @@
 -- What is decided of a side's bytes once they were taken.
 use Rattle.std.proofs.Common.{◌≡◌, ℕ, suc, ◌-◌, ◌<◌, ◌≤◌, List, [], ◌∷◌, ◌++◌, length, refl, sym, ◌∙◌, ap, subst, Option, Some, None, Result, Ok, Err, IfErr, IsErrAnd, OnOk, OnErr, append-nil, arith}
 use Rattle.std.proofs.lemmas.Option.{same_Some}
-use Rattle.std.specs.BTreeMap.{get}
-use Rattle.std.specs.Ordering.{nat_cmp}
+use Rattle.nbd_state.specs.Places.{place_at}
 use Rattle.nbd_wire.specs.declared.fault.WireFault.{WireFault}
 use Rattle.nbd_wire.specs.declared.message.Side.{Side}
 use Rattle.nbd_wire.specs.declared.message.Side.TheVariants.{Client, Server}
@@ -33,7 +32,7 @@ use Rattle.nbd_session.proofs.steps.SettleLemmas.{IsRead, settled_more, shut_wir
 use Rattle.nbd_session.proofs.steps.StepLemmas.{decided_held}
 
 -- the place that a reply's head has decided is the one that the state has
-placed_in : (state : State) (core : Core) → Shows state core → (own cookie place : ℕ) → target own core.entries ≡ Some (suc place) → Some own ≡ Some cookie → get nat_cmp state.outstanding cookie ≡ Some place
+placed_in : (state : State) (core : Core) → Shows state core → (own cookie place : ℕ) → target own core.entries ≡ Some (suc place) → Some own ≡ Some cookie → place_at state.outstanding cookie ≡ Some place
 placed_in state core s own cookie place t c =
     let same : own ≡ cookie = same_Some _ _ c in
     s.places cookie ∙ ap (λ k. place_of (target k core.entries)) (sym same) ∙ ap place_of t ∙ ap Some (let e : suc place - 1 ≡ place = omega arith in e)

@@ -1,8 +1,7 @@
 -- What is expected of a message whose head has come: which message it is with the bytes after its head, how many those
 -- are, and what its last byte shows to be wrong.
 use Rattle.std.specs.Prelude.{◌≡◌, ◌⊎◌, ◌<◌, ◌≤◌, ◌+◌, ◌==◌, ◌++◌, ℕ, suc, List, Bool, true, false, Option, Some, None, length, if◌then◌else◌, slice_get}
-use Rattle.std.specs.BTreeMap.{get}
-use Rattle.std.specs.Ordering.{nat_cmp}
+use Rattle.nbd_state.specs.Places.{place_at}
 use Rattle.nbd_wire.specs.declared.chunks.TheConstants as chunks
 use Rattle.nbd_wire.specs.declared.fault.WireFault.{WireFault}
 use Rattle.nbd_wire.specs.declared.fault.WireFault.TheVariants.{BadMagic}
@@ -89,7 +88,7 @@ IsPlaced core expected = Unit {0}
 abbrev pub StandsIn : State → Expected → Type 0
 StandsIn state (Simple head place len) = place < length state.exchanges.items
 StandsIn state (Chunk head place) =
-    (place < length state.exchanges.items) × (get nat_cmp state.outstanding head.cookie ≡ Some place)
+    (place < length state.exchanges.items) × (place_at state.outstanding head.cookie ≡ Some place)
 StandsIn state expected = Unit {0}
 
 -- the place of the request that a reply answers

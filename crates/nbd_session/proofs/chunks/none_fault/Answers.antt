@@ -1,4 +1,4 @@
-use Rattle.std.proofs.Common.{◌≡◌, ◌+◌, ◌==◌, ◌||◌, ◌∙◌, ap, arith, length, not, sym, true, false}
+use Rattle.std.proofs.Common.{◌≡◌, ◌==◌, ◌||◌, ◌∙◌, ap, arith, length, not, sym, true}
 use Rattle.nbd_wire.specs.declared.fault.WireFault.TheVariants.{BadChunk}
 use Rattle.nbd_wire.specs.protocol.Operations.{has_failed, is_proper, pieces}
 use Rattle.nbd_laws.specs.internal.Decisions.{fault_if}

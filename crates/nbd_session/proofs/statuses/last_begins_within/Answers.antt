@@ -1,4 +1,4 @@
-use Rattle.std.proofs.Common.{◌≡◌, ◌<◌, ◌∷◌, ap, arith, length, refl, sym}
+use Rattle.std.proofs.Common.{◌≡◌, ◌∷◌, ap, arith, length, refl, sym}
 use Rattle.nbd_wire.specs.codec.Contents.{extent_of}
 use Rattle.nbd_wire.specs.protocol.Payloads.{extents_of}
 use Rattle.nbd_session.proofs.judge.ExtentLemmas.{Within, within_last, within_next, within_passed}

@@ -1,4 +1,4 @@
-use Rattle.std.proofs.Common.{◌≡◌, ◌+◌, ◌==◌, ◌∙◌, ap, arith, false, length, not, refl, sym, true}
+use Rattle.std.proofs.Common.{◌==◌, ◌∙◌, ap, arith, length, refl, sym}
 use Rattle.nbd_wire.specs.declared.chunks.TheConstants as chunks
 use Rattle.nbd_wire.specs.declared.message.Message.TheVariants.{Chunk}
 use Rattle.std.specs.Prelude.{option_to_list}
@@ -6,7 +6,7 @@ use Rattle.nbd_wire.specs.protocol.Contexts.{Status}
 use Rattle.nbd_wire.specs.protocol.Flags.{has}
 use Rattle.nbd_wire.specs.protocol.Operations.{Operation, ends_reply, has_failed, is_proper, pieces}
 use Rattle.nbd_wire.specs.protocol.Payloads.{extents_of}
-use Rattle.nbd_wire.specs.protocol.States.{Core, in_force, with_reply}
+use Rattle.nbd_wire.specs.protocol.States.{with_reply}
 use Rattle.nbd_wire.specs.protocol.Statuses.{statuses}
 use Rattle.nbd_laws.specs.internal.JudgeTransmission.{total}
 use Rattle.nbd_laws.proofs.judge.BoolLemmas.{not_false, not_true}

@@ -1,4 +1,4 @@
-use Rattle.std.proofs.Common.{◌≡◌, ◌+◌, ◌-◌, ◌<◌, ◌≤◌, ◌^◌, ◌∷◌, ◌++◌, ◌∙◌, [], ap, append-nil, append_assoc, arith, length, min, refl, sym}
+use Rattle.std.proofs.Common.{◌≡◌, ◌+◌, ◌-◌, ◌∷◌, ◌++◌, ◌∙◌, ap, append-nil, append_assoc, arith, length, min, sym}
 use Rattle.nbd_wire.specs.codec.Contents.{extent_of}
 use Rattle.nbd_wire.specs.protocol.Payloads.{extents_of}
 use Rattle.nbd_wire.specs.protocol.Statuses.{zero_part, zeroes_in}

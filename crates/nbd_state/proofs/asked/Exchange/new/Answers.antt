@@ -1,4 +1,4 @@
-use Rattle.std.proofs.Common.{refl, rules, [], ◌∙◌}
+use Rattle.std.proofs.Common.{refl, rules, []}
 use Rattle.nbd_state.proofs.asked.Exchange.new.Goals as goal
 
 pub returns : goal.returns

@@ -1,12 +1,7 @@
-use Rattle.std.proofs.Common.{◌≡◌, ◌+◌, ◌<◌, ◌^◌, ◌++◌, ◌∙◌, ◌&&◌, [], ap, arith, append-nil, false, if◌then◌else◌, ◌==◌, refl, sym, true}
-use Rattle.std.specs.BTreeSet.{contains}
-use Rattle.std.specs.Ordering.{nat_cmp}
-use Rattle.nbd_wire.specs.declared.commands.TheConstants as commands
+use Rattle.std.proofs.Common.{◌∙◌, false, refl, sym}
 use Rattle.nbd_wire.specs.protocol.Contexts.{Status}
-use Rattle.nbd_wire.specs.protocol.Operations.{has_range, is_proper}
 use Rattle.nbd_wire.specs.protocol.Payloads.{extents_of}
-use Rattle.nbd_wire.specs.protocol.Statuses.{is_allocation, zeroes_in}
-use Rattle.nbd_state.proofs.RecordingLemmas.{at-same, exchange_shows_reply, no_reply_yet, pieces_first, told_more}
+use Rattle.nbd_state.proofs.RecordingLemmas.{exchange_shows_reply, no_reply_yet, pieces_first, told_more}
 use Rattle.nbd_state.proofs.ReplyLemmas.{or-false}
 use Rattle.nbd_state.proofs.ZeroLemmas.{if_proper}
 use Rattle.nbd_state.proofs.asked.Exchange.take_first_status.Goals as goal

@@ -1,7 +1,7 @@
-use Rattle.std.proofs.Common.{◌≡◌, ◌++◌, ◌∙◌, ap, append-nil, false, if◌then◌else◌, ◌==◌, refl, sym, true}
+use Rattle.std.proofs.Common.{◌++◌, ◌∙◌, ap, append-nil, false, if◌then◌else◌, ◌==◌, refl, sym, true}
 use Rattle.std.specs.BTreeSet.{contains}
 use Rattle.std.specs.Ordering.{nat_cmp}
-use Rattle.nbd_state.proofs.RecordingLemmas.{at-same, exchange_shows_reply, pieces_kept, some_reply_yet, told_more}
+use Rattle.nbd_state.proofs.RecordingLemmas.{exchange_shows_reply, pieces_kept, some_reply_yet, told_more}
 use Rattle.nbd_state.proofs.ReplyLemmas.{or-false}
 use Rattle.nbd_state.proofs.asked.Exchange.take_status.Goals as goal
 

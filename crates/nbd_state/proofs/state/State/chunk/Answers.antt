@@ -1,6 +1,5 @@
 use Rattle.std.proofs.Common.{◌<◌, ◌∙◌, ◌&&◌, ◌==◌, if◌then◌else◌, ap, length, refl, sym, subst, None, slice_set}
-use Rattle.std.specs.BTreeMap.{get}
-use Rattle.std.specs.Ordering.{nat_cmp}
+use Rattle.nbd_state.specs.Places.{place_at}
 use Rattle.nbd_wire.specs.declared.message.Message.TheVariants.{Chunk}
 use Rattle.nbd_wire.specs.protocol.Operations.{ends_reply}
 use Rattle.nbd_state.specs.declared.state.State.{State}
@@ -22,7 +21,7 @@ returns-clause-shown c = on_one c.take_chunk.result (λ _ shown core export r s 
     (indexed state mid place x c.end_if.ensures.kept (subst (λ (z : State). place < length z.exchanges.items) (sym c.end_if.ensures.kept) c.requires.within) c.index_mut.ensures.value)
     (λ e q x u. shown export e c.args.cookie x u (size_fits core export r p) (c.is_allocation_told-zeroes.ensures core c.args.flags c.args.cookie s ∙ ap (λ cs. is_allocation_told cs (status_in (Chunk c.args.flags c.args.kind c.args.cookie c.args.payload.now))) (sym q)))
     c.end_if.ensures.kept
-    (λ q. c.end_if.ensures.left q ∙ ap (λ b. if b && (c.args.cookie == q) then None else get nat_cmp c.args.self.now.outstanding q) c.has.ensures) refl
+    (λ q. c.end_if.ensures.left q ∙ ap (λ b. if b && (c.args.cookie == q) then None else place_at c.args.self.now.outstanding q) c.has.ensures) refl
     (ap (λ (z : State). slice_set z.exchanges.items place c.take_chunk.new.self) c.end_if.ensures.kept))
     c.take_chunk.ensures.shown
 
@@ -32,7 +31,7 @@ returns-clause-tells c = on_one c.take_chunk.result (λ _ first.
     let mid = c.end_if.new.self in
     let place = c.args.place in
     let x = c.index_mut.result.now in
-    tells_at (get nat_cmp state.outstanding c.args.cookie) c.args.known place state.exchanges.items (slice_set mid.exchanges.items place c.take_chunk.new.self) x c.take_chunk.new.self
+    tells_at (place_at state.outstanding c.args.cookie) c.args.known place state.exchanges.items (slice_set mid.exchanges.items place c.take_chunk.new.self) x c.take_chunk.new.self
     c.requires.place
     (indexed state mid place x c.end_if.ensures.kept (subst (λ (z : State). place < length z.exchanges.items) (sym c.end_if.ensures.kept) c.requires.within) c.index_mut.ensures.value)
     first

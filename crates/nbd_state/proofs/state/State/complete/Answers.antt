@@ -1,10 +1,8 @@
-use Rattle.std.proofs.Common.{◌∙◌, ◌==◌, ◌&&◌, [], ap, refl, subst}
-use Rattle.nbd_wire.specs.declared.commands.TheConstants as commands
+use Rattle.std.proofs.Common.{◌∙◌, ◌&&◌, ap, refl, subst}
 use Rattle.nbd_wire.specs.declared.message.Message.TheVariants.{Answer, Chunk, Request, Simple}
 use Rattle.nbd_wire.specs.protocol.Options.{agrees, choice_phase, next_phase, selection_after, selection_at}
-use Rattle.nbd_wire.specs.protocol.Sizes.{sizes_kept, sizing_after, sizing_at}
-use Rattle.nbd_wire.specs.protocol.States.{in_force}
-use Rattle.nbd_wire.specs.protocol.Rules.{MayAsk, MayComplete, complete, cookie_of, core_with_reply, core_with_request}
+use Rattle.nbd_wire.specs.protocol.Sizes.{sizing_after, sizing_at}
+use Rattle.nbd_wire.specs.protocol.Rules.{MayAsk, MayComplete, complete, cookie_of, core_with_reply}
 use Rattle.nbd_state.specs.Completions.{MayTake}
 use Rattle.nbd_state.specs.Shows.{HasSelection, Shows, phase_shown}
 use Rattle.nbd_state.proofs.CompletionLemmas.{on}

@@ -1,4 +1,4 @@
-use Rattle.std.proofs.Common.{◌≡◌, [], ◌==◌, refl, sym, subst, false, ne_eqb, None, ◌∙◌, ap}
+use Rattle.std.proofs.Common.{◌≡◌, [], ◌==◌, refl, sym, subst, false, ne_eqb, ◌∙◌, ap}
 use Rattle.nbd_wire.specs.protocol.Rules.{core_with_request}
 use Rattle.nbd_wire.specs.protocol.Sizes.{sizes_kept}
 use Rattle.nbd_wire.specs.protocol.States.{in_force}

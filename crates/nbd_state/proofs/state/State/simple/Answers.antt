@@ -1,6 +1,5 @@
 use Rattle.std.proofs.Common.{◌<◌, ap, length, refl, sym, subst, slice_set}
-use Rattle.std.specs.BTreeMap.{get}
-use Rattle.std.specs.Ordering.{nat_cmp}
+use Rattle.nbd_state.specs.Places.{place_at}
 use Rattle.nbd_wire.specs.declared.message.Message.TheVariants.{Simple}
 use Rattle.nbd_wire.specs.protocol.Operations.{ends_reply}
 use Rattle.nbd_state.specs.declared.state.State.{State}
@@ -30,7 +29,7 @@ returns-clause-tells c = on_one c.take_simple.result (λ _ first.
     let mid = c.end_if.new.self in
     let place = c.args.place in
     let x = c.index_mut.result.now in
-    tells_at (get nat_cmp state.outstanding c.args.cookie) c.args.known place state.exchanges.items (slice_set mid.exchanges.items place c.take_simple.new.self) x c.take_simple.new.self
+    tells_at (place_at state.outstanding c.args.cookie) c.args.known place state.exchanges.items (slice_set mid.exchanges.items place c.take_simple.new.self) x c.take_simple.new.self
     c.requires.place
     (indexed state mid place x c.end_if.ensures.kept (subst (λ (z : State). place < length z.exchanges.items) (sym c.end_if.ensures.kept) c.requires.within) c.index_mut.ensures.value)
     first
