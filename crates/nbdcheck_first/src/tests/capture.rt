@@ -16,12 +16,14 @@ use std::test::Fail;
 #[test]
 fn reads_chunk_lines_and_skips_the_others(rt: HostRuntime) -> Result<(), Fail> {
     let chunks = parse_capture(rt.alloc(), b"C 0A\n# x\n\nS \n")?;
-    assert!(rt; chunks.len() == 2);
-    assert!(rt; chunks[0].0 == Side::Client);
-    assert!(rt; chunks[0].1.as_slice() == [10].as_slice());
-    assert!(rt; chunks[1].0 == Side::Server);
-    assert!(rt; chunks[1].1.is_empty());
-    assert!(rt; parse_capture(rt.alloc(), b"")?.is_empty());
+    assert!(rt;
+        chunks.len() == 2
+            && chunks[0].0 == Side::Client
+            && chunks[0].1.as_slice() == [10].as_slice()
+            && chunks[1].0 == Side::Server
+            && chunks[1].1.is_empty()
+            && parse_capture(rt.alloc(), b"")?.is_empty()
+    );
     Ok(())
 }
 
@@ -70,8 +72,8 @@ fn reads_order_lines(rt: HostRuntime) -> Result<(), Fail> {
     };
     assert!(rt;
         entries.as_slice() == [atomically(0), atomically(u64::MAX), in_part(2, part)].as_slice()
+            && parse_order(rt.alloc(), b"")?.is_empty()
     );
-    assert!(rt; parse_order(rt.alloc(), b"")?.is_empty());
     Ok(())
 }
 

@@ -7,9 +7,9 @@ ghost use Rattle.nbd_export.specs.Starts.{FitsSize};
 mod countable;
 mod rules;
 
-use nbd_judge::{OrderFault, Verdict, check, judge};
 use countable::are_countable;
 use nbd_export::{Flat, Start};
+use nbd_judge::{OrderFault, Verdict, check, judge};
 use nbd_session::{Session, Transcript};
 use nbd_wire::Side::{self, Client, Server};
 use nbd_wire::{Entry, Profile};
@@ -72,9 +72,11 @@ const MISSING: Verdict = Verdict::Order {
 #[test]
 fn records_are_checked(rt: HostRuntime) -> Result<(), Fail> {
     let records = records(rt.alloc())?;
-    assert!(rt; is_checked(rt.alloc(), &records, &[ONE], Start::Unknown, &YES)?);
-    assert!(rt; is_checked(rt.alloc(), &records, &[ONE], Start::Zeroes, &WRONG)?);
-    assert!(rt; is_checked(rt.alloc(), &records, &[], Start::Unknown, &MISSING)?);
+    assert!(rt;
+        is_checked(rt.alloc(), &records, &[ONE], Start::Unknown, &YES)?
+            && is_checked(rt.alloc(), &records, &[ONE], Start::Zeroes, &WRONG)?
+            && is_checked(rt.alloc(), &records, &[], Start::Unknown, &MISSING)?
+    );
     Ok(())
 }
 
@@ -95,8 +97,10 @@ fn is_checked(
 #[test]
 fn a_transcript_is_judged_over_contents(rt: HostRuntime) -> Result<(), Fail> {
     let transcript = transcript(rt.alloc())?.expect(&rt, "a whole session");
-    assert!(rt; is_judged(rt.alloc(), &transcript, Start::Unknown, &YES)?);
-    assert!(rt; is_judged(rt.alloc(), &transcript, Start::Zeroes, &WRONG)?);
+    assert!(rt;
+        is_judged(rt.alloc(), &transcript, Start::Unknown, &YES)?
+            && is_judged(rt.alloc(), &transcript, Start::Zeroes, &WRONG)?
+    );
     Ok(())
 }
 

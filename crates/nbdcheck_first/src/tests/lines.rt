@@ -167,8 +167,7 @@ fn skips_the_lines_without_a_message(rt: HostRuntime) -> Result<(), Fail> {
         rt.alloc(),
         b"\n# S greeting flags=1\r\nok\nS greeting flags=3\n#\n\nok\n",
     )?;
-    assert!(rt; messages.len() == 1);
-    assert!(rt; parse_script(rt.alloc(), b"")?.is_empty());
+    assert!(rt; messages.len() == 1 && parse_script(rt.alloc(), b"")?.is_empty());
     Ok(())
 }
 

@@ -7,9 +7,9 @@ ghost use Rattle.nbd_capture.specs.Faults.{IsCaptureFault};
 ghost use Rattle.nbd_capture.specs.internal.Steps.{IsChunkFault, said_by};
 ghost use Rattle.nbd_capture.specs.declared.capture.CaptureFault.TheVariants.{Memory};
 
+use hex::FromHexError;
 use nbd_capture::capture::CaptureFault;
 use nbd_capture::first_line;
-use hex::FromHexError;
 use nbd_wire::Side;
 use std::alloc::Global;
 

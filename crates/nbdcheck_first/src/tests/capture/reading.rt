@@ -135,8 +135,11 @@ fn reads_as_many_bytes_as_the_limit(rt: HostRuntime) -> Result<(), Fail> {
 fn reads_a_whole_capture(rt: HostRuntime) -> Result<(), Fail> {
     let text = b"C 0A\n# x\n\nS \n".as_slice();
     let chunks = read_capture(rt.alloc(), text, 13)?;
-    assert!(rt; chunks.len() == 2 && chunks[0].1.as_slice() == [10].as_slice());
-    assert!(rt; count_bytes(rt.alloc(), text, 13)? == 1);
+    assert!(rt;
+        chunks.len() == 2
+            && chunks[0].1.as_slice() == [10].as_slice()
+            && count_bytes(rt.alloc(), text, 13)? == 1
+    );
     Ok(())
 }
 

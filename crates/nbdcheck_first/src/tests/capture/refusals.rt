@@ -33,8 +33,9 @@ fn reads_or_stays_refused(rt: &impl Abort, reader: &mut CaptureReader<Pieces<'_>
         match reader.next_chunk() {
             Ok(chunk) => assert!(rt; is_chunk(&chunk, side, bytes)),
             Err(fault) => {
-                assert!(rt; fault == CaptureFault::Memory);
-                assert!(rt; is_refused(reader) && is_refused(reader));
+                assert!(rt;
+                    fault == CaptureFault::Memory && is_refused(reader) && is_refused(reader)
+                );
                 return;
             }
         }

@@ -70,9 +70,11 @@ fn reads_again_what_a_narrow_writer_took(rt: HostRuntime) -> Result<(), Fail> {
     let mut out = narrow_writer(rt.alloc(), 4000, 7, Full::Fails);
     write_chunk(&mut out, Side::Client, bytes.as_slice())?;
     let chunks = parse_capture(rt.alloc(), out.taken.as_slice())?;
-    assert!(rt; chunks.len() == 1);
-    assert!(rt; chunks[0].0 == Side::Client);
-    assert!(rt; chunks[0].1.as_slice() == bytes.as_slice());
+    assert!(rt;
+        chunks.len() == 1
+            && chunks[0].0 == Side::Client
+            && chunks[0].1.as_slice() == bytes.as_slice()
+    );
     Ok(())
 }
 

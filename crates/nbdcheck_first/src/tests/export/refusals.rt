@@ -34,8 +34,7 @@ fn stays_alike(rt: &impl Abort, mut extents: Extents, mut flat: Flat)
             if done(&mut extents, deed, offset, &bytes[..len]).is_ok() {
                 assert!(rt; done(&mut flat, deed, offset, &bytes[..len]).is_ok());
             } else {
-                assert!(rt; len > 0);
-                assert!(rt; extents.ranges() == ranges);
+                assert!(rt; len > 0 && extents.ranges() == ranges);
             }
         }
         are_same(rt, &extents, &flat, 0, 2500);

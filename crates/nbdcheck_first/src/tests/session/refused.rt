@@ -109,8 +109,9 @@ fn stands_still(session: &mut Session, taken: u64) -> Result<bool, SessionFault>
 fn a_greeting_alone(rt: HostRuntime) -> Result<(), Fail> {
     let mut session = Session::new(rt.alloc());
     push(&mut session, Side::Server, b"NBDMAGICIHAVEOPT\x00\x03")?;
-    assert!(rt; has(&session, 18, 1));
-    assert!(rt; matches!(session.messages(), [Message::Greeting { flags: 3 }]));
+    assert!(rt;
+        has(&session, 18, 1) && matches!(session.messages(), [Message::Greeting { flags: 3 }])
+    );
     let transcript = session.finish()?;
     assert!(rt; transcript.export().is_none() && transcript.count() == 0);
     Ok(())

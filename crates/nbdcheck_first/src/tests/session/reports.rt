@@ -111,9 +111,9 @@ fn is_request(transcript: &Transcript, before: u64, wanted: Told) -> bool {
 #[test]
 fn a_session_without_bytes(rt: HostRuntime) -> Result<(), Fail> {
     let transcript = Session::new(rt.alloc()).finish()?;
-    assert!(rt; transcript.export() == None);
-    assert!(rt; transcript.count() == 0);
-    assert!(rt; transcript.asked(1).is_none());
+    assert!(rt;
+        transcript.export() == None && transcript.count() == 0 && transcript.asked(1).is_none()
+    );
     Ok(())
 }
 

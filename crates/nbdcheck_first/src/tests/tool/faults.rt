@@ -77,8 +77,7 @@ fn a_reader_that_fails(rt: HostRuntime) -> std::result::Result<(), Fail> {
         assert!(rt; matches!(&found, Err(RunFault::ImageRead)));
         let image = StartFrom::Image(Failing { bytes, kind });
         let found = run_check(alloc, &b"C 00\n"[..], &b"x\n"[..], image, &mut out);
-        assert!(rt; matches!(&found, Err(RunFault::OrderLine(1))));
-        assert!(rt; out.is_empty());
+        assert!(rt; matches!(&found, Err(RunFault::OrderLine(1))) && out.is_empty());
     }
     Ok(())
 }
@@ -95,8 +94,9 @@ fn a_writer_that_fails(rt: HostRuntime) {
                 stop,
             };
             let found = run_check(alloc, &b""[..], &b""[..], ZEROES, &mut out);
-            assert!(rt; matches!(&found, Err(RunFault::Write)));
-            assert!(rt; out.taken.as_slice() == &line[..most]);
+            assert!(rt;
+                matches!(&found, Err(RunFault::Write)) && out.taken.as_slice() == &line[..most]
+            );
         }
         let mut out = Short {
             taken: Vec::new(alloc),
@@ -104,7 +104,6 @@ fn a_writer_that_fails(rt: HostRuntime) {
             stop,
         };
         let found = run_check(alloc, &b""[..], &b""[..], ZEROES, &mut out);
-        assert!(rt; matches!(&found, Ok(true)));
-        assert!(rt; out.taken.as_slice() == line.as_slice());
+        assert!(rt; matches!(&found, Ok(true)) && out.taken.as_slice() == line.as_slice());
     }
 }

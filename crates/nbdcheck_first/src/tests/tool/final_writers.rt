@@ -1,8 +1,8 @@
 //! Buffered writers over a writer that fails once.
 
 use super::{BEGUN, READ_1, text};
-use nbd_tool::fault::RunFault;
 use nbd_tool::FinalWriter;
+use nbd_tool::fault::RunFault;
 use nbd_tool::show::run_show;
 use std::alloc::Global;
 use std::io::{BufWriter, ErrorKind, Result, Write};
@@ -64,8 +64,10 @@ fn tries_nothing_again(rt: HostRuntime) -> std::result::Result<(), Fail> {
                     kind,
                 };
                 let is_whole = shows_all(alloc, capture.as_bytes(), room, &mut to)?;
-                assert!(rt; is_whole == (before == whole.len()));
-                assert!(rt; to.taken.as_slice() == &whole.as_slice()[..before]);
+                assert!(rt;
+                    is_whole == (before == whole.len())
+                        && to.taken.as_slice() == &whole.as_slice()[..before]
+                );
             }
         }
     }

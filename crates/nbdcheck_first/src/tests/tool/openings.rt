@@ -46,8 +46,7 @@ fn capture_then_order_then_image(rt: HostRuntime) -> Result<(), Fail> {
             Ok(_) => String::new(rt.alloc()),
             Err(found) => text_of(&rt, &found)?,
         };
-        assert!(rt; told.as_str() == fault);
-        assert!(rt; shelf.asked.as_str() == asked);
+        assert!(rt; told.as_str() == fault && shelf.asked.as_str() == asked);
     }
     Ok(())
 }

@@ -76,7 +76,6 @@ fn writes_nothing_where_the_reader_fails(rt: HostRuntime) -> Result<(), Fail> {
     let bytes = b"S greeting flags=3\n";
     let script = BufReader::new(alloc, Failing { bytes, kind })?;
     let answer = run_make(alloc, script, &mut out);
-    assert!(rt; matches!(answer, Err(RunFault::ScriptRead)));
-    assert!(rt; out.is_empty());
+    assert!(rt; matches!(answer, Err(RunFault::ScriptRead)) && out.is_empty());
     Ok(())
 }

@@ -9,27 +9,32 @@ use std::test::Fail;
 fn greeting(rt: HostRuntime) -> Result<(), Fail> {
     let bytes = b"NBDMAGICIHAVEOPT\x00\x03";
     let message = Message::Greeting { flags: 3 };
-    assert!(rt; encodes(rt.alloc(), &message, Side::Server, bytes)?);
-    assert!(rt; greeting_head(bytes) == Some(3));
+    assert!(rt;
+        encodes(rt.alloc(), &message, Side::Server, bytes)? && greeting_head(bytes) == Some(3)
+    );
     Ok(())
 }
 
 #[test]
 fn greetings_that_are_none(rt: HostRuntime) {
     // Its second number, its first one, a byte that is missing.
-    assert!(rt; greeting_head(b"NBDMAGICIHAVEOPU\x00\x03") == None);
-    assert!(rt; greeting_head(b"MBDMAGICIHAVEOPT\x00\x03") == None);
-    assert!(rt; greeting_head(b"NBDMAGICIHAVEOPT\x00") == None);
+    assert!(rt;
+        greeting_head(b"NBDMAGICIHAVEOPU\x00\x03") == None
+            && greeting_head(b"MBDMAGICIHAVEOPT\x00\x03") == None
+            && greeting_head(b"NBDMAGICIHAVEOPT\x00") == None
+    );
 }
 
 #[test]
 fn client_flags(rt: HostRuntime) -> Result<(), Fail> {
     let bytes = b"\x00\x00\x00\x03";
     let message = Message::ClientFlags { flags: 3 };
-    assert!(rt; encodes(rt.alloc(), &message, Side::Client, bytes)?);
-    assert!(rt; client_flags_head(bytes) == Some(3));
     // A byte too many.
-    assert!(rt; client_flags_head(b"\x00\x00\x00\x03\x00") == None);
+    assert!(rt;
+        encodes(rt.alloc(), &message, Side::Client, bytes)?
+            && client_flags_head(bytes) == Some(3)
+            && client_flags_head(b"\x00\x00\x00\x03\x00") == None
+    );
     Ok(())
 }
 
@@ -131,8 +136,10 @@ fn exported(padded: bool) -> Message {
 #[test]
 fn exports(rt: HostRuntime) -> Result<(), Fail> {
     let bare = b"\x00\x00\x00\x00\x00\x00\x00\x08\x00\x6d";
-    assert!(rt; export_head(bare) == Some((8, 0x6d)));
-    assert!(rt; encodes(rt.alloc(), &exported(false), Side::Server, bare)?);
+    assert!(rt;
+        export_head(bare) == Some((8, 0x6d))
+            && encodes(rt.alloc(), &exported(false), Side::Server, bare)?
+    );
     let mut padded = [0u8; 134];
     padded[7] = 8;
     padded[9] = 0x6d;

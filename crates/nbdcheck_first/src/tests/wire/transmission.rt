@@ -183,8 +183,10 @@ fn chunks(rt: HostRuntime) -> Result<(), Fail> {
             cookie,
             length,
         };
-        assert!(rt; chunk_head(front(bytes, head_lengths::CHUNK)) == Some(want));
-        assert!(rt; is_chunk(rt.alloc(), bytes, want, data)?);
+        assert!(rt;
+            chunk_head(front(bytes, head_lengths::CHUNK)) == Some(want)
+                && is_chunk(rt.alloc(), bytes, want, data)?
+        );
     }
     Ok(())
 }
