@@ -7,4 +7,3 @@ mod judge;
 mod lines;
 mod session;
 mod tool;
-mod wire;
