@@ -42,22 +42,12 @@ impl Text {
     /// Adds how many requests the client should not have sent, where there are some, and the first of them, each with its reasons.
     pub fn amiss(self, story: &Story) -> Text {
         let count = story.count_of_amiss();
-        self.fill_if(
+        let requests = story.requests.len() as u64;
+        let mut text = self.fill_if(
             count != 0,
             "improper: {} of {request}\n",
-            &[count, story.requests.len() as u64],
-        )
-        .first_amiss(story)
-        .fill_if(
-            count > LISTED,
-            "improper: {} more\n",
-            &[count.saturating_sub(LISTED)],
-        )
-    }
-
-    // The first of them.
-    fn first_amiss(self, story: &Story) -> Text {
-        let mut text = self;
+            &[count, requests],
+        );
         let mut listed = 0u64;
         for request in &story.requests {
             if listed < LISTED && story.is_amiss(request) {
@@ -65,7 +55,7 @@ impl Text {
                 listed += 1;
             }
         }
-        text
+        text.more(count, LISTED, "improper: {} more\n")
     }
 
     // One of them, and each reason.
@@ -80,43 +70,27 @@ impl Text {
         }
     }
 
-    // Why a request does not fit the block sizes: its offset or its length is no multiple of the least, or it reads or writes more than the
-    // largest.
+    // Why a request does not fit the block sizes, which are told as the least, the preferred and the largest: each reason.
     fn unfit(self, head: &RequestHead, sizes: Sizes) -> Text {
-        let has_payload = matches!(head.command, commands::READ | commands::WRITE);
+        let length = u64::from(head.length);
         let least = u64::from(sizes.least);
-        self.unfit_if(
-            !head.offset.is_multiple_of(least),
-            sizes,
-            "its offset is no multiple of ",
-            least,
-        )
-        .unfit_if(
-            !u64::from(head.length).is_multiple_of(least),
-            sizes,
-            "its length is no multiple of ",
-            least,
-        )
-        .unfit_if(
-            has_payload && head.length > sizes.largest,
-            sizes,
-            "its length is more than ",
-            u64::from(sizes.largest),
-        )
-    }
-
-    // A reason with its number, where it holds, and the sizes: the least, the preferred and the largest.
-    fn unfit_if(self, holds: bool, sizes: Sizes, reason: &str, number: u64) -> Text {
+        let preferred = u64::from(sizes.preferred);
+        let largest = u64::from(sizes.largest);
+        let has_payload = matches!(head.command, commands::READ | commands::WRITE);
         self.fill_if(
-            holds,
-            "wrong: outside of the block sizes {}/{}/{}: ",
-            &[
-                u64::from(sizes.least),
-                u64::from(sizes.preferred),
-                u64::from(sizes.largest),
-            ],
+            !head.offset.is_multiple_of(least),
+            "wrong: outside of the block sizes {}/{}/{}: its offset is no multiple of {}\n",
+            &[least, preferred, largest, least],
         )
-        .say_if(holds, reason)
-        .fill_if(holds, "{}\n", &[number])
+        .fill_if(
+            !length.is_multiple_of(least),
+            "wrong: outside of the block sizes {}/{}/{}: its length is no multiple of {}\n",
+            &[least, preferred, largest, least],
+        )
+        .fill_if(
+            has_payload && length > largest,
+            "wrong: outside of the block sizes {}/{}/{}: its length is more than {}\n",
+            &[least, preferred, largest, largest],
+        )
     }
 }

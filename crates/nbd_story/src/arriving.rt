@@ -9,9 +9,10 @@ impl Story {
     // The client's message of which some bytes were there, and not all, when so many bytes of the client had come, if its head is in the
     // capture.
     fn arriving(&self, count: u64) -> Told {
-        let told = under_way(&self.told, count);
-        if told.is_there() {
-            return told;
+        for told in &self.told {
+            if is_under_way(told, count) {
+                return *told;
+            }
         }
         let begun = self.begun(Side::Client);
         if is_under_way(&begun, count) {
@@ -32,16 +33,7 @@ impl Story {
     }
 }
 
-// Of these messages the one of which only a part was there when so many bytes of the client had come.
-fn under_way(told: &[Told], count: u64) -> Told {
-    for message in told {
-        if is_under_way(message, count) {
-            return *message;
-        }
-    }
-    NO_MESSAGE
-}
-
+// Whether only a part of it was there when so many bytes of the client had come.
 fn is_under_way(told: &Told, count: u64) -> bool {
     told.side == Side::Client
         && told.before < count

@@ -1,15 +1,16 @@
 //! Which byte of a READ was wrong or was called zero by a BLOCK_STATUS, and which was right.
 
-use crate::explanation::Sources;
+use crate::differing::Compared;
+use crate::explanation::{NO_PLACE, Sources};
+use crate::layers::{Origin, Stretch};
 use crate::parts::{end_of, has_offset, meet};
 use crate::requests::Request;
 use crate::story::Story;
 use crate::text::Text;
 use crate::told::{NO_MESSAGE, Told};
-use crate::zeroes::{Descriptor, NO_DESCRIPTOR, zero_at};
-use nbd_export::Start;
+use crate::zeroes::{Descriptor, NO_DESCRIPTOR, count_of, zero_at};
 use nbd_judge::{CONTENT_RULE, Rule, STATUS_RULE};
-use nbd_wire::{Entry, Part, Side, commands, head_lengths};
+use nbd_wire::{Entry, Part, Side};
 use std::alloc::Global;
 
 /// A byte that a READ got, or the zero that a BLOCK_STATUS called one.
@@ -26,15 +27,6 @@ pub struct Came {
 }
 
 impl Came {
-    /// The byte, if one came.
-    pub fn known(&self) -> Option<u8> {
-        if self.place == 0 {
-            None
-        } else {
-            Some(self.byte)
-        }
-    }
-
     /// Whether it was called zero.
     pub fn is_status(&self) -> bool {
         self.descriptor.number != 0
@@ -49,38 +41,51 @@ pub fn rule_of(is_status: bool) -> Rule {
 impl Text {
     /// Adds which byte the READ with this number got for this offset of the export, or that the BLOCK_STATUS called it zero, and which
     /// byte was right.
-    pub fn wrong_byte(self, alloc: Global, number: u64, offset: u64, sources: Sources<'_>) -> Text {
+    pub fn wrong_byte(
+        self,
+        alloc: Global,
+        number: u64,
+        offset: u64,
+        sources: &Sources<'_>,
+    ) -> Text {
         let place = place_serving(sources.order, number, offset);
+        let request = sources.story.request(number);
         let text = self.rule(
-            &rule_of(sources.story.request(number).is_status()),
+            &rule_of(request.is_status()),
             "the server, if it served in this order",
         );
         match sources.order.get(place) {
             Some(entry) => text
                 .served("message: ", place, entry, sources.story)
-                .came_wrong(alloc, place, entry, offset, sources),
+                .came_wrong(
+                    &found_byte(number, offset, sources.story),
+                    &Compared::of(alloc, place, entry, sources),
+                    offset,
+                    sources,
+                ),
             None => text,
         }
     }
 
-    // The byte that came, the one that was right, and how many others are wrong.
+    // The byte that came, if one did, the one that was right, and how many others are wrong.
     fn came_wrong(
         self,
-        alloc: Global,
-        place: usize,
-        entry: &Entry,
+        came: &Came,
+        compared: &Compared,
         offset: u64,
-        sources: Sources<'_>,
+        sources: &Sources<'_>,
     ) -> Text {
-        let came = found_byte(entry.request, offset, sources.story);
+        let held = compared.held.at(offset);
         if came.place == 0 {
-            return self.expected(place, offset, sources);
+            self.expected(held, offset, sources)
+                .refused_if(compared.held.is_refused)
+        } else {
+            self.came(came, offset, sources.story)
+                .expected(held, offset, sources)
+                .differing(compared, sources)
+                .assumed_of_order()
+                .window(&sources.story.recording, came.place)
         }
-        self.came(&came, offset, sources.story)
-            .expected(place, offset, sources)
-            .differing(alloc, place, entry, sources)
-            .assumed_of_order()
-            .window(&sources.story.recording, came.place)
     }
 
     // The request of an entry, the part of it that the entry serves, and its place, counted from 0.
@@ -88,8 +93,7 @@ impl Text {
         self.asked(label, story.request(entry.request))
             .say("; ")
             .part_served(entry, " ")
-            .number("served by entry ", (place as u64).saturating_add(1))
-            .end()
+            .number("served by entry {}\n", (place as u64).saturating_add(1))
     }
 
     /// The part that an entry serves, before words; nothing where it serves its request atomically.
@@ -104,112 +108,72 @@ impl Text {
     pub fn came(self, came: &Came, offset: u64, story: &Story) -> Text {
         let text = self.told("reply: ", &came.reply, story);
         if came.is_status() {
-            text.number("called zero: offset ", offset)
+            text.number("called zero: offset {}", offset)
                 .descriptor(came.descriptor, &came.reply, story)
         } else {
-            text.byte("came: ", came.byte)
-                .number(" for offset ", offset)
-                .place_of(came)
+            text.fill(
+                "came: {:02x} for offset {}",
+                &[u64::from(came.byte), offset],
+            )
+            .place_of(came)
         }
     }
 
     // A descriptor of a status chunk, and its places.
-    fn descriptor(self, descriptor: Descriptor, chunk: &Told, story: &Story) -> Text {
-        self.part(", in ", descriptor.part)
-            .number(", descriptor ", descriptor.number)
-            .status_named(chunk, story)
-            .places(
-                "; ",
-                descriptor.place(0, chunk, story),
-                descriptor.last(chunk, story),
-            )
-            .end()
+    fn descriptor(self, one: Descriptor, chunk: &Told, story: &Story) -> Text {
+        let (id, descriptors) = story.status_in(chunk);
+        self.fill(
+            ", in {byte} at {}, descriptor {} of {}",
+            &[
+                one.part.length,
+                one.part.offset,
+                one.number,
+                count_of(descriptors),
+            ],
+        )
+        .context(" of ", id, story)
+        .places("; ", one.place(0, chunk, story), one.last(chunk, story))
+        .end()
     }
 
     /// Adds at which place a byte came.
     pub fn place_of(self, came: &Came) -> Text {
         let words = if came.reply.is_hole() {
-            ", in a hole, whose chunk ends at byte "
+            ", in a hole, whose chunk ends at byte {}\n"
         } else if came.is_status() {
-            ", in a descriptor that ends at byte "
+            ", in a descriptor that ends at byte {}\n"
         } else {
-            ", at byte "
+            ", at byte {}\n"
         };
-        self.number(words, came.place).end()
+        self.number(words, came.place)
     }
 
-    // The byte that the export held at an offset when the entry was reached, and whose change that was.
-    fn expected(self, place: usize, offset: u64, sources: Sources<'_>) -> Text {
-        let at = last_change(place, offset, sources);
-        match sources.order.get(at) {
-            Some(entry) => self.expected_of(at, entry, offset, sources.story),
-            None => self.expected_at_first(sources.start, offset),
-        }
-    }
-
-    // The byte that a change left, where that is known.
-    fn expected_of(self, place: usize, entry: &Entry, offset: u64, story: &Story) -> Text {
-        match byte_by(story.request(entry.request), offset, story) {
-            Some(byte) => self
-                .byte("expected: ", byte)
-                .served(", by ", place, entry, story),
-            None => self,
-        }
-    }
-
-    // The byte that the export held at an offset at first.
-    fn expected_at_first(self, start: Option<&Start>, offset: u64) -> Text {
-        let origin = match start {
-            Some(Start::Zeroes) => ", since the export began with zeroes\n",
-            _ => ", of the image\n",
+    // The byte that the export held at an offset when an entry was reached, and whose change that was, where the byte is known.
+    fn expected(self, held: Stretch, offset: u64, sources: &Sources<'_>) -> Text {
+        let Some(byte) = held.byte(offset, sources) else {
+            return self;
         };
-        match byte_at_first(start, offset) {
-            Some(byte) => self.byte("expected: ", byte).say(origin),
-            None => self,
+        let text = self.byte("expected: {:02x}", byte);
+        match (sources.order.get(held.place), held.origin) {
+            (Some(entry), _) => text.served(", by ", held.place, entry, sources.story),
+            (None, Origin::Zeroes) => text.say(", since the export began with zeroes\n"),
+            (None, _) => text.say(", of the image\n"),
         }
     }
 }
 
-// The place of the entry that serves this offset of the request with this number.
+// The place of the entry that serves this offset of the request with this number, if the request has it.
 fn place_serving(order: &[Entry], number: u64, offset: u64) -> usize {
     for place in 0..order.len() {
-        if order[place].request == number && serves(&order[place], offset) {
+        let is_served = match order[place].part {
+            Some(part) => has_offset(part, offset),
+            None => true,
+        };
+        if is_served && order[place].request == number {
             return place;
         }
     }
-    usize::MAX
-}
-
-// The place of the last entry before a place of the order that changes an offset.
-fn last_change(place: usize, offset: u64, sources: Sources<'_>) -> usize {
-    let mut last = usize::MAX;
-    for at in 0..place.min(sources.order.len()) {
-        if touches(&sources.order[at], offset, sources.story) {
-            last = at;
-        }
-    }
-    last
-}
-
-/// The byte that the export held at an offset when an entry of the order was reached, where that is known.
-pub fn expected_byte(place: usize, offset: u64, sources: Sources<'_>) -> Option<u8> {
-    match sources.order.get(last_change(place, offset, sources)) {
-        Some(entry) => byte_by(sources.story.request(entry.request), offset, sources.story),
-        None => byte_at_first(sources.start, offset),
-    }
-}
-
-// Whether an entry serves this offset of its request, if the request has it.
-fn serves(entry: &Entry, offset: u64) -> bool {
-    match entry.part {
-        Some(part) => has_offset(part, offset),
-        None => true,
-    }
-}
-
-// Whether an entry changes the export at an offset.
-fn touches(entry: &Entry, offset: u64, story: &Story) -> bool {
-    story.request(entry.request).changes(offset) && serves(entry, offset)
+    NO_PLACE
 }
 
 /// The byte that the request with this number got for an offset; 00 where it called it zero.
@@ -268,25 +232,12 @@ fn came_in(reply: &Told, offset: u64, story: &Story) -> Came {
 }
 
 /// The byte that the export held at an offset at first, where that is known.
-pub fn byte_at_first(start: Option<&Start>, offset: u64) -> Option<u8> {
-    match start {
-        Some(Start::Zeroes) => Some(0),
-        Some(Start::Image(image)) => image.get(offset as usize).copied(),
-        _ => None,
-    }
+pub fn byte_at_first(offset: u64, sources: &Sources<'_>) -> Option<u8> {
+    let part = Part { offset, length: 1 };
+    Stretch::at_first(part, sources.start).byte(offset, sources)
 }
 
 /// The byte that a change left at an offset, where that is known.
-pub fn byte_by(change: &Request, offset: u64, story: &Story) -> Option<u8> {
-    match change.head.command {
-        commands::WRITE if change.succeeded() => story.recording.byte_of(
-            Side::Client,
-            change
-                .before
-                .saturating_add(head_lengths::REQUEST as u64)
-                .saturating_add(offset.saturating_sub(change.head.offset)),
-        ),
-        commands::WRITE_ZEROES if change.succeeded() => Some(0),
-        _ => None,
-    }
+pub fn byte_by(change: &Request, offset: u64, sources: &Sources<'_>) -> Option<u8> {
+    Stretch::left_by(change).byte(offset, sources)
 }

@@ -18,9 +18,6 @@ const LISTED: u64 = 8;
 /// How many bytes of a longer name are told, so that it costs no more each time than a message.
 const NAMED: usize = 64;
 
-/// The context whose descriptors have names for their flags.
-const ALLOCATION: &[u8] = b"base:allocation";
-
 /// Bytes of the server.
 #[derive(Clone, Copy)]
 struct Place {
@@ -63,6 +60,11 @@ impl Contexts {
         self.agreed && self.selection.has_id(id)
     }
 
+    /// Whether `base:allocation`, whose descriptors have names for their flags, was selected with this id.
+    pub fn is_allocation(&self, id: u32) -> bool {
+        self.selection.is_allocation(id)
+    }
+
     /// The client has chosen an option with these data.
     pub fn choose(&mut self, option: u32, data: &[u8]) -> Result<(), AllocError> {
         self.agreed = self.structured && self.selection.agrees(option, data);
@@ -72,50 +74,32 @@ impl Contexts {
         self.selection.choose(option, data)
     }
 
-    /// The server has answered it with these data.
+    /// The server has answered it with these data; a name stands at their end.
     pub fn answer(&mut self, told: &Told, data: &[u8]) -> Result<(), AllocError> {
-        match told.choice {
-            options::STRUCTURED_REPLY => self.structured |= told.answer == answers::ACK,
-            options::SET_META_CONTEXT => {
-                self.selection.told(told.answer, data)?;
-                return self.note(told, data);
-            }
-            _ => {}
+        if told.choice == options::STRUCTURED_REPLY {
+            self.structured |= told.answer == answers::ACK;
         }
-        Ok(())
+        if told.choice != options::SET_META_CONTEXT {
+            return Ok(());
+        }
+        if told.answer == answers::META_CONTEXT {
+            self.note(told, data)?;
+        }
+        self.selection.told(told.answer, data)
     }
 
-    // Where the name of a context stands, with which the answer ends.
+    // Where the name of a context stands.
     fn note(&mut self, told: &Told, data: &[u8]) -> Result<(), AllocError> {
-        match context_of(data) {
-            Some((id, name)) if told.answer == answers::META_CONTEXT => {
-                let length = name.len() as u64;
-                let before = told.before_last(length);
-                self.names.insert(id, Place { before, length })?;
-            }
-            _ => {}
+        if let Some((id, name)) = context_of(data) {
+            let length = name.len() as u64;
+            let before = told.before_last(length);
+            self.names.insert(id, Place { before, length })?;
         }
         Ok(())
     }
 }
 
 impl Story {
-    // The name of the context with this id, if the last SET_META_CONTEXT selected one.
-    fn context_name(&self, id: u32) -> Option<&[u8]> {
-        match self.contexts.names.get(&id) {
-            Some(place) => Some(
-                self.recording
-                    .bytes_at(Side::Server, place.before, place.length),
-            ),
-            None => None,
-        }
-    }
-
-    /// Whether the context with this id is `base:allocation`.
-    pub fn is_allocation(&self, id: u32) -> bool {
-        self.context_name(id) == Some(ALLOCATION)
-    }
-
     /// The context of a status chunk and its descriptors; of another message no descriptor.
     pub fn status_in(&self, told: &Told) -> (u32, &[u8]) {
         match status_of(self.behind(told)) {
@@ -123,18 +107,13 @@ impl Story {
             _ => (0, &[]),
         }
     }
-
-    // Whether a message is a status of this context in the reply to the request with this number.
-    fn tells(&self, told: &Told, id: u32, request: u64) -> bool {
-        let (context, descriptors) = self.status_in(told);
-        context == id && !descriptors.is_empty() && told.answers(request)
-    }
 }
 
 /// Whether the reply to the request with this number has a status of a context.
 pub fn is_told(id: u32, request: u64, story: &Story) -> bool {
     for told in &story.told {
-        if story.tells(told, id, request) {
+        let (context, descriptors) = story.status_in(told);
+        if told.answers(request) && context == id && !descriptors.is_empty() {
             return true;
         }
     }
@@ -142,35 +121,38 @@ pub fn is_told(id: u32, request: u64, story: &Story) -> bool {
 }
 
 impl Text {
-    // A context by its name and its id: `base:allocation (1)`.
-    fn context(self, words: &str, id: u32, story: &Story) -> Text {
-        match story.context_name(id) {
-            Some(name) => self.say(words).named(name, id),
-            None => self.say(words).number("context ", u64::from(id)),
+    /// A context by its name, if the last SET_META_CONTEXT selected it, and its id: `base:allocation (1)`.
+    pub fn context(self, words: &str, id: u32, story: &Story) -> Text {
+        let text = self.say(words);
+        match story.contexts.names.get(&id) {
+            Some(name) => text.named(
+                story
+                    .recording
+                    .bytes_at(Side::Server, name.before, name.length),
+                id,
+            ),
+            None => text.number("context {}", u64::from(id)),
         }
     }
 
     fn named(self, name: &[u8], id: u32) -> Text {
-        self.bytes(name).fill(" ({})", &[u64::from(id)])
+        self.bytes(name).number(" ({})", u64::from(id))
     }
 
     // Bytes that are text on a line, or else their digits; of too many the first.
     fn bytes(self, bytes: &[u8]) -> Text {
         let first = bytes.get(..NAMED).unwrap_or(bytes);
-        self.text_or_digits(first).say_if(bytes.len() > NAMED, "..")
-    }
-
-    fn text_or_digits(self, bytes: &[u8]) -> Text {
-        match str::from_utf8(bytes) {
-            Ok(text) if are_graphic(bytes) => self.say(text),
-            _ => self.digits(bytes),
-        }
+        let text = match str::from_utf8(first) {
+            Ok(words) if are_graphic(first) => self.say(words),
+            _ => self.digits(first),
+        };
+        text.say_if(bytes.len() > NAMED, "..")
     }
 
     fn digits(self, bytes: &[u8]) -> Text {
         let mut text = self;
         for byte in bytes {
-            text = text.byte("", *byte);
+            text = text.byte("{:02x}", *byte);
         }
         text
     }
@@ -191,15 +173,8 @@ impl Text {
             self
         } else {
             self.context(", ", id, story)
-                .extents(story.is_allocation(id), descriptors, offset)
+                .extents(story.contexts.is_allocation(id), descriptors, offset)
         }
-    }
-
-    /// Of how many descriptors a status chunk has one, and of which context it is: ` of 2 of base:allocation (1)`.
-    pub fn status_named(self, chunk: &Told, story: &Story) -> Text {
-        let (id, descriptors) = story.status_in(chunk);
-        self.number(" of ", count_of(descriptors))
-            .context(" of ", id, story)
     }
 
     // The first descriptors, of bytes from an offset on, and how many more there are.
@@ -210,11 +185,11 @@ impl Text {
         for number in 0..count.min(LISTED) {
             let one = descriptor_in(descriptors, number, from);
             text = text
-                .say(if number == 0 { ": " } else { "; " })
+                .say_either(number == 0, ": ", "; ")
                 .extent(is_allocation, one);
             from = end_of(one.part);
         }
-        text.fill_if(count > LISTED, "; {} more", &[count.saturating_sub(LISTED)])
+        text.more(count, LISTED, "; {} more")
     }
 
     // A descriptor, and what it says of its bytes.
@@ -227,7 +202,7 @@ impl Text {
                 .say_if(is_zero, " zero")
                 .say_if(!is_hole && !is_zero, " data")
         } else {
-            text.hex(" flags ", u64::from(one.flags))
+            text.number(" flags {:#x}", u64::from(one.flags))
         }
     }
 
@@ -249,11 +224,8 @@ impl Text {
                 told = told.with(message, story);
             }
         }
-        if told.is_refused {
-            self.refused()
-        } else {
-            self.without_status(&told.ids, story)
-        }
+        self.without_status(&told.ids, story)
+            .refused_if(told.is_refused)
     }
 
     // The first contexts in force that have none of these ids, and how many more there are.
@@ -268,11 +240,7 @@ impl Text {
                 }
             }
         }
-        text.fill_if(
-            missing > LISTED,
-            "missing: {} more\n",
-            &[missing.saturating_sub(LISTED)],
-        )
+        text.more(missing, LISTED, "missing: {} more\n")
     }
 }
 

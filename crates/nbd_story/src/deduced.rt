@@ -5,7 +5,6 @@ use crate::content::{byte_at_first, byte_by, found_byte};
 use crate::explanation::Sources;
 use crate::refutation::Contest;
 use crate::requests::{NO_REQUEST, Request};
-use crate::story::Story;
 use nbd_wire::bit;
 
 /// The most requests of which something is deduced.
@@ -78,24 +77,24 @@ fn party_with(request: Request, byte: Option<u8>) -> Party {
 
 impl Deduced {
     /// What the moments of these requests tell, of which there are no more than `MOST`. All are served after the start.
-    pub fn of(contest: Contest<'_>, sources: Sources<'_>) -> Deduced {
+    pub fn of(contest: &Contest<'_>, sources: &Sources<'_>) -> Deduced {
         let mut deduced = Deduced {
-            parties: [party_with(NO_REQUEST, byte_at_first(sources.start, contest.offset)); PLACES],
+            parties: [party_with(NO_REQUEST, byte_at_first(contest.offset, sources)); PLACES],
             reads: contest.changes.len().saturating_add(1),
             count: 1,
         };
         deduced.parties[START].after = !bit(START);
-        deduced.add(contest.changes, contest.offset, sources.story);
-        deduced.add(contest.reads, contest.offset, sources.story);
+        deduced.add(contest.changes, contest.offset, sources);
+        deduced.add(contest.reads, contest.offset, sources);
         deduced
     }
 
     // Adds requests, and which of those that are there were surely served before them or after them.
-    fn add(&mut self, numbers: &[u64], offset: u64, story: &Story) {
+    fn add(&mut self, numbers: &[u64], offset: u64, sources: &Sources<'_>) {
         for number in numbers {
             let place = self.count;
-            let request = *story.request(*number);
-            self.parties[place % PLACES] = party_with(request, byte_of(&request, offset, story));
+            let request = *sources.story.request(*number);
+            self.parties[place % PLACES] = party_with(request, byte_of(&request, offset, sources));
             self.count = place.saturating_add(1);
             for other in 1..self.count {
                 self.note_moments(place, other);
@@ -112,8 +111,8 @@ impl Deduced {
     }
 
     /// What is at a place.
-    pub fn at(&self, place: usize) -> Party {
-        self.parties[place % PLACES]
+    pub fn at(&self, place: usize) -> &Party {
+        &self.parties[place % PLACES]
     }
 
     // Whether the second was served after the first.
@@ -232,10 +231,10 @@ fn step_from(read: usize, source: usize) -> Step {
 }
 
 // What a request left at an offset or got for it, where that is known.
-fn byte_of(request: &Request, offset: u64, story: &Story) -> Option<u8> {
-    let came = found_byte(request.number, offset, story);
+fn byte_of(request: &Request, offset: u64, sources: &Sources<'_>) -> Option<u8> {
+    let came = found_byte(request.number, offset, sources.story);
     if came.place == 0 {
-        byte_by(request, offset, story)
+        byte_by(request, offset, sources)
     } else {
         Some(came.byte)
     }

@@ -16,6 +16,9 @@ pub struct Sources<'a> {
     pub start: Option<&'a Start>,
 }
 
+/// What stands for the place of an entry where there is none: no order has one there.
+pub const NO_PLACE: usize = usize::MAX;
+
 impl Story {
     /// That with an order and a start.
     pub fn with<'a>(&'a self, order: &'a [Entry], start: Option<&'a Start>) -> Sources<'a> {
@@ -33,21 +36,19 @@ pub fn explanation_of(
     verdict: &Verdict,
     sources: Sources<'_>,
 ) -> Result<String, AllocError> {
-    Text::new(alloc).verdict(alloc, verdict, sources).finish()
+    let text = Text::new(alloc);
+    let text = match verdict {
+        Verdict::Yes { .. } => text.amiss(sources.story),
+        Verdict::Wire { at, fault } => text.wire_fault(alloc, *at, *fault, sources.story),
+        Verdict::Image { image, size } => text.image(*image, *size),
+        Verdict::Order { entry, fault } => text.order_fault(alloc, *entry, *fault, &sources),
+        Verdict::Content { request, offset } | Verdict::Status { request, offset } =>
+            text.wrong_byte(alloc, *request, *offset, &sources),
+    };
+    text.finish()
 }
 
 impl Text {
-    fn verdict(self, alloc: Global, verdict: &Verdict, sources: Sources<'_>) -> Text {
-        match verdict {
-            Verdict::Yes { .. } => self.amiss(sources.story),
-            Verdict::Wire { at, fault } => self.wire_fault(alloc, *at, *fault, sources.story),
-            Verdict::Image { image, size } => self.image(*image, *size),
-            Verdict::Order { entry, fault } => self.order_fault(alloc, *entry, *fault, sources),
-            Verdict::Content { request, offset } | Verdict::Status { request, offset } =>
-                self.wrong_byte(alloc, *request, *offset, sources),
-        }
-    }
-
     /// Adds why an image of so many bytes does not fit an export of this size.
     pub fn image(self, image: u64, size: u64) -> Text {
         self.rule(&IMAGE_RULE, "the image that was given").fill(

@@ -137,7 +137,12 @@ impl Text {
     /// Adds why a client should not send this request to the export: each reason.
     pub fn improper(self, head: &RequestHead, story: &Story) -> Text {
         if head.command == commands::BLOCK_STATUS && !story.contexts.are_in_force() {
-            return self.wrong(without_contexts(story.profile));
+            return match story.profile {
+                Profile::Base => self.wrong(UNKNOWN_TYPE),
+                Profile::Wide => self.wrong(
+                    "it asks for a status, and no metadata context is in force",
+                ),
+            };
         }
         let mut text = self.beyond(head, story.export.size);
         for ban in BANS {
@@ -166,35 +171,23 @@ impl Text {
 
     // A range that passes the end of an export of this size, and by how much, where 64 bits hold that.
     fn beyond(self, head: &RequestHead, size: u64) -> Text {
-        if !has_range(head.command) || ends_by(head.offset, u64::from(head.length), size) {
+        let length = u64::from(head.length);
+        if !has_range(head.command) || ends_by(head.offset, length, size) {
             return self;
         }
-        let text = self.fill(
+        let text = self.number(
             "wrong: its range passes the end of the export of {byte} by ",
-            &[size],
+            size,
         );
-        match excess(head, size) {
-            Some(count) => text.fill("{byte}\n", &[count]),
-            None => text.fill("more than {} bytes\n", &[u64::MAX]),
+        let inside = size.saturating_sub(head.offset).min(length);
+        match head
+            .offset
+            .saturating_sub(size)
+            .checked_add(length - inside)
+        {
+            Some(count) => text.number("{byte}\n", count),
+            None => text.number("more than {} bytes\n", u64::MAX),
         }
-    }
-}
-
-// By how many bytes a range passes the end of an export of this size.
-fn excess(head: &RequestHead, size: u64) -> Option<u64> {
-    let length = u64::from(head.length);
-    if head.offset >= size {
-        (head.offset - size).checked_add(length)
-    } else {
-        Some(length.saturating_sub(size - head.offset))
-    }
-}
-
-// Why no BLOCK_STATUS is sent where no metadata context is in force.
-fn without_contexts(profile: Profile) -> &'static str {
-    match profile {
-        Profile::Base => UNKNOWN_TYPE,
-        Profile::Wide => "it asks for a status, and no metadata context is in force",
     }
 }
 
@@ -209,13 +202,6 @@ pub fn chunk_reason(told: &Told, story: &Story) -> &'static str {
         chunks::OFFSET_HOLE if told.payload != 12 =>
             "the payload of a hole has 12 bytes, an offset and a size",
         chunks::OFFSET_HOLE => "its hole has size 0",
-        _ => other_chunk_reason(told, story),
-    }
-}
-
-// The same of a chunk without content.
-fn other_chunk_reason(told: &Told, story: &Story) -> &'static str {
-    match told.kind {
         chunks::BLOCK_STATUS if story.profile == Profile::Wide => status_form(told.payload, story),
         chunks::ERROR | chunks::ERROR_OFFSET => failure_reason(told.kind, story.behind(told)),
         _ => "its type is none of NONE, OFFSET_DATA, OFFSET_HOLE, ERROR and ERROR_OFFSET",

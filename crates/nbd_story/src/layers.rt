@@ -1,14 +1,14 @@
-//! What a range of the export held at an entry of an order, as stretches of one origin each.
+//! What a part of the export held at an entry of an order, and what a request got for it, as stretches of one origin each.
 
-use crate::explanation::Sources;
+use crate::explanation::{NO_PLACE, Sources};
 use crate::parts::{between, common, end_of, part_in};
 use crate::requests::{Request, is_change, range};
 use crate::story::Story;
-use crate::told::EMPTY;
-use crate::zeroes::{Zeroes, called_zero, count_of, descriptor_in};
+use crate::told::{EMPTY, Told};
+use crate::zeroes::{called_zero, count_of, descriptor_in};
 use nbd_export::Start;
 use nbd_wire::{Entry, Part, Side, commands, head_lengths};
-use std::alloc::{AllocError, Global};
+use std::alloc::Global;
 use std::collections::BTreeMap;
 
 /// Where bytes come from.
@@ -20,6 +20,8 @@ pub enum Origin {
     Image,
     /// They are zeroes.
     Zeroes,
+    /// They are those that an entry serves, and what they are does not count.
+    Served,
     /// They are not known.
     Unknown,
 }
@@ -30,32 +32,77 @@ pub struct Stretch {
     pub part: Part,
     pub origin: Origin,
     /// How many bytes of their side stand before them, where they come from a message.
-    pub before: u64,
+    before: u64,
+    /// The place of the entry of the order that left them; `NO_PLACE` where none did.
+    pub place: usize,
 }
 
 impl Stretch {
-    /// A part of the export of which it does not count what it held.
-    pub fn of(part: Part) -> Stretch {
+    // One that no entry of an order left.
+    fn of(part: Part, origin: Origin, before: u64) -> Stretch {
         Stretch {
             part,
-            origin: Origin::Unknown,
-            before: 0,
+            origin,
+            before,
+            place: NO_PLACE,
         }
+    }
+
+    /// What the export held of a part at first.
+    pub fn at_first(part: Part, start: Option<&Start>) -> Stretch {
+        let origin = match start {
+            Some(Start::Zeroes) => Origin::Zeroes,
+            Some(Start::Image(_)) => Origin::Image,
+            _ => Origin::Unknown,
+        };
+        Stretch::of(part, origin, 0)
+    }
+
+    /// What a request leaves in its range; no byte where it does not change the export.
+    pub fn left_by(request: &Request) -> Stretch {
+        let origin = match request.head.command {
+            commands::WRITE if request.succeeded() => Origin::Wire(Side::Client),
+            commands::WRITE_ZEROES if request.succeeded() => Origin::Zeroes,
+            _ => Origin::Unknown,
+        };
+        let before = request.before.saturating_add(head_lengths::REQUEST as u64);
+        if is_change(request.head.command) {
+            Stretch::of(range(&request.head), origin, before)
+        } else {
+            Stretch::of(EMPTY, origin, before)
+        }
+    }
+
+    /// The content that a message brings the request with this number: the message ends with it, or is a hole.
+    pub fn brought_by(told: &Told, request: u64) -> Stretch {
+        let origin = if told.is_hole() {
+            Origin::Zeroes
+        } else {
+            Origin::Wire(Side::Server)
+        };
+        Stretch::of(
+            told.content_to(request),
+            origin,
+            told.before_last(told.part.length),
+        )
+    }
+
+    /// Whether its bytes are known.
+    pub fn is_known(&self) -> bool {
+        !matches!(self.origin, Origin::Unknown)
     }
 
     /// What of it lies in a part.
-    pub fn inside(self, part: Part) -> Stretch {
-        let part = common(self.part, part);
-        let skipped = part.offset.saturating_sub(self.part.offset);
-        Stretch {
-            part,
-            origin: self.origin,
-            before: self.before.saturating_add(skipped),
-        }
+    pub fn inside(mut self, part: Part) -> Stretch {
+        let common = common(self.part, part);
+        let skipped = common.offset.saturating_sub(self.part.offset);
+        self.part = common;
+        self.before = self.before.saturating_add(skipped);
+        self
     }
 
     /// Its bytes; none where they are zeroes or not known.
-    pub fn bytes<'a>(&self, sources: Sources<'a>) -> &'a [u8] {
+    pub fn bytes<'a>(&self, sources: &Sources<'a>) -> &'a [u8] {
         match (self.origin, sources.start) {
             (Origin::Wire(side), _) => sources
                 .story
@@ -65,18 +112,18 @@ impl Stretch {
             _ => &[],
         }
     }
-}
 
-/// The first bytes of a range that none of these has, which stand in the order of their offsets and share none.
-pub fn gap_between(stretches: &[Stretch], range: Part) -> Part {
-    let mut next = range.offset;
-    for stretch in stretches {
-        if stretch.part.offset > next {
-            return between(next, stretch.part.offset);
+    /// Its byte at an offset, where that is known.
+    pub fn byte(self, offset: u64, sources: &Sources<'_>) -> Option<u8> {
+        match self.origin {
+            Origin::Zeroes => Some(0),
+            _ => self
+                .inside(Part { offset, length: 1 })
+                .bytes(sources)
+                .first()
+                .copied(),
         }
-        next = end_of(stretch.part);
     }
-    between(next, end_of(range))
 }
 
 // The bytes of an image that lie in a part.
@@ -85,202 +132,111 @@ fn front(image: &[u8], part: Part) -> &[u8] {
     bytes.get(..part.length as usize).unwrap_or(bytes)
 }
 
-/// Stretches. Once memory was refused they are not known.
+/// Stretches that share no offset. Once memory was refused they are not known.
 #[derive(Drop)]
 pub struct Stretches {
-    stretches: Vec<Stretch>,
-    is_refused: bool,
+    by_offset: BTreeMap<u64, Stretch>,
+    pub is_refused: bool,
 }
 
 impl Stretches {
     /// None; takes no memory.
     pub fn new(alloc: Global) -> Stretches {
         Stretches {
-            stretches: Vec::new(alloc),
+            by_offset: BTreeMap::new(alloc),
             is_refused: false,
         }
     }
 
-    /// The parts that entries serve of the request with this number.
-    pub fn served(alloc: Global, request: u64, order: &[Entry]) -> Stretches {
-        let mut parts = Stretches {
-            stretches: Vec::new(alloc),
-            is_refused: false,
-        };
+    /// What entries serve of a part of the request with this number, and between that what is not known.
+    pub fn served(alloc: Global, request: u64, part: Part, order: &[Entry]) -> Stretches {
+        let mut served = Stretches::new(alloc).with(Stretch::of(part, Origin::Unknown, 0));
         for entry in order {
-            parts = parts.with(Stretch::of(part_in(entry, request)));
+            served = served.with(Stretch::of(part_in(entry, request), Origin::Served, 0));
         }
-        parts
+        served
     }
 
-    /// What a BLOCK_STATUS called zero.
-    pub fn called_zero(alloc: Global, zeroes: Zeroes<'_>) -> Stretches {
-        let mut all = Stretches {
-            stretches: Vec::new(alloc),
-            is_refused: false,
-        };
+    /// What a part held before the entry at a place of the order.
+    pub fn held(alloc: Global, place: usize, part: Part, sources: &Sources<'_>) -> Stretches {
+        let mut held = Stretches::new(alloc).with(Stretch::at_first(part, sources.start));
+        for at in 0..place.min(sources.order.len()) {
+            let entry = &sources.order[at];
+            let mut left = Stretch::left_by(sources.story.request(entry.request));
+            left.place = at;
+            held = held.with(left.inside(entry.part.unwrap_or(part)).inside(part));
+        }
+        held
+    }
+
+    /// What a request got for a part, or called zero of it, and between that what is not known.
+    pub fn got(alloc: Global, request: u64, part: Part, story: &Story) -> Stretches {
+        let zeroes = story.zeroes_of(request);
+        let mut got = Stretches::new(alloc).with(Stretch::of(part, Origin::Unknown, 0));
         let mut from = zeroes.range.offset;
         for number in 0..count_of(zeroes.descriptors) {
             let one = descriptor_in(zeroes.descriptors, number, from);
-            all = all.with(Stretch {
-                part: called_zero(one, zeroes.range),
-                origin: Origin::Zeroes,
-                before: 0,
-            });
+            let zero = common(called_zero(one, zeroes.range), part);
+            got = got.with(Stretch::of(zero, Origin::Zeroes, 0));
             from = end_of(one.part);
         }
-        all
+        for told in &story.told {
+            got = got.with(Stretch::brought_by(told, request).inside(part));
+        }
+        got
     }
 
-    /// These and another one, unless it is empty.
+    /// These with another one in place of what lies there, unless it is empty.
     pub fn with(mut self, stretch: Stretch) -> Stretches {
         if stretch.part.length != 0 {
-            self.is_refused |= self.stretches.push(stretch).is_err();
+            self.clear(stretch.part);
+            self.keep(stretch);
         }
         self
     }
 
-    /// All, in the order of their offsets.
-    pub fn sorted(mut self) -> Result<Vec<Stretch>, AllocError> {
-        if self.is_refused {
-            return Err(AllocError);
+    // Takes away what lies in a part.
+    fn clear(&mut self, part: Part) {
+        let end = end_of(part);
+        for _ in 0..self.by_offset.len() {
+            let last = self.at(end.saturating_sub(1));
+            if end_of(last.part) <= part.offset {
+                break;
+            }
+            self.by_offset.remove(&last.part.offset);
+            self.keep(last.inside(between(0, part.offset)));
+            self.keep(last.inside(between(end, u64::MAX)));
         }
-        self.stretches.sort_by_key(|stretch| stretch.part.offset)?;
-        Ok(self.stretches)
-    }
-}
-
-/// An end of a change that an entry of an order makes.
-#[derive(Clone, Copy)]
-struct End {
-    offset: u64,
-    /// The place of the entry.
-    place: u64,
-    /// What the change leaves; nothing where it ends.
-    stretch: Stretch,
-}
-
-/// The ends of changes, and at the last of their offsets the changes that lie there. Once memory was refused they are not known.
-#[derive(Drop)]
-pub struct Layers {
-    ends: Vec<End>,
-    present: BTreeMap<u64, Stretch>,
-    is_refused: bool,
-}
-
-impl Layers {
-    /// Those of the changes that the entries before a place of the order make to a part.
-    pub fn before(alloc: Global, place: usize, part: Part, sources: Sources<'_>) -> Layers {
-        let mut layers = Layers {
-            ends: Vec::new(alloc),
-            present: BTreeMap::new(alloc),
-            is_refused: false,
-        };
-        for at in 0..place.min(sources.order.len()) {
-            let stretch = left_by(&sources.order[at], part, sources.story);
-            layers = layers.with(at as u64, stretch);
-        }
-        layers
     }
 
-    // These and the ends of what an entry leaves, if it leaves something.
-    fn with(mut self, place: u64, stretch: Stretch) -> Layers {
+    // Takes one where none lies, unless it is empty.
+    fn keep(&mut self, stretch: Stretch) {
         if stretch.part.length != 0 {
-            let begin = End {
-                offset: stretch.part.offset,
-                place,
-                stretch,
-            };
-            let mut end = begin;
-            end.offset = end_of(stretch.part);
-            end.stretch.part = EMPTY;
-            self.is_refused |= self.ends.push(begin).is_err() || self.ends.push(end).is_err();
+            let kept = self.by_offset.insert(stretch.part.offset, stretch);
+            self.is_refused |= kept.is_err();
         }
-        self
     }
 
-    /// What the part held: stretches in the order of their offsets, of the change that was made last, or of the start.
-    pub fn stretches(
-        mut self,
-        alloc: Global,
-        part: Part,
-        start: Option<&Start>,
-    ) -> Result<Vec<Stretch>, AllocError> {
-        self.is_refused |= self.ends.sort_by_key(|end| end.offset).is_err();
-        let start = Stretch {
-            part,
-            origin: origin_of(start),
-            before: 0,
-        };
-        let mut stretches = self.on_top(Stretches::new(alloc), start);
-        stretches.is_refused |= self.is_refused;
-        stretches.sorted()
+    /// How many there are.
+    pub fn count(&self) -> u64 {
+        self.by_offset.len() as u64
     }
 
-    // What the changes leave on top, and between them the start.
-    fn on_top(&mut self, none: Stretches, start: Stretch) -> Stretches {
-        let mut stretches = none;
-        let mut from = start.part.offset;
-        for at in 0..self.ends.len() {
-            if let Some(end) = self.ends.get(at).copied() {
-                let top = top_of(&self.present, start);
-                stretches = stretches.with(top.inside(between(from, end.offset)));
-                from = end.offset;
-                self.change(end);
+    /// The last one that begins at an offset or before, or else one without a byte.
+    pub fn at(&self, offset: u64) -> Stretch {
+        match self.by_offset.range(..=offset).next_back() {
+            Some((_, stretch)) => *stretch,
+            None => Stretch::of(EMPTY, Origin::Unknown, 0),
+        }
+    }
+
+    /// The first part that is not known; one without a byte where all is.
+    pub fn gap(&self) -> Part {
+        for (_, stretch) in &self.by_offset {
+            if !stretch.is_known() {
+                return stretch.part;
             }
         }
-        stretches.with(start.inside(between(from, end_of(start.part))))
-    }
-
-    // A change begins or ends.
-    fn change(&mut self, end: End) {
-        if end.stretch.part.length == 0 {
-            self.present.remove(&end.place);
-        } else {
-            self.is_refused |= self.present.insert(end.place, end.stretch).is_err();
-        }
-    }
-}
-
-// What lies on top of changes, by the places of their entries; the start where there is none.
-fn top_of(present: &BTreeMap<u64, Stretch>, start: Stretch) -> Stretch {
-    match present.range(..=u64::MAX).next_back() {
-        Some((_, stretch)) => *stretch,
-        None => start,
-    }
-}
-
-// What an entry leaves in a part of the export; nothing where it does not change it.
-fn left_by(entry: &Entry, part: Part, story: &Story) -> Stretch {
-    let request = story.request(entry.request);
-    let served = entry.part.unwrap_or(range(&request.head));
-    Stretch {
-        part: if is_change(request.head.command) {
-            range(&request.head)
-        } else {
-            EMPTY
-        },
-        origin: origin_by(request),
-        before: request.before.saturating_add(head_lengths::REQUEST as u64),
-    }
-    .inside(served)
-    .inside(part)
-}
-
-// The origin of what a change leaves.
-fn origin_by(change: &Request) -> Origin {
-    match change.head.command {
-        commands::WRITE if change.succeeded() => Origin::Wire(Side::Client),
-        commands::WRITE_ZEROES if change.succeeded() => Origin::Zeroes,
-        _ => Origin::Unknown,
-    }
-}
-
-// The origin of what the export held at first.
-fn origin_of(start: Option<&Start>) -> Origin {
-    match start {
-        Some(Start::Zeroes) => Origin::Zeroes,
-        Some(Start::Image(_)) => Origin::Image,
-        _ => Origin::Unknown,
+        EMPTY
     }
 }

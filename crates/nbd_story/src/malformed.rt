@@ -37,9 +37,9 @@ impl Text {
             options::LIST_META_CONTEXT | options::SET_META_CONTEXT => text
                 .bad_name(data, first)
                 .bad_queries(data, first),
-            _ => text.fill(
+            _ => text.number(
                 "wrong: the option has no data, and there is some from byte {} on\n",
-                &[first],
+                first,
             ),
         }
     }
@@ -48,10 +48,10 @@ impl Text {
     fn bad_name(self, data: &[u8], first: u64) -> Text {
         let length = number_in(data, 0, 4);
         let behind = count_behind(data, 4);
-        self.fill_if(
+        self.number_if(
             data.len() < 4,
             "wrong: the data ends within the length of the name, 4 bytes from byte {} on\n",
-            &[first],
+            first,
         )
         .fill_if(
             length > behind,
@@ -68,9 +68,9 @@ impl Text {
         if (data.len() as u64) < at {
             self
         } else if there < 2 {
-            self.fill(
+            self.number(
                 "wrong: the data ends within the count of infos, 2 bytes from byte {} on\n",
-                &[place],
+                place,
             )
         } else {
             self.fill(
@@ -80,35 +80,31 @@ impl Text {
         }
     }
 
-    // A count of queries that is not there whole, or does not fit the queries behind it. Where the name is not whole, that is told.
+    // A count of queries that is not there whole, the first query that is not, or the bytes behind the last one. Where the name is not whole,
+    // that is told.
     fn bad_queries(self, data: &[u8], first: u64) -> Text {
-        let at = end_of_name(data);
+        let mut at = end_of_name(data);
         if (data.len() as u64) < at {
-            self
-        } else if count_behind(data, at) < 4 {
-            self.fill(
-                "wrong: the data ends within the count of queries, 4 bytes from byte {} on\n",
-                &[first.saturating_add(at)],
-            )
-        } else {
-            self.bad_query(number_in(data, at, 4), at.saturating_add(4), data, first)
+            return self;
         }
-    }
-
-    // The first of so many queries that is not there whole, or the bytes behind the last one; they stand behind so many bytes of the data.
-    fn bad_query(self, count: u64, before: u64, data: &[u8], first: u64) -> Text {
-        let mut at = before;
+        if count_behind(data, at) < 4 {
+            return self.number(
+                "wrong: the data ends within the count of queries, 4 bytes from byte {} on\n",
+                first.saturating_add(at),
+            );
+        }
+        let count = number_in(data, at, 4);
+        at = at.saturating_add(4);
         for number in 0..count {
             let there = count_behind(data, at);
             let length = number_in(data, at, 4);
-            let place = first.saturating_add(at);
             if there < 4 || length > there - 4 {
                 return self
                     .fill(
                         "wrong: the data has {} of {} queries whole; ",
                         &[number, count],
                     )
-                    .cut_query(length, there, place);
+                    .cut_query(length, there, first.saturating_add(at));
             }
             at = at.saturating_add(length).saturating_add(4);
         }
@@ -121,9 +117,9 @@ impl Text {
     // A query of this length of which so many bytes are there.
     fn cut_query(self, length: u64, there: u64, place: u64) -> Text {
         if there < 4 {
-            self.fill(
+            self.number(
                 "the data ends within the length of the next, 4 bytes from byte {} on\n",
-                &[place],
+                place,
             )
         } else {
             self.fill(
@@ -133,20 +129,19 @@ impl Text {
         }
     }
 
+    // A reply to an option that has not its form; of block sizes each that no server may announce.
     fn bad_reply(self, kind: u32, data: &[u8], first: u64) -> Text {
-        match kind {
-            answers::SERVER => self.bad_name(data, first),
-            answers::INFO => self.bad_info(data),
-            answers::META_CONTEXT => self.wrong(context_reason(data)),
+        match (kind, sizes_of(data)) {
+            (answers::SERVER, _) => self.bad_name(data, first),
+            (answers::INFO, Some(sizes)) => self.bad_sizes(sizes),
+            (answers::INFO, None) => self.wrong(info_reason(data)),
+            (answers::META_CONTEXT, _) if data.len() < 4 => self.wrong(
+                "its data is shorter than the id of a context, which has 4 bytes",
+            ),
+            (answers::META_CONTEXT, _) => self.wrong(
+                "a context that was selected before has the same id",
+            ),
             _ => self.wrong("an ACK has no data"),
-        }
-    }
-
-    // An INFO that has not its form, or block sizes that no server may announce: each that is wrong.
-    fn bad_info(self, data: &[u8]) -> Text {
-        match sizes_of(data) {
-            Some(sizes) => self.bad_sizes(sizes),
-            None => self.wrong(info_reason(data)),
         }
     }
 
@@ -206,14 +201,5 @@ fn info_reason(data: &[u8]) -> &'static str {
         "the data of an info on the export has 12 bytes"
     } else {
         "the info on the export lacks HAS_FLAGS (0x1)"
-    }
-}
-
-// Why a context has not its form, or may not be selected.
-fn context_reason(data: &[u8]) -> &'static str {
-    if data.len() < 4 {
-        "its data is shorter than the id of a context, which has 4 bytes"
-    } else {
-        "a context that was selected before has the same id"
     }
 }

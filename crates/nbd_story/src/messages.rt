@@ -1,6 +1,6 @@
 //! Messages and requests in words.
 
-use crate::requests::{Request, range};
+use crate::requests::Request;
 use crate::story::Story;
 use crate::text::Text;
 use crate::told::{Form, Told};
@@ -37,7 +37,7 @@ impl Text {
                 .flags(flag_names::CLIENT, told.choice),
             Form::Choice => self
                 .option(told.choice)
-                .fill(", {byte} of data", &[told.payload]),
+                .number(", {byte} of data", told.payload),
             Form::Answer => self.answer(told, story),
             Form::Exported => self.export("export of ", told.part.length, told.flags),
             Form::Request => self.request(&told.head(), told.request),
@@ -73,7 +73,7 @@ impl Text {
     pub fn numbered(self, words: &str, request: &Request) -> Text {
         self.say(words)
             .command(request.head.command)
-            .number(" #", request.number)
+            .number(" #{}", request.number)
     }
 
     /// Words and a request that was named before, by its type: ` before the READ`.
@@ -85,24 +85,21 @@ impl Text {
     fn command(self, command: u16) -> Text {
         match name_in(COMMANDS, u32::from(command)) {
             Some(name) => self.say(name),
-            None => self.number("command ", u64::from(command)),
+            None => self.number("command {}", u64::from(command)),
         }
     }
 
     /// A request, its range and its flags, where it has these; DISC has no number, and its cookie is not told.
     pub fn request(self, head: &RequestHead, number: u64) -> Text {
-        let text = self.command(head.command);
-        let text = if number == 0 {
-            text
-        } else {
-            text.number(" #", number).hex(", cookie ", head.cookie)
-        };
-        let text = if head.length == 0 && head.offset == 0 {
-            text
-        } else {
-            text.part(", ", range(head))
-        };
-        text.flags_in(flag_names::COMMAND, head.flags)
+        let length = u64::from(head.length);
+        self.command(head.command)
+            .fill_if(number != 0, " #{}, cookie {:#x}", &[number, head.cookie])
+            .fill_if(
+                length != 0 || head.offset != 0,
+                ", {byte} at {}",
+                &[length, head.offset],
+            )
+            .flags_in(flag_names::COMMAND, head.flags)
     }
 
     // Flags, where there are some.
@@ -116,28 +113,28 @@ impl Text {
 
     // A reply by what it is, the request that it answers, and its cookie.
     fn reply(self, what: &str, told: &Told, story: &Story) -> Text {
+        let text = self.say(what);
         let text = if told.request == 0 {
-            self.say(what)
+            text
         } else {
-            self.say(what).numbered(" to ", story.request(told.request))
+            text.numbered(" to ", story.request(told.request))
         };
-        text.hex(", cookie ", told.cookie)
+        text.number(", cookie {:#x}: ", told.cookie)
     }
 
     fn simple(self, told: &Told, story: &Story) -> Text {
         let text = self.reply("simple reply", told, story);
         if told.error == 0 {
-            text.say(": success")
+            text.say("success")
         } else {
-            text.error(": ", told.error)
+            text.error("", told.error)
         }
     }
 
     fn chunk(self, told: &Told, story: &Story) -> Text {
         self.reply("chunk", told, story)
-            .say(": ")
             .name(CHUNKS, "type", u32::from(told.kind))
-            .fill(", {byte} of payload", &[told.payload])
+            .number(", {byte} of payload", told.payload)
             .brought(told)
             .status(told, story)
             .flags_in(flag_names::CHUNK, told.flags)
@@ -146,16 +143,16 @@ impl Text {
     // What a chunk brings: where its content lies, or its error.
     fn brought(self, told: &Told) -> Text {
         if told.part.length != 0 {
-            self.part(", ", told.part)
-        } else if told.error != 0 {
-            self.error(", ", told.error).fill_if(
-                told.kind == chunks::ERROR_OFFSET,
-                " at {}",
-                &[told.part.offset],
-            )
-        } else {
-            self
+            return self.part(", ", told.part);
         }
+        if told.error == 0 {
+            return self;
+        }
+        self.error(", ", told.error).number_if(
+            told.kind == chunks::ERROR_OFFSET,
+            " at {}",
+            told.part.offset,
+        )
     }
 
     /// An option by its name and its number.
@@ -171,7 +168,7 @@ impl Text {
             .option(told.choice)
             .say(": ")
             .name(REPLIES, "kind", told.answer)
-            .fill(", {byte} of data", &[told.payload]);
+            .number(", {byte} of data", told.payload);
         match told.answer {
             answers::INFO if data.len() as u64 == told.payload => text.info(data),
             answers::META_CONTEXT => text.context_told(data),

@@ -84,21 +84,17 @@ fn request(bytes: &[u8]) -> Told {
     let Some(head) = request_head(bytes_in(bytes, 0, head_lengths::REQUEST)) else {
         return NO_MESSAGE;
     };
-    let mut told = message(Form::Request, head_lengths::REQUEST, written(&head));
+    let written = if head.command == commands::WRITE {
+        u64::from(head.length)
+    } else {
+        0
+    };
+    let mut told = message(Form::Request, head_lengths::REQUEST, written);
     told.flags = head.flags;
     told.kind = head.command;
     told.cookie = head.cookie;
     told.part = range(&head);
     told
-}
-
-// How many bytes a request writes.
-fn written(head: &RequestHead) -> u64 {
-    if head.command == commands::WRITE {
-        u64::from(head.length)
-    } else {
-        0
-    }
 }
 
 fn client_flags(bytes: &[u8]) -> Told {

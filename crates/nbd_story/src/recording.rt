@@ -59,7 +59,7 @@ impl Recording {
 
     /// Takes the next bytes, which this side sent.
     pub fn add(&mut self, side: Side, bytes: &[u8]) -> Result<(), AllocError> {
-        if !matches!(self.stretches.last(), Some(stretch) if stretch.side == side) {
+        if self.sender(self.len()) != Some(side) {
             self.stretches.push(Stretch {
                 side,
                 client: self.client.len() as u64,
@@ -119,11 +119,15 @@ impl Recording {
             .saturating_add(1)
     }
 
+    /// The sender of the byte at this place of the capture, which is there.
+    pub fn side(&self, place: u64) -> Side {
+        self.stretch(None, place.saturating_sub(1)).side
+    }
+
     /// The sender of the byte at this place of the capture, if there is one.
     pub fn sender(&self, place: u64) -> Option<Side> {
-        let before = place.saturating_sub(1);
-        if before < self.len() {
-            Some(self.stretch(None, before).side)
+        if place.saturating_sub(1) < self.len() {
+            Some(self.side(place))
         } else {
             None
         }
@@ -131,10 +135,8 @@ impl Recording {
 
     /// The byte at this place of the capture, which this side sent.
     pub fn byte(&self, side: Side, place: u64) -> u8 {
-        let before = place.saturating_sub(1);
-        let others = self.stretch(None, before).count_of_other(side);
-        self.byte_of(side, before.saturating_sub(others))
-            .unwrap_or(0)
+        let count = self.count_up_to(side, place);
+        self.byte_of(side, count.saturating_sub(1)).unwrap_or(0)
     }
 
     /// How many bytes of a side stand up to this place of the capture, with the byte there.

@@ -1,6 +1,6 @@
 //! Why no order explains a session.
 
-use crate::content::{byte_at_first, byte_by, found_byte, rule_of};
+use crate::content::{Came, byte_at_first, byte_by, found_byte, rule_of};
 use crate::explanation::Sources;
 use crate::requests::Request;
 use crate::story::Story;
@@ -15,24 +15,15 @@ pub struct Contest<'a> {
     pub offset: u64,
 }
 
-// How many of these requests are BLOCK_STATUSes.
-fn count_of_statuses(requests: &[u64], story: &Story) -> usize {
-    let mut count = 0usize;
-    for number in requests {
-        count = count.saturating_add(usize::from(story.request(*number).is_status()));
-    }
-    count
-}
-
 impl Text {
     /// Adds why no order serves these requests so that each READ gets its byte of the export at the offset, and each BLOCK_STATUS 00.
-    pub fn refutation(self, contest: Contest<'_>, sources: Sources<'_>) -> Text {
+    pub fn refutation(self, contest: &Contest<'_>, sources: &Sources<'_>) -> Text {
         match contest.reads {
             [request] => self.no_source(*request, contest.offset, sources),
             _ => self
                 .rules(contest.reads, sources.story)
                 .byte_of_start(contest.offset, sources)
-                .changes(contest.changes, contest.offset, sources.story)
+                .changes(contest.changes, contest.offset, sources)
                 .reads(contest.reads, contest.offset, sources.story)
                 .deduction(contest, sources)
                 .assumed(),
@@ -41,7 +32,10 @@ impl Text {
 
     // The rule of READs, that of BLOCK_STATUSes, or both where there are both.
     fn rules(self, reads: &[u64], story: &Story) -> Text {
-        let statuses = count_of_statuses(reads, story);
+        let mut statuses = 0usize;
+        for number in reads {
+            statuses = statuses.saturating_add(usize::from(story.request(*number).is_status()));
+        }
         if statuses == 0 || statuses == reads.len() {
             self.rule(
                 &rule_of(statuses != 0),
@@ -57,55 +51,45 @@ impl Text {
     }
 
     // The byte at an offset at first, where that is known.
-    fn byte_of_start(self, offset: u64, sources: Sources<'_>) -> Text {
-        match byte_at_first(sources.start, offset) {
-            Some(byte) => self
-                .byte("start: ", byte)
-                .fill(" at offset {}\n", &[offset]),
+    fn byte_of_start(self, offset: u64, sources: &Sources<'_>) -> Text {
+        match byte_at_first(offset, sources) {
+            Some(byte) => self.fill("start: {:02x} at offset {}\n", &[u64::from(byte), offset]),
             None => self,
         }
     }
 
     // Each change, when it can have been served, and the byte that it left.
-    fn changes(self, numbers: &[u64], offset: u64, story: &Story) -> Text {
+    fn changes(self, numbers: &[u64], offset: u64, sources: &Sources<'_>) -> Text {
         let mut text = self;
         for number in numbers {
-            let change = story.request(*number);
-            text = text
-                .between("change: ", change)
-                .left(byte_by(change, offset, story));
+            let change = sources.story.request(*number);
+            text = text.between("change: ", change).byte_or(
+                byte_by(change, offset, sources),
+                "left {:02x}\n",
+                "left a byte that is not known\n",
+            );
         }
         text
-    }
-
-    fn left(self, byte: Option<u8>) -> Text {
-        match byte {
-            Some(byte) => self.byte("left ", byte).end(),
-            None => self.say("left a byte that is not known\n"),
-        }
     }
 
     // Each READ and BLOCK_STATUS, when it can have been served, and the byte that it got or called zero.
     fn reads(self, numbers: &[u64], offset: u64, story: &Story) -> Text {
         let mut text = self;
         for number in numbers {
-            text = text.read(story.request(*number), offset, story);
+            let request = story.request(*number);
+            text = text
+                .say_either(request.is_status(), "status: ", "read: ")
+                .between("", request)
+                .got(&found_byte(*number, offset, story));
         }
         text
     }
 
-    fn read(self, request: &Request, offset: u64, story: &Story) -> Text {
-        let came = found_byte(request.number, offset, story);
-        let label = if request.is_status() {
-            "status: "
-        } else {
-            "read: "
-        };
-        let text = self.between(label, request);
+    fn got(self, came: &Came) -> Text {
         if came.place == 0 {
-            text.say("got no byte\n")
+            self.say("got no byte\n")
         } else {
-            text.told_byte(came.is_status(), came.byte).place_of(&came)
+            self.told_byte(came.is_status(), came.byte).place_of(came)
         }
     }
 
@@ -114,19 +98,14 @@ impl Text {
         if is_status {
             self.say("called it zero")
         } else {
-            self.byte("got ", byte)
+            self.byte("got {:02x}", byte)
         }
     }
 
     // A request with its places, and between which bytes of the capture it can have been served.
     fn between(self, label: &str, request: &Request) -> Text {
-        let text = self
-            .asked(label, request)
-            .number("; served after byte ", request.last);
-        if request.replied == 0 {
-            text.say(" or never; ")
-        } else {
-            text.fill(" and before byte {}; ", &[request.replied])
-        }
+        self.asked(label, request)
+            .number("; served after byte {}", request.last)
+            .number_or(request.replied, " and before byte {}; ", " or never; ")
     }
 }

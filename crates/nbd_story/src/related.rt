@@ -2,9 +2,8 @@
 
 use crate::arriving::last_told;
 use crate::content::bringer;
-use crate::differing::with_contents;
 use crate::improper::{chunk_reason, content_reason};
-use crate::layers::{Stretch, Stretches, gap_between};
+use crate::layers::{Stretch, Stretches};
 use crate::requests::{NO_REQUEST, Request, range};
 use crate::story::Story;
 use crate::text::Text;
@@ -23,7 +22,7 @@ impl Text {
         if !told.has_cookie() {
             self.negotiation_reason(fault, told, story)
         } else if fault == WireFault::UnknownCookie {
-            self.answered_before(answered_before(&story.requests, told.cookie))
+            self.answered_before(told.cookie, story)
                 .outstanding(story)
                 .arriving(told, story)
         } else if request.is_there() {
@@ -87,12 +86,9 @@ impl Text {
                 story,
             ),
             WireFault::IncompleteRead => self.gap(
-                with_contents(
-                    Stretches::new(alloc).with(Stretch::of(told.part)),
-                    request.number,
-                    story,
+                &Stretches::got(alloc, request.number, range(&request.head), story).with(
+                    Stretch::brought_by(told, request.number),
                 ),
-                range(&request.head),
                 ", which no chunk brings\n",
             ),
             WireFault::IncompleteStatus => self.missing_statuses(alloc, told, request, story),
@@ -100,11 +96,17 @@ impl Text {
         }
     }
 
-    // The last request with a cookie whose reply is finished.
-    fn answered_before(self, request: &Request) -> Text {
-        if request.is_there() {
-            self.asked("answered before: ", request)
-                .fill("; its reply ended at byte {}\n", &[request.finished])
+    // The last request with a cookie whose reply is finished, if there is one.
+    fn answered_before(self, cookie: u64, story: &Story) -> Text {
+        let mut last = &NO_REQUEST;
+        for request in &story.requests {
+            if request.head.cookie == cookie && request.finished != 0 {
+                last = request;
+            }
+        }
+        if last.is_there() {
+            self.asked("answered before: ", last)
+                .number("; its reply ended at byte {}\n", last.finished)
         } else {
             self
         }
@@ -112,54 +114,30 @@ impl Text {
 
     // The first outstanding requests, and how many more there are.
     fn outstanding(self, story: &Story) -> Text {
-        let count = story.outstanding.len() as u64;
-        self.first_outstanding(&story.requests)
-            .say_if(count == 0, "outstanding: no request\n")
-            .fill_if(
-                count > LISTED,
-                "outstanding: {} more\n",
-                &[count.saturating_sub(LISTED)],
-            )
-    }
-
-    fn first_outstanding(self, requests: &[Request]) -> Text {
         let mut text = self;
-        let mut listed = 0u64;
-        for request in requests {
-            if request.finished == 0 && listed < LISTED {
-                text = text.asked("outstanding: ", request).end();
-                listed += 1;
+        let mut count = 0u64;
+        for request in &story.requests {
+            if request.finished == 0 {
+                count = count.saturating_add(1);
+                if count <= LISTED {
+                    text = text.asked("outstanding: ", request).end();
+                }
             }
         }
-        text
+        text.say_if(count == 0, "outstanding: no request\n")
+            .more(count, LISTED, "outstanding: {} more\n")
     }
 
-    /// Adds the first bytes of a range that no part has, where there are some, and what of them is said.
-    pub fn gap(self, parts: Stretches, range: Part, what: &str) -> Text {
-        match parts.sorted() {
-            Ok(parts) => self.gap_told(gap_between(&parts, range), what),
-            Err(_) => self.refused(),
-        }
-    }
-
-    fn gap_told(self, gap: Part, what: &str) -> Text {
+    /// Adds the first bytes that are not known, where there are some, and what of them is said.
+    pub fn gap(self, parts: &Stretches, what: &str) -> Text {
+        let gap = parts.gap();
+        let text = self.refused_if(parts.is_refused);
         if gap.length == 0 {
-            self
+            text
         } else {
-            self.part("first gap: ", gap).say(what)
+            text.part("first gap: ", gap).say(what)
         }
     }
-}
-
-// The last request with this cookie whose reply is finished.
-fn answered_before(requests: &[Request], cookie: u64) -> &Request {
-    let mut last = &NO_REQUEST;
-    for request in requests {
-        if request.head.cookie == cookie && request.finished != 0 {
-            last = request;
-        }
-    }
-    last
 }
 
 // What other content may not share with this part of a READ: with DF any offset.

@@ -3,7 +3,6 @@
 use crate::content::{byte_at_first, byte_by, found_byte, rule_of};
 use crate::explanation::Sources;
 use crate::requests::{NO_REQUEST, Request};
-use crate::story::Story;
 use crate::text::Text;
 
 /// How many changes are listed.
@@ -20,7 +19,7 @@ struct Got {
 impl Text {
     /// Adds which byte the READ with this number got for this offset of the export, or that the BLOCK_STATUS called it zero, and why
     /// neither the start nor a change can have left that.
-    pub fn no_source(self, number: u64, offset: u64, sources: Sources<'_>) -> Text {
+    pub fn no_source(self, number: u64, offset: u64, sources: &Sources<'_>) -> Text {
         let read = sources.story.request(number);
         let came = found_byte(number, offset, sources.story);
         let got = Got {
@@ -40,22 +39,23 @@ impl Text {
         }
         text.came(&came, offset, sources.story)
             .not_the_start(&got, sources)
-            .not_from_changes(&got, sources.story)
+            .not_from_changes(&got, sources)
             .assumed()
             .window(&sources.story.recording, came.place)
     }
 
     // Why the byte is not that of the start: it had another one, or a change of the offset was surely served before the READ.
-    fn not_the_start(self, got: &Got, sources: Sources<'_>) -> Text {
-        match byte_at_first(sources.start, got.offset) {
-            Some(byte) if byte != got.byte => self.byte("not the start: it had ", byte).end(),
-            _ => self.served_before(
-                "not the start: ",
-                change_before(&sources.story.requests, &NO_REQUEST, got),
-                " was surely served before ",
-                got,
-            ),
+    fn not_the_start(self, got: &Got, sources: &Sources<'_>) -> Text {
+        let byte = byte_at_first(got.offset, sources).unwrap_or(got.byte);
+        if byte != got.byte {
+            return self.byte("not the start: it had {:02x}\n", byte);
         }
+        self.served_before(
+            "not the start: ",
+            change_before(&sources.story.requests, &NO_REQUEST, got),
+            " was surely served before ",
+            got,
+        )
     }
 
     // A change that was served before the READ, if there is one.
@@ -68,48 +68,43 @@ impl Text {
     }
 
     // Why the byte is of none of the changes that came before the READ was answered: those that may have left such a byte come first, of
-    // these the last that was asked for.
-    fn not_from_changes(self, got: &Got, story: &Story) -> Text {
+    // these the last that was asked for; and how many more there are than were listed, or that there is none.
+    fn not_from_changes(self, got: &Got, sources: &Sources<'_>) -> Text {
         let mut text = self;
         let mut count = 0u64;
         for are_suspect in [true, false] {
-            for change in story.requests.iter().rev() {
-                if is_listed(change, are_suspect, got, story) {
+            for change in sources.story.requests.iter().rev() {
+                if is_listed(change, are_suspect, got, sources) {
                     count = count.saturating_add(1);
                     if count <= LISTED {
-                        text = text.not_from(change, got, story);
+                        text = text.not_from(change, got, sources);
                     }
                 }
             }
         }
-        text.more_changes(count, got)
-    }
-
-    // How many more there are than were listed, or that there is none.
-    fn more_changes(self, count: u64, got: &Got) -> Text {
         if count == 0 {
-            self.the("not from: no change of this offset came before ", &got.read)
-                .say(" was answered\n")
-        } else {
-            self.fill_if(
-                count > LISTED,
-                "not from: {} more that changed this offset before\n",
-                &[count.saturating_sub(LISTED)],
-            )
+            text = text
+                .the("not from: no change of this offset came before ", &got.read)
+                .say(" was answered\n");
         }
+        text.more(
+            count,
+            LISTED,
+            "not from: {} more that changed this offset before\n",
+        )
     }
 
     // Why the READ did not get its byte from a change: it left another one, or was overwritten by a change that was surely served after it
     // and before the READ, if there is one.
-    fn not_from(self, change: &Request, got: &Got, story: &Story) -> Text {
-        let later = change_before(&story.requests, change, got);
+    fn not_from(self, change: &Request, got: &Got, sources: &Sources<'_>) -> Text {
         let text = self.asked("not from: ", change);
-        match byte_by(change, got.offset, story) {
-            Some(byte) if byte != got.byte => text.byte("; it left ", byte).end(),
-            _ => text
-                .say_if(!later.is_there(), "; no reason found\n")
-                .served_before("; ", later, " was surely served between it and ", got),
+        let left = byte_by(change, got.offset, sources).unwrap_or(got.byte);
+        if left != got.byte {
+            return text.byte("; it left {:02x}\n", left);
         }
+        let later = change_before(&sources.story.requests, change, got);
+        text.say_if(!later.is_there(), "; no reason found\n")
+            .served_before("; ", later, " was surely served between it and ", got)
     }
 }
 
@@ -127,7 +122,7 @@ fn change_before<'a>(requests: &'a [Request], after: &Request, got: &Got) -> &'a
 }
 
 // Whether a request changes the offset and was not surely served after the READ, and may have left the byte or not.
-fn is_listed(change: &Request, is_suspect: bool, got: &Got, story: &Story) -> bool {
-    let left = byte_by(change, got.offset, story).unwrap_or(got.byte);
+fn is_listed(change: &Request, is_suspect: bool, got: &Got, sources: &Sources<'_>) -> bool {
+    let left = byte_by(change, got.offset, sources).unwrap_or(got.byte);
     change.changes(got.offset) && !got.read.is_before(change) && (left == got.byte) == is_suspect
 }

@@ -12,7 +12,7 @@ const MOST_STEPS: u64 = 10;
 
 impl Text {
     /// Adds from which changes each READ can have its byte, and in steps why they can't all have theirs.
-    pub fn deduction(self, contest: Contest<'_>, sources: Sources<'_>) -> Text {
+    pub fn deduction(self, contest: &Contest<'_>, sources: &Sources<'_>) -> Text {
         if contest.changes.len().saturating_add(contest.reads.len()) > MOST {
             return self.say("sources: not told of more than 64 requests\n");
         }
@@ -39,7 +39,7 @@ impl Text {
     // A READ and the byte that it got, behind words.
     fn got_by(self, words: &str, read: usize, deduced: &Deduced) -> Text {
         self.party(words, read, deduced)
-            .byte(" can have its ", deduced.at(read).byte)
+            .byte(" can have its {:02x}", deduced.at(read).byte)
     }
 
     // From which sources the byte of a READ can't come, and why: also from those that left another byte, where these are wanted.
@@ -65,14 +65,14 @@ impl Text {
         hindrance: Hindrance,
         deduced: &Deduced,
     ) -> Text {
-        let request = deduced.at(read).request;
+        let request = &deduced.at(read).request;
         match hindrance {
             Hindrance::Nothing => self,
-            Hindrance::Left => self.byte(" (", deduced.at(source).byte).say(")"),
-            Hindrance::Later => self.the(", served after ", &request),
+            Hindrance::Left => self.byte(" ({:02x})", deduced.at(source).byte),
+            Hindrance::Later => self.the(", served after ", request),
             Hindrance::Between(place) if place < deduced.reads => self
                 .party(", which ", place, deduced)
-                .the(" overwrote before ", &request),
+                .the(" overwrote before ", request),
             Hindrance::Between(place) => self
                 .party(", after which ", place, deduced)
                 .say(" ")
@@ -80,7 +80,7 @@ impl Text {
                     deduced.at(place).request.is_status(),
                     deduced.at(place).byte,
                 )
-                .the(" before ", &request),
+                .the(" before ", request),
         }
     }
 
@@ -99,7 +99,7 @@ impl Text {
         for number in 0..MOST_STEPS {
             let known = *deduced;
             let step = deduced.next();
-            text = text.fill("step {}: ", &[number + 1]);
+            text = text.number("step {}: ", number + 1);
             if step.read == START {
                 return text.say("none; the search went through each order of these\n");
             }
@@ -113,18 +113,20 @@ impl Text {
 
     // What follows from what is known, and why the other sources fall away.
     fn step(self, step: Step, deduced: &Deduced) -> Text {
-        let text = self.got_by("", step.read, deduced);
-        let text = if step.source == step.read {
-            text.say(" from nothing")
+        let only_from = if step.source == step.read {
+            0
         } else {
-            text.party(" only from ", step.source, deduced)
+            bit(step.source)
         };
         let behind = if deduced.at(step.read).request.is_status() {
             "; so served after this BLOCK_STATUS: "
         } else {
             "; so served after this READ: "
         };
-        text.impossible(step.read, false, deduced)
+        self.got_by("", step.read, deduced)
+            .say_if(only_from == 0, " from nothing")
+            .group(" only from ", only_from, deduced)
+            .impossible(step.read, false, deduced)
             .group("; so served before this change: ", step.before, deduced)
             .group(behind, step.after, deduced)
             .end()

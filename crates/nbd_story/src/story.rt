@@ -42,6 +42,8 @@ pub struct Story {
     pub contexts: Contexts,
     /// What was said of block sizes.
     pub sizing: Sizing,
+    /// Memory was refused for something of this.
+    is_refused: bool,
 }
 
 impl Story {
@@ -61,6 +63,7 @@ impl Story {
             padding: head_lengths::PADDING as u64,
             contexts: Contexts::none(alloc),
             sizing: Sizing::none(),
+            is_refused: false,
         }
     }
 
@@ -69,15 +72,19 @@ impl Story {
         for message in messages {
             let told = self.begun(side_of(message));
             if told.is_there() {
-                self.note(&told)?;
-                self.told.push(told)?;
+                self.note(&told);
+                self.is_refused |= self.told.push(told).is_err();
             }
         }
-        Ok(())
+        if self.is_refused {
+            Err(AllocError)
+        } else {
+            Ok(())
+        }
     }
 
     // What a message changes: the phase, and what is known of a request.
-    fn note(&mut self, told: &Told) -> Result<(), AllocError> {
+    fn note(&mut self, told: &Told) {
         let end = told.before.saturating_add(told.length);
         match told.side {
             Side::Client => self.client = end,
@@ -85,28 +92,25 @@ impl Story {
         }
         match told.form {
             Form::Request => self.ask(told),
-            Form::Simple | Form::Chunk => {
-                self.answer(told);
-                Ok(())
-            }
+            Form::Simple | Form::Chunk => self.answer(told),
             _ => self.negotiate(told),
         }
     }
 
     // What a message of the negotiation changes.
-    fn negotiate(&mut self, told: &Told) -> Result<(), AllocError> {
+    fn negotiate(&mut self, told: &Told) {
         let data = payload_of(&self.recording, told);
         match told.form {
             Form::Choice => {
                 self.option = told.choice;
                 self.sizing = Sizing::at(told.choice, data);
-                return self.contexts.choose(told.choice, data);
+                self.is_refused |= self.contexts.choose(told.choice, data).is_err();
             }
             Form::Answer => {
                 self.export = export_after(self.export, told, data);
                 self.is_transmission = told.choice == options::GO && told.answer == answers::ACK;
                 self.sizing = self.sizing.after(told.answer, data);
-                return self.contexts.answer(told, data);
+                self.is_refused |= self.contexts.answer(told, data).is_err();
             }
             Form::ClientFlags if has_wide(told.choice, handshake::C_NO_ZEROES) => self.padding = 0,
             Form::Exported => {
@@ -116,37 +120,43 @@ impl Story {
             }
             _ => {}
         }
-        Ok(())
     }
 
     // A request has come. DISC has no number.
-    fn ask(&mut self, told: &Told) -> Result<(), AllocError> {
+    fn ask(&mut self, told: &Told) {
         if told.request != 0 {
-            let request = self.asked_by(told);
-            self.requests.push(request)?;
-            self.outstanding.insert(told.cookie, told.request)?;
+            let head = told.head();
+            let request = Request {
+                number: told.request,
+                head,
+                before: told.before,
+                first: told.first,
+                last: told.last,
+                replied: 0,
+                finished: 0,
+                error: 0,
+                proper: is_proper(self.export, self.contexts.are_in_force(), &head),
+            };
+            self.is_refused |= self.requests.push(request).is_err();
+            self.is_refused |= self.outstanding.insert(told.cookie, told.request).is_err();
         }
-        Ok(())
-    }
-
-    // The request that a message asks.
-    fn asked_by(&self, told: &Told) -> Request {
-        let mut request = NO_REQUEST;
-        request.number = told.request;
-        request.head = told.head();
-        request.before = told.before;
-        request.first = told.first;
-        request.last = told.last;
-        request.proper = is_proper(self.export, self.contexts.are_in_force(), &request.head);
-        request
     }
 
     // A message of a reply has come; after the last one its cookie is free.
     fn answer(&mut self, told: &Told) {
+        let is_last = matches!(told.form, Form::Simple) || has(told.flags, chunks::DONE);
         if let Some(request) = self.requests.get_mut(told.request.wrapping_sub(1) as usize) {
-            hear(request, told);
+            if request.replied == 0 {
+                request.replied = told.first;
+            }
+            if request.error == 0 {
+                request.error = told.error;
+            }
+            if is_last {
+                request.finished = told.last;
+            }
         }
-        if is_last(told) {
+        if is_last {
             self.outstanding.remove(&told.cookie);
         }
     }
@@ -185,24 +195,6 @@ impl Story {
             _ => 0,
         }
     }
-}
-
-// A message of the reply to a request has come.
-fn hear(request: &mut Request, told: &Told) {
-    if request.replied == 0 {
-        request.replied = told.first;
-    }
-    if request.error == 0 {
-        request.error = told.error;
-    }
-    if is_last(told) {
-        request.finished = told.last;
-    }
-}
-
-// Whether a reply ends with a message of it.
-fn is_last(told: &Told) -> bool {
-    matches!(told.form, Form::Simple) || has(told.flags, chunks::DONE)
 }
 
 // The export that is known behind a reply to an option with these data.

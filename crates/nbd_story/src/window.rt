@@ -14,26 +14,16 @@ impl Text {
         let first = place_before(place, AROUND);
         let last = place.saturating_add(AROUND).min(recording.len());
         let mut text = self.places("", first, last).say(":");
-        let mut line = None;
         for at in first..last.saturating_add(1) {
-            let sender = recording.sender(at);
-            if let Some(side) = sender {
-                if line != sender {
-                    text = text.say("\n  ").say(letter_of(side));
-                }
-                line = sender;
-                text = text.cell(recording.byte(side, at), at == place);
+            let side = recording.side(at);
+            if at == first || side != recording.side(at.saturating_sub(1)) {
+                text = text.say("\n  ").say(letter_of(side));
             }
+            text = text
+                .say_either(at == place, " [", " ")
+                .byte("{:02x}", recording.byte(side, at))
+                .say_if(at == place, "]");
         }
         text.end()
-    }
-
-    // A byte behind a space.
-    fn cell(self, byte: u8, is_meant: bool) -> Text {
-        if is_meant {
-            self.byte(" [", byte).say("]")
-        } else {
-            self.byte(" ", byte)
-        }
     }
 }

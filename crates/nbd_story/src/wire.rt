@@ -89,10 +89,13 @@ impl Text {
         let before = story.count(side);
         let last = before.saturating_add(taken).saturating_sub(1);
         let is_bad = fault == WireFault::BadMagic;
-        self.fill("message: {byte}", &[taken])
-            .say(of_side(side))
-            .say_if(is_bad, "which begin no message; ")
-            .say_if(!is_bad, "no whole head of a message; ")
+        self.number("message: {byte} of the ", taken)
+            .say_either(side == Side::Client, "client, ", "server, ")
+            .say_either(
+                is_bad,
+                "which begin no message; ",
+                "no whole head of a message; ",
+            )
             .places(
                 "",
                 story.recording.place(side, before),
@@ -100,13 +103,6 @@ impl Text {
             )
             .end()
             .say_if(is_bad, magic_of(side, story))
-    }
-}
-
-fn of_side(side: Side) -> &'static str {
-    match side {
-        Side::Client => " of the client, ",
-        Side::Server => " of the server, ",
     }
 }
 

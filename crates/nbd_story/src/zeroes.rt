@@ -89,7 +89,7 @@ impl Story {
         let (id, descriptors) = self.status_in(chunk);
         Zeroes {
             chunk,
-            descriptors: if self.is_allocation(id) {
+            descriptors: if self.contexts.is_allocation(id) {
                 descriptors
             } else {
                 &[]
