@@ -46,6 +46,8 @@ pub fn finished_over<C: BufRead + Drop>(
     ensures cause { IfErr result (IsCaptureCause (C.remaining capture)) }
 {
     let session = session_over(alloc, profile, capture, recorder)?;
-    recorder.story.tell(session.messages())?;
+    let Ok(()) = recorder.story.tell(session.messages()) else {
+        return Err(RunFault::Memory);
+    };
     Ok(session.finish())
 }

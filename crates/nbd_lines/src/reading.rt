@@ -33,12 +33,14 @@ pub fn parse_message(alloc: Global, line: &[u8]) -> Result<Option<Message>, Allo
     let Some(payload) = end_at(alloc, form, end)? else {
         return Ok(None);
     };
-    let message = message_of(form, numbers, payload);
-    if fits(&message) {
-        Ok(Some(message))
-    } else {
-        Ok(None)
-    }
+    Ok(fitting(message_of(form, numbers, payload)))
+}
+
+// The message, unless it has no encoding.
+fn fitting(message: Message) -> Option<Message>
+    ensures { MatchOption result (FitsItsHead message → ⊥) (λ m. (m ≡ message) × FitsItsHead m) }
+{
+    if fits(&message) { Some(message) } else { None }
 }
 
 // The form with whose words the line begins, and what stands after them.

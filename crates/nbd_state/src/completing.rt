@@ -3,7 +3,7 @@
 ghost use Rattle.std.specs.Prelude.{◌≡◌, ◌<◌, ◌==◌, ◌&&◌, ◌++◌, ◌∷◌, ℕ, List, [], Option, Some, None, false, if◌then◌else◌, length, OnOk};
 ghost use Rattle.nbd_state.specs.Places.{place_at};
 ghost use Rattle.nbd_wire.specs.declared.commands.TheConstants as commands;
-ghost use Rattle.nbd_wire.specs.declared.message.Message.TheVariants.{Answer, Chunk, Simple};
+ghost use Rattle.nbd_wire.specs.declared.message.Message.TheVariants.{Answer, Choice, Chunk, Simple};
 ghost use Rattle.nbd_wire.specs.declared.profile.Profile.{Profile};
 ghost use Rattle.nbd_wire.specs.protocol.Options as options;
 ghost use Rattle.nbd_wire.specs.protocol.Options.{ack_phase, agrees, reply_phase, is_proper_option, next_phase, takes_contexts};
@@ -67,25 +67,12 @@ impl State {
                 self.phase = Phase::Choosing;
                 Ok(())
             }
-            Message::Choice { id, payload } => {
-                let with = payload.as_slice();
-                self.agreed = self.may_agree(*id, with);
-                self.phase = chosen(*id, with);
-                self.sizing = Sizing::at(*id, with);
-                self.selection.choose(*id, with)
-            }
+            Message::Choice { id, payload } => self.choice(*id, payload),
             Message::Answer {
                 option,
                 kind,
                 payload,
-            } => {
-                self.structured |= grants_structured(*option, *kind);
-                let phase = self.phase;
-                let answer = payload.as_slice();
-                self.phase = phase_after_reply(phase, *kind, answer);
-                self.sizing = self.sizing.after(*kind, answer);
-                self.selection.answered(phase, *kind, answer)
-            }
+            } => self.answer(*option, *kind, payload),
             Message::Exported { size, flags, .. } => {
                 self.phase = phase_after_export(*size, *flags);
                 Ok(())
@@ -127,6 +114,37 @@ impl State {
                 known,
             ),
         }
+    }
+
+    // A choice of an option has completed.
+    fn choice(&mut self, id: u32, payload: &Bytes) -> Result<(), AllocError>
+        ensures profile { self.new.profile ≡ self.old.profile }
+        ensures exchanges { self.new.exchanges ≡ self.old.exchanges }
+        ensures shown { OnOk result ((core : Core) → Shows self.old core →
+            MayComplete core core.phase (Choice id payload.now) →
+            Shows self.new (complete core (Choice id payload.now))) }
+    {
+        let with = payload.as_slice();
+        self.agreed = self.may_agree(id, with);
+        self.phase = chosen(id, with);
+        self.sizing = Sizing::at(id, with);
+        self.selection.choose(id, with)
+    }
+
+    // An answer to an option has completed.
+    fn answer(&mut self, option: u32, kind: u32, payload: &Bytes) -> Result<(), AllocError>
+        ensures profile { self.new.profile ≡ self.old.profile }
+        ensures exchanges { self.new.exchanges ≡ self.old.exchanges }
+        ensures shown { OnOk result ((core : Core) → Shows self.old core →
+            MayComplete core core.phase (Answer option kind payload.now) →
+            Shows self.new (complete core (Answer option kind payload.now))) }
+    {
+        self.structured |= grants_structured(option, kind);
+        let phase = self.phase;
+        let answer = payload.as_slice();
+        self.phase = phase_after_reply(phase, kind, answer);
+        self.sizing = self.sizing.after(kind, answer);
+        self.selection.answered(phase, kind, answer)
     }
 
     // Whether an option that is chosen leads, if it is granted, into transmission with what is selected.

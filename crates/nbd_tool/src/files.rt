@@ -81,8 +81,9 @@ pub fn check_files(
 ) -> Result<bool, RunFault> {
     let (rt, alloc) = (files.rt, files.rt.alloc());
     let inputs = open_inputs(files, capture, order, start)?;
-    let capture = BufReader::with_capacity(alloc, PORTION, inputs.capture)
-        .map_err(|_| RunFault::Memory)?;
+    let capture = BufReader::with_capacity(alloc, PORTION, inputs.capture).map_err(
+        |_| RunFault::Memory,
+    )?;
     run_check(
         alloc,
         capture,

@@ -1,16 +1,23 @@
-use Rattle.std.proofs.Common.{◌≡◌, length, take, false, true}
+use Rattle.std.proofs.Common.{◌≡◌, ℕ, List, MatchOption, None, Option, Some, length, subst, sym, take}
 use Rattle.nbd_wire.specs.codec.Fits.{FitsItsHead}
+use Rattle.nbd_wire.specs.declared.message.Message.{Message}
 use Rattle.nbd_lines.specs.Line.{IsEnd, IsMessageLine}
 use Rattle.nbd_lines.specs.internal.Reading.{ReadsNumbers}
 use Rattle.nbd_lines.specs.Table.{fields, has_payload}
 use Rattle.nbd_lines.proofs.MessageLineLemmas.{from_parts, misfit}
 use Rattle.nbd_lines.proofs.reading.parse_message.Goals as goal
 
-pub returns-else-fits : goal.returns-else-fits
-returns-else-fits c =
+-- the message of a line, if it fits
+fitted : (line : List ℕ) (message : Message) → IsMessageLine line message → (read : Option Message)
+    → MatchOption read (FitsItsHead message → ⊥) (λ m. (m ≡ message) × FitsItsHead m)
+    → MatchOption read ((m : Message) → IsMessageLine line m → FitsItsHead m → ⊥) (λ m. IsMessageLine line m × FitsItsHead m)
+fitted line message is None unfit = misfit line message is unfit
+fitted line message is (Some m) found = (subst (IsMessageLine line) (sym found.0) is, found.1)
+
+pub returns : goal.returns
+returns c =
     let reads : ReadsNumbers (fields c.in-Some.form) (take (length (fields c.in-Some.form)) c.numbers_at.new.numbers) c.in-Some.rest.now c.in-Some-numbers_at.end.now = rw c.fields.ensures at c.in-Some-numbers_at.ensures in
     let ends : IsEnd (has_payload c.in-Some.form) c.in-Some-2.payload c.in-Some-numbers_at.end.now = rw c.in-Some-2.is at c.in_ok-payload.ensures in
-    let is_line : IsMessageLine c.args.line.now c.message_of-message.result = from_parts c.args.line.now c.in-Some.rest.now c.in-Some-numbers_at.end.now c.in-Some.form _ c.in-Some-2.payload c.message_of-message.result
-    c.in-Some.ensures reads ends c.message_of-message.ensures.form c.message_of-message.ensures.numbers c.message_of-message.ensures.payload in
-    let unfit : FitsItsHead c.message_of-message.result → ⊥ = λ f. let h : false ≡ true = c.if-fits.ensures.1 f in cc h in
-    misfit c.args.line.now c.message_of-message.result is_line unfit
+    let is_line : IsMessageLine c.args.line.now c.message_of.result = from_parts c.args.line.now c.in-Some.rest.now c.in-Some-numbers_at.end.now c.in-Some.form _ c.in-Some-2.payload c.message_of.result
+    c.in-Some.ensures reads ends c.message_of.ensures.form c.message_of.ensures.numbers c.message_of.ensures.payload in
+    fitted c.args.line.now c.message_of.result is_line c.fitting.result c.fitting.ensures

@@ -1,12 +1,10 @@
-use Rattle.std.proofs.Common.{◌∙◌, ◌&&◌, ap, refl, subst}
-use Rattle.nbd_wire.specs.declared.message.Message.TheVariants.{Answer, Chunk, Request, Simple}
-use Rattle.nbd_wire.specs.protocol.Options.{agrees, choice_phase, next_phase, selection_after, selection_at}
-use Rattle.nbd_wire.specs.protocol.Sizes.{sizing_after, sizing_at}
+use Rattle.std.proofs.Common.{ap, refl, subst}
+use Rattle.nbd_wire.specs.declared.message.Message.TheVariants.{Chunk, Request, Simple}
 use Rattle.nbd_wire.specs.protocol.Rules.{MayAsk, MayComplete, complete, cookie_of, core_with_reply}
 use Rattle.nbd_state.specs.Completions.{MayTake}
-use Rattle.nbd_state.specs.Shows.{HasSelection, Shows, phase_shown}
+use Rattle.nbd_state.specs.Shows.{Shows}
 use Rattle.nbd_state.proofs.CompletionLemmas.{on}
-use Rattle.nbd_state.proofs.PhaseLemmas.{answered_chunk, answered_simple, asked_in, chunk_in, shows_answered, shows_chosen, shows_exported, shows_flags, shows_greeted, shows_same, simple_in, transmits}
+use Rattle.nbd_state.proofs.PhaseLemmas.{answered_chunk, answered_simple, asked_in, chunk_in, shows_exported, shows_flags, shows_greeted, shows_same, simple_in, transmits}
 use Rattle.nbd_state.proofs.TellingLemmas.{known_added, known_kept, known_told}
 use Rattle.nbd_state.proofs.state.State.complete.Goals as goal
 
@@ -29,33 +27,22 @@ returns-in-ClientFlags-clause-known c = λ core profile log r s ok e h.
     known_kept core profile log c.args.message.now c.args.known e c.args.self.now.exchanges.items (ap cookie_of c.in-ClientFlags.is) h
 
 pub returns-in-Choice-clause-shown : goal.returns-in-Choice-clause-shown
-returns-in-Choice-clause-shown c = on c.choose.result (λ f core r s sn ok.
-    let id = c.in-Choice.id in
-    shows_same core c.args.message.now _ c.in-Choice.is
-    (shows_chosen c.args.self.now _ core s id c.in-Choice.payload c.chosen-self.result _ c.may_agree-self.result c.at-self.result (subst (λ m. MayComplete core core.phase m) c.in-Choice.is ok)
-    (c.chosen-self.ensures ∙ ap (λ p. phase_shown (choice_phase id p)) c.as_slice-with.ensures)
-    (c.may_agree-self.ensures core s ∙ ap (λ p. core.structured && agrees id p core.selection) c.as_slice-with.ensures)
-    (subst (λ p. HasSelection c.choose.new.self (selection_at id p core.selection)) c.as_slice-with.ensures (f core.selection s.selection_is)) (c.at-self.ensures ∙ ap (sizing_at id) c.as_slice-with.ensures) refl))
-    c.choose.ensures
+returns-in-Choice-clause-shown c = on c.choice.result (λ f core r s sn ok.
+    shows_same core c.args.message.now _ c.in-Choice.is (f core s (subst (λ m. MayComplete core core.phase m) c.in-Choice.is ok)))
+    c.choice.ensures.shown
 
 pub returns-in-Choice-clause-known : goal.returns-in-Choice-clause-known
-returns-in-Choice-clause-known c = on c.choose.result (λ f core profile log r s ok e h.
-    known_kept core profile log c.args.message.now c.args.known e c.args.self.now.exchanges.items (ap cookie_of c.in-Choice.is) h) c.choose.ensures
+returns-in-Choice-clause-known c = on c.choice.result (λ f core profile log r s ok e h.
+    rw c.choice.ensures.exchanges (known_kept core profile log c.args.message.now c.args.known e c.args.self.now.exchanges.items (ap cookie_of c.in-Choice.is) h)) c.choice.ensures.shown
 
 pub returns-in-Answer-clause-shown : goal.returns-in-Answer-clause-shown
-returns-in-Answer-clause-shown c = on c.answered.result (λ f core r s sn ok.
-    shows_same core c.args.message.now _ c.in-Answer.is
-    (shows_answered c.args.self.now _ core s c.in-Answer.option c.in-Answer.kind c.in-Answer.payload c.phase_after_reply-self.result c.grants_structured.result _ c.after-self.result
-    (subst (λ m. MayComplete core core.phase m) c.in-Answer.is ok)
-    (c.phase_after_reply-self.ensures core.phase c.in-Answer.option s.phase_is ∙ ap (λ p. phase_shown (next_phase core.phase (Answer c.in-Answer.option c.in-Answer.kind p))) c.as_slice-answer.ensures)
-    c.grants_structured.ensures
-    (subst (λ p. HasSelection c.answered.new.self (selection_after core.phase c.in-Answer.kind p core.selection)) c.as_slice-answer.ensures (f core.selection core.phase s.selection_is s.phase_is))
-    (c.after-self.ensures ∙ ap (λ p. sizing_after c.in-Answer.kind p c.args.self.now.sizing) c.as_slice-answer.ensures ∙ ap (sizing_after c.in-Answer.kind c.in-Answer.payload) s.sizing_is) refl))
-    c.answered.ensures
+returns-in-Answer-clause-shown c = on c.answer.result (λ f core r s sn ok.
+    shows_same core c.args.message.now _ c.in-Answer.is (f core s (subst (λ m. MayComplete core core.phase m) c.in-Answer.is ok)))
+    c.answer.ensures.shown
 
 pub returns-in-Answer-clause-known : goal.returns-in-Answer-clause-known
-returns-in-Answer-clause-known c = on c.answered.result (λ f core profile log r s ok e h.
-    known_kept core profile log c.args.message.now c.args.known e c.args.self.now.exchanges.items (ap cookie_of c.in-Answer.is) h) c.answered.ensures
+returns-in-Answer-clause-known c = on c.answer.result (λ f core profile log r s ok e h.
+    rw c.answer.ensures.exchanges (known_kept core profile log c.args.message.now c.args.known e c.args.self.now.exchanges.items (ap cookie_of c.in-Answer.is) h)) c.answer.ensures.shown
 
 pub returns-in-Exported-clause-shown : goal.returns-in-Exported-clause-shown
 returns-in-Exported-clause-shown c = λ core r s sn ok.
