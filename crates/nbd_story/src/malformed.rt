@@ -80,8 +80,8 @@ impl Text {
         }
     }
 
-    // A count of queries that is not there whole, the first query that is not, or the bytes behind the last one. Where the name is not whole,
-    // that is told.
+    // A count of queries that is not there whole, the first query that is not, or the bytes behind the last one. Where the name is not
+    // whole, that is told.
     fn bad_queries(self, data: &[u8], first: u64) -> Text {
         let mut at = end_of_name(data);
         if (data.len() as u64) < at {

@@ -112,8 +112,8 @@ impl Text {
         }
     }
 
-    // What is wrong with the part of an entry: each that is. Of what an earlier entry serves of the request already, the first offset is told,
-    // and that entry.
+    // What is wrong with the part of an entry: each that is. Of what an earlier entry serves of the request already, the first offset is
+    // told, and that entry.
     fn bad_part(
         self,
         place: usize,
