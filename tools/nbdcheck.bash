@@ -4,7 +4,7 @@ _nbdcheck() {
     # The commands, each with its options; every other word is the name of a file.
     local -A options=(
         [check]="--start --profile --help"
-        [explain]="--start --profile --help"
+        [explain]="--start --profile --states --steps --help"
         [order]="--start --profile --whole --arrival --states --steps --help"
         [show]="--names --profile --help"
         [make]="--help"

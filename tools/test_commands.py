@@ -78,7 +78,8 @@ def words(tally, room):
     for asked in ([], ["judge"], ["check"], ["check", "c"], ["show"], ["make"], ["show", "c", "d"],
                   ["make", "c", "d"], ["check", "c", "o", "--begin", "zero"], ["check", "c", "o", "--start"],
                   ["order", "c", "--arrival", "--start", "zero"], ["order", "c", "--arrival", "--whole"],
-                  ["order", "c", "--arrival", "--steps", "9"], ["order", "c", "--states", "9", "--arrival"]):
+                  ["order", "c", "--arrival", "--steps", "9"], ["order", "c", "--states", "9", "--arrival"],
+                  ["explain", "c", "o", "--steps", "9"], ["explain", "c", "--states", "9", "o"]):
         found = room.run(*asked)
         tally.want(f"{asked}", (found.status, found.out), (2, b""))
         tally.holds(f"{asked} says why", found.err.startswith(b"error: ") and found.err.endswith(b"\n"), found.err)

@@ -556,6 +556,18 @@ def orderless(tally, room):
         searched(tally, room, name, words)
 
 
+def limited(tally, room):
+    """A search that comes to its limit says at which request, and which limit to raise."""
+    session = ORDERLESS["found-in-parts"]
+    words = [room.put("limited.cap", text(session.records)), "--start", "zero"]
+    for what, limit in (("steps", "1"), ("states", "0")):
+        found = room.run("explain", *words, f"--{what}", limit)
+        tally.want(f"{what}: status", (found.status, found.err), (5, b""))
+        front, end = f"gave up: too many {what} at request ".encode(), f"more --{what}\n".encode()
+        tally.holds(f"{what}: words", found.out.startswith(front) and found.out.endswith(end), found.out)
+        tally.want(f"{what} that is no number", room.run("explain", *words, f"--{what}", "x"), Ended(2, b"", b"fault limit\n"))
+
+
 def numbers_of(records):
     """The numbers of the requests in records of which each is a message: all from the client but the negotiation and DISC."""
     asked = [data for side, data in records if data[:4] == b"\x25\x60\x95\x13" and data[6:8] != b"\0\2"]
@@ -1024,7 +1036,7 @@ def faults(tally, room):
 def run(tally):
     with Room() as room:
         for part in (
-            sessions, orderless, reasons, arriving, differing, called_zero, large, deduced, examples, names, fronts, faults,
+            sessions, orderless, limited, reasons, arriving, differing, called_zero, large, deduced, examples, names, fronts, faults,
         ):
             part(tally, room)
 

@@ -1,7 +1,7 @@
 """Each growth of memory refused in turn, and each read and each write failing once, in the built program.
 
 refuse.c is loaded into the program and refuses or fails one thing. What is asked of the calls of the library (a session, a
-reader of captures, an order, the contents of an export) stands in tests of their own crates, which are run in the same way.
+reader of captures, an order, the contents of an export) stands in tests of their own, which are run in the same way.
 """
 
 import itertools
@@ -18,13 +18,14 @@ from test_explain import ORDERLESS
 
 # The most refusals that are tried of one run: a run that meets no refusal comes before.
 MOST = 100_000
-# The library's tests of refused memory, by crate.
-LIBRARY = {
-    "nbd_capture": ("tests::refusals::refused_memory", "tests::answers_want_of_memory_as_such"),
-    "nbd_session": ("tests::memory::refused_memory",),
-    "nbd_export": ("tests::refusals::refused_memory",),
-}
-
+# The tests of refused memory in the libraries, and the program that runs them.
+LIBRARY = (
+    "tests::capture::refusals::refused_memory",
+    "tests::capture::answers_want_of_memory_as_such",
+    "tests::session::memory::refused_memory",
+    "tests::export::refusals::refused_memory",
+)
+LIBRARY_TESTS = TOP / "crates/nbdcheck_first/out/nbdcheck_first_tests"
 
 # The inputs of each command.
 FAULTS = {
@@ -201,19 +202,16 @@ def writes(tally, room, name, words, whole):
 
 
 def library(tally, room):
-    """The library's tests, with each growth refused in turn."""
-    for crate, tests in LIBRARY.items():
-        program = str(TOP / f"crates/{crate}/out/{crate}_tests")
-        if not Path(program).exists():
-            tally.holds(f"{program} was built: `rt ci` at the top does, or `rt test` in its crate", False)
-            continue
-        for name in tests:
-            refused = 0
-            for number, found, is_refused in room.each([name], "alloc", program=program):
-                told = f"{crate} {name}, growth {number}"
-                tally.holds(told, found.status == 0 and b"test result: ok" in found.out, found)
-                refused += is_refused
-            tally.holds(f"{crate} {name} grows", refused > 0, refused)
+    """The libraries' tests, with each growth refused in turn."""
+    if not LIBRARY_TESTS.exists():
+        tally.holds(f"{LIBRARY_TESTS} was built: `rt ci` at the top does, or `rt test` in its crate", False)
+        return
+    for name in LIBRARY:
+        refused = 0
+        for number, found, is_refused in room.each([name], "alloc", program=str(LIBRARY_TESTS)):
+            tally.holds(f"{name}, growth {number}", found.status == 0 and b"test result: ok" in found.out, found)
+            refused += is_refused
+        tally.holds(f"{name} grows", refused > 0, refused)
 
 
 def run(tally):

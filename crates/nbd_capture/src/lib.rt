@@ -11,8 +11,6 @@ mod lines;
 pub mod order;
 pub mod reader;
 mod source;
-#[cfg(test)]
-mod tests;
 pub mod writing;
 
 pub use capture::CaptureFault;

@@ -14,7 +14,7 @@ pub fn found_explanation(
     let text = Text::new(alloc);
     let text = match found {
         Found::Order(entries) => text.found(entries).amiss(sources.story),
-        Found::Unexplained(refutation) => text.refutation(contest_of(refutation), sources),
+        Found::Unexplained(refutation) => text.refutation(&contest_of(refutation), &sources),
         Found::Image { image, size } => text.image(*image, *size),
         Found::NoneWhole => text.open(),
         Found::GaveUp { reason, .. } => with_limit(text.open(), *reason),

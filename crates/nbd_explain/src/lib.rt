@@ -10,8 +10,6 @@ mod listing;
 pub mod ordering;
 mod reading;
 mod searching;
-#[cfg(test)]
-mod tests;
 mod writing;
 
 pub use answer::{Answer, explain_status};

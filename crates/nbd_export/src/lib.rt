@@ -14,8 +14,6 @@ mod pages;
 mod slices;
 pub mod start;
 mod starts;
-#[cfg(test)]
-mod tests;
 
 pub use contents::Contents;
 pub use extents::Extents;

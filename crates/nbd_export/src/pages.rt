@@ -1,7 +1,6 @@
 //! Bytes in pages: those of an image, and over them each page of which a byte was ever written.
 
 ghost use Rattle.std.specs.Prelude.{◌≡◌, ◌+◌, ◌*◌, ◌/◌, ◌%◌, ◌^◌, ◌<◌, ◌≤◌, ℕ, Some, IsSome, OnOk, length, slice_index};
-ghost use Rattle.std.specs.BTreeMap.{btree_map_len};
 ghost use Rattle.nbd_export.specs.Pages.{page_from, stored_byte};
 ghost use Rattle.nbd_export.specs.Ranges.{DiffersIn, IsLeast, zeroes};
 ghost use Rattle.nbd_export.specs.internal.Parts.{DiffersFrom};
@@ -30,13 +29,6 @@ impl Pages {
             image,
             pages: BTreeMap::new(alloc),
         }
-    }
-
-    /// How many pages are written, each with memory of its own.
-    pub fn count(&self) -> u64
-        ensures { result ≡ btree_map_len self.now.pages }
-    {
-        self.pages.len() as u64
     }
 
     /// The byte at an offset.

@@ -14,8 +14,8 @@ use nbd_state::Span;
 use nbd_wire::{Part, commands};
 use std::alloc::AllocError;
 
-/// Lets the contents be those after an entry that serves this request, or this part of it: a successful WRITE leaves
-/// its bytes, a successful WRITE_ZEROES zeroes, every other change unknown bytes, whatever else is asked no change.
+/// Changes the contents as an entry does that serves this request, or this part of it: a successful WRITE leaves its
+/// bytes, a successful WRITE_ZEROES zeroes, every other change unknown bytes. Any other request changes nothing.
 pub fn change<C: Contents>(
     one: &Asked,
     part: Option<Part>,
@@ -49,7 +49,7 @@ pub fn change<C: Contents>(
     Ok(())
 }
 
-// Where an entry with this part serves a request: in the part, or in its range.
+// Where an entry serves a request: in the entry's part, or without a part in the request's whole range.
 fn served(one: &Asked, part: Option<Part>) -> Span
     ensures { result ≡ served_span part (report_of_request one.now) }
 {
@@ -76,7 +76,7 @@ fn bytes_of(one: &Asked, span: Span) -> &[u8]
     &one.payload.as_slice()[first..first + span.size as usize]
 }
 
-// Lets what of the span lies inside the export be unknown.
+// Makes the bytes of the span that lie in the export unknown.
 fn erase<C: Contents>(span: Span, contents: &mut C) -> Result<(), AllocError>
     ensures size { C.size contents.new ≡ C.size contents.old }
     ensures done { OnOk result (AreSameBelow (C.size contents.old) (C.byte contents.new)

@@ -18,9 +18,10 @@ use nbd_state::Span;
 use nbd_wire::{Entry, Part, Piece, commands};
 use std::alloc::{AllocError, Global};
 
-/// The least offset of a wrong byte that this entry serves of its request, or of a part of it, now; None where it has
-/// none. Where it serves a part, the cost is that of the bytes and holes that meet it and the logarithm of the number of
-/// pieces, beside sorting these the first time: `reads` keeps them. An `Err` says that memory ran out.
+/// The least offset of a wrong byte that this entry serves, of its request or of a part of it, against the present
+/// contents; None if it serves none. If it serves a part, the cost is that of the bytes and holes that meet the part,
+/// and the logarithm of the number of pieces; the first time the pieces are sorted besides, and `reads` keeps them
+/// sorted. An `Err` says that memory ran out.
 pub fn wrong<'a, C: Contents>(
     alloc: Global,
     entry: Entry,

@@ -18,8 +18,8 @@ use nbd_session::{SessionFault, Transcript};
 use nbd_wire::{Entry, Profile};
 use std::alloc::{AllocError, Global};
 
-/// Concludes what a finished session of the profile, an order of service and the export's start come to. A wire fault is
-/// handed on as it is. Out of memory is returned where the session met it, or where it comes here.
+/// The verdict on a finished session of the profile, with an order of service and the export's start. A wire fault is
+/// handed on as it is. An `Err` says that memory ran out, in the session or here.
 pub fn conclude(
     alloc: Global,
     profile: Profile,
@@ -30,7 +30,7 @@ pub fn conclude(
     ensures verdict { IfOk result (IsConclusion profile finished order.now (initial_of start)) }
     ensures wire { (at : ℕ) (fault : WireFault) → finished ≡ Err (session.Wire at fault) →
         result ≡ Ok (verdict.Wire at fault) }
-    // Of the profile's runs with this report yes is said of exactly those that the order explains, no of the others.
+    // Exactly those of the profile's runs with this report that the order explains get a yes; the others get a no.
     ensures answers { IfOk result (λ v. (items : List Item) → IsRunOf profile items →
         IsReportOf items finished → Answers profile (pairs items) order.now (initial_of start) v) }
 {
@@ -42,8 +42,8 @@ pub fn conclude(
     }
 }
 
-/// The verdict on what a finished session says: Image where the start is an image of another size than the export, or
-/// else the judgement from this start. An `Err` is a refusal of memory.
+/// The verdict on what a finished session says: Image if the start is an image of another size than the export,
+/// otherwise the judgement from this start. An `Err` says that memory ran out.
 pub fn verdict_on(
     alloc: Global,
     profile: Profile,

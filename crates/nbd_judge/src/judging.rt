@@ -21,9 +21,9 @@ use nbd_session::Transcript;
 use nbd_wire::{Entry, Profile, commands};
 use std::alloc::{AllocError, Global};
 
-/// Judges a session of the profile by an order of service and the contents that the export had at first: Yes, Order, Content or
-/// Status. It changes the contents as it goes; what they hold afterwards is not stated. An `Err` is a
-/// refusal of memory.
+/// Judges a session of the profile by an order of service and the contents that the export had at first: Yes, Order,
+/// Content or Status. It changes the contents as it goes; what they hold afterwards is not stated. An `Err` says that
+/// memory ran out.
 pub fn judge<C: Contents>(
     alloc: Global,
     profile: Profile,
@@ -31,10 +31,10 @@ pub fn judge<C: Contents>(
     order: &[Entry],
     contents: &mut C,
 ) -> Result<Verdict, AllocError>
-    // The contents have the export's size, or none where transmission was not reached.
+    // The contents have the export's size, or size 0 if transmission was not reached.
     requires { C.size contents.old ≡ size_of transcript.now.export }
     ensures judged { IfOk result (IsJudged profile transcript.now order.now (C.byte contents.old)) }
-    // Order is said only where no run with the bytes of this session, of any profile, is served in that order.
+    // The verdict is Order only if no run with the bytes of this session, of any profile, is served in this order.
     ensures unserved { IfOk result (λ v. (profile : Profile) (items : List Item) → IsRunOf profile items →
         report items ≡ transcript.now → LeavesUnserved profile (pairs items) order.now v) }
 {
@@ -52,7 +52,8 @@ pub fn judge<C: Contents>(
     })
 }
 
-/// The verdict on a wrong byte that an entry serves of a request: Status where that is a BLOCK_STATUS, else Content.
+/// The verdict on a wrong byte that an entry serves of a request: Status if the request is a BLOCK_STATUS, otherwise
+/// Content.
 pub fn wrong_of(transcript: &Transcript, request: u64, offset: u64) -> Verdict
     ensures verdict { result ≡ wrong_verdict transcript.now request offset }
     ensures judged { (profile : Profile) (order : List Entry) (initial : ℕ → Option ℕ) →

@@ -7,8 +7,8 @@ ghost use Rattle.nbd_judge.specs.Uniqueness.{OneAnswer, OneJudgement, OneVerdict
 
 use nbd_laws::laws::{explained_exactly, latest_moments, same_reports};
 
-/// The contents after the entries before entry `i`, each applied to those before it, are the export's bytes
-/// at entry `i`, each looked up backwards.
+/// If the entries before entry `i` are applied to the contents one after the other, the contents are then the export's
+/// bytes at entry `i`, which are defined by looking backwards for each.
 pub fn folding()
     ensures { Folding }
 {}
@@ -28,15 +28,16 @@ pub fn one_wire_fault()
     ensures { OneWireFault }
 {}
 
-/// In a profile a capture, an order and a start have one answer at most. So where a capture was cut into records
-/// does not count: two lists of records with one flat capture get equal answers from `check_of` where both are Ok.
+/// In a profile a capture, an order and a start have one answer at most. So it makes no difference how a capture was
+/// cut into records: two lists of records with the same bytes and senders get equal answers from `check_of` if both are
+/// Ok.
 pub fn one_answer()
     ensures { OneAnswer }
 {}
 
-/// The verdict on the report of a run of a profile says what holds of its bytes in that profile: Yes exactly where
-/// the order explains them, with the counts that each run with these bytes has, and Order only where no run with
-/// these bytes is served in that order.
+/// The verdict on the report of a run of a profile says what holds of the run's bytes in this profile: Yes exactly
+/// where the order explains them, with the counts that each run with these bytes has, and Order only where no run with
+/// these bytes is served in this order.
 pub fn verdicts_answer_runs()
     ensures { VerdictsAnswerRuns }
 {
@@ -45,9 +46,9 @@ pub fn verdicts_answer_runs()
     same_reports();
 }
 
-/// A capture in which no head of an answer of success to an option on metadata contexts completes, and no announcement of
-/// block sizes that a server may not announce, has the same verdict in both profiles, but for how many requests of a yes a
-/// client should not have sent.
+/// A capture has the same verdict in both profiles, except for how many requests of a yes a client should not have
+/// sent, if two conditions hold: options on metadata contexts are answered by errors alone, so that not even the head
+/// of another option reply completes; and no block sizes are announced that a server may not announce.
 pub fn verdicts_agree()
     ensures { VerdictsAgree }
 {}

@@ -3,7 +3,7 @@
 ghost use Rattle.std.specs.Prelude.{◌≡◌};
 ghost use Rattle.nbd_judge.specs.internal.Lesser.{is_above, lesser_of};
 
-/// The lesser of two numbers, or the one that there is.
+/// The lesser of two numbers; if only one is there, that one.
 pub fn lesser(a: Option<u64>, b: Option<u64>) -> Option<u64>
     ensures { result ≡ lesser_of a b }
 {
@@ -14,7 +14,7 @@ pub fn lesser(a: Option<u64>, b: Option<u64>) -> Option<u64>
     }
 }
 
-/// Whether `k` is above a number that there is.
+/// Whether `k` is above a number; false if there is none.
 pub fn exceeds(k: u64, least: Option<u64>) -> bool
     ensures { result ≡ is_above k least }
 {

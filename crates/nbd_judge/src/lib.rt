@@ -1,5 +1,5 @@
-//! Whether a session and an order of service explain each other: the faults of the order, the wrong
-//! bytes of its reads, and the verdict.
+//! Whether an order of service explains a session: the faults of the order, the wrong bytes that it serves, and the
+//! verdict.
 #![tactic(auto)]
 
 mod change;
@@ -15,8 +15,6 @@ mod rules;
 mod service;
 mod sorting;
 mod tally;
-#[cfg(test)]
-mod tests;
 pub mod verdict;
 
 pub use checking::{check, check_of};

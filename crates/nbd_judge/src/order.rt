@@ -19,9 +19,9 @@ use nbd_wire::Entry;
 use std::alloc::{AllocError, Global};
 use std::mem;
 
-/// The first entry of the order with a fault, counted from 1, and the fault; for Missing and NotCovered the request.
-/// None where the order has no fault. One table with a cell for each request is allocated, and of requests that are
-/// served in parts the parts.
+/// The first entry of the order with a fault, counted from 1, and the fault; for Missing and NotCovered the number of
+/// the request. None if the order has no fault. It allocates a table with a cell for each request, and the parts of the
+/// requests that are served in parts.
 pub fn order_fault(
     alloc: Global,
     transcript: &Transcript,
@@ -40,8 +40,8 @@ pub fn order_fault(
     Ok(unserved(transcript, &table))
 }
 
-// A table of what the order serves of request k, at k - 1; or the first entry that names no request, repeats another,
-// or has a bad part.
+// A table that has at k - 1 what the order serves of request k; or the first entry that names no request, repeats
+// another one, or has a bad part.
 fn services(
     alloc: Global,
     transcript: &Transcript,
@@ -76,8 +76,8 @@ fn none_served(alloc: Global, count: usize) -> Result<Vec<Service>, AllocError>
     Ok(table)
 }
 
-// What of a request's range lies in the export; nothing where its type has no range, and of a BLOCK_STATUS that is not
-// proper.
+// Where the offsets inside a request lie: those of its range that lie in the export. None if its type has no range, or
+// if it is a BLOCK_STATUS that is not proper.
 fn inside(transcript: &Transcript, one: &Asked) -> Span
     ensures { result ≡ span_of_asked transcript.now.export (report_of_request one.now) }
 {

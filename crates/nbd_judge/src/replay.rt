@@ -17,10 +17,9 @@ use nbd_wire::Entry;
 use std::alloc::{AllocError, Global};
 use std::collections::BTreeMap;
 
-/// The request of the first entry that serves a wrong byte, and the least offset of one; None where no entry
-/// does. Each entry is compared with what those before it left, by the outcomes that stand at the
-/// end of the session. After the first wrong byte and after a refusal of memory the contents hold the
-/// effect of some entries.
+/// The request of the first entry that serves a wrong byte, and the least offset of a wrong byte there; None if no
+/// entry serves one. Each entry is compared with what the entries before it left, given the outcomes at the end of the
+/// session. After the first wrong byte and after out of memory the contents hold the effect of some entries.
 pub fn replay<C: Contents>(
     alloc: Global,
     transcript: &Transcript,
@@ -38,7 +37,7 @@ pub fn replay<C: Contents>(
     first_wrong(alloc, transcript, order, &mut reads, contents)
 }
 
-// The same, with what is kept of the requests that are served in parts.
+// The same; `reads` keeps the sorted pieces of requests that are served in parts.
 fn first_wrong<'a, C: Contents>(
     alloc: Global,
     transcript: &'a Transcript,

@@ -171,7 +171,7 @@ pub const CONTENT_RULE: Rule = Rule {
     section: "proto.md, \"Request types\"",
 };
 
-/// A BLOCK_STATUS that calls a byte zero which is another.
+/// A BLOCK_STATUS that calls a byte zero which is not zero.
 pub const STATUS_RULE: Rule = Rule {
     breaker: Breaker::Server,
     sentence: "What the reply to a BLOCK_STATUS calls zero in base:allocation reads as zeroes when the BLOCK_STATUS is served.",

@@ -17,13 +17,13 @@ pub enum Service {
     Unnamed,
     /// An entry serves it atomically.
     Whole,
-    /// Entries serve parts of it: where they lie, and how many bytes inside the request they leave.
+    /// Entries serve parts of it: where the parts lie, and how many bytes inside the request are not served yet.
     InParts { spans: SpanIndex, left: u64 },
 }
 
 impl Service {
-    /// The service after one more entry that names the request, or the entry's fault. `inside` is where what
-    /// lies inside the request lies. The cost is the logarithm of the number of its parts.
+    /// The service after one more entry that names the request, or the entry's fault. `inside` are the offsets inside
+    /// the request. The cost is the logarithm of the number of the request's parts.
     pub fn with(
         self,
         alloc: Global,
@@ -65,7 +65,7 @@ impl Service {
         }
     }
 
-    /// The fault of the request if it is answered: Missing or NotCovered, or none where it is wholly served.
+    /// The fault if the request was answered: Missing or NotCovered, or none if it is wholly served.
     pub fn fault(&self) -> Option<OrderFault>
         ensures { TellsFault self.now result }
     {
@@ -83,8 +83,8 @@ impl Service {
     }
 }
 
-// The service of a request of which these spans are served and so many bytes left, after a part; BadPart where the part
-// may not be served.
+// The service after one more part, for a request of which these spans are served and `left` bytes are not served yet;
+// BadPart if the part may not be served.
 fn with_span(
     mut spans: SpanIndex,
     left: u64,

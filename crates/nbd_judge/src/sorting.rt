@@ -11,10 +11,10 @@ use nbd_wire::{Part, Piece};
 use std::alloc::{AllocError, Global};
 use std::collections::BTreeMap;
 
-/// The pieces of READs of which parts are served, in the order of their offsets, by the numbers of the requests.
+/// By the number of the request: the pieces of a READ that is served in parts, in the order of their offsets.
 pub type SortedReads<'a> = BTreeMap<u64, Vec<&'a Piece>>;
 
-/// The pieces that hold an offset, in the order of their offsets.
+/// The pieces that are not empty, in the order of their offsets.
 pub fn by_offset(alloc: Global, pieces: &[Piece]) -> Result<Vec<&Piece>, AllocError>
     requires { AreApart pieces.now }
     ensures { IfOk result (λ sorted. AreSorted pieces.now (map (λ p. p.now) sorted.items)) }
@@ -25,7 +25,7 @@ pub fn by_offset(alloc: Global, pieces: &[Piece]) -> Result<Vec<&Piece>, AllocEr
     Ok(sorted)
 }
 
-/// Has the pieces of a request in the order of their offsets, if it does not have them yet.
+/// Adds the pieces of a request, in the order of their offsets, if they are not there yet.
 pub fn keep_sorted<'a>(
     alloc: Global,
     request: u64,

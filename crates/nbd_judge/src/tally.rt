@@ -23,7 +23,8 @@ pub fn answered_count(transcript: &Transcript) -> u64
     answered
 }
 
-/// How many requests a client should not have sent: improper ones, and in `Wide` such as are outside of the block sizes.
+/// How many requests a client should not have sent: improper ones, and in `Wide` also those that are outside of the
+/// block sizes.
 pub fn improper_count(profile: Profile, transcript: &Transcript) -> u64
     ensures { result ≡ definitions.improper_count profile transcript.now }
 {

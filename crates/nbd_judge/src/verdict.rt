@@ -5,25 +5,25 @@ use nbd_session::WireFault;
 /// What is wrong with an order of service (this project's choice).
 #[derive(Clone, Copy, PartialEq, Eq, Drop)]
 pub enum OrderFault {
-    /// The entry is 0 or above the number of requests.
+    /// The entry names request 0 or a number above that of the last request.
     NoSuchRequest,
-    /// The entry serves a request atomically that an earlier one names, or in part one that an earlier entry serves
-    /// atomically.
+    /// The entry serves atomically a request that an earlier entry names, or it serves a part of a request that an
+    /// earlier entry serves atomically.
     Twice,
     /// The entry or a later one names a request whose first reply message started before the request
     /// of this entry had completed.
     Late,
     /// No entry names this request, though a reply message to it started.
     Missing,
-    /// The entry's part is empty, leaves the part of the request's range that lies in the export, or shares an
-    /// offset with an earlier part of the request.
+    /// The entry's part is empty, does not lie inside the request, or shares an offset with an earlier part of the
+    /// request.
     BadPart,
-    /// Entries name parts of this request that do not cover it, though a reply message to it started.
+    /// Entries name parts of this request, but the parts do not cover its inside, though a reply message to it started.
     NotCovered,
 }
 
-/// The answer to a session, an order of service and what the export held at first. Of those that
-/// hold, the first in the order Wire, Image, Order, Content and Status, Yes is answered.
+/// The answer to a session, an order of service and what the export held at first. If several hold, the answer is the
+/// one that comes first in the order Wire, Image, Order, Content and Status, Yes.
 #[derive(Clone, Copy, PartialEq, Eq, Drop)]
 pub enum Verdict {
     /// The order explains the session.
@@ -51,19 +51,19 @@ pub enum Verdict {
     },
     /// The order has a fault.
     Order {
-        /// The first entry that has it, counted from 1; for Missing and NotCovered the least request that has one of
-        /// these two.
+        /// The first entry that has a fault, counted from 1; for Missing and NotCovered the least request that has one
+        /// of these two.
         entry: u64,
         fault: OrderFault,
     },
-    /// A successful READ gave a byte that is not the export's known byte.
+    /// A successful READ gave a byte, and the export's byte is known and another.
     Content {
         /// The number of the request that the first entry with such a byte serves.
         request: u64,
         /// The least offset of such a byte that this entry serves, from the export's start.
         offset: u64,
     },
-    /// A successful BLOCK_STATUS called a byte zero, and the export's known byte is another.
+    /// A successful BLOCK_STATUS called a byte zero, and the export's byte is known and not 0.
     Status {
         /// The number of the request that the first entry with such a byte serves.
         request: u64,

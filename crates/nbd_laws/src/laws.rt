@@ -114,9 +114,9 @@ pub fn handshakes_are_fair()
     ensures { HandshakesAreFair }
 {}
 
-/// An answer is one to the option that was chosen last: an error, or where the option's data has its
-/// form an ACK without payload, a name for LIST, an info for INFO and GO. The ACK to INFO or GO comes
-/// after an info on an export.
+/// An option reply answers the option that was chosen last: it is an error, or where the option's data is well-formed an ACK without
+/// payload, a name for LIST, an info for INFO and GO, in Wide a context for the options on contexts. The ACK to INFO or GO comes after an
+/// info on an export.
 pub fn answers_follow_choices()
     ensures { AnswersFollowChoices }
 {}
@@ -132,19 +132,17 @@ pub fn replies_end_as_they_start()
     ensures { RepliesEndAsTheyStart }
 {}
 
-/// Each side's bytes in a run but for open bytes are the encodings of its completed messages, and after them the
-/// open ones.
+/// In a run with open bytes each side's bytes are the encodings of its completed messages, followed by its open bytes.
 pub fn runs_hold_each_side()
     ensures { RunsHoldEachSide }
 {}
 
-/// A run but for open bytes is worth a run: one with the same completed messages, whose bytes are those without the
-/// open ones.
+/// If the open bytes are taken away from a run with open bytes, a run is left, and it has the same completed messages.
 pub fn open_bytes_end_runs()
     ensures { OpenBytesEndRuns }
 {}
 
-/// What items lead to does not hang on the profile that a session is held to, but for the profile itself.
+/// What items lead to does not depend on the profile that a session is held to, except for the profile itself.
 pub fn ends_ignore_profiles()
     ensures { EndsAgree }
 {}

@@ -12,8 +12,6 @@ mod parts;
 pub mod printing;
 pub mod reading;
 pub mod script;
-#[cfg(test)]
-mod tests;
 
 pub use making::{MakeFault, make};
 pub use output::{OutputFault, show, write_chunks};

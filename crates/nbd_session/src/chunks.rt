@@ -72,7 +72,7 @@ fn none_fault(state: &State, payload: &[u8], done: bool, exchange: &Exchange) ->
     }
 }
 
-// Content fits its request, and so does the end of the reply that it is the last of.
+// Content has to fit its request; if it is the last of its reply, so does the end of the reply.
 fn content_fault(state: &State, span: Span, done: bool, exchange: &Exchange) -> Option<WireFault>
     ensures { (core : Core) (export : Exporting) (e : Operation) (piece : Piece) (statuses : List Status) →
         Shows state.now core → e.contexts ≡ in_force core → IsShown export e exchange.now →
@@ -122,9 +122,9 @@ fn fits_failure(offset: Option<u64>, asked: &Asked) -> bool
     }
 }
 
-/// A reply that ends after so many more bytes of content, or after the status of the context with this id, states a
-/// failure, or it is the reply to a proper request, whose range it gives whole, and each context in force has its
-/// status.
+/// What is wrong with the end of a reply, after so many more bytes of content or after the status of the context with
+/// this id. Nothing is wrong if the reply states a failure, or if its request is proper, all of a READ's range came,
+/// and for a BLOCK_STATUS of a range that is not empty each context in force has its status.
 pub(crate) fn finish_fault(
     state: &State,
     exchange: &Exchange,
@@ -154,7 +154,8 @@ pub(crate) fn finish_fault(
     None
 }
 
-// A BLOCK_STATUS of a range that is not empty lacks the status of a context in force, even with that of this id.
+// Whether the reply to a BLOCK_STATUS of a range that is not empty lacks the status of a context in force, even if the
+// one with this id is counted.
 fn lacks_status(state: &State, exchange: &Exchange, id: Option<u32>) -> bool
     ensures { (core : Core) (e : Operation) (statuses : List Status) → Shows state.now core →
         e.contexts ≡ in_force core → e.command ≡ exchange.now.asked.command → e.length ≡ exchange.now.asked.length →

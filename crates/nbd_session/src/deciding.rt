@@ -1,4 +1,4 @@
-//! What a side's bytes begin: decided once, at the last byte of their head.
+//! Which message a side's bytes begin: decided once, at the last byte of its head.
 
 ghost use Rattle.std.specs.Prelude.{◌≡◌, ◌≤◌, ℕ, List, IfErr, IfOk};
 ghost use Rattle.nbd_wire.specs.declared.message.Side.TheVariants.{Client, Server};
@@ -21,8 +21,8 @@ use nbd_wire::{Side, WireFault, head_lengths, magics};
 /// The length of the number that a reply begins with, in bytes.
 const MAGIC_LENGTH: usize = 4;
 
-/// The next length at which something is decided of the bytes of a head, of which these have come. A side
-/// that may not send is `OutOfTurn`.
+/// The next length of a head, of which these bytes have come, at which something is decided. A side that may not send
+/// is `OutOfTurn`.
 pub(crate) fn head_length(state: &State, side: Side, head: &[u8]) -> Result<usize, WireFault>
     ensures known { IfOk result (HasHeadLength state.now side head.now) }
     ensures fits { IfOk result (λ n. n ≤ 28) }
@@ -67,7 +67,7 @@ fn server_head_length(state: &State, head: &[u8]) -> Result<usize, WireFault>
     }
 }
 
-// The length of a reply's head, or of the number that it begins with while that has not come.
+// The length of a reply's head; until its magic number has come, the length of that.
 fn reply_head_length(head: &[u8]) -> Result<usize, WireFault>
     ensures known { IfOk result (HasReplyLength head.now) }
     ensures fits { IfOk result (λ n. n ≤ 28) }
@@ -83,7 +83,7 @@ fn reply_head_length(head: &[u8]) -> Result<usize, WireFault>
     }
 }
 
-/// What a message is whose head this is; a server's began when `counted` numbered requests had completed.
+/// Which message has this head. A server's message began when `counted` numbered requests had completed.
 pub(crate) fn decide(
     state: &State,
     side: Side,
@@ -103,7 +103,7 @@ pub(crate) fn decide(
     }
 }
 
-// What a client's message is.
+// Which message of the client has this head.
 fn decide_client(state: &State, head: &[u8]) -> Result<Expected, WireFault>
     requires { IsWholeHead state.now Client head.now }
     ensures expected { IfOk result (λ expected. (core : Core) (counted : ℕ) → Shows state.now core →
@@ -120,7 +120,7 @@ fn decide_client(state: &State, head: &[u8]) -> Result<Expected, WireFault>
     }
 }
 
-// What a server's message is.
+// Which message of the server has this head.
 fn decide_server(state: &State, head: &[u8], counted: u64) -> Result<Expected, WireFault>
     requires { IsWholeHead state.now Server head.now }
     ensures expected { IfOk result (λ expected. (core : Core) → Shows state.now core →

@@ -1,4 +1,4 @@
-//! What a side's bytes begin, as their head says.
+//! The message that a side's bytes begin, as its head says.
 
 ghost use Rattle.std.specs.Prelude.{◌≡◌};
 ghost use Rattle.nbd_session.specs.internal.Expecting.{message_of, payload_length_of, place_answered};
@@ -8,7 +8,7 @@ use nbd_wire::{
     head_lengths,
 };
 
-/// A message whose head has come, and may stand where the session stands.
+/// A message whose head has come, and which may come at this point of the session.
 #[derive(Clone, Copy, Drop)]
 pub(crate) enum Expected {
     Greeting {
@@ -18,7 +18,7 @@ pub(crate) enum Expected {
         flags: u32,
     },
     Choice(ChoiceHead),
-    /// An option reply; of one of success whether the option was proper.
+    /// An option reply; if it is no error, also whether the option was proper.
     Answer {
         head: AnswerHead,
         proper: Option<bool>,
@@ -29,13 +29,13 @@ pub(crate) enum Expected {
         padded: bool,
     },
     Request(RequestHead),
-    /// A simple reply, the place of its request, and how many bytes follow.
+    /// A simple reply, the index of its request, and how many bytes follow the head.
     Simple {
         head: SimpleHead,
         place: usize,
         length: u32,
     },
-    /// A chunk, and the place of its request.
+    /// A chunk, and the index of its request.
     Chunk {
         head: ChunkHead,
         place: usize,
@@ -59,7 +59,7 @@ impl Expected {
         }
     }
 
-    /// Of a reply the place of the request that it answers, and 0 of any other message.
+    /// The index of the request that a reply answers; 0 for any other message.
     pub(crate) fn place(&self) -> usize
         ensures { result ≡ place_answered self.now }
     {

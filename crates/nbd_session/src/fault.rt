@@ -9,7 +9,7 @@ pub enum SessionFault {
     /// The bytes break a rule; `at` counts the capture's bytes, of both sides, up to and including the
     /// one at which that was found.
     Wire { at: u64, fault: WireFault },
-    /// A growth of memory was refused.
+    /// Out of memory.
     Memory,
 }
 

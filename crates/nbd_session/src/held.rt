@@ -1,4 +1,4 @@
-//! What a session under way holds of the bytes that it was given.
+//! What a session holds of the bytes that it was given.
 
 ghost use Rattle.std.specs.Prelude.{◌≡◌, ◌+◌, ◌<◌, ◌≤◌, ◌^◌, [], drop, length, IfErr, IfOk, None, OnErr, OnOk, Some};
 ghost use Rattle.nbd_wire.specs.protocol.States.{start_of};
@@ -22,7 +22,7 @@ use nbd_state::{State, Transcript};
 use nbd_wire::{Bytes, Message, Profile, Side, WireFault};
 use std::alloc::{AllocError, Global};
 
-/// What a session under way holds.
+/// What a session holds of the bytes that it was given.
 #[derive(Drop)]
 pub(crate) struct Held {
     pub state: State,
@@ -30,13 +30,13 @@ pub(crate) struct Held {
     pub messages: Vec<Message>,
     /// The client's bytes after its messages.
     pub client: Incoming,
-    /// The server's.
+    /// The server's bytes after its messages.
     pub server: Incoming,
-    /// How many numbered requests had completed before the first of the server's.
+    /// How many numbered requests had completed before the first of the server's bytes after its messages.
     pub counted: u64,
-    /// All bytes, by their sides.
+    /// How the two sides' bytes alternated.
     pub stretches: Vec<Stretch>,
-    /// How many bytes these are.
+    /// How many bytes were taken, of both sides.
     pub taken: u64,
 }
 
@@ -61,8 +61,8 @@ impl Held {
         }
     }
 
-    /// Takes a piece of a side's bytes. The condition on its length is that all bytes have fewer than
-    /// 2^63. After an `Err` the prefix of the piece that was taken stands.
+    /// Takes the next bytes, which are of one side. The precondition is that all bytes together are fewer than 2^63.
+    /// After an `Err` a prefix of the new bytes has been taken, and is kept.
     pub(crate) fn push(
         &mut self,
         alloc: Global,
@@ -131,7 +131,7 @@ impl Held {
         }
     }
 
-    // Takes bytes of a side. After an `Err`, that memory ran out, no byte was taken.
+    // Takes bytes of a side. An `Err` says that memory ran out; then no byte was taken.
     fn take(&mut self, side: Side, piece: &[u8]) -> Result<(), AllocError>
         requires room { (incoming_of self.old side).expected ≡ None →
             length (incoming_of self.old side).head + length piece.now ≤ 28 }
@@ -164,7 +164,7 @@ impl Held {
         Ok(())
     }
 
-    // Decides what a head is that has become whole, and accepts a message that has.
+    // If a head has become whole, decides which message it begins; if a message has become whole, accepts it.
     fn settle(&mut self, alloc: Global, side: Side) -> Result<(), SessionFault>
         requires { IsTaken self.old side }
         ensures stands { OnOk result (Stands self.new) }
@@ -199,7 +199,7 @@ impl Held {
         Ok(Some(expected))
     }
 
-    // The head of a side's message is whole, and says this.
+    // Notes that the head of a side's message is whole, and what it says.
     fn note_expected(&mut self, side: Side, expected: Expected)
         ensures { self.new ≡ with_expected self.old side (Some expected) }
     {
@@ -232,8 +232,8 @@ impl Held {
         Ok(self.accept(alloc, side, expected)?)
     }
 
-    // Accepts a message whose last byte has come. After an `Err`, that memory ran out, it may stand among
-    // the messages, and nothing is known of the state.
+    // Accepts a message whose last byte has come. An `Err` says that memory ran out; then the message may be among the
+    // accepted ones or not, and nothing is known of the state.
     fn accept(&mut self, alloc: Global, side: Side, expected: Expected) -> Result<(), AllocError>
         requires { IsWhole self.old side expected }
         ensures stands { OnOk result (Stands self.new) }
@@ -261,7 +261,7 @@ impl Held {
         }
     }
 
-    /// What the session states, unless bytes stand after a side's messages.
+    /// What the session states; `Unfinished` if a side has bytes after its messages.
     pub(crate) fn finish(self) -> Result<Transcript, SessionFault>
         requires { Stands self }
         ensures report { IfOk result (IsReported (session_view self None)) }

@@ -16,8 +16,8 @@ use std::marker::Model;
 /// The longest head of a message, a request's.
 const LONGEST_HEAD: usize = 28;
 
-/// The bytes of a side after its last completed message: those of the head, and once that is whole what
-/// it says and the bytes after it.
+/// The bytes of a side after its last completed message: those of the head and, once the head is whole, what it says
+/// and the bytes after it.
 #[derive(Drop)]
 pub(crate) struct Incoming {
     head: [u8; LONGEST_HEAD],
@@ -83,7 +83,7 @@ impl Incoming {
         self.payload.as_slice()
     }
 
-    /// Takes more bytes of a side, after all others. After an `Err`, that memory ran out, all is as it was.
+    /// Takes the next bytes of a side. An `Err` says that memory ran out; then nothing has changed.
     pub(crate) fn add(
         &mut self,
         stretches: &mut Vec<Stretch>,
@@ -108,7 +108,7 @@ impl Incoming {
         Ok(())
     }
 
-    /// The head is whole, and says this.
+    /// Notes that the head is whole, and what it says.
     pub(crate) fn expect(&mut self, expected: Expected)
         ensures { self.new ≡ record self.old { expected = Some expected } }
     {
@@ -128,8 +128,8 @@ impl Incoming {
     }
 }
 
-/// These bytes of a side after its others and after all. After an `Err`, that memory ran out, both are
-/// as they were.
+/// Adds the next bytes of a side to its bytes, and their number to the record of how the sides alternated. An `Err`
+/// says that memory ran out; then both are unchanged.
 fn append(
     bytes: &mut Vec<u8>,
     stretches: &mut Vec<Stretch>,

@@ -1,4 +1,4 @@
-//! A recorded session, read message by message as its pieces come.
+//! A recorded session, read message by message as its bytes come.
 #![tactic(auto)]
 
 mod chunks;
@@ -17,8 +17,6 @@ mod session;
 mod spans;
 mod statuses;
 mod stretches;
-#[cfg(test)]
-mod tests;
 
 pub use fault::SessionFault;
 pub use nbd_state::{Asked, Outcome, Transcript};

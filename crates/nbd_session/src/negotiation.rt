@@ -1,5 +1,5 @@
-//! The messages before the options (proto.md, "Newstyle negotiation", "Handshake flags", "Client flags"), and the answer to
-//! EXPORT_NAME ("NBD_OPT_EXPORT_NAME"), each by its head.
+//! The messages before the options (proto.md, "Newstyle negotiation", "Handshake flags", "Client flags"), and the
+//! answer to EXPORT_NAME ("NBD_OPT_EXPORT_NAME"), each as its head says.
 
 ghost use Rattle.std.specs.Prelude.{◌≡◌, ◌++◌, ◌||◌, ◌&&◌, ℕ, List, IfErr, IfOk, Some, length};
 ghost use Rattle.nbd_wire.specs.declared.handshake.TheConstants as handshake;
@@ -31,7 +31,7 @@ pub(crate) fn greeting(head: &[u8]) -> Result<Expected, WireFault>
     Ok(Expected::Greeting { flags })
 }
 
-/// The client's flags, of which the server offered some.
+/// The client's flags, where the server offered these handshake flags.
 pub(crate) fn client_flags(head: &[u8], offered: u16) -> Result<Expected, WireFault>
     requires { length head.now ≡ 4 }
     ensures expected { IfOk result (λ expected. (now : Core) (payload : List ℕ) →

@@ -1,5 +1,4 @@
-//! Options and their answers (proto.md, "Fixed newstyle negotiation", "Option types", "Option reply
-//! types").
+//! Options and option replies (proto.md, "Fixed newstyle negotiation", "Option types", "Option reply types").
 
 ghost use Rattle.std.specs.Prelude.{◌≡◌, ◌++◌, ℕ, List, IfErr, IfOk, Some, length};
 ghost use Rattle.nbd_wire.specs.protocol.Options.{is_error};
@@ -21,7 +20,7 @@ use nbd_wire::{
     info_of, limits, listed_of, options, transmission,
 };
 
-/// The client's option, by its head.
+/// An option, as its head says.
 pub(crate) fn choice(head: &[u8]) -> Result<Expected, WireFault>
     requires { length head.now ≡ 16 }
     ensures expected { IfOk result (λ expected. (now : Core) (payload : List ℕ) →
@@ -35,7 +34,7 @@ pub(crate) fn choice(head: &[u8]) -> Result<Expected, WireFault>
     }
 }
 
-/// The answer to ABORT, by its head.
+/// The option reply to ABORT, as its head says.
 pub(crate) fn abort_answer(head: &[u8]) -> Result<Expected, WireFault>
     requires { length head.now ≡ 20 }
     ensures expected { IfOk result (λ expected. (now : Core) (payload : List ℕ) →
@@ -48,7 +47,7 @@ pub(crate) fn abort_answer(head: &[u8]) -> Result<Expected, WireFault>
     Ok(Expected::Answer { head, proper: None })
 }
 
-/// An answer to another option, by its head, in a session that is held to this profile.
+/// The option reply to another option, as its head says, in a session that is held to this profile.
 pub(crate) fn answer(profile: Profile, head: &[u8], chosen: Chosen) -> Result<Expected, WireFault>
     requires { length head.now ≡ 20 }
     ensures expected { IfOk result (λ expected. (now : Core) (payload : List ℕ) → now.profile ≡ profile →
@@ -70,7 +69,8 @@ pub(crate) fn answer(profile: Profile, head: &[u8], chosen: Chosen) -> Result<Ex
     })
 }
 
-/// The fault at the last byte of an answer of success in a session that is held to this profile, by its payload and what is selected.
+/// The fault at the last byte of an option reply that is no error, with this payload, in a session that is held to this
+/// profile and has this selection.
 pub(crate) fn payload_fault(
     profile: Profile,
     selection: &Selection,
@@ -90,7 +90,7 @@ pub(crate) fn payload_fault(
     None
 }
 
-/// The head of an answer to this option.
+/// The head of an option reply to this option.
 fn answer_to(option: u32, head: &[u8]) -> Result<AnswerHead, WireFault>
     requires { length head.now ≡ 20 }
     ensures { result ≡ unless_fault (answer_fault option (number_at 0 8 head.now) (number_at 8 4 head.now)
@@ -105,7 +105,7 @@ fn answer_to(option: u32, head: &[u8]) -> Result<AnswerHead, WireFault>
     Ok(head)
 }
 
-/// ABORT is answered by an error or by an empty ACK.
+/// ABORT has to be answered by an error or by an empty ACK.
 fn may_end(head: AnswerHead) -> Result<(), WireFault>
     ensures { result ≡ unless_fault (abort_fault head.kind head.length) tt }
 {
@@ -115,7 +115,7 @@ fn may_end(head: AnswerHead) -> Result<(), WireFault>
     is_empty_ack(head)
 }
 
-/// An ACK has no payload.
+/// An ACK may not have a payload.
 fn is_empty_ack(head: AnswerHead) -> Result<(), WireFault>
     ensures { result ≡ unless_fault (ack_fault head.kind head.length None) tt }
 {
@@ -125,7 +125,7 @@ fn is_empty_ack(head: AnswerHead) -> Result<(), WireFault>
     Ok(())
 }
 
-/// The head of an answer of success may answer the option that was chosen.
+/// The fault at the head of an option reply that is no error, if it may not answer the option that was chosen.
 fn may_succeed(profile: Profile, head: AnswerHead, chosen: Chosen) -> Result<(), WireFault>
     ensures { result ≡ unless_fault (success_fault profile chosen.option chosen.proper chosen.takes
         (exporting_if chosen.info) head.kind head.length) tt }
@@ -155,7 +155,7 @@ fn is_followed(profile: Profile, option: u32) -> bool
     }
 }
 
-/// Whether an option takes a kind of success.
+/// Whether an option takes this kind of option reply, which is no error.
 fn answers_option(chosen: Chosen, kind: u32) -> bool
     ensures { result ≡ answers_option chosen.option chosen.takes kind }
 {
@@ -168,8 +168,8 @@ fn answers_option(chosen: Chosen, kind: u32) -> bool
     }
 }
 
-/// An ACK to a proper INFO or GO comes after an EXPORT info, and one to GO gives out an export within
-/// the limit.
+/// An ACK to a proper INFO or GO has to come after an info on the export, and an ACK to GO needs an export within the
+/// limit.
 fn may_acknowledge(chosen: Chosen) -> Result<(), WireFault>
     ensures { result ≡ unless_fault (info_fault chosen.option chosen.proper (exporting_if chosen.info)) tt }
 {
@@ -184,7 +184,7 @@ fn may_acknowledge(chosen: Chosen) -> Result<(), WireFault>
     }
 }
 
-/// Whether the payload of a SERVER, INFO or META_CONTEXT answer is not one that may be told.
+/// Whether an option reply of kind SERVER, INFO or META_CONTEXT has a payload that it may not have.
 fn is_bad_payload(
     profile: Profile,
     selection: &Selection,
@@ -202,7 +202,8 @@ fn is_bad_payload(
     }
 }
 
-/// Whether a context has its form, and to SET_META_CONTEXT another id than each before it.
+/// Whether the payload of a context is well-formed and, in answer to SET_META_CONTEXT, its id differs from all earlier
+/// ones.
 fn is_good_context(selection: &Selection, option: u32, payload: &[u8]) -> bool
     ensures { (selected : contexts.Selection) → HasSelection selection.now selected →
         result ≡ is_good_context (earlier_to option selected) (context_of payload.now) }
@@ -213,7 +214,8 @@ fn is_good_context(selection: &Selection, option: u32, payload: &[u8]) -> bool
     }
 }
 
-/// Whether an info has its form, and HAS_FLAGS if it is one on the export; in `Wide` whether a server may announce its block sizes.
+/// Whether an info is well-formed, has HAS_FLAGS if it is one on the export, and in `Wide` has block sizes that a
+/// server may announce if it is one on block sizes.
 fn is_good_info(profile: Profile, info: Option<Info>) -> bool
     ensures { result ≡ is_good_info profile info }
 {

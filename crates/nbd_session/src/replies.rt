@@ -1,4 +1,4 @@
-//! Replies (proto.md, "Simple reply message", "Structured reply chunk message"), each by its head.
+//! Replies (proto.md, "Simple reply message", "Structured reply chunk message"), each as its head says.
 
 ghost use Rattle.std.specs.Prelude.{◌≡◌, ◌==◌, ◌&&◌, ◌||◌, ◌++◌, ℕ, List, IfErr, IfOk, None, Some, if◌then◌else◌, length};
 ghost use Rattle.nbd_wire.specs.declared.commands.TheConstants as commands;
@@ -14,7 +14,7 @@ use crate::expected::Expected;
 use nbd_state::{Asked, State};
 use nbd_wire::{ChunkHead, SimpleHead, WireFault, chunk_head, commands, head_lengths, simple_head};
 
-/// A reply, by its head; it began when `counted` numbered requests had completed.
+/// A reply, as its head says; it began when `counted` numbered requests had completed.
 pub(crate) fn reply(state: &State, head: &[u8], counted: u64) -> Result<Expected, WireFault>
     requires { IsReplyHead head.now }
     ensures expected { IfOk result (λ expected. (core : Core) (export : Exporting) → Shows state.now core →
@@ -78,7 +78,7 @@ fn chunk(state: &State, head: ChunkHead, counted: u64) -> Result<Expected, WireF
     Ok(Expected::Chunk { head, place })
 }
 
-// The place of the outstanding request with this cookie, if it had completed when the reply began.
+// The index of the outstanding request with this cookie, if the request had completed when the reply began.
 fn place_of(state: &State, cookie: u64, counted: u64) -> Option<usize>
     ensures { (core : Core) (export : Exporting) → Shows state.now core →
         core.phase ≡ definitions.Transmission export →
@@ -92,8 +92,8 @@ fn place_of(state: &State, cookie: u64, counted: u64) -> Option<usize>
     }
 }
 
-// A chunk came before, or it answers a READ where structured replies are in force, or it is the success of a
-// BLOCK_STATUS where a metadata context is.
+// Whether a simple reply is forbidden: a chunk came before, or it answers a READ while structured replies are in force,
+// or it is a success for a BLOCK_STATUS while a metadata context is in force.
 fn is_simple_forbidden(state: &State, asked: &Asked, error: u32) -> bool
     ensures { (core : Core) → Shows state.now core → result ≡ is_simple_forbidden core asked.now error }
 {
@@ -102,7 +102,7 @@ fn is_simple_forbidden(state: &State, asked: &Asked, error: u32) -> bool
         || error == 0 && asked.command == commands::BLOCK_STATUS && state.has_contexts()
 }
 
-// How many bytes follow the head: those that a READ has read.
+// How many bytes follow the head: those of a successful READ, and none otherwise.
 fn simple_length(asked: &Asked, error: u32) -> u32
     ensures { result ≡ (if (asked.now.command == commands.READ) && (error == 0) then asked.now.length else 0) }
 {

@@ -9,7 +9,7 @@ ghost use Rattle.nbd_session.specs.internal.Expecting.{IsPlaced, expected_decisi
 use crate::expected::Expected;
 use nbd_wire::{RequestHead, WireFault, commands, request_head};
 
-/// A request, by its head.
+/// A request, as its head says.
 pub(crate) fn request(head: &[u8]) -> Result<Expected, WireFault>
     requires { length head.now ≡ 28 }
     ensures expected { IfOk result (λ expected. (now : Core) (payload : List ℕ) →

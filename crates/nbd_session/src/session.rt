@@ -1,4 +1,4 @@
-//! A session, given piece by piece.
+//! A session, whose bytes are given in steps.
 
 ghost use Rattle.std.specs.Prelude.{◌≡◌, ◌+◌, ◌++◌, ◌<◌, ◌^◌, Err, IfErr, IfOk, None, OnOk, Some, length};
 ghost use Rattle.nbd_wire.specs.protocol.Captures.{side_pairs};
@@ -15,11 +15,11 @@ use nbd_wire::{Message, Profile, Side};
 use std::alloc::Global;
 use std::marker::Model;
 
-/// A session under way, or one that was closed by a fault.
+/// A session that is being read, or one that was closed by a fault.
 ///
 /// In a contract it is the profile that it is held to, and what it holds of the bytes that it was given
-/// (`specs/Sessions.antt`): the accepted messages, each side's bytes after them, and the side and length of each one-sided run, which
-/// together give back every byte that was taken.
+/// (`specs/Sessions.antt`): the accepted messages, each side's bytes after them, and which side sent how many bytes in
+/// succession. From these one gets back every byte that was taken.
 #[derive(Drop)]
 pub struct Session {
     alloc: Global,
@@ -47,7 +47,7 @@ impl Session {
         Session::of(alloc, Profile::Base)
     }
 
-    /// The same, held to this profile.
+    /// A session that has taken nothing and is held to this profile; takes no memory.
     pub fn of(alloc: Global, profile: Profile) -> Session
         ensures { result ≡ empty_session_of profile }
     {
@@ -58,20 +58,20 @@ impl Session {
         }
     }
 
-    /// How many bytes were taken, of both sides. The byte of a wire fault counts, bytes after it do not.
+    /// How many bytes were taken, of both sides: with the byte of a wire fault, without the bytes after it.
     pub fn taken(&self) -> u64
         ensures { result ≡ bytes_taken self.now }
     {
         self.held.taken
     }
 
-    /// Takes the next piece of the capture, of any length. The condition is that `taken` and its length
-    /// are below 2^63 together.
+    /// Takes the next bytes of the capture, which are of one side and any number. The precondition is that `taken` and
+    /// their number together are below 2^63.
     ///
-    /// After `Wire` or `Memory` the session is closed: each later call returns the same fault and changes
-    /// nothing. At `Wire` the bytes up to the refused one were taken, and `messages` are those before it.
-    /// At `Memory` some prefix of the piece was taken, and `messages` are those whose last byte it has, but
-    /// perhaps for the last one.
+    /// After `Wire` or `Memory` the session is closed: each later call returns the same fault and changes nothing.
+    /// After `Wire` the bytes up to and including the refused one were taken, and `messages` are those before it. After
+    /// `Memory` some prefix of the new bytes was taken, and `messages` are those whose last byte was taken, except
+    /// perhaps the last one.
     pub fn push(&mut self, side: Side, piece: &[u8]) -> Result<(), SessionFault>
         requires { bytes_taken self.old + length piece.now < 2 ^ 63 }
         ensures added { OnOk result (pairs_of self.new ≡ pairs_of self.old ++ side_pairs side piece.now) }
@@ -108,8 +108,8 @@ impl Session {
 
     /// Ends the session; takes no memory.
     ///
-    /// A closed session answers the fault that closed it. Where a message that started has not completed
-    /// the answer is `Unfinished` at the count of all bytes.
+    /// For a closed session it returns the fault that closed it. If a message that started has not completed, it
+    /// returns `Unfinished` at the count of all bytes.
     pub fn finish(self) -> Result<Transcript, SessionFault>
         ensures report { IfOk result (IsReported self) }
         ensures fault { fault_of result ≡ fault_at_end self }

@@ -45,7 +45,8 @@ pub(crate) fn status_fault(
     }
 }
 
-// A status answers a BLOCK_STATUS, is the first of a context in force, and its extents lie as they may.
+// Whether a status fits its request: it answers a BLOCK_STATUS, is the first one of a context in force, and its extents
+// fit the range.
 fn fits_status(state: &State, id: u32, descriptors: &[u8], exchange: &Exchange) -> bool
     ensures { (core : Core) (export : Exporting) (e : Operation) → Shows state.now core → e.contexts ≡ in_force core →
         IsShown export e exchange.now → is_finished e ≡ false →
@@ -58,7 +59,8 @@ fn fits_status(state: &State, id: u32, descriptors: &[u8], exchange: &Exchange) 
         && (asked.length == 0 || fits_range(asked, descriptors))
 }
 
-// The extents but the last end before the range does, and with REQ_ONE there is one, in the range.
+// Whether all extents but the last end before the range does, and with REQ_ONE there is one extent, no longer than the
+// range.
 fn fits_range(asked: &Asked, descriptors: &[u8]) -> bool
     ensures { (e : Operation) → e.flags ≡ asked.now.flags → e.length ≡ asked.now.length →
         result ≡ fits_range e (extents_of descriptors.now) }
@@ -67,7 +69,7 @@ fn fits_range(asked: &Asked, descriptors: &[u8]) -> bool
         && (!has(asked.flags, command_flags::REQ_ONE) || is_one_within(asked.length, descriptors))
 }
 
-// The extents but the last are together shorter than this, in bytes.
+// Whether all extents but the last are together shorter than this size, in bytes.
 fn last_begins_within(size: u32, descriptors: &[u8]) -> bool
     ensures { result ≡ not (nat_le size (reach (but_last (extents_of descriptors.now)))) }
 {
@@ -86,7 +88,7 @@ fn last_begins_within(size: u32, descriptors: &[u8]) -> bool
     left > 0
 }
 
-// There is one extent, not longer than this, in bytes.
+// Whether there is one extent, not longer than this size, in bytes.
 fn is_one_within(size: u32, descriptors: &[u8]) -> bool
     ensures { result ≡ ((length (extents_of descriptors.now) == 1)
         && nat_le (reach (extents_of descriptors.now)) size) }

@@ -1,4 +1,4 @@
-//! The bytes of both sides, by whose they are.
+//! How the bytes of the two sides alternated.
 
 ghost use Rattle.std.specs.Prelude.{◌≡◌, ◌+◌, ◌-◌, ◌<◌, ◌≤◌, ◌^◌, length, OnErr, OnOk, slice_get};
 ghost use Rattle.std.specs.Vec.{vec_capacity, vec_len};
@@ -9,14 +9,14 @@ ghost use Rattle.nbd_session.specs.internal.Standing.{stretch_total, stretches_w
 use nbd_wire::Side;
 use std::alloc::AllocError;
 
-/// Bytes of one side that follow each other, by their number.
+/// Successive bytes of one side: whose they are, and how many.
 #[derive(Clone, Copy, Drop)]
 pub(crate) struct Stretch {
     pub from: Side,
     pub length: u64,
 }
 
-/// So many more bytes of a side after all others. After an `Err`, that memory ran out, nothing changed.
+/// Notes that so many bytes of a side come next. An `Err` says that memory ran out; then nothing has changed.
 pub(crate) fn note(stretches: &mut Vec<Stretch>, side: Side, count: u64) -> Result<(), AllocError>
     requires { stretch_total side (stretches_of stretches.old.items) + count < 2 ^ 64 }
     ensures noted { OnOk result (stretches_of stretches.new.items ≡ stretches_with
@@ -37,7 +37,7 @@ pub(crate) fn note(stretches: &mut Vec<Stretch>, side: Side, count: u64) -> Resu
     Ok(())
 }
 
-/// The last bytes are of this side.
+/// Whether the last bytes are of this side.
 fn is_last(stretches: &[Stretch], side: Side) -> bool
     ensures { result ≡ is_of side (slice_get stretches.now (length stretches.now - 1)) }
 {

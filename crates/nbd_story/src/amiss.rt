@@ -1,6 +1,7 @@
 //! The requests of a session that its client should not have sent.
 
-use crate::story::{Request, Story};
+use crate::requests::Request;
+use crate::story::Story;
 use crate::text::Text;
 use nbd_state::is_outside;
 use nbd_wire::{Profile, RequestHead, Sizes, commands};
@@ -31,9 +32,7 @@ impl Story {
     fn count_of_amiss(&self) -> u64 {
         let mut count = 0u64;
         for request in &self.requests {
-            if self.is_amiss(request) {
-                count = count.saturating_add(1);
-            }
+            count = count.saturating_add(u64::from(self.is_amiss(request)));
         }
         count
     }
@@ -43,87 +42,55 @@ impl Text {
     /// Adds how many requests the client should not have sent, where there are some, and the first of them, each with its reasons.
     pub fn amiss(self, story: &Story) -> Text {
         let count = story.count_of_amiss();
-        if count == 0 {
-            return self;
-        }
-        self.number("improper: ", count)
-            .say(" of ")
-            .count(story.requests.len() as u64, "request")
-            .end()
-            .first_amiss(story)
-            .more_amiss(count)
-    }
-
-    // The first of them.
-    fn first_amiss(self, story: &Story) -> Text {
-        let mut text = self;
+        let requests = story.requests.len() as u64;
+        let mut text = self.fill_if(
+            count != 0,
+            "improper: {} of {request}\n",
+            &[count, requests],
+        );
         let mut listed = 0u64;
         for request in &story.requests {
             if listed < LISTED && story.is_amiss(request) {
-                text = text
-                    .asked("message: ", request)
-                    .end()
-                    .why_amiss(&request.head, story);
+                text = text.why_amiss(request, story);
                 listed += 1;
             }
         }
-        text
+        text.more(count, LISTED, "improper: {} more\n")
     }
 
-    // How many more there are than were listed.
-    fn more_amiss(self, count: u64) -> Text {
-        if count > LISTED {
-            self.number("improper: ", count - LISTED).say(" more\n")
-        } else {
-            self
-        }
-    }
-
-    // Each reason of one.
-    fn why_amiss(self, head: &RequestHead, story: &Story) -> Text {
-        let text = match story.export {
-            Some(export) => self.improper(head, export, story),
-            None => self,
-        };
+    // One of them, and each reason.
+    fn why_amiss(self, request: &Request, story: &Story) -> Text {
+        let text = self
+            .asked("message: ", request)
+            .end()
+            .improper(&request.head, story);
         match story.sizes() {
-            Some(sizes) if story.is_outside(head) => text
-                .no_multiple(sizes, "its offset", head.offset)
-                .no_multiple(sizes, "its length", u64::from(head.length))
-                .too_long(sizes, head),
+            Some(sizes) if story.is_outside(&request.head) => text.unfit(&request.head, sizes),
             _ => text,
         }
     }
 
-    // An offset or a length that is no multiple of the least size.
-    fn no_multiple(self, sizes: Sizes, what: &str, number: u64) -> Text {
+    // Why a request does not fit the block sizes, which are told as the least, the preferred and the largest: each reason.
+    fn unfit(self, head: &RequestHead, sizes: Sizes) -> Text {
+        let length = u64::from(head.length);
         let least = u64::from(sizes.least);
-        if number.is_multiple_of(least) {
-            self
-        } else {
-            self.outside_of(sizes)
-                .say(what)
-                .number(" is no multiple of ", least)
-                .end()
-        }
-    }
-
-    // A READ or a WRITE that is longer than the largest size.
-    fn too_long(self, sizes: Sizes, head: &RequestHead) -> Text {
+        let preferred = u64::from(sizes.preferred);
+        let largest = u64::from(sizes.largest);
         let has_payload = matches!(head.command, commands::READ | commands::WRITE);
-        if has_payload && head.length > sizes.largest {
-            self.outside_of(sizes)
-                .number("its length is more than ", u64::from(sizes.largest))
-                .end()
-        } else {
-            self
-        }
-    }
-
-    // The sizes that a request is outside of: the least, the preferred and the largest.
-    fn outside_of(self, sizes: Sizes) -> Text {
-        self.number("wrong: outside of the block sizes ", u64::from(sizes.least))
-            .number("/", u64::from(sizes.preferred))
-            .number("/", u64::from(sizes.largest))
-            .say(": ")
+        self.fill_if(
+            !head.offset.is_multiple_of(least),
+            "wrong: outside of the block sizes {}/{}/{}: its offset is no multiple of {}\n",
+            &[least, preferred, largest, least],
+        )
+        .fill_if(
+            !length.is_multiple_of(least),
+            "wrong: outside of the block sizes {}/{}/{}: its length is no multiple of {}\n",
+            &[least, preferred, largest, least],
+        )
+        .fill_if(
+            has_payload && length > largest,
+            "wrong: outside of the block sizes {}/{}/{}: its length is more than {}\n",
+            &[least, preferred, largest, largest],
+        )
     }
 }

@@ -1,13 +1,14 @@
 //! The metadata contexts of a session, and what a status chunk says.
 
-use crate::story::{Request, Story, Told};
+use crate::parts::end_of;
+use crate::requests::Request;
+use crate::story::Story;
 use crate::text::Text;
-use crate::zeroes::Descriptors;
+use crate::told::Told;
+use crate::zeroes::{Descriptor, count_of, descriptor_in};
 use nbd_state::Selection;
 use nbd_wire::flags::has_wide;
-use nbd_wire::{
-    AnswerHead, Side, answers, chunks, context_of, head_lengths, options, states, status_of,
-};
+use nbd_wire::{Side, answers, chunks, context_of, options, states, status_of};
 use std::alloc::{AllocError, Global};
 use std::collections::{BTreeMap, BTreeSet};
 
@@ -16,9 +17,6 @@ const LISTED: u64 = 8;
 
 /// How many bytes of a longer name are told, so that it costs no more each time than a message.
 const NAMED: usize = 64;
-
-/// The context whose descriptors have names for their flags.
-const ALLOCATION: &[u8] = b"base:allocation";
 
 /// Bytes of the server.
 #[derive(Clone, Copy)]
@@ -62,6 +60,11 @@ impl Contexts {
         self.agreed && self.selection.has_id(id)
     }
 
+    /// Whether `base:allocation`, whose descriptors have names for their flags, was selected with this id.
+    pub fn is_allocation(&self, id: u32) -> bool {
+        self.selection.is_allocation(id)
+    }
+
     /// The client has chosen an option with these data.
     pub fn choose(&mut self, option: u32, data: &[u8]) -> Result<(), AllocError> {
         self.agreed = self.structured && self.selection.agrees(option, data);
@@ -71,160 +74,136 @@ impl Contexts {
         self.selection.choose(option, data)
     }
 
-    /// The server has answered it; so many of its bytes stand before the data.
-    pub fn answer(
-        &mut self,
-        head: &AnswerHead,
-        before: u64,
-        data: &[u8],
-    ) -> Result<(), AllocError> {
-        match head.option {
-            options::STRUCTURED_REPLY => self.structured |= head.kind == answers::ACK,
-            options::SET_META_CONTEXT => {
-                self.selection.told(head.kind, data)?;
-                self.note(head.kind, before, data)?;
-            }
-            _ => {}
+    /// The server has answered it with these data; a name stands at their end.
+    pub fn answer(&mut self, told: &Told, data: &[u8]) -> Result<(), AllocError> {
+        if told.choice == options::STRUCTURED_REPLY {
+            self.structured |= told.answer == answers::ACK;
         }
-        Ok(())
+        if told.choice != options::SET_META_CONTEXT {
+            return Ok(());
+        }
+        if told.answer == answers::META_CONTEXT {
+            self.note(told, data)?;
+        }
+        self.selection.told(told.answer, data)
     }
 
     // Where the name of a context stands.
-    fn note(&mut self, kind: u32, before: u64, data: &[u8]) -> Result<(), AllocError> {
-        match context_of(data) {
-            Some((id, name)) if kind == answers::META_CONTEXT => {
-                let place = Place {
-                    before: before.saturating_add(data.len().saturating_sub(name.len()) as u64),
-                    length: name.len() as u64,
-                };
-                self.names.insert(id, place)?;
-            }
-            _ => {}
+    fn note(&mut self, told: &Told, data: &[u8]) -> Result<(), AllocError> {
+        if let Some((id, name)) = context_of(data) {
+            let length = name.len() as u64;
+            let before = told.before_last(length);
+            self.names.insert(id, Place { before, length })?;
         }
         Ok(())
     }
 }
 
 impl Story {
-    // The name of the context with this id, if the last SET_META_CONTEXT selected one.
-    fn context_name(&self, id: u32) -> Option<&[u8]> {
-        let place = self.contexts.names.get(&id)?;
-        self.recording
-            .bytes_from(Side::Server, place.before)
-            .get(..place.length as usize)
-    }
-
-    /// Whether the context with this id is `base:allocation`.
-    pub fn is_allocation(&self, id: u32) -> bool {
-        self.context_name(id) == Some(ALLOCATION)
+    /// The context of a status chunk and its descriptors; of another message no descriptor.
+    pub fn status_in(&self, told: &Told) -> (u32, &[u8]) {
+        match status_of(self.behind(told)) {
+            Some(status) if told.is_chunk(chunks::BLOCK_STATUS) => status,
+            _ => (0, &[]),
+        }
     }
 }
 
-impl Text {
-    // A context by its name and its id: `base:allocation (1)`.
-    fn context(self, id: u32, story: &Story) -> Text {
-        match story.context_name(id) {
-            Some(name) => self.bytes(name).number(" (", u64::from(id)).say(")"),
-            None => self.number("context ", u64::from(id)),
+/// Whether the reply to the request with this number has a status of a context.
+pub fn is_told(id: u32, request: u64, story: &Story) -> bool {
+    for told in &story.told {
+        let (context, descriptors) = story.status_in(told);
+        if told.answers(request) && context == id && !descriptors.is_empty() {
+            return true;
         }
+    }
+    false
+}
+
+impl Text {
+    /// A context by its name, if the last SET_META_CONTEXT selected it, and its id: `base:allocation (1)`.
+    pub fn context(self, words: &str, id: u32, story: &Story) -> Text {
+        let text = self.say(words);
+        match story.contexts.names.get(&id) {
+            Some(name) => text.named(
+                story
+                    .recording
+                    .bytes_at(Side::Server, name.before, name.length),
+                id,
+            ),
+            None => text.number("context {}", u64::from(id)),
+        }
+    }
+
+    fn named(self, name: &[u8], id: u32) -> Text {
+        self.bytes(name).number(" ({})", u64::from(id))
     }
 
     // Bytes that are text on a line, or else their digits; of too many the first.
     fn bytes(self, bytes: &[u8]) -> Text {
-        match bytes.get(..NAMED) {
-            Some(first) if bytes.len() > NAMED => self.text_or_digits(first).say(".."),
-            _ => self.text_or_digits(bytes),
-        }
-    }
-
-    fn text_or_digits(self, bytes: &[u8]) -> Text {
-        match str::from_utf8(bytes) {
-            Ok(text) if bytes.iter().all(|byte| byte.is_ascii_graphic()) => self.say(text),
-            _ => self.digits(bytes),
-        }
+        let first = bytes.get(..NAMED).unwrap_or(bytes);
+        let text = match str::from_utf8(first) {
+            Ok(words) if are_graphic(first) => self.say(words),
+            _ => self.digits(first),
+        };
+        text.say_if(bytes.len() > NAMED, "..")
     }
 
     fn digits(self, bytes: &[u8]) -> Text {
         let mut text = self;
         for byte in bytes {
-            text = text.byte("", *byte);
+            text = text.byte("{:02x}", *byte);
         }
         text
     }
 
-    /// What a reply to an option says of a context.
-    pub fn context_told(self, head: &AnswerHead, told: &Told, story: &Story) -> Text {
-        match context_of(story.behind(told, head_lengths::ANSWER)) {
-            Some((id, name)) if head.kind == answers::META_CONTEXT => self
-                .say(", ")
-                .bytes(name)
-                .number(" (", u64::from(id))
-                .say(")"),
-            _ => self,
-        }
-    }
-
-    /// What a status chunk says of the range of its request: the first descriptors, and how many more there are.
-    pub fn status(self, kind: u16, told: &Told, story: &Story) -> Text {
-        let offset = match story.request_in(told) {
-            Some(request) => request.head.offset,
-            None => 0,
-        };
-        match status_of(story.behind(told, head_lengths::CHUNK)) {
-            Some((id, descriptors)) if kind == chunks::BLOCK_STATUS => self
-                .say(", ")
-                .context(id, story)
-                .say(": ")
-                .extents(
-                    story.is_allocation(id),
-                    Descriptors::of(descriptors, offset),
-                ),
-            _ => self,
-        }
-    }
-
-    /// Of how many descriptors a status chunk has one, and of which context it is: ` of 2 of base:allocation (1)`.
-    pub fn status_named(self, chunk: &Told, story: &Story) -> Text {
-        match story.status_in(chunk) {
-            Some((id, descriptors)) => self
-                .number(" of ", Descriptors::of(descriptors, 0).count())
-                .say(" of ")
-                .context(id, story),
+    /// What a reply to an option with these data says of a context.
+    pub fn context_told(self, data: &[u8]) -> Text {
+        match context_of(data) {
+            Some((id, name)) => self.say(", ").named(name, id),
             None => self,
         }
     }
 
-    // The first descriptors, and how many more there are.
-    fn extents(self, is_allocation: bool, descriptors: Descriptors<'_>) -> Text {
-        let mut text = self;
-        let mut rest = descriptors;
-        for number in 0..LISTED {
-            let Some(one) = rest.next() else {
-                return text;
-            };
-            text = text
-                .part(if number == 0 { "" } else { "; " }, one.part)
-                .state(is_allocation, one.flags);
-        }
-        match rest.count() {
-            0 => text,
-            more => text.number("; ", more).say(" more"),
+    /// What a status chunk says of the range of its request: the first descriptors, and how many more there are.
+    pub fn status(self, told: &Told, story: &Story) -> Text {
+        let (id, descriptors) = story.status_in(told);
+        let offset = story.request(told.request).head.offset;
+        if descriptors.is_empty() {
+            self
+        } else {
+            self.context(", ", id, story)
+                .extents(story.contexts.is_allocation(id), descriptors, offset)
         }
     }
 
-    // What a descriptor says of its bytes.
-    fn state(self, is_allocation: bool, flags: u32) -> Text {
-        if !is_allocation {
-            return self.hex(" flags ", u64::from(flags));
+    // The first descriptors, of bytes from an offset on, and how many more there are.
+    fn extents(self, is_allocation: bool, descriptors: &[u8], offset: u64) -> Text {
+        let count = count_of(descriptors);
+        let mut text = self;
+        let mut from = offset;
+        for number in 0..count.min(LISTED) {
+            let one = descriptor_in(descriptors, number, from);
+            text = text
+                .say_either(number == 0, ": ", "; ")
+                .extent(is_allocation, one);
+            from = end_of(one.part);
         }
-        self.say(
-            match (has_wide(flags, states::HOLE), has_wide(flags, states::ZERO)) {
-                (true, true) => " hole zero",
-                (true, false) => " hole",
-                (false, true) => " zero",
-                (false, false) => " data",
-            },
-        )
+        text.more(count, LISTED, "; {} more")
+    }
+
+    // A descriptor, and what it says of its bytes.
+    fn extent(self, is_allocation: bool, one: Descriptor) -> Text {
+        let text = self.part("", one.part);
+        if is_allocation {
+            let is_hole = has_wide(one.flags, states::HOLE);
+            let is_zero = has_wide(one.flags, states::ZERO);
+            text.say_if(is_hole, " hole")
+                .say_if(is_zero, " zero")
+                .say_if(!is_hole && !is_zero, " data")
+        } else {
+            text.number(" flags {:#x}", u64::from(one.flags))
+        }
     }
 
     /// The contexts in force of which the reply to a request has no status, with the refused chunk.
@@ -235,10 +214,18 @@ impl Text {
         request: &Request,
         story: &Story,
     ) -> Text {
-        match story.ids_told(alloc, chunk, request) {
-            Ok(told) => self.without_status(&told, story),
-            Err(_) => self.refused(),
+        let mut told = Ids {
+            ids: BTreeSet::new(alloc),
+            is_refused: false,
         }
+        .with(chunk, story);
+        for message in &story.told {
+            if message.answers(request.number) {
+                told = told.with(message, story);
+            }
+        }
+        self.without_status(&told.ids, story)
+            .refused_if(told.is_refused)
     }
 
     // The first contexts in force that have none of these ids, and how many more there are.
@@ -249,66 +236,38 @@ impl Text {
             if story.contexts.has(*id) && !told.contains(id) {
                 missing = missing.saturating_add(1);
                 if missing <= LISTED {
-                    text = text
-                        .say("missing: the status of ")
-                        .context(*id, story)
-                        .end();
+                    text = text.context("missing: the status of ", *id, story).end();
                 }
             }
         }
-        if missing > LISTED {
-            text.number("missing: ", missing - LISTED).say(" more\n")
-        } else {
-            text
-        }
+        text.more(missing, LISTED, "missing: {} more\n")
     }
 }
 
-impl Story {
-    // The ids of the contexts whose status the reply to a request has, with a chunk that is not told.
-    fn ids_told(
-        &self,
-        alloc: Global,
-        chunk: &Told,
-        request: &Request,
-    ) -> Result<BTreeSet<u32>, AllocError> {
-        let mut ids = BTreeSet::new(alloc);
-        if let Some((id, _)) = self.status_in(chunk) {
-            ids.insert(id)?;
-        }
-        for told in &self.told {
-            if told.request == Some(request.number) {
-                if let Some((id, _)) = self.status_in(told) {
-                    ids.insert(id)?;
-                }
-            }
-        }
-        Ok(ids)
-    }
-
-    /// The first status of a context in the reply to the request with this number.
-    pub fn teller(&self, id: u32, request: u64) -> Option<&Told> {
-        for told in &self.told {
-            if told.request == Some(request) && self.tells(id, told) {
-                return Some(told);
-            }
-        }
-        None
-    }
-
-    // Whether a message is the status of this context.
-    fn tells(&self, id: u32, told: &Told) -> bool {
-        match self.status_in(told) {
-            Some((context, _)) => context == id,
-            None => false,
+// Whether each of these bytes is a letter, a digit or another sign of ASCII.
+fn are_graphic(bytes: &[u8]) -> bool {
+    for byte in bytes {
+        if !byte.is_ascii_graphic() {
+            return false;
         }
     }
+    true
+}
 
-    /// The context and the descriptors of a status chunk.
-    pub fn status_in(&self, told: &Told) -> Option<(u32, &[u8])> {
-        if told.brief.chunk_kind()? != chunks::BLOCK_STATUS {
-            return None;
+/// The contexts whose status a reply has. Once memory was refused they are not known.
+#[derive(Drop)]
+struct Ids {
+    ids: BTreeSet<u32>,
+    is_refused: bool,
+}
+
+impl Ids {
+    // These and that of a message, if it is a status.
+    fn with(mut self, told: &Told, story: &Story) -> Ids {
+        let (id, descriptors) = story.status_in(told);
+        if !descriptors.is_empty() {
+            self.is_refused |= self.ids.insert(id).is_err();
         }
-        status_of(self.behind(told, head_lengths::CHUNK))
+        self
     }
 }

@@ -16,6 +16,9 @@ pub struct Sources<'a> {
     pub start: Option<&'a Start>,
 }
 
+/// What stands for the place of an entry where there is none: no order has one there.
+pub const NO_PLACE: usize = usize::MAX;
+
 impl Story {
     /// That with an order and a start.
     pub fn with<'a>(&'a self, order: &'a [Entry], start: Option<&'a Start>) -> Sources<'a> {
@@ -33,54 +36,40 @@ pub fn explanation_of(
     verdict: &Verdict,
     sources: Sources<'_>,
 ) -> Result<String, AllocError> {
-    Text::new(alloc).verdict(alloc, verdict, sources).finish()
+    let text = Text::new(alloc);
+    let text = match verdict {
+        Verdict::Yes { .. } => text.amiss(sources.story),
+        Verdict::Wire { at, fault } => text.wire_fault(alloc, *at, *fault, sources.story),
+        Verdict::Image { image, size } => text.image(*image, *size),
+        Verdict::Order { entry, fault } => text.order_fault(alloc, *entry, *fault, &sources),
+        Verdict::Content { request, offset } | Verdict::Status { request, offset } =>
+            text.wrong_byte(alloc, *request, *offset, &sources),
+    };
+    text.finish()
 }
 
 impl Text {
-    fn verdict(self, alloc: Global, verdict: &Verdict, sources: Sources<'_>) -> Text {
-        match verdict {
-            Verdict::Yes { .. } => self.amiss(sources.story),
-            Verdict::Wire { at, fault } => self.wire_fault(alloc, *at, *fault, sources.story),
-            Verdict::Image { image, size } => self.image(*image, *size),
-            Verdict::Order { entry, fault } => self.order_fault(alloc, *entry, *fault, sources),
-            Verdict::Content { request, offset } | Verdict::Status { request, offset } =>
-                self.wrong_byte(alloc, *request, *offset, sources),
-        }
-    }
-
     /// Adds why an image of so many bytes does not fit an export of this size.
     pub fn image(self, image: u64, size: u64) -> Text {
-        self.rule(&IMAGE_RULE, "the image that was given")
-            .say("sizes: the image has ")
-            .count(image, "byte")
-            .say(", the export ")
-            .count(size, "byte")
-            .end()
+        self.rule(&IMAGE_RULE, "the image that was given").fill(
+            "sizes: the image has {byte}, the export {byte}\n",
+            &[image, size],
+        )
     }
 
     /// Adds a rule, who broke it, and where it stands.
     pub fn rule(self, rule: &Rule, breaker: &str) -> Text {
-        self.sentence(rule).breaker(breaker).section(rule)
+        self.line("rule: ", rule.sentence)
+            .line("broken by: ", breaker)
+            .line("section: ", rule.section)
     }
 
     /// Adds two rules of which one or the other was broken, who broke it, and where they stand.
     pub fn one_of_rules(self, first: &Rule, second: &Rule, breaker: &str) -> Text {
-        self.sentence(first)
-            .sentence(second)
-            .breaker(breaker)
-            .section(first)
-            .section(second)
-    }
-
-    fn sentence(self, rule: &Rule) -> Text {
-        self.say("rule: ").say(rule.sentence).end()
-    }
-
-    fn breaker(self, breaker: &str) -> Text {
-        self.say("broken by: ").say(breaker).end()
-    }
-
-    fn section(self, rule: &Rule) -> Text {
-        self.say("section: ").say(rule.section).end()
+        self.line("rule: ", first.sentence)
+            .line("rule: ", second.sentence)
+            .line("broken by: ", breaker)
+            .line("section: ", first.section)
+            .line("section: ", second.section)
     }
 }

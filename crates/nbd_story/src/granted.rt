@@ -4,54 +4,78 @@ use crate::story::Story;
 use crate::text::Text;
 use nbd_wire::{Profile, options};
 
-/// How a session is recorded without a request on block status.
-const WITHOUT_STATUS: &str =
-    "record without block status: nbdsh without --base-allocation and add_meta_context, nbdcopy --no-extents; qemu always asks, so serve without structured replies: nbdkit --no-sr";
+/// An option that a server may grant, and that nbdcheck does not follow in some profile.
+#[derive(Clone, Copy)]
+struct Extension {
+    option: u32,
+    /// What the option is for.
+    purpose: &'static str,
+    /// In which profile it is followed that may not be this one.
+    wider: &'static str,
+    /// How its client or its server is told to do without.
+    advice: &'static str,
+}
+
+/// In which profile metadata contexts are followed.
+const IN_WIDE: &str = "try --profile wide, which follows metadata contexts and block status; or ";
+
+/// What metadata contexts are for.
+const CONTEXTS: &str = "metadata contexts, which block status needs";
+
+/// The options that have a name.
+const EXTENSIONS: &[Extension] = &[
+    Extension {
+        option: options::STARTTLS,
+        purpose: "TLS",
+        wider: "",
+        advice: "record without TLS: a client of nbd: in place of nbds:, qemu without tls-creds, nbdkit --tls=off",
+    },
+    Extension {
+        option: options::LIST_META_CONTEXT,
+        purpose: CONTEXTS,
+        wider: IN_WIDE,
+        advice: "record without listing contexts: nbdinfo --size, nbdsh without opt_list_meta_context; qemu-nbd --list always asks",
+    },
+    Extension {
+        option: options::SET_META_CONTEXT,
+        purpose: CONTEXTS,
+        wider: IN_WIDE,
+        advice: "record without block status: nbdsh without --base-allocation and add_meta_context, nbdcopy --no-extents; qemu always asks, so serve without structured replies: nbdkit --no-sr",
+    },
+    Extension {
+        option: options::EXTENDED_HEADERS,
+        purpose: "extended headers, of 64 bits",
+        wider: "",
+        advice: "record without them: in libnbd h.set_request_extended_headers(False), or a server that has none",
+    },
+];
+
+/// An option without a name.
+const OTHER: Extension = Extension {
+    option: 0,
+    purpose: "an extension that nbdcheck has no name for",
+    wider: "",
+    advice: "record with a client that does not ask for it, or a server that refuses it",
+};
+
+fn extension_of(option: u32) -> Extension {
+    for extension in EXTENSIONS {
+        if extension.option == option {
+            return *extension;
+        }
+    }
+    OTHER
+}
 
 impl Text {
     /// Adds which option the server granted last, and how the session is followed further, or recorded without it.
     pub fn instead(self, story: &Story) -> Text {
+        let extension = extension_of(story.option);
         self.say("granted: ")
             .option(story.option)
-            .say(", for ")
-            .say(extension(story.option))
-            .say("\ninstead: ")
-            .say(wider(story.option, story.profile))
-            .say(advice(story.option))
-            .end()
-    }
-}
-
-// In which profile an option is followed that is not in this one.
-fn wider(option: u32, profile: Profile) -> &'static str {
-    match option {
-        options::LIST_META_CONTEXT | options::SET_META_CONTEXT if profile == Profile::Base =>
-            "try --profile wide, which follows metadata contexts and block status; or ",
-        _ => "",
-    }
-}
-
-// What an option is for.
-fn extension(option: u32) -> &'static str {
-    match option {
-        options::STARTTLS => "TLS",
-        options::LIST_META_CONTEXT | options::SET_META_CONTEXT =>
-            "metadata contexts, which block status needs",
-        options::EXTENDED_HEADERS => "extended headers, of 64 bits",
-        _ => "an extension that nbdcheck has no name for",
-    }
-}
-
-// How its client or its server is told to do without.
-fn advice(option: u32) -> &'static str {
-    match option {
-        options::STARTTLS =>
-            "record without TLS: a client of nbd: in place of nbds:, qemu without tls-creds, nbdkit --tls=off",
-        options::LIST_META_CONTEXT =>
-            "record without listing contexts: nbdinfo --size, nbdsh without opt_list_meta_context; qemu-nbd --list always asks",
-        options::SET_META_CONTEXT => WITHOUT_STATUS,
-        options::EXTENDED_HEADERS =>
-            "record without them: in libnbd h.set_request_extended_headers(False), or a server that has none",
-        _ => "record with a client that does not ask for it, or a server that refuses it",
+            .line(", for ", extension.purpose)
+            .say("instead: ")
+            .say_if(story.profile == Profile::Base, extension.wider)
+            .line("", extension.advice)
     }
 }

@@ -1,14 +1,16 @@
 //! Which part of its rule a request or a chunk breaks.
 
-use crate::brief::{Brief, Brought};
-use crate::parts::first_outside;
-use crate::story::{Request, Story, Told, is_change, range};
+use crate::content::bringer;
+use crate::contexts::is_told;
+use crate::parts::outside;
+use crate::reading::number_in;
+use crate::requests::{Request, is_change, range};
+use crate::story::Story;
 use crate::text::Text;
-use nbd_state::{Export, ends_by, has_range};
+use crate::told::{Form, Told};
+use nbd_state::{ends_by, has_range};
 use nbd_wire::flags::{has, has_only};
-use nbd_wire::{
-    Part, Profile, RequestHead, chunks, command_flags, commands, head_lengths, transmission,
-};
+use nbd_wire::{Part, Profile, RequestHead, chunks, command_flags, commands, transmission};
 
 /// Requests of these types.
 #[derive(Clone, Copy)]
@@ -118,117 +120,96 @@ impl Ban {
 }
 
 impl Text {
-    /// Adds what is wrong, where that is known.
-    pub fn wrong(self, reason: Option<&str>) -> Text {
-        match reason {
-            Some(reason) => self.say("wrong: ").say(reason).end(),
-            None => self,
-        }
+    /// Adds what is wrong, where that is known: no words where it is not.
+    pub fn wrong(self, reason: &str) -> Text {
+        self.wrong_if(!reason.is_empty(), reason)
     }
 
-    /// Adds why a client should not send this request to this export: each reason.
-    pub fn improper(self, head: &RequestHead, export: Export, story: &Story) -> Text {
-        if head.command == commands::BLOCK_STATUS && !story.contexts.are_in_force() {
-            return self.wrong(Some(without_contexts(story.profile)));
-        }
-        let mut text = self.beyond(head, export.size);
-        for ban in BANS {
-            if ban.forbids(head, export.flags) {
-                text = text.wrong(Some(ban.reason));
-            }
-        }
-        text.wrong(type_reason(head, export.flags))
-            .wrong(unknown_flags(head.flags))
-    }
-
-    // A range that passes the end of an export of this size, and by how much.
-    fn beyond(self, head: &RequestHead, size: u64) -> Text {
-        if has_range(head.command) && !ends_by(head.offset, u64::from(head.length), size) {
-            self.say("wrong: its range passes the end of the export of ")
-                .count(size, "byte")
-                .by(excess(head, size))
-                .end()
+    /// Adds what is wrong, where something holds.
+    pub fn wrong_if(self, holds: bool, reason: &str) -> Text {
+        if holds {
+            self.line("wrong: ", reason)
         } else {
             self
         }
     }
 
-    // By how many bytes, where 64 bits hold that.
-    fn by(self, excess: Option<u64>) -> Text {
-        match excess {
-            Some(count) => self.say(" by ").count(count, "byte"),
-            None => self.number(" by more than ", u64::MAX).say(" bytes"),
+    /// Adds why a client should not send this request to the export: each reason.
+    pub fn improper(self, head: &RequestHead, story: &Story) -> Text {
+        if head.command == commands::BLOCK_STATUS && !story.contexts.are_in_force() {
+            return match story.profile {
+                Profile::Base => self.wrong(UNKNOWN_TYPE),
+                Profile::Wide => self.wrong(
+                    "it asks for a status, and no metadata context is in force",
+                ),
+            };
+        }
+        let mut text = self.beyond(head, story.export.size);
+        for ban in BANS {
+            text = text.wrong_if(ban.forbids(head, story.export.flags), ban.reason);
+        }
+        text.wrong_type(head, has(story.export.flags, transmission::READ_ONLY))
+    }
+
+    // Why no request of this type and form, or with such flags, is sent to an export.
+    fn wrong_type(self, head: &RequestHead, is_read_only: bool) -> Text {
+        let is_flush = head.command == commands::FLUSH;
+        self.wrong_if(
+            is_flush && (head.offset != 0 || head.length != 0),
+            "a FLUSH has neither an offset nor a length",
+        )
+        .wrong_if(
+            is_read_only && is_change(head.command),
+            "it changes an export that is read-only: it has READ_ONLY",
+        )
+        .wrong_if(!is_flush && !has_range(head.command), UNKNOWN_TYPE)
+        .wrong_if(
+            !has_only(u32::from(head.flags), u32::from(FLAGS)),
+            "it carries a flag that is none of FUA, NO_HOLE, DF, REQ_ONE and FAST_ZERO",
+        )
+    }
+
+    // A range that passes the end of an export of this size, and by how much, where 64 bits hold that.
+    fn beyond(self, head: &RequestHead, size: u64) -> Text {
+        let length = u64::from(head.length);
+        if !has_range(head.command) || ends_by(head.offset, length, size) {
+            return self;
+        }
+        let text = self.number(
+            "wrong: its range passes the end of the export of {byte} by ",
+            size,
+        );
+        let inside = size.saturating_sub(head.offset).min(length);
+        match head
+            .offset
+            .saturating_sub(size)
+            .checked_add(length - inside)
+        {
+            Some(count) => text.number("{byte}\n", count),
+            None => text.number("more than {} bytes\n", u64::MAX),
         }
     }
 }
 
-// By how many bytes a range passes the end of an export of this size.
-fn excess(head: &RequestHead, size: u64) -> Option<u64> {
-    let length = u64::from(head.length);
-    if head.offset >= size {
-        (head.offset - size).checked_add(length)
-    } else {
-        Some(length.saturating_sub(size - head.offset))
-    }
-}
-
-// Why no BLOCK_STATUS is sent where no metadata context is in force.
-fn without_contexts(profile: Profile) -> &'static str {
-    match profile {
-        Profile::Base => UNKNOWN_TYPE,
-        Profile::Wide => "it asks for a status, and no metadata context is in force",
-    }
-}
-
-// Why no request of this type and form is sent to an export with these flags.
-fn type_reason(head: &RequestHead, offered: u16) -> Option<&'static str> {
-    match head.command {
-        commands::FLUSH if head.offset == 0 && head.length == 0 => None,
-        commands::FLUSH => Some("a FLUSH has neither an offset nor a length"),
-        command if is_change(command) && has(offered, transmission::READ_ONLY) => Some(
-            "it changes an export that is read-only: it has READ_ONLY",
-        ),
-        command if has_range(command) => None,
-        _ => Some(UNKNOWN_TYPE),
-    }
-}
-
-fn unknown_flags(flags: u16) -> Option<&'static str> {
-    if has_only(u32::from(flags), u32::from(FLAGS)) {
-        None
-    } else {
-        Some("it carries a flag that is none of FUA, NO_HOLE, DF, REQ_ONE and FAST_ZERO")
-    }
-}
-
 /// Why a chunk has not the form of its type.
-pub fn chunk_reason(told: &Told, story: &Story) -> Option<&'static str> {
-    let (kind, length) = match &told.brief {
-        Brief::Chunk(head, _) => (head.kind, head.length),
-        _ => return None,
-    };
-    match kind {
-        chunks::NONE if length > 0 => Some("a chunk of type NONE has no payload"),
-        chunks::NONE => Some("a chunk of type NONE ends its reply, so it has DONE"),
-        chunks::OFFSET_DATA if length < 8 => Some(
+pub fn chunk_reason(told: &Told, story: &Story) -> &'static str {
+    match told.kind {
+        chunks::NONE if told.payload > 0 => "a chunk of type NONE has no payload",
+        chunks::NONE => "a chunk of type NONE ends its reply, so it has DONE",
+        chunks::OFFSET_DATA if told.payload < 8 =>
             "its payload is shorter than an offset, which has 8 bytes",
-        ),
-        chunks::OFFSET_DATA => Some("its payload has no data behind the offset"),
-        chunks::OFFSET_HOLE if length != 12 => Some(
+        chunks::OFFSET_DATA => "its payload has no data behind the offset",
+        chunks::OFFSET_HOLE if told.payload != 12 =>
             "the payload of a hole has 12 bytes, an offset and a size",
-        ),
-        chunks::OFFSET_HOLE => Some("its hole has size 0"),
-        chunks::BLOCK_STATUS if story.profile == Profile::Wide => Some(status_form(length, story)),
-        chunks::ERROR | chunks::ERROR_OFFSET => failure_reason(
-            kind,
-            story.behind(told, head_lengths::CHUNK),
-        ),
-        _ => Some("its type is none of NONE, OFFSET_DATA, OFFSET_HOLE, ERROR and ERROR_OFFSET"),
+        chunks::OFFSET_HOLE => "its hole has size 0",
+        chunks::BLOCK_STATUS if story.profile == Profile::Wide => status_form(told.payload, story),
+        chunks::ERROR | chunks::ERROR_OFFSET => failure_reason(told.kind, story.behind(told)),
+        _ => "its type is none of NONE, OFFSET_DATA, OFFSET_HOLE, ERROR and ERROR_OFFSET",
     }
 }
 
 // Why a status chunk with so many bytes of payload has not its form.
-fn status_form(length: u32, story: &Story) -> &'static str {
+fn status_form(length: u64, story: &Story) -> &'static str {
     if !story.contexts.are_in_force() {
         "it gives a status, and no metadata context is in force"
     } else if length < 12 || length % 8 != 4 {
@@ -239,32 +220,26 @@ fn status_form(length: u32, story: &Story) -> &'static str {
 }
 
 // Why the payload of an error chunk has not its form.
-fn failure_reason(kind: u16, payload: &[u8]) -> Option<&'static str> {
-    match payload {
-        [0, 0, 0, 0, _, _, ..] => Some("its error is 0"),
-        [_, _, _, _, _, _, ..] if kind == chunks::ERROR => Some(
-            "the length of its message passes the end of its payload",
-        ),
-        [_, _, _, _, _, _, ..] => Some(
-            "the length of its message and an offset behind it pass the end of its payload",
-        ),
-        _ => Some(
-            "its payload is shorter than an error and the length of a message, which have 6 bytes",
-        ),
+fn failure_reason(kind: u16, payload: &[u8]) -> &'static str {
+    if payload.len() < 6 {
+        "its payload is shorter than an error and the length of a message, which have 6 bytes"
+    } else if number_in(payload, 0, 4) == 0 {
+        "its error is 0"
+    } else if kind == chunks::ERROR {
+        "the length of its message passes the end of its payload"
+    } else {
+        "the length of its message and an offset behind it pass the end of its payload"
     }
 }
 
 /// Why a chunk with content, or with the offset of an error, does not fit its request.
-pub fn content_reason(told: &Told, request: &Request, story: &Story) -> Option<&'static str> {
-    if let Some((id, _)) = story.status_in(told) {
-        return Some(status_reason(id, request, story));
-    }
-    match &told.brief {
-        Brief::Chunk(_, Some(Brought::Content(part))) => misplaced(*part, request, story),
-        Brief::Chunk(_, Some(Brought::Failure(_))) => Some(
-            "the offset of the error lies outside the range of the request",
-        ),
-        _ => None,
+pub fn content_reason(told: &Told, request: &Request, story: &Story) -> &'static str {
+    let (id, descriptors) = story.status_in(told);
+    match told.form {
+        Form::Chunk if !descriptors.is_empty() => status_reason(id, request, story),
+        Form::Chunk if told.part.length != 0 => misplaced(told.part, request, &story.told),
+        Form::Chunk => "the offset of the error lies outside the range of the request",
+        _ => "",
     }
 }
 
@@ -274,7 +249,7 @@ fn status_reason(id: u32, request: &Request, story: &Story) -> &'static str {
         "a status answers only a BLOCK_STATUS"
     } else if !story.contexts.has(id) {
         "no metadata context in force has its id"
-    } else if story.teller(id, request.number).is_some() {
+    } else if is_told(id, request.number, story) {
         "its context has a status before it in this reply"
     } else if has(request.head.flags, command_flags::REQ_ONE) {
         "the request has REQ_ONE, so it gets one descriptor, which ends with the range or before"
@@ -283,14 +258,15 @@ fn status_reason(id: u32, request: &Request, story: &Story) -> &'static str {
     }
 }
 
-fn misplaced(part: Part, request: &Request, story: &Story) -> Option<&'static str> {
+// Why this part of the export is no content for a request, behind these messages.
+fn misplaced(part: Part, request: &Request, told: &[Told]) -> &'static str {
     if request.head.command != commands::READ {
-        Some("content answers only a READ")
-    } else if first_outside(part, range(&request.head)).is_some() {
-        Some("the content leaves the range of the READ")
-    } else if story.bringer(request.number, part).is_some() {
-        Some("the content shares an offset with content before it")
+        "content answers only a READ"
+    } else if outside(part, range(&request.head)).length != 0 {
+        "the content leaves the range of the READ"
+    } else if bringer(told, request.number, part).is_there() {
+        "the content shares an offset with content before it"
     } else {
-        Some("the READ has DF, so it gets one piece, and this is a second one")
+        "the READ has DF, so it gets one piece, and this is a second one"
     }
 }

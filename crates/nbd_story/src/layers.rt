@@ -1,22 +1,27 @@
-//! What a range of the export held at an entry of an order, as stretches of one origin each.
+//! What a part of the export held at an entry of an order, and what a request got for it, as stretches of one origin each.
 
-use crate::explanation::Sources;
-use crate::parts::common;
-use crate::story::{Request, Story, is_change, range};
+use crate::explanation::{NO_PLACE, Sources};
+use crate::parts::{between, common, end_of, part_in};
+use crate::requests::{Request, is_change, range};
+use crate::story::Story;
+use crate::told::{EMPTY, Told};
+use crate::zeroes::{called_zero, count_of, descriptor_in};
 use nbd_export::Start;
 use nbd_wire::{Entry, Part, Side, commands, head_lengths};
-use std::alloc::{AllocError, Global};
+use std::alloc::Global;
 use std::collections::BTreeMap;
 
 /// Where bytes come from.
 #[derive(Clone, Copy)]
 pub enum Origin {
-    /// From a message of this side, from so many bytes of the side on.
-    Wire(Side, u64),
+    /// From messages of this side.
+    Wire(Side),
     /// From the image.
     Image,
     /// They are zeroes.
     Zeroes,
+    /// They are those that an entry serves, and what they are does not count.
+    Served,
     /// They are not known.
     Unknown,
 }
@@ -26,220 +31,212 @@ pub enum Origin {
 pub struct Stretch {
     pub part: Part,
     pub origin: Origin,
+    /// How many bytes of their side stand before them, where they come from a message.
+    before: u64,
+    /// The place of the entry of the order that left them; `NO_PLACE` where none did.
+    pub place: usize,
 }
 
 impl Stretch {
-    /// What of it lies in a part.
-    pub fn inside(self, part: Part) -> Option<Stretch> {
-        match common(self.part, part) {
-            Some(part) => Some(Stretch {
-                part,
-                origin: self.origin_at(part.offset),
-            }),
-            None => None,
+    // One that no entry of an order left.
+    fn of(part: Part, origin: Origin, before: u64) -> Stretch {
+        Stretch {
+            part,
+            origin,
+            before,
+            place: NO_PLACE,
         }
     }
 
-    // The origin of its bytes from an offset on.
-    fn origin_at(&self, offset: u64) -> Origin {
-        match self.origin {
-            Origin::Wire(side, before) => Origin::Wire(
-                side,
-                before.saturating_add(offset.saturating_sub(self.part.offset)),
-            ),
-            origin => origin,
+    /// What the export held of a part at first.
+    pub fn at_first(part: Part, start: Option<&Start>) -> Stretch {
+        let origin = match start {
+            Some(Start::Zeroes) => Origin::Zeroes,
+            Some(Start::Image(_)) => Origin::Image,
+            _ => Origin::Unknown,
+        };
+        Stretch::of(part, origin, 0)
+    }
+
+    /// What a request leaves in its range; no byte where it does not change the export.
+    pub fn left_by(request: &Request) -> Stretch {
+        let origin = match request.head.command {
+            commands::WRITE if request.succeeded() => Origin::Wire(Side::Client),
+            commands::WRITE_ZEROES if request.succeeded() => Origin::Zeroes,
+            _ => Origin::Unknown,
+        };
+        let before = request.before.saturating_add(head_lengths::REQUEST as u64);
+        if is_change(request.head.command) {
+            Stretch::of(range(&request.head), origin, before)
+        } else {
+            Stretch::of(EMPTY, origin, before)
         }
+    }
+
+    /// The content that a message brings the request with this number: the message ends with it, or is a hole.
+    pub fn brought_by(told: &Told, request: u64) -> Stretch {
+        let origin = if told.is_hole() {
+            Origin::Zeroes
+        } else {
+            Origin::Wire(Side::Server)
+        };
+        Stretch::of(
+            told.content_to(request),
+            origin,
+            told.before_last(told.part.length),
+        )
+    }
+
+    /// Whether its bytes are known.
+    pub fn is_known(&self) -> bool {
+        !matches!(self.origin, Origin::Unknown)
+    }
+
+    /// What of it lies in a part.
+    pub fn inside(mut self, part: Part) -> Stretch {
+        let common = common(self.part, part);
+        let skipped = common.offset.saturating_sub(self.part.offset);
+        self.part = common;
+        self.before = self.before.saturating_add(skipped);
+        self
     }
 
     /// Its bytes; none where they are zeroes or not known.
-    pub fn bytes<'a>(&self, sources: Sources<'a>) -> &'a [u8] {
-        let length = self.part.length as usize;
+    pub fn bytes<'a>(&self, sources: &Sources<'a>) -> &'a [u8] {
         match (self.origin, sources.start) {
-            (Origin::Wire(side, before), _) => front(
-                sources.story.recording.bytes_from(side, before),
-                length,
-            ),
-            (Origin::Image, Some(Start::Image(image))) => front(
-                image.get(self.part.offset as usize..).unwrap_or(&[]),
-                length,
-            ),
+            (Origin::Wire(side), _) => sources
+                .story
+                .recording
+                .bytes_at(side, self.before, self.part.length),
+            (Origin::Image, Some(Start::Image(image))) => front(image, self.part),
             _ => &[],
         }
     }
+
+    /// Its byte at an offset, where that is known.
+    pub fn byte(self, offset: u64, sources: &Sources<'_>) -> Option<u8> {
+        match self.origin {
+            Origin::Zeroes => Some(0),
+            _ => self
+                .inside(Part { offset, length: 1 })
+                .bytes(sources)
+                .first()
+                .copied(),
+        }
+    }
 }
 
-// The first bytes of these, so many.
-fn front(bytes: &[u8], length: usize) -> &[u8] {
-    bytes.get(..length).unwrap_or(bytes)
+// The bytes of an image that lie in a part.
+fn front(image: &[u8], part: Part) -> &[u8] {
+    let bytes = image.get(part.offset as usize..).unwrap_or(&[]);
+    bytes.get(..part.length as usize).unwrap_or(bytes)
 }
 
-/// An end of a change that an entry of an order makes.
-#[derive(Clone, Copy)]
-struct End {
-    offset: u64,
-    /// The place of the entry.
-    place: u64,
-    /// What the change leaves, where it begins at the offset; None where it ends there.
-    begins: Option<Stretch>,
-}
-
-/// The ends of changes, and at the last of their offsets the changes that lie there.
+/// Stretches that share no offset. Once memory was refused they are not known.
 #[derive(Drop)]
-pub struct Layers {
-    ends: Vec<End>,
-    present: BTreeMap<u64, Stretch>,
+pub struct Stretches {
+    by_offset: BTreeMap<u64, Stretch>,
+    pub is_refused: bool,
 }
 
-impl Layers {
-    /// Those of the changes that the entries before a place of the order make to a part.
-    pub fn before(
-        alloc: Global,
-        place: usize,
-        part: Part,
-        sources: Sources<'_>,
-    ) -> Result<Layers, AllocError> {
-        let mut layers = Layers {
-            ends: Vec::new(alloc),
-            present: BTreeMap::new(alloc),
-        };
-        layers.add_all(place, part, sources)?;
-        layers.ends.sort_by_key(|end| end.offset)?;
-        Ok(layers)
+impl Stretches {
+    /// None; takes no memory.
+    pub fn new(alloc: Global) -> Stretches {
+        Stretches {
+            by_offset: BTreeMap::new(alloc),
+            is_refused: false,
+        }
     }
 
-    fn add_all(
-        &mut self,
-        place: usize,
-        part: Part,
-        sources: Sources<'_>,
-    ) -> Result<(), AllocError> {
-        for (at, entry) in sources.order.iter().enumerate() {
-            if at < place {
-                if let Some(stretch) = left_by(entry, part, sources.story) {
-                    self.add(at as u64, stretch)?;
-                }
+    /// What entries serve of a part of the request with this number, and between that what is not known.
+    pub fn served(alloc: Global, request: u64, part: Part, order: &[Entry]) -> Stretches {
+        let mut served = Stretches::new(alloc).with(Stretch::of(part, Origin::Unknown, 0));
+        for entry in order {
+            served = served.with(Stretch::of(part_in(entry, request), Origin::Served, 0));
+        }
+        served
+    }
+
+    /// What a part held before the entry at a place of the order.
+    pub fn held(alloc: Global, place: usize, part: Part, sources: &Sources<'_>) -> Stretches {
+        let mut held = Stretches::new(alloc).with(Stretch::at_first(part, sources.start));
+        for at in 0..place.min(sources.order.len()) {
+            let entry = &sources.order[at];
+            let mut left = Stretch::left_by(sources.story.request(entry.request));
+            left.place = at;
+            held = held.with(left.inside(entry.part.unwrap_or(part)).inside(part));
+        }
+        held
+    }
+
+    /// What a request got for a part, or called zero of it, and between that what is not known.
+    pub fn got(alloc: Global, request: u64, part: Part, story: &Story) -> Stretches {
+        let zeroes = story.zeroes_of(request);
+        let mut got = Stretches::new(alloc).with(Stretch::of(part, Origin::Unknown, 0));
+        let mut from = zeroes.range.offset;
+        for number in 0..count_of(zeroes.descriptors) {
+            let one = descriptor_in(zeroes.descriptors, number, from);
+            let zero = common(called_zero(one, zeroes.range), part);
+            got = got.with(Stretch::of(zero, Origin::Zeroes, 0));
+            from = end_of(one.part);
+        }
+        for told in &story.told {
+            got = got.with(Stretch::brought_by(told, request).inside(part));
+        }
+        got
+    }
+
+    /// These with another one in place of what lies there, unless it is empty.
+    pub fn with(mut self, stretch: Stretch) -> Stretches {
+        if stretch.part.length != 0 {
+            self.clear(stretch.part);
+            self.keep(stretch);
+        }
+        self
+    }
+
+    // Takes away what lies in a part.
+    fn clear(&mut self, part: Part) {
+        let end = end_of(part);
+        for _ in 0..self.by_offset.len() {
+            let last = self.at(end.saturating_sub(1));
+            if end_of(last.part) <= part.offset {
+                break;
+            }
+            self.by_offset.remove(&last.part.offset);
+            self.keep(last.inside(between(0, part.offset)));
+            self.keep(last.inside(between(end, u64::MAX)));
+        }
+    }
+
+    // Takes one where none lies, unless it is empty.
+    fn keep(&mut self, stretch: Stretch) {
+        if stretch.part.length != 0 {
+            let kept = self.by_offset.insert(stretch.part.offset, stretch);
+            self.is_refused |= kept.is_err();
+        }
+    }
+
+    /// How many there are.
+    pub fn count(&self) -> u64 {
+        self.by_offset.len() as u64
+    }
+
+    /// The last one that begins at an offset or before, or else one without a byte.
+    pub fn at(&self, offset: u64) -> Stretch {
+        match self.by_offset.range(..=offset).next_back() {
+            Some((_, stretch)) => *stretch,
+            None => Stretch::of(EMPTY, Origin::Unknown, 0),
+        }
+    }
+
+    /// The first part that is not known; one without a byte where all is.
+    pub fn gap(&self) -> Part {
+        for (_, stretch) in &self.by_offset {
+            if !stretch.is_known() {
+                return stretch.part;
             }
         }
-        Ok(())
-    }
-
-    // Adds the ends of what an entry leaves.
-    fn add(&mut self, place: u64, stretch: Stretch) -> Result<(), AllocError> {
-        self.ends.push(End {
-            offset: stretch.part.offset,
-            place,
-            begins: Some(stretch),
-        })?;
-        self.ends.push(End {
-            offset: end_of(stretch.part),
-            place,
-            begins: None,
-        })?;
-        Ok(())
-    }
-
-    /// What the part held: stretches in the order of their offsets, of the change that was made last, or of the start.
-    pub fn stretches(
-        &mut self,
-        alloc: Global,
-        part: Part,
-        start: Option<&Start>,
-    ) -> Result<Vec<Stretch>, AllocError> {
-        let mut stretches = Vec::new(alloc);
-        let first = Stretch {
-            part,
-            origin: origin_of(start),
-        };
-        let mut from = part.offset;
-        for end in &self.ends {
-            let top = top_of(&self.present, first);
-            push_between(&mut stretches, top, from, end.offset)?;
-            from = end.offset;
-            change(&mut self.present, *end)?;
-        }
-        push_between(&mut stretches, first, from, end_of(part))?;
-        Ok(stretches)
-    }
-}
-
-// What lies on top of changes, by the places of their entries; the start where there is none.
-fn top_of(present: &BTreeMap<u64, Stretch>, first: Stretch) -> Stretch {
-    match present.range(..=u64::MAX).next_back() {
-        Some((_, stretch)) => *stretch,
-        None => first,
-    }
-}
-
-// A change begins or ends.
-fn change(present: &mut BTreeMap<u64, Stretch>, end: End) -> Result<(), AllocError> {
-    match end.begins {
-        Some(stretch) => {
-            present.insert(end.place, stretch)?;
-        }
-        None => {
-            present.remove(&end.place);
-        }
-    }
-    Ok(())
-}
-
-// Adds what of a stretch lies between two offsets, where there is some.
-fn push_between(
-    stretches: &mut Vec<Stretch>,
-    stretch: Stretch,
-    from: u64,
-    end: u64,
-) -> Result<(), AllocError> {
-    let part = Part {
-        offset: from,
-        length: end.saturating_sub(from),
-    };
-    if let Some(stretch) = stretch.inside(part) {
-        stretches.push(stretch)?;
-    }
-    Ok(())
-}
-
-/// Where a part ends.
-pub fn end_of(part: Part) -> u64 {
-    part.offset.saturating_add(part.length)
-}
-
-// What an entry leaves in a part of the export, where it changes it.
-fn left_by(entry: &Entry, part: Part, story: &Story) -> Option<Stretch> {
-    let request = story.request(entry.request)?;
-    if !is_change(request.head.command) {
-        return None;
-    }
-    let whole = Stretch {
-        part: range(&request.head),
-        origin: origin_by(request),
-    };
-    let served = match entry.part {
-        Some(part) => whole.inside(part)?,
-        None => whole,
-    };
-    served.inside(part)
-}
-
-// The origin of what a change leaves.
-fn origin_by(change: &Request) -> Origin {
-    match change.head.command {
-        _ if change.error != 0 || change.finished.is_none() => Origin::Unknown,
-        commands::WRITE => Origin::Wire(
-            Side::Client,
-            change.before.saturating_add(head_lengths::REQUEST as u64),
-        ),
-        commands::WRITE_ZEROES => Origin::Zeroes,
-        _ => Origin::Unknown,
-    }
-}
-
-// The origin of what the export held at first.
-fn origin_of(start: Option<&Start>) -> Origin {
-    match start {
-        Some(Start::Zeroes) => Origin::Zeroes,
-        Some(Start::Image(_)) => Origin::Image,
-        _ => Origin::Unknown,
+        EMPTY
     }
 }

@@ -7,7 +7,6 @@
 
 mod amiss;
 mod arriving;
-mod brief;
 mod content;
 mod contexts;
 mod deduced;
@@ -24,10 +23,12 @@ mod reading;
 mod recording;
 mod refutation;
 mod related;
+mod requests;
 mod source;
 mod steps;
 mod story;
 mod text;
+mod told;
 mod window;
 mod wire;
 mod words;
@@ -38,5 +39,6 @@ pub use explanation::{Sources, explanation_of};
 pub use messages::{told_error, told_words};
 pub use recording::Recording;
 pub use refutation::Contest;
-pub use story::{Story, Told};
+pub use story::Story;
 pub use text::Text;
+pub use told::Told;

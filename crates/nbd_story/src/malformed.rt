@@ -1,267 +1,205 @@
 //! Which part of its form the data of an option lacks, or that of its reply.
+//!
+//! Data are told with the place of their first byte; no byte of the other side comes between them.
 
-use crate::brief::Brief;
-use crate::story::{Story, Told};
+use crate::arriving::last_told;
+use crate::reading::number_in;
+use crate::story::Story;
 use crate::text::Text;
+use crate::told::{Form, Told};
 use nbd_wire::limits::{LEAST_SIZE, NO_LARGEST_SIZE, PREFERRED_SIZE};
-use nbd_wire::{Side, Sizes, WireFault, answers, head_lengths, infos, options, sizes_of};
-
-/// Data of an option or of its reply, and the place of its first byte.
-#[derive(Clone, Copy)]
-struct Data<'a> {
-    bytes: &'a [u8],
-    first: u64,
-}
-
-impl<'a> Data<'a> {
-    // What stands behind so many bytes of it.
-    fn behind(self, count: u64) -> Data<'a> {
-        Data {
-            bytes: self.bytes.get(count as usize..).unwrap_or(&[]),
-            first: self.first.saturating_add(count),
-        }
-    }
-}
-
-impl Story {
-    // What a message of the negotiation has behind a head of this length. No byte of the other side comes between.
-    fn data_of(&self, told: &Told, head: usize) -> Data<'_> {
-        Data {
-            bytes: self.behind(told, head),
-            first: told.first.saturating_add(head as u64),
-        }
-    }
-}
+use nbd_wire::{Side, Sizes, WireFault, answers, infos, options, sizes_of};
 
 impl Text {
     /// Adds which part of its form an option lacks that was granted, or a refused reply to an option.
     pub fn negotiation_reason(self, fault: WireFault, told: &Told, story: &Story) -> Text {
-        match (fault, &told.brief) {
-            (WireFault::SuccessOfImproper, Brief::Answer(..)) => self.improper_option(
-                story.last_told(Side::Client, None),
+        match (fault, told.form) {
+            (WireFault::SuccessOfImproper, Form::Answer) => self.improper_option(
+                last_told(&story.told, Side::Client, 0),
                 story,
             ),
-            (WireFault::BadReplyPayload, Brief::Answer(head, _)) => self.bad_reply(
-                head.kind,
-                story.data_of(told, head_lengths::ANSWER),
+            (WireFault::BadReplyPayload, Form::Answer) => self.bad_reply(
+                told.answer,
+                story.behind(told),
+                first_behind(told),
             ),
             _ => self,
         }
     }
 
     // An option whose data has not its form, and what it lacks.
-    fn improper_option(self, option: Option<&Told>, story: &Story) -> Text {
-        match option {
-            Some(told) => self
-                .told("option: ", told, story)
-                .end()
-                .bad_option(story.option, story.data_of(told, head_lengths::CHOICE)),
-            None => self,
-        }
-    }
-
-    fn bad_option(self, option: u32, data: Data<'_>) -> Text {
-        match option {
-            options::INFO | options::GO => self.bad_name(data).bad_infos(data),
-            options::LIST_META_CONTEXT | options::SET_META_CONTEXT => self
-                .bad_name(data)
-                .bad_queries(data),
-            _ => self
-                .number(
-                    "wrong: the option has no data, and there is some from byte ",
-                    data.first,
-                )
-                .say(" on\n"),
+    fn improper_option(self, told: &Told, story: &Story) -> Text {
+        let data = story.behind(told);
+        let first = first_behind(told);
+        let text = self.told("option: ", told, story);
+        match story.option {
+            options::INFO | options::GO => text.bad_name(data, first).bad_infos(data, first),
+            options::LIST_META_CONTEXT | options::SET_META_CONTEXT => text
+                .bad_name(data, first)
+                .bad_queries(data, first),
+            _ => text.number(
+                "wrong: the option has no data, and there is some from byte {} on\n",
+                first,
+            ),
         }
     }
 
     // A name whose length is not there whole, or passes the end of the data.
-    fn bad_name(self, data: Data<'_>) -> Text {
-        let length = number_in(data.bytes, 0, 4);
-        let behind = (data.bytes.len() as u64).saturating_sub(4);
-        if data.bytes.len() < 4 {
-            self.number(
-                "wrong: the data ends within the length of the name, 4 bytes from byte ",
-                data.first,
-            )
-            .say(" on\n")
-        } else if length > behind {
-            self.number("wrong: at byte ", data.first)
-                .number(" the name has the length ", length)
-                .number(", and the bytes behind that are ", behind)
-                .end()
-        } else {
-            self
-        }
+    fn bad_name(self, data: &[u8], first: u64) -> Text {
+        let length = number_in(data, 0, 4);
+        let behind = count_behind(data, 4);
+        self.number_if(
+            data.len() < 4,
+            "wrong: the data ends within the length of the name, 4 bytes from byte {} on\n",
+            first,
+        )
+        .fill_if(
+            length > behind,
+            "wrong: at byte {} the name has the length {}, and the bytes behind that are {}\n",
+            &[first, length, behind],
+        )
     }
 
-    // A count of infos that is not there whole, or does not fit the bytes behind it.
-    fn bad_infos(self, data: Data<'_>) -> Text {
-        let name = number_in(data.bytes, 0, 4);
-        let at = name.saturating_add(4);
-        let there = (data.bytes.len() as u64).saturating_sub(at);
-        let count = number_in(data.bytes, at as usize, 2);
-        let place = data.first.saturating_add(at);
-        if (data.bytes.len() as u64) < at {
-            // The name is told as wrong.
+    // A count of infos that is not there whole, or does not fit the bytes behind it. Where the name is not whole, that is told.
+    fn bad_infos(self, data: &[u8], first: u64) -> Text {
+        let at = end_of_name(data);
+        let there = count_behind(data, at);
+        let place = first.saturating_add(at);
+        if (data.len() as u64) < at {
             self
         } else if there < 2 {
             self.number(
-                "wrong: the data ends within the count of infos, 2 bytes from byte ",
+                "wrong: the data ends within the count of infos, 2 bytes from byte {} on\n",
                 place,
             )
-            .say(" on\n")
         } else {
-            self.number("wrong: at byte ", place)
-                .number(" the count of infos is ", count)
-                .say(", of 2 bytes each")
-                .number(", and the bytes behind that are ", there - 2)
-                .end()
+            self.fill(
+                "wrong: at byte {} the count of infos is {}, of 2 bytes each, and the bytes behind that are {}\n",
+                &[place, number_in(data, at, 2), there - 2],
+            )
         }
     }
 
-    // A count of queries that is not there whole, or does not fit the queries behind it.
-    fn bad_queries(self, data: Data<'_>) -> Text {
-        let at = number_in(data.bytes, 0, 4).saturating_add(4);
-        if (data.bytes.len() as u64) < at {
-            // The name is told as wrong.
+    // A count of queries that is not there whole, the first query that is not, or the bytes behind the last one. Where the name is not
+    // whole, that is told.
+    fn bad_queries(self, data: &[u8], first: u64) -> Text {
+        let mut at = end_of_name(data);
+        if (data.len() as u64) < at {
             return self;
         }
-        let rest = data.behind(at);
-        if rest.bytes.len() < 4 {
-            self.number(
-                "wrong: the data ends within the count of queries, 4 bytes from byte ",
-                rest.first,
-            )
-            .say(" on\n")
-        } else {
-            self.bad_query(number_in(rest.bytes, 0, 4), rest.behind(4))
+        if count_behind(data, at) < 4 {
+            return self.number(
+                "wrong: the data ends within the count of queries, 4 bytes from byte {} on\n",
+                first.saturating_add(at),
+            );
         }
-    }
-
-    // The first of so many queries that is not there whole, or the bytes behind the last one.
-    fn bad_query(self, count: u64, queries: Data<'_>) -> Text {
-        let mut rest = queries;
+        let count = number_in(data, at, 4);
+        at = at.saturating_add(4);
         for number in 0..count {
-            let behind = (rest.bytes.len() as u64).saturating_sub(4);
-            let length = number_in(rest.bytes, 0, 4);
-            if rest.bytes.len() < 4 || length > behind {
-                return self.cut_query(number, count, length, rest);
+            let there = count_behind(data, at);
+            let length = number_in(data, at, 4);
+            if there < 4 || length > there - 4 {
+                return self
+                    .fill(
+                        "wrong: the data has {} of {} queries whole; ",
+                        &[number, count],
+                    )
+                    .cut_query(length, there, first.saturating_add(at));
             }
-            rest = rest.behind(length.saturating_add(4));
+            at = at.saturating_add(length).saturating_add(4);
         }
-        self.number("wrong: the count of queries is ", count)
-            .number(", and behind them the data goes on, from byte ", rest.first)
-            .say("\n")
+        self.fill(
+            "wrong: the count of queries is {}, and behind them the data goes on, from byte {}\n",
+            &[count, first.saturating_add(at)],
+        )
     }
 
-    // A query behind so many others that is not there whole.
-    fn cut_query(self, before: u64, count: u64, length: u64, query: Data<'_>) -> Text {
-        let text = self
-            .number("wrong: the data has ", before)
-            .number(" of ", count)
-            .say(" queries whole; ");
-        if query.bytes.len() < 4 {
-            text.number(
-                "the data ends within the length of the next, 4 bytes from byte ",
-                query.first,
+    // A query of this length of which so many bytes are there.
+    fn cut_query(self, length: u64, there: u64, place: u64) -> Text {
+        if there < 4 {
+            self.number(
+                "the data ends within the length of the next, 4 bytes from byte {} on\n",
+                place,
             )
-            .say(" on\n")
         } else {
-            text.number("at byte ", query.first)
-                .number(" the next has the length ", length)
-                .number(
-                    ", and the bytes behind that are ",
-                    (query.bytes.len() as u64).saturating_sub(4),
-                )
-                .say("\n")
+            self.fill(
+                "at byte {} the next has the length {}, and the bytes behind that are {}\n",
+                &[place, length, there - 4],
+            )
         }
     }
 
-    fn bad_reply(self, kind: u32, data: Data<'_>) -> Text {
-        match kind {
-            answers::SERVER => self.bad_name(data),
-            answers::INFO => self.bad_info(data.bytes),
-            answers::META_CONTEXT => self.wrong(context_reason(data.bytes)),
-            _ => self.wrong(Some("an ACK has no data")),
+    // A reply to an option that has not its form; of block sizes each that no server may announce.
+    fn bad_reply(self, kind: u32, data: &[u8], first: u64) -> Text {
+        match (kind, sizes_of(data)) {
+            (answers::SERVER, _) => self.bad_name(data, first),
+            (answers::INFO, Some(sizes)) => self.bad_sizes(sizes),
+            (answers::INFO, None) => self.wrong(info_reason(data)),
+            (answers::META_CONTEXT, _) if data.len() < 4 => self.wrong(
+                "its data is shorter than the id of a context, which has 4 bytes",
+            ),
+            (answers::META_CONTEXT, _) => self.wrong(
+                "a context that was selected before has the same id",
+            ),
+            _ => self.wrong("an ACK has no data"),
         }
     }
 
-    // An INFO that has not its form, or block sizes that no server may announce: each that is wrong.
-    fn bad_info(self, data: &[u8]) -> Text {
-        match sizes_of(data) {
-            Some(sizes) => self
-                .wrong(least_reason(sizes))
-                .wrong(preferred_reason(sizes))
-                .wrong(largest_reason(sizes)),
-            None => self.wrong(info_reason(data)),
-        }
+    // What of these block sizes no server may announce: each that is wrong.
+    fn bad_sizes(self, sizes: Sizes) -> Text {
+        let has_least = sizes.least.is_power_of_two();
+        let has_preferred = sizes.preferred.is_power_of_two();
+        let is_small = sizes.preferred < PREFERRED_SIZE;
+        let has_largest = sizes.largest == 0
+            || sizes.largest == NO_LARGEST_SIZE
+            || sizes.largest.is_multiple_of(sizes.least);
+        self.wrong_if(!has_least, "the least block size is no power of 2")
+            .wrong_if(
+                has_least && sizes.least > LEAST_SIZE,
+                "the least block size is above 65536",
+            )
+            .wrong_if(!has_preferred, "the preferred block size is no power of 2")
+            .wrong_if(
+                has_preferred && is_small,
+                "the preferred block size is below 512",
+            )
+            .wrong_if(
+                has_preferred && !is_small && sizes.preferred < sizes.least,
+                "the preferred block size is below the least",
+            )
+            .wrong_if(sizes.largest == 0, "the largest block size is 0")
+            .wrong_if(
+                !has_largest,
+                "the largest block size is no multiple of the least",
+            )
     }
+}
+
+// The place of the first byte behind the head of a message.
+fn first_behind(told: &Told) -> u64 {
+    told.first
+        .saturating_add(told.length.saturating_sub(told.payload))
+}
+
+// How many bytes of data stand behind the name that they begin with, and its length.
+fn end_of_name(data: &[u8]) -> u64 {
+    number_in(data, 0, 4).saturating_add(4)
+}
+
+// How many of these bytes stand behind so many of them.
+fn count_behind(data: &[u8], count: u64) -> u64 {
+    (data.len() as u64).saturating_sub(count)
 }
 
 // Why an INFO has not its form.
-fn info_reason(data: &[u8]) -> Option<&'static str> {
+fn info_reason(data: &[u8]) -> &'static str {
     if data.len() < 2 {
-        return Some("its data is shorter than the kind of an info, which has 2 bytes");
-    }
-    if number_in(data, 0, 2) == u64::from(infos::BLOCK_SIZE) {
-        Some("the data of an info on block sizes has 14 bytes")
+        "its data is shorter than the kind of an info, which has 2 bytes"
+    } else if number_in(data, 0, 2) == u64::from(infos::BLOCK_SIZE) {
+        "the data of an info on block sizes has 14 bytes"
     } else if data.len() != 12 {
-        Some("the data of an info on the export has 12 bytes")
+        "the data of an info on the export has 12 bytes"
     } else {
-        Some("the info on the export lacks HAS_FLAGS (0x1)")
+        "the info on the export lacks HAS_FLAGS (0x1)"
     }
-}
-
-// Why a server may not announce this least block size.
-fn least_reason(sizes: Sizes) -> Option<&'static str> {
-    if !sizes.least.is_power_of_two() {
-        Some("the least block size is no power of 2")
-    } else if sizes.least > LEAST_SIZE {
-        Some("the least block size is above 65536")
-    } else {
-        None
-    }
-}
-
-// Why a server may not announce this preferred block size.
-fn preferred_reason(sizes: Sizes) -> Option<&'static str> {
-    if !sizes.preferred.is_power_of_two() {
-        Some("the preferred block size is no power of 2")
-    } else if sizes.preferred < PREFERRED_SIZE {
-        Some("the preferred block size is below 512")
-    } else if sizes.preferred < sizes.least {
-        Some("the preferred block size is below the least")
-    } else {
-        None
-    }
-}
-
-// Why a server may not announce this largest block size.
-fn largest_reason(sizes: Sizes) -> Option<&'static str> {
-    if sizes.largest == 0 {
-        Some("the largest block size is 0")
-    } else if sizes.largest == NO_LARGEST_SIZE || sizes.largest.is_multiple_of(sizes.least) {
-        None
-    } else {
-        Some("the largest block size is no multiple of the least")
-    }
-}
-
-// Why a context has not its form, or may not be selected.
-fn context_reason(data: &[u8]) -> Option<&'static str> {
-    if data.len() < 4 {
-        Some("its data is shorter than the id of a context, which has 4 bytes")
-    } else {
-        Some("a context that was selected before has the same id")
-    }
-}
-
-// The number that so many bytes from an index on are; of bytes that are not there all, 0.
-fn number_in(bytes: &[u8], from: usize, length: usize) -> u64 {
-    let mut number = 0u64;
-    for byte in bytes.get(from..from.saturating_add(length)).unwrap_or(&[]) {
-        number = number.wrapping_mul(256).wrapping_add(u64::from(*byte));
-    }
-    number
 }

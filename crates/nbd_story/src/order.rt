@@ -1,8 +1,9 @@
 //! Why no session with these bytes is served in an order.
 
-use crate::explanation::Sources;
-use crate::parts::{Parts, first_outside, has_offset, inside, shared};
-use crate::story::{Request, Story, range};
+use crate::explanation::{NO_PLACE, Sources};
+use crate::layers::Stretches;
+use crate::parts::{has_offset, meet, outside, part_in};
+use crate::requests::{Request, range};
 use crate::text::Text;
 use nbd_judge::{OrderFault, order_rule};
 use nbd_wire::{Entry, Part};
@@ -15,44 +16,23 @@ impl Text {
         alloc: Global,
         entry: u64,
         fault: OrderFault,
-        sources: Sources<'_>,
+        sources: &Sources<'_>,
     ) -> Text {
         let text = self.rule(&order_rule(fault), "the order that was given");
-        match fault {
-            OrderFault::Missing => text.missing(sources.story.request(entry)),
-            OrderFault::NotCovered => text.uncovered(alloc, sources.story.request(entry), sources),
-            _ => text.wrong_place(entry.saturating_sub(1) as usize, fault, sources),
-        }
-    }
-
-    // A request that no entry names.
-    fn missing(self, request: Option<&Request>) -> Text {
-        match request {
-            Some(request) => self.moments("no entry: ", request),
-            None => self,
-        }
-    }
-
-    // A request that its parts do not cover, and the first bytes that no part serves.
-    fn uncovered(self, alloc: Global, request: Option<&Request>, sources: Sources<'_>) -> Text {
-        match request {
-            Some(request) => self
+        let request = sources.story.request(entry);
+        let size = sources.story.export.size;
+        let place = entry.wrapping_sub(1) as usize;
+        match (fault, sources.order.get(place)) {
+            (OrderFault::Missing, _) => text.moments("no entry: ", request),
+            (OrderFault::NotCovered, _) => text
                 .moments("request: ", request)
-                .range(request, sources.story)
+                .range(request, size)
                 .gap(
-                    Parts::served(alloc, request, sources.order),
-                    inside(request, sources.story.size()),
+                    &Stretches::served(alloc, request.number, request.inside(size), sources.order),
                     ", which no part serves\n",
                 ),
-            None => self,
-        }
-    }
-
-    // What is wrong at this place of the order, counted from 0.
-    fn wrong_place(self, place: usize, fault: OrderFault, sources: Sources<'_>) -> Text {
-        match sources.order.get(place) {
-            Some(entry) => self.wrong_entry(place, entry, fault, sources),
-            None => self,
+            (_, Some(entry)) => text.wrong_entry(place, entry, fault, sources),
+            (_, None) => text,
         }
     }
 
@@ -62,180 +42,152 @@ impl Text {
         place: usize,
         entry: &Entry,
         fault: OrderFault,
-        sources: Sources<'_>,
+        sources: &Sources<'_>,
     ) -> Text {
-        let text = match fault {
-            OrderFault::Twice => self.first_naming(place, entry, sources),
-            _ => self,
-        };
-        let text = text.entry(place, entry, sources.story);
-        match (fault, sources.story.request(entry.request)) {
-            (OrderFault::Late, Some(request)) => text.earlier(place, request, sources),
-            (OrderFault::BadPart, Some(request)) => text
-                .range(request, sources.story)
+        let request = sources.story.request(entry.request);
+        match fault {
+            OrderFault::Twice => self
+                .entry_at(first_naming(place, entry, sources.order), sources)
+                .entry_at(place, sources),
+            OrderFault::Late => self
+                .entry_at(place, sources)
+                .entry_at(earlier(place, request, sources), sources),
+            OrderFault::BadPart => self
+                .entry_at(place, sources)
+                .range(request, sources.story.export.size)
                 .bad_part(place, entry, request, sources),
-            _ => text,
+            _ => self.entry_at(place, sources),
         }
     }
 
-    // The first entry that an entry repeats: one that serves the request atomically, or any where the entry itself does.
-    fn first_naming(self, place: usize, entry: &Entry, sources: Sources<'_>) -> Text {
-        for (at, other) in sources.order.iter().enumerate() {
-            let is_whole = other.part.is_none() || entry.part.is_none();
-            if at < place && other.request == entry.request && is_whole {
-                return self.entry(at, other, sources.story);
-            }
-        }
-        self
-    }
-
-    // The first entry behind a late one whose reply had begun before the late one's request was whole.
-    fn earlier(self, place: usize, late: &Request, sources: Sources<'_>) -> Text {
-        for (at, other) in sources.order.iter().enumerate() {
-            if at > place {
-                if let Some(request) = sources.story.request(other.request) {
-                    if request.is_before(late) {
-                        return self.entry(at, other, sources.story);
-                    }
-                }
-            }
-        }
-        self
-    }
-
-    // The place of an entry, counted from 0, the part that it serves, and its request.
-    fn entry(self, place: usize, entry: &Entry, story: &Story) -> Text {
+    // The entry at a place of the order, if there is one, and the request that it serves.
+    fn entry_at(self, place: usize, sources: &Sources<'_>) -> Text {
+        let Some(entry) = sources.order.get(place) else {
+            return self;
+        };
+        let request = sources.story.request(entry.request);
         let text = self
-            .number("entry ", (place as u64).saturating_add(1))
-            .say(": ")
+            .number("entry {}: ", (place as u64).saturating_add(1))
             .part_served(entry, " of ");
-        match story.request(entry.request) {
-            Some(request) => text.moments("", request),
-            None => text
-                .number("request ", entry.request)
-                .say("; the capture has ")
-                .count(story.requests.len() as u64, "request")
-                .end(),
+        if request.is_there() {
+            text.moments("", request)
+        } else {
+            text.fill(
+                "request {}; the capture has {request}\n",
+                &[entry.request, sources.story.requests.len() as u64],
+            )
         }
     }
 
     // A request, when it had come whole, and when its first reply began.
     fn moments(self, label: &str, request: &Request) -> Text {
-        let text = self
-            .say(label)
-            .request(&request.head, Some(request.number))
-            .number("; whole at byte ", request.last);
-        match request.replied {
-            Some(first) => text.number(", first reply at byte ", first).end(),
-            None => text.say(", no reply\n"),
-        }
-    }
-
-    // What a request asks for of the export.
-    fn range(self, request: &Request, story: &Story) -> Text {
-        if request.has_inside() {
-            self.part("range: ", range(&request.head)).range_in(
-                range(&request.head),
-                inside(request, story.size()),
-                story.size(),
+        self.say(label)
+            .request(&request.head, request.number)
+            .number("; whole at byte {}", request.last)
+            .number_or(
+                request.replied,
+                ", first reply at byte {}\n",
+                ", no reply\n",
             )
-        } else {
-            self.say("range: none, ")
-                .numbered(request)
-                .say(" can be served only atomically\n")
-        }
     }
 
-    // How much of a range lies inside the export.
-    fn range_in(self, range: Part, inside: Part, size: u64) -> Text {
-        if inside.length == range.length {
-            self.say(", in the export of ").count(size, "byte").end()
+    // What a request asks for, and how much of that lies inside an export of this size.
+    fn range(self, request: &Request, size: u64) -> Text {
+        if !request.has_inside() {
+            return self
+                .numbered("range: none, ", request)
+                .say(" can be served only atomically\n");
+        }
+        let inside = request.inside(size);
+        let text = self.part("range: ", range(&request.head));
+        if inside.length == u64::from(request.head.length) {
+            text.number(", in the export of {byte}\n", size)
         } else if inside.length == 0 {
-            self.say(", beyond the end of the export of ")
-                .count(size, "byte")
-                .end()
+            text.number(", beyond the end of the export of {byte}\n", size)
         } else {
-            self.say(", in the export of ")
-                .count(size, "byte")
-                .part(" only ", inside)
-                .end()
+            text.fill(
+                ", in the export of {byte} only {byte} at {}\n",
+                &[size, inside.length, inside.offset],
+            )
         }
     }
 
-    // What is wrong with the part of an entry: each that is.
+    // What is wrong with the part of an entry: each that is. Of what an earlier entry serves of the request already, the first offset is
+    // told, and that entry.
     fn bad_part(
         self,
         place: usize,
         entry: &Entry,
         request: &Request,
-        sources: Sources<'_>,
+        sources: &Sources<'_>,
     ) -> Text {
-        match entry.part {
-            Some(part) => self
-                .empty(part)
-                .outside(part, request, sources.story)
-                .shared(place, entry.request, part, sources),
-            None => self,
-        }
-    }
-
-    fn empty(self, part: Part) -> Text {
-        if part.length == 0 {
-            self.say("wrong: the part is empty\n")
-        } else {
-            self
-        }
+        let Some(part) = entry.part else {
+            return self;
+        };
+        let (offset, at) = first_shared(place, entry.request, part, sources.order);
+        self.say_if(part.length == 0, "wrong: the part is empty\n")
+            .outside(part, request, sources.story.export.size)
+            .fill_if(
+                at < place,
+                "wrong: the part has offset {}, which entry {} serves already\n",
+                &[offset, (at as u64).saturating_add(1)],
+            )
+            .entry_at(at, sources)
     }
 
     // The first offset of a part that lies outside its request.
-    fn outside(self, part: Part, request: &Request, story: &Story) -> Text {
-        match first_outside(part, inside(request, story.size())) {
-            Some(offset) => self
-                .number("wrong: the part has offset ", offset)
-                .say(side_of_range(request, offset)),
-            None => self,
+    fn outside(self, part: Part, request: &Request, size: u64) -> Text {
+        let rest = outside(part, request.inside(size));
+        let is_in_range = request.has_inside() && has_offset(range(&request.head), rest.offset);
+        if rest.length == 0 {
+            return self;
         }
-    }
-
-    // The first offset of a part that an earlier entry serves of the request already, and that entry.
-    fn shared(self, place: usize, request: u64, part: Part, sources: Sources<'_>) -> Text {
-        match first_shared(place, request, part, sources.order) {
-            Some((offset, at, other)) => self
-                .number("wrong: the part has offset ", offset)
-                .number(", which entry ", (at as u64).saturating_add(1))
-                .say(" serves already\n")
-                .entry(at, other, sources.story),
-            None => self,
-        }
+        self.number("wrong: the part has offset {}", rest.offset)
+            .say_either(
+                is_in_range,
+                ", which lies beyond the end of the export\n",
+                ", which lies outside the request's range\n",
+            )
     }
 }
 
-// The least offset of a part that an entry before a place serves of this request, and that entry.
-fn first_shared(
-    place: usize,
-    request: u64,
-    part: Part,
-    order: &[Entry],
-) -> Option<(u64, usize, &Entry)> {
-    let mut found = None;
+// The place of the first entry that an entry repeats: one that serves the request atomically, or any where the entry itself does.
+fn first_naming(place: usize, entry: &Entry, order: &[Entry]) -> usize {
+    for at in 0..place.min(order.len()) {
+        let is_whole = order[at].part.is_none() || entry.part.is_none();
+        if order[at].request == entry.request && is_whole {
+            return at;
+        }
+    }
+    NO_PLACE
+}
+
+// The place of the first entry behind a late one whose reply had begun before the late one's request was whole.
+fn earlier(place: usize, late: &Request, sources: &Sources<'_>) -> usize {
+    for at in place.saturating_add(1)..sources.order.len() {
+        if sources
+            .story
+            .request(sources.order[at].request)
+            .is_before(late)
+        {
+            return at;
+        }
+    }
+    NO_PLACE
+}
+
+// The least offset of a part that an entry before a place serves of this request, and the place of that entry.
+fn first_shared(place: usize, request: u64, part: Part, order: &[Entry]) -> (u64, usize) {
+    let mut found = (0, NO_PLACE);
     let mut rest = part;
-    for (at, entry) in order.iter().enumerate() {
-        if let (true, Some(other)) = (at < place && entry.request == request, entry.part) {
-            if let Some(offset) = shared(rest, other) {
-                // From here on only what lies before that counts.
-                found = Some((offset, at, entry));
-                rest.length = offset.saturating_sub(part.offset);
-            }
+    for at in 0..place.min(order.len()) {
+        let other = part_in(&order[at], request);
+        if meet(rest, other) {
+            let offset = part.offset.max(other.offset);
+            // From here on only what lies before that counts.
+            rest.length = offset.saturating_sub(part.offset);
+            found = (offset, at);
         }
     }
     found
-}
-
-// Where an offset lies that is not inside a request.
-fn side_of_range(request: &Request, offset: u64) -> &'static str {
-    if request.has_inside() && has_offset(range(&request.head), offset) {
-        ", which lies beyond the end of the export\n"
-    } else {
-        ", which lies outside the request's range\n"
-    }
 }

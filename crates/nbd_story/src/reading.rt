@@ -1,142 +1,167 @@
 //! Messages read from the bytes of a side.
 
-use crate::brief::{Brief, Brought};
-use crate::story::{Story, Told, range};
-use nbd_state::Export;
+use crate::requests::range;
+use crate::story::Story;
+use crate::told::{Form, NO_MESSAGE, Told};
 use nbd_wire::{
-    ChunkHead, Content, Part, RequestHead, Side, SimpleHead, answer_head, answers, choice_head,
-    chunk_head, client_flags_head, commands, content_of, export_head, failure_of, greeting_head,
-    head_lengths, info_of, options, request_head, simple_head,
+    Content, Part, RequestHead, Side, SimpleHead, answer_head, bytes_in, choice_head, chunk_head,
+    client_flags_head, commands, content_of, export_head, failure_of, greeting_head, head_lengths,
+    options, request_head, simple_head,
 };
 
 impl Story {
     /// The message that a side has begun behind its messages, if its head is there.
-    pub fn begun(&self, side: Side) -> Option<Told> {
+    pub fn begun(&self, side: Side) -> Told {
         let before = self.count(side);
         let bytes = self.recording.bytes_from(side, before);
-        let brief = match side {
+        let mut told = match side {
             Side::Client => self.begun_by_client(bytes),
             Side::Server => self.begun_by_server(bytes),
         };
-        match brief {
-            Some(brief) => Some(self.told_of(side, before, brief)),
-            None => None,
-        }
+        let end = before.saturating_add(told.length);
+        told.side = side;
+        told.request = self.request_of(&told);
+        told.before = before;
+        told.first = self.recording.place(side, before);
+        told.last = self.recording.place(side, end.saturating_sub(1));
+        told
     }
 
-    // A message of a side with its places.
-    fn told_of(&self, side: Side, before: u64, brief: Brief) -> Told {
-        let length = self.length_of(&brief);
-        let end = before.saturating_add(length).saturating_sub(1);
-        Told {
-            side,
-            brief,
-            request: self.request_of(&brief),
-            before,
-            length,
-            first: self.recording.place(side, before),
-            last: self.recording.place(side, end),
-        }
-    }
-
-    fn begun_by_client(&self, bytes: &[u8]) -> Option<Brief> {
+    fn begun_by_client(&self, bytes: &[u8]) -> Told {
         if self.is_transmission {
-            request_head(slice(bytes, 0, head_lengths::REQUEST)).map(Brief::Request)
+            request(bytes)
         } else if self.client == 0 {
-            client_flags_head(slice(bytes, 0, head_lengths::CLIENT_FLAGS)).map(Brief::ClientFlags)
+            client_flags(bytes)
         } else {
-            choice_head(slice(bytes, 0, head_lengths::CHOICE)).map(Brief::Choice)
+            choice(bytes)
         }
     }
 
-    fn begun_by_server(&self, bytes: &[u8]) -> Option<Brief> {
+    fn begun_by_server(&self, bytes: &[u8]) -> Told {
         if self.is_transmission {
             self.reply(bytes)
         } else if self.server == 0 {
-            greeting_head(slice(bytes, 0, head_lengths::GREETING)).map(Brief::Greeting)
+            greeting(bytes)
         } else if self.option == options::EXPORT_NAME {
-            exported(bytes)
+            exported(bytes, self.padding)
         } else {
             answer(bytes)
         }
     }
 
-    fn reply(&self, bytes: &[u8]) -> Option<Brief> {
-        match simple_head(slice(bytes, 0, head_lengths::SIMPLE)) {
-            Some(head) => Some(Brief::Simple(head, self.part_read(head))),
+    fn reply(&self, bytes: &[u8]) -> Told {
+        match simple_head(bytes_in(bytes, 0, head_lengths::SIMPLE)) {
+            Some(head) => self.simple(head),
             None => chunk(bytes),
         }
     }
 
-    // The part of the export that a simple reply brings to a READ.
-    fn part_read(&self, head: SimpleHead) -> Option<Part> {
-        match self.answered(head.cookie) {
-            Some(request) if head.error == 0 && request.head.command == commands::READ => Some(
-                range(&request.head),
-            ),
-            _ => None,
+    // A simple reply, which brings a READ its part of the export.
+    fn simple(&self, head: SimpleHead) -> Told {
+        let request = self.answered(head.cookie);
+        let mut told = message(Form::Simple, head_lengths::SIMPLE, 0);
+        told.cookie = head.cookie;
+        told.error = head.error;
+        if head.error == 0 && request.head.command == commands::READ {
+            told.part = range(&request.head);
+            told.payload = told.part.length;
+            told.length = told.length.saturating_add(told.payload);
         }
-    }
-
-    // How many bytes a message has.
-    fn length_of(&self, brief: &Brief) -> u64 {
-        let (head, payload) = match brief {
-            Brief::Greeting(_) => (head_lengths::GREETING, 0),
-            Brief::ClientFlags(_) => (head_lengths::CLIENT_FLAGS, 0),
-            Brief::Choice(head) => (head_lengths::CHOICE, u64::from(head.length)),
-            Brief::Answer(head, _) => (head_lengths::ANSWER, u64::from(head.length)),
-            Brief::Exported(_) => (head_lengths::EXPORT, self.padding),
-            Brief::Request(head) => (head_lengths::REQUEST, written(head)),
-            Brief::Simple(_, Some(part)) => (head_lengths::SIMPLE, part.length),
-            Brief::Simple(_, None) => (head_lengths::SIMPLE, 0),
-            Brief::Chunk(head, _) => (head_lengths::CHUNK, u64::from(head.length)),
-        };
-        payload.saturating_add(head as u64)
+        told
     }
 }
 
-// How many bytes a request writes.
-fn written(head: &RequestHead) -> u64 {
-    if head.command == commands::WRITE {
+// One with a head of this length, and so many bytes behind it.
+fn message(form: Form, head: usize, payload: u64) -> Told {
+    let mut told = NO_MESSAGE;
+    told.form = form;
+    told.payload = payload;
+    told.length = payload.saturating_add(head as u64);
+    told
+}
+
+fn request(bytes: &[u8]) -> Told {
+    let Some(head) = request_head(bytes_in(bytes, 0, head_lengths::REQUEST)) else {
+        return NO_MESSAGE;
+    };
+    let written = if head.command == commands::WRITE {
         u64::from(head.length)
     } else {
         0
-    }
-}
-
-// So many bytes from an index on; none where not all of them are there.
-fn slice(bytes: &[u8], from: usize, length: usize) -> &[u8] {
-    bytes.get(from..from.saturating_add(length)).unwrap_or(&[])
-}
-
-fn exported(bytes: &[u8]) -> Option<Brief> {
-    let (size, flags) = export_head(slice(bytes, 0, head_lengths::EXPORT))?;
-    Some(Brief::Exported(Export { size, flags }))
-}
-
-// An option reply, and what it states, if it is an INFO.
-fn answer(bytes: &[u8]) -> Option<Brief> {
-    let head = answer_head(slice(bytes, 0, head_lengths::ANSWER))?;
-    let info = if head.kind == answers::INFO {
-        info_of(slice(bytes, head_lengths::ANSWER, head.length as usize))
-    } else {
-        None
     };
-    Some(Brief::Answer(head, info))
+    let mut told = message(Form::Request, head_lengths::REQUEST, written);
+    told.flags = head.flags;
+    told.kind = head.command;
+    told.cookie = head.cookie;
+    told.part = range(&head);
+    told
 }
 
-fn chunk(bytes: &[u8]) -> Option<Brief> {
-    let head = chunk_head(slice(bytes, 0, head_lengths::CHUNK))?;
-    let payload = slice(bytes, head_lengths::CHUNK, head.length as usize);
-    Some(Brief::Chunk(head, brought(head, payload)))
+fn client_flags(bytes: &[u8]) -> Told {
+    let Some(flags) = client_flags_head(bytes_in(bytes, 0, head_lengths::CLIENT_FLAGS)) else {
+        return NO_MESSAGE;
+    };
+    let mut told = message(Form::ClientFlags, head_lengths::CLIENT_FLAGS, 0);
+    told.choice = flags;
+    told
 }
 
-// What a chunk brings.
-fn brought(head: ChunkHead, payload: &[u8]) -> Option<Brought> {
-    match content_of(head.kind, payload) {
-        Some(content) => Some(Brought::Content(part_of(content))),
-        None => failure_of(head.kind, payload).map(Brought::Failure),
+fn choice(bytes: &[u8]) -> Told {
+    let Some(head) = choice_head(bytes_in(bytes, 0, head_lengths::CHOICE)) else {
+        return NO_MESSAGE;
+    };
+    let mut told = message(Form::Choice, head_lengths::CHOICE, u64::from(head.length));
+    told.choice = head.id;
+    told
+}
+
+fn greeting(bytes: &[u8]) -> Told {
+    let Some(flags) = greeting_head(bytes_in(bytes, 0, head_lengths::GREETING)) else {
+        return NO_MESSAGE;
+    };
+    let mut told = message(Form::Greeting, head_lengths::GREETING, 0);
+    told.flags = flags;
+    told
+}
+
+// An export, and so many zeroes behind it.
+fn exported(bytes: &[u8], padding: u64) -> Told {
+    let Some((size, flags)) = export_head(bytes_in(bytes, 0, head_lengths::EXPORT)) else {
+        return NO_MESSAGE;
+    };
+    let mut told = message(Form::Exported, head_lengths::EXPORT, padding);
+    told.flags = flags;
+    told.part.length = size;
+    told
+}
+
+fn answer(bytes: &[u8]) -> Told {
+    let Some(head) = answer_head(bytes_in(bytes, 0, head_lengths::ANSWER)) else {
+        return NO_MESSAGE;
+    };
+    let mut told = message(Form::Answer, head_lengths::ANSWER, u64::from(head.length));
+    told.choice = head.option;
+    told.answer = head.kind;
+    told
+}
+
+fn chunk(bytes: &[u8]) -> Told {
+    let Some(head) = chunk_head(bytes_in(bytes, 0, head_lengths::CHUNK)) else {
+        return NO_MESSAGE;
+    };
+    let payload = bytes_in(bytes, head_lengths::CHUNK, head.length as usize);
+    let mut told = message(Form::Chunk, head_lengths::CHUNK, u64::from(head.length));
+    told.flags = head.flags;
+    told.kind = head.kind;
+    told.cookie = head.cookie;
+    if let Some(content) = content_of(head.kind, payload) {
+        told.part = part_of(content);
     }
+    if let Some(failure) = failure_of(head.kind, payload) {
+        told.error = failure.error;
+        told.part.offset = failure.offset.unwrap_or(0);
+    }
+    told
 }
 
 // Where content lies.
@@ -151,4 +176,13 @@ fn part_of(content: Content<'_>) -> Part {
             length: u64::from(size),
         },
     }
+}
+
+/// The number that so many bytes from an index on are; of bytes that are not there all, 0.
+pub fn number_in(bytes: &[u8], from: u64, length: u64) -> u64 {
+    let mut number = 0u64;
+    for byte in bytes_in(bytes, from as usize, length as usize) {
+        number = number.wrapping_mul(256).wrapping_add(u64::from(*byte));
+    }
+    number
 }

@@ -13,6 +13,13 @@ struct Stretch {
     server: u64,
 }
 
+/// What stands for a stretch where no byte came.
+const NO_STRETCH: Stretch = Stretch {
+    side: Side::Client,
+    client: 0,
+    server: 0,
+};
+
 impl Stretch {
     // How many bytes of this side stand before them, or of both.
     fn count(&self, side: Option<Side>) -> u64 {
@@ -52,7 +59,7 @@ impl Recording {
 
     /// Takes the next bytes, which this side sent.
     pub fn add(&mut self, side: Side, bytes: &[u8]) -> Result<(), AllocError> {
-        if self.begins(side) {
+        if self.sender(self.len()) != Some(side) {
             self.stretches.push(Stretch {
                 side,
                 client: self.client.len() as u64,
@@ -62,14 +69,6 @@ impl Recording {
         match side {
             Side::Client => self.client.extend_from_slice(bytes),
             Side::Server => self.server.extend_from_slice(bytes),
-        }
-    }
-
-    // Whether the bytes that came last are not of this side.
-    fn begins(&self, side: Side) -> bool {
-        match self.stretches.last() {
-            Some(stretch) => stretch.side != side,
-            None => true,
         }
     }
 
@@ -91,55 +90,64 @@ impl Recording {
         self.bytes(side).get(before as usize..).unwrap_or(&[])
     }
 
+    /// The first of these, so many of them as there are.
+    pub fn bytes_at(&self, side: Side, before: u64, length: u64) -> &[u8] {
+        let bytes = self.bytes_from(side, before);
+        bytes.get(..length as usize).unwrap_or(bytes)
+    }
+
     /// The byte of a side that has so many of this side before it.
     pub fn byte_of(&self, side: Side, before: u64) -> Option<u8> {
         self.bytes(side).get(before as usize).copied()
     }
 
     // The last stretch before which at most so many bytes of a side stand, or of both.
-    fn stretch(&self, side: Option<Side>, most: u64) -> Option<&Stretch> {
+    fn stretch(&self, side: Option<Side>, most: u64) -> Stretch {
         let after = self
             .stretches
             .partition_point(|stretch| stretch.count(side) <= most);
-        self.stretches.get(after.saturating_sub(1))
+        self.stretches
+            .get(after.saturating_sub(1))
+            .copied()
+            .unwrap_or(NO_STRETCH)
     }
 
     /// The place in the capture, from 1, of the byte of a side that has so many of this side before it.
     pub fn place(&self, side: Side, before: u64) -> u64 {
-        match self.stretch(Some(side), before) {
-            Some(stretch) => before
-                .saturating_add(stretch.count_of_other(side))
-                .saturating_add(1),
-            None => 0,
+        before
+            .saturating_add(self.stretch(Some(side), before).count_of_other(side))
+            .saturating_add(1)
+    }
+
+    /// The sender of the byte at this place of the capture, which is there.
+    pub fn side(&self, place: u64) -> Side {
+        self.stretch(None, place.saturating_sub(1)).side
+    }
+
+    /// The sender of the byte at this place of the capture, if there is one.
+    pub fn sender(&self, place: u64) -> Option<Side> {
+        if place.saturating_sub(1) < self.len() {
+            Some(self.side(place))
+        } else {
+            None
         }
     }
 
-    /// The byte at this place of the capture, and its sender.
-    pub fn byte(&self, place: u64) -> Option<(Side, u8)> {
-        let before = place.saturating_sub(1);
-        match self.stretch(None, before) {
-            Some(stretch) => self.byte_in(stretch, before),
-            None => None,
-        }
-    }
-
-    // The byte of a stretch that has so many bytes of both sides before it, and its sender.
-    fn byte_in(&self, stretch: &Stretch, before: u64) -> Option<(Side, u8)> {
-        let others = stretch.count_of_other(stretch.side);
-        match self.byte_of(stretch.side, before.saturating_sub(others)) {
-            Some(byte) => Some((stretch.side, byte)),
-            None => None,
-        }
+    /// The byte at this place of the capture, which this side sent.
+    pub fn byte(&self, side: Side, place: u64) -> u8 {
+        let count = self.count_up_to(side, place);
+        self.byte_of(side, count.saturating_sub(1)).unwrap_or(0)
     }
 
     /// How many bytes of a side stand up to this place of the capture, with the byte there.
     pub fn count_up_to(&self, side: Side, place: u64) -> u64 {
-        match self.stretch(None, place.saturating_sub(1)) {
-            Some(stretch) if stretch.side == side => place
+        let stretch = self.stretch(None, place.saturating_sub(1));
+        if stretch.side == side {
+            place
                 .saturating_sub(stretch.count_of_other(side))
-                .min(self.bytes(side).len() as u64),
-            Some(stretch) => stretch.count(Some(side)),
-            None => 0,
+                .min(self.bytes(side).len() as u64)
+        } else {
+            stretch.count(Some(side))
         }
     }
 }

@@ -1,51 +1,34 @@
 //! What a refused message is to be compared with.
 
+use crate::arriving::last_told;
+use crate::content::bringer;
 use crate::improper::{chunk_reason, content_reason};
-use crate::parts::{Parts, shared};
-use crate::story::{Request, Story, Told, range};
+use crate::layers::{Stretch, Stretches};
+use crate::requests::{NO_REQUEST, Request, range};
+use crate::story::Story;
 use crate::text::Text;
+use crate::told::Told;
 use nbd_wire::flags::has;
 use nbd_wire::{Part, Side, WireFault, command_flags};
 use std::alloc::Global;
 
 /// How many outstanding requests are listed.
-const LISTED: usize = 8;
-
-impl Told {
-    // Whether it brings the request with this number content that shares an offset with a part.
-    fn brings(&self, request: u64, part: Part) -> bool {
-        match self.content_to(request) {
-            Some(content) => shared(content, part).is_some(),
-            None => false,
-        }
-    }
-}
-
-impl Story {
-    /// The first message that brings the request with this number content with an offset of a part.
-    pub fn bringer(&self, request: u64, part: Part) -> Option<&Told> {
-        for told in &self.told {
-            if told.brings(request, part) {
-                return Some(told);
-            }
-        }
-        None
-    }
-}
+const LISTED: u64 = 8;
 
 impl Text {
     /// Adds the requests, the chunks and the export that a refused message is to be compared with.
     pub fn related(self, alloc: Global, fault: WireFault, told: &Told, story: &Story) -> Text {
-        match told.brief.cookie() {
-            Some(cookie) if fault == WireFault::UnknownCookie => self
-                .answered_before(cookie, story)
+        let request = story.answered(told.cookie);
+        if !told.has_cookie() {
+            self.negotiation_reason(fault, told, story)
+        } else if fault == WireFault::UnknownCookie {
+            self.answered_before(told.cookie, story)
                 .outstanding(story)
-                .arriving(told, story),
-            Some(cookie) => match story.answered(cookie) {
-                Some(request) => self.holder(alloc, fault, told, request, story),
-                None => self,
-            },
-            None => self.negotiation_reason(fault, told, story),
+                .arriving(told, story)
+        } else if request.is_there() {
+            self.holder(alloc, fault, told, request, story)
+        } else {
+            self
         }
     }
 
@@ -58,16 +41,27 @@ impl Text {
         request: &Request,
         story: &Story,
     ) -> Text {
-        match told.side {
-            Side::Server => self
+        match (told.side, fault) {
+            (Side::Server, _) => self
                 .asked("request: ", request)
                 .end()
                 .reason(alloc, fault, told, request, story),
-            _ if fault == WireFault::CookieInUse => self
+            (Side::Client, WireFault::CookieInUse) => self
                 .asked("outstanding: ", request)
                 .end()
-                .without_done(request, story),
+                .without_done(last_told(&story.told, Side::Server, request.number), story),
             _ => self,
+        }
+    }
+
+    // The last message of a reply that has begun and not ended, and who is to mend that where the server took it for ended.
+    fn without_done(self, reply: &Told, story: &Story) -> Text {
+        if reply.is_there() {
+            self.told_so_far("reply so far: ", reply, story).say(
+                "; no DONE (0x1), so the request is outstanding; if the server left DONE out, it is the one to mend\n",
+            )
+        } else {
+            self
         }
     }
 
@@ -81,14 +75,20 @@ impl Text {
         story: &Story,
     ) -> Text {
         match fault {
-            WireFault::SuccessOfImproper => self.export_told(request, story),
+            WireFault::SuccessOfImproper => self
+                .export("export: ", story.export.size, story.export.flags)
+                .end()
+                .improper(&request.head, story),
             WireFault::BadChunk => self.wrong(chunk_reason(told, story)),
-            WireFault::BadContent => self
-                .wrong(content_reason(told, request, story))
-                .rival(told, request, story),
+            WireFault::BadContent => self.wrong(content_reason(told, request, story)).told(
+                "content before: ",
+                bringer(&story.told, request.number, rivalled(told.part, request)),
+                story,
+            ),
             WireFault::IncompleteRead => self.gap(
-                parts_brought(alloc, told, request, story),
-                range(&request.head),
+                &Stretches::got(alloc, request.number, range(&request.head), story).with(
+                    Stretch::brought_by(told, request.number),
+                ),
                 ", which no chunk brings\n",
             ),
             WireFault::IncompleteStatus => self.missing_statuses(alloc, told, request, story),
@@ -96,90 +96,53 @@ impl Text {
         }
     }
 
-    fn export_told(self, request: &Request, story: &Story) -> Text {
-        match story.export {
-            Some(export) => self
-                .say("export: ")
-                .export(export)
-                .end()
-                .improper(&request.head, export, story),
-            None => self,
-        }
-    }
-
-    // The last request with this cookie whose reply is finished.
+    // The last request with a cookie whose reply is finished, if there is one.
     fn answered_before(self, cookie: u64, story: &Story) -> Text {
-        let mut found = None;
+        let mut last = &NO_REQUEST;
         for request in &story.requests {
-            if request.head.cookie == cookie && request.finished.is_some() {
-                found = Some(request);
+            if request.head.cookie == cookie && request.finished != 0 {
+                last = request;
             }
         }
-        match found {
-            Some(request) => self
-                .asked("answered before: ", request)
-                .number("; its reply ended at byte ", request.finished.unwrap_or(0))
-                .end(),
-            None => self,
+        if last.is_there() {
+            self.asked("answered before: ", last)
+                .number("; its reply ended at byte {}\n", last.finished)
+        } else {
+            self
         }
     }
 
     // The first outstanding requests, and how many more there are.
     fn outstanding(self, story: &Story) -> Text {
         let mut text = self;
-        let mut listed = 0;
+        let mut count = 0u64;
         for request in &story.requests {
-            if request.finished.is_none() && listed < LISTED {
-                text = text.asked("outstanding: ", request).end();
-                listed += 1;
+            if request.finished == 0 {
+                count = count.saturating_add(1);
+                if count <= LISTED {
+                    text = text.asked("outstanding: ", request).end();
+                }
             }
         }
-        text.more(story.outstanding.len(), listed)
+        text.say_if(count == 0, "outstanding: no request\n")
+            .more(count, LISTED, "outstanding: {} more\n")
     }
 
-    // How many more there are than were listed.
-    fn more(self, count: usize, listed: usize) -> Text {
-        if count == 0 {
-            self.say("outstanding: no request\n")
-        } else if count > listed {
-            self.number("outstanding: ", (count - listed) as u64)
-                .say(" more\n")
+    /// Adds the first bytes that are not known, where there are some, and what of them is said.
+    pub fn gap(self, parts: &Stretches, what: &str) -> Text {
+        let gap = parts.gap();
+        let text = self.refused_if(parts.is_refused);
+        if gap.length == 0 {
+            text
         } else {
-            self
-        }
-    }
-
-    // The first content to a request that shares an offset with that of a refused chunk, or with DF the first content.
-    fn rival(self, chunk: &Told, request: &Request, story: &Story) -> Text {
-        match chunk.brief.content() {
-            Some(part) => self.content_before(
-                story.bringer(request.number, rivalled(part, request)),
-                story,
-            ),
-            None => self,
-        }
-    }
-
-    fn content_before(self, told: Option<&Told>, story: &Story) -> Text {
-        match told {
-            Some(told) => self.told("content before: ", told, story).end(),
-            None => self,
-        }
-    }
-
-    /// Adds the first bytes of a range that no part has, where there are some, and what of them is said.
-    pub fn gap(self, parts: Parts, range: Part, what: &str) -> Text {
-        match parts.first_gap(range) {
-            Ok(Some(part)) => self.part("first gap: ", part).say(what),
-            Ok(None) => self,
-            Err(_) => self.refused(),
+            text.part("first gap: ", gap).say(what)
         }
     }
 }
 
 // What other content may not share with this part of a READ: with DF any offset.
 fn rivalled(part: Part, request: &Request) -> Part {
-    if has(request.head.flags, command_flags::DF) {
+    if part.length != 0 && has(request.head.flags, command_flags::DF) {
         Part {
             offset: 0,
             length: u64::MAX,
@@ -187,13 +150,4 @@ fn rivalled(part: Part, request: &Request) -> Part {
     } else {
         part
     }
-}
-
-// The parts that a refused chunk and the messages before it bring to a request.
-fn parts_brought(alloc: Global, chunk: &Told, request: &Request, story: &Story) -> Parts {
-    let mut parts = Parts::new(alloc).with(chunk.brief.content());
-    for told in &story.told {
-        parts = parts.with(told.content_to(request.number));
-    }
-    parts
 }

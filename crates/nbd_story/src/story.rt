@@ -1,105 +1,17 @@
 //! The messages of a session with their places, and what became of its requests.
 
-use crate::brief::Brief;
 use crate::contexts::Contexts;
-use crate::parts::has_offset;
 use crate::recording::Recording;
-use nbd_state::{Export, has_range, is_proper};
-use nbd_wire::flags::has_wide;
+use crate::requests::{NO_REQUEST, Request};
+use crate::told::{Form, Told};
+use nbd_state::{Export, is_proper};
+use nbd_wire::flags::{has, has_wide};
 use nbd_wire::{
-    AnswerHead, Info, Message, Part, Profile, RequestHead, Side, Sizing, answers, commands,
-    handshake, head_lengths, options, side_of,
+    Info, Message, Profile, Side, Sizing, answers, chunks, commands, handshake, head_lengths,
+    info_of, options, side_of,
 };
 use std::alloc::{AllocError, Global};
 use std::collections::BTreeMap;
-
-/// A message, its places in the capture, and the request that it is or answers.
-#[derive(Clone, Copy)]
-pub struct Told {
-    /// Its sender.
-    pub side: Side,
-    /// The message.
-    pub brief: Brief,
-    /// The number of that request.
-    pub request: Option<u64>,
-    /// How many bytes of its side stand before it.
-    pub before: u64,
-    /// How many bytes it has.
-    pub length: u64,
-    /// The place of its first byte, from 1.
-    pub first: u64,
-    /// The place of its last one.
-    pub last: u64,
-}
-
-impl Told {
-    /// Where the content lies that it brings to the request with this number.
-    pub fn content_to(&self, request: u64) -> Option<Part> {
-        match self.request {
-            Some(number) if number == request => self.brief.content(),
-            _ => None,
-        }
-    }
-}
-
-/// A numbered request.
-#[derive(Clone, Copy)]
-pub struct Request {
-    /// From 1, in the order of arrival.
-    pub number: u64,
-    /// What it asks for.
-    pub head: RequestHead,
-    /// How many bytes of the client stand before it.
-    pub before: u64,
-    /// The place of its first byte, from 1.
-    pub first: u64,
-    /// The place of its last one.
-    pub last: u64,
-    /// The place of the first byte of its reply.
-    pub replied: Option<u64>,
-    /// The place of the last byte of its reply.
-    pub finished: Option<u64>,
-    /// The error that its reply told; 0 where it told none.
-    pub error: u32,
-    /// Whether a client should send it to the export.
-    pub proper: bool,
-}
-
-impl Request {
-    /// Whether it changes the export at an offset.
-    pub fn changes(&self, offset: u64) -> bool {
-        is_change(self.head.command) && has_offset(range(&self.head), offset)
-    }
-
-    /// Whether an entry can serve a part of it: its type has a range, and it is no BLOCK_STATUS that is not proper.
-    pub fn has_inside(&self) -> bool {
-        has_range(self.head.command) && (self.proper || !self.is_status())
-    }
-
-    /// Whether it was surely served before another one: its reply began before that one had come whole.
-    pub fn is_before(&self, other: &Request) -> bool {
-        match self.replied {
-            Some(first) => first < other.last,
-            None => false,
-        }
-    }
-}
-
-/// Whether requests of this type change the export.
-pub fn is_change(command: u16) -> bool {
-    matches!(
-        command,
-        commands::WRITE | commands::TRIM | commands::WRITE_ZEROES
-    )
-}
-
-/// The part of the export that a request names.
-pub fn range(head: &RequestHead) -> Part {
-    Part {
-        offset: head.offset,
-        length: u64::from(head.length),
-    }
-}
 
 /// The messages of a session, and its requests.
 #[derive(Drop)]
@@ -118,8 +30,8 @@ pub struct Story {
     pub client: u64,
     /// How many the server's have.
     pub server: u64,
-    /// What the server said last of an export.
-    pub export: Option<Export>,
+    /// What the server said last of an export; an empty one before that.
+    pub export: Export,
     /// Whether the negotiation is over.
     pub is_transmission: bool,
     /// The option that the client chose last; 0 before the first.
@@ -130,14 +42,11 @@ pub struct Story {
     pub contexts: Contexts,
     /// What was said of block sizes.
     pub sizing: Sizing,
+    /// Memory was refused for something of this.
+    is_refused: bool,
 }
 
 impl Story {
-    /// What a message has behind a head of this length, as far as it has come.
-    pub fn behind(&self, told: &Told, head: usize) -> &[u8] {
-        payload_of(&self.recording, told, head)
-    }
-
     /// One of a session of this profile, without a byte and without a message; takes no memory.
     pub fn of(alloc: Global, profile: Profile) -> Story {
         Story {
@@ -148,129 +57,107 @@ impl Story {
             outstanding: BTreeMap::new(alloc),
             client: 0,
             server: 0,
-            export: None,
+            export: Export { size: 0, flags: 0 },
             is_transmission: false,
             option: 0,
             padding: head_lengths::PADDING as u64,
             contexts: Contexts::none(alloc),
             sizing: Sizing::none(),
+            is_refused: false,
         }
     }
 
     /// Tells messages, of which the recording has the bytes: all but who sent them is read from there.
     pub fn tell(&mut self, messages: &[Message]) -> Result<(), AllocError> {
         for message in messages {
-            if let Some(told) = self.begun(side_of(message)) {
-                self.note(&told)?;
-                self.told.push(told)?;
+            let told = self.begun(side_of(message));
+            if told.is_there() {
+                self.note(&told);
+                self.is_refused |= self.told.push(told).is_err();
             }
         }
-        Ok(())
+        if self.is_refused {
+            Err(AllocError)
+        } else {
+            Ok(())
+        }
     }
 
     // What a message changes: the phase, and what is known of a request.
-    fn note(&mut self, told: &Told) -> Result<(), AllocError> {
+    fn note(&mut self, told: &Told) {
         let end = told.before.saturating_add(told.length);
         match told.side {
             Side::Client => self.client = end,
             Side::Server => self.server = end,
         }
-        match (&told.brief, told.request) {
-            (Brief::Request(head), Some(number)) => return self.ask(told, *head, number),
-            (_, Some(number)) => self.answer(told, number),
-            (brief, None) => {
-                self.negotiate(brief);
-                return self.select(told);
-            }
-        }
-        Ok(())
-    }
-
-    // What a message of the negotiation says of metadata contexts and of block sizes.
-    fn select(&mut self, told: &Told) -> Result<(), AllocError> {
-        let before = told.before;
-        match &told.brief {
-            Brief::Choice(head) => {
-                let data = payload_of(&self.recording, told, head_lengths::CHOICE);
-                self.sizing = Sizing::at(head.id, data);
-                self.contexts.choose(head.id, data)
-            }
-            Brief::Answer(head, _) => {
-                let data = payload_of(&self.recording, told, head_lengths::ANSWER);
-                let before = before.saturating_add(head_lengths::ANSWER as u64);
-                self.sizing = self.sizing.after(head.kind, data);
-                self.contexts.answer(head, before, data)
-            }
-            _ => Ok(()),
+        match told.form {
+            Form::Request => self.ask(told),
+            Form::Simple | Form::Chunk => self.answer(told),
+            _ => self.negotiate(told),
         }
     }
 
     // What a message of the negotiation changes.
-    fn negotiate(&mut self, brief: &Brief) {
-        match brief {
-            Brief::ClientFlags(flags) if has_wide(*flags, handshake::C_NO_ZEROES) => self.padding =
-                0,
-            Brief::Choice(head) => self.option = head.id,
-            Brief::Answer(head, info) => self.settle(head, info),
-            Brief::Exported(export) => {
-                self.export = Some(*export);
+    fn negotiate(&mut self, told: &Told) {
+        let data = payload_of(&self.recording, told);
+        match told.form {
+            Form::Choice => {
+                self.option = told.choice;
+                self.sizing = Sizing::at(told.choice, data);
+                self.is_refused |= self.contexts.choose(told.choice, data).is_err();
+            }
+            Form::Answer => {
+                self.export = export_after(self.export, told, data);
+                self.is_transmission = told.choice == options::GO && told.answer == answers::ACK;
+                self.sizing = self.sizing.after(told.answer, data);
+                self.is_refused |= self.contexts.answer(told, data).is_err();
+            }
+            Form::ClientFlags if has_wide(told.choice, handshake::C_NO_ZEROES) => self.padding = 0,
+            Form::Exported => {
+                self.export.size = told.part.length;
+                self.export.flags = told.flags;
                 self.is_transmission = true;
             }
             _ => {}
         }
     }
 
-    // What a reply to an option changes.
-    fn settle(&mut self, head: &AnswerHead, info: &Option<Info>) {
-        if let Some(Info::Export { size, flags }) = info {
-            self.export = Some(Export {
-                size: *size,
-                flags: *flags,
-            });
-        }
-        if head.option == options::GO && head.kind == answers::ACK {
-            self.is_transmission = true;
-        }
-    }
-
-    // A request has come.
-    fn ask(&mut self, told: &Told, head: RequestHead, number: u64) -> Result<(), AllocError> {
-        let proper = self.is_proper(&head);
-        self.requests.push(Request {
-            number,
-            head,
-            before: told.before,
-            first: told.first,
-            last: told.last,
-            replied: None,
-            finished: None,
-            error: 0,
-            proper,
-        })?;
-        self.outstanding.insert(head.cookie, number)?;
-        Ok(())
-    }
-
-    // Whether a client should send a request to the export.
-    fn is_proper(&self, head: &RequestHead) -> bool {
-        match self.export {
-            Some(export) => is_proper(export, self.contexts.are_in_force(), head),
-            None => false,
+    // A request has come. DISC has no number.
+    fn ask(&mut self, told: &Told) {
+        if told.request != 0 {
+            let head = told.head();
+            let request = Request {
+                number: told.request,
+                head,
+                before: told.before,
+                first: told.first,
+                last: told.last,
+                replied: 0,
+                finished: 0,
+                error: 0,
+                proper: is_proper(self.export, self.contexts.are_in_force(), &head),
+            };
+            self.is_refused |= self.requests.push(request).is_err();
+            self.is_refused |= self.outstanding.insert(told.cookie, told.request).is_err();
         }
     }
 
-    // A message of its reply has come; after the last one its cookie is free.
-    fn answer(&mut self, told: &Told, number: u64) {
-        let place = number.saturating_sub(1) as usize;
-        if let Some(request) = self.requests.get_mut(place) {
-            request.replied = request.replied.or(Some(told.first));
+    // A message of a reply has come; after the last one its cookie is free.
+    fn answer(&mut self, told: &Told) {
+        let is_last = matches!(told.form, Form::Simple) || has(told.flags, chunks::DONE);
+        if let Some(request) = self.requests.get_mut(told.request.wrapping_sub(1) as usize) {
+            if request.replied == 0 {
+                request.replied = told.first;
+            }
             if request.error == 0 {
-                request.error = told.brief.error();
+                request.error = told.error;
             }
-            if told.brief.is_last() {
-                request.finished = Some(told.last);
-                self.outstanding.remove(&request.head.cookie);
+            if is_last {
+                request.finished = told.last;
             }
+        }
+        if is_last {
+            self.outstanding.remove(&told.cookie);
         }
     }
 
@@ -282,52 +169,47 @@ impl Story {
         }
     }
 
-    /// The size of the export; 0 before it is known.
-    pub fn size(&self) -> u64 {
-        match self.export {
-            Some(export) => export.size,
-            None => 0,
-        }
+    /// What a message has behind its head, as far as it has come.
+    pub fn behind(&self, told: &Told) -> &[u8] {
+        payload_of(&self.recording, told)
     }
 
     /// The request with this number, from 1; 0 wraps to a place that is not there.
-    pub fn request(&self, number: u64) -> Option<&Request> {
-        self.requests.get(number.wrapping_sub(1) as usize)
-    }
-
-    /// The request that a message asks or answers, if it has been told.
-    pub fn request_in(&self, told: &Told) -> Option<&Request> {
-        match told.request {
-            Some(number) => self.request(number),
-            None => None,
-        }
+    pub fn request(&self, number: u64) -> &Request {
+        self.requests
+            .get(number.wrapping_sub(1) as usize)
+            .unwrap_or(&NO_REQUEST)
     }
 
     /// The outstanding request with this cookie.
-    pub fn answered(&self, cookie: u64) -> Option<&Request> {
-        match self.outstanding.get(&cookie) {
-            Some(number) => self.request(*number),
-            None => None,
-        }
+    pub fn answered(&self, cookie: u64) -> &Request {
+        self.request(self.outstanding.get(&cookie).copied().unwrap_or(0))
     }
 
     /// The number of the request that a message asks or answers.
-    pub fn request_of(&self, brief: &Brief) -> Option<u64> {
-        match brief {
-            Brief::Request(head) if head.command == commands::DISC => None,
-            Brief::Request(_) => Some((self.requests.len() as u64).saturating_add(1)),
-            _ => match brief.cookie() {
-                Some(cookie) => self.outstanding.get(&cookie).copied(),
-                None => None,
-            },
+    pub fn request_of(&self, told: &Told) -> u64 {
+        match told.form {
+            Form::Request if told.kind == commands::DISC => 0,
+            Form::Request => (self.requests.len() as u64).saturating_add(1),
+            Form::Simple | Form::Chunk => self.answered(told.cookie).number,
+            _ => 0,
         }
     }
 }
 
-// What a message has behind a head of this length.
-fn payload_of<'a>(recording: &'a Recording, told: &Told, head: usize) -> &'a [u8] {
-    let head = head as u64;
-    let length = told.length.saturating_sub(head);
-    let bytes = recording.bytes_from(told.side, told.before.saturating_add(head));
-    bytes.get(..length as usize).unwrap_or(bytes)
+// The export that is known behind a reply to an option with these data.
+fn export_after(known: Export, told: &Told, data: &[u8]) -> Export {
+    match info_of(data) {
+        Some(Info::Export { size, flags }) if told.answer == answers::INFO => Export {
+            size,
+            flags,
+        },
+        _ => known,
+    }
+}
+
+// What a message has behind its head.
+fn payload_of<'a>(recording: &'a Recording, told: &Told) -> &'a [u8] {
+    let head = told.length.saturating_sub(told.payload);
+    recording.bytes_at(told.side, told.before.saturating_add(head), told.payload)
 }

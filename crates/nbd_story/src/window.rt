@@ -3,6 +3,7 @@
 use crate::recording::Recording;
 use crate::text::Text;
 use crate::words::letter_of;
+use nbd_wire::place_before;
 
 /// How many bytes are shown before a place, and behind it.
 const AROUND: u64 = 16;
@@ -10,28 +11,19 @@ const AROUND: u64 = 16;
 impl Text {
     /// Adds the bytes round this place of the capture, with the place in brackets: a line for each stretch of one side.
     pub fn window(self, recording: &Recording, place: u64) -> Text {
-        let first = place.saturating_sub(AROUND).max(1);
+        let first = place_before(place, AROUND);
         let last = place.saturating_add(AROUND).min(recording.len());
-        let mut text = self.places(first, last).say(":");
-        let mut line = None;
+        let mut text = self.places("", first, last).say(":");
         for at in first..last.saturating_add(1) {
-            if let Some((side, byte)) = recording.byte(at) {
-                if line != Some(side) {
-                    text = text.say("\n  ").say(letter_of(side));
-                }
-                line = Some(side);
-                text = text.cell(byte, at == place);
+            let side = recording.side(at);
+            if at == first || side != recording.side(at.saturating_sub(1)) {
+                text = text.say("\n  ").say(letter_of(side));
             }
+            text = text
+                .say_either(at == place, " [", " ")
+                .byte("{:02x}", recording.byte(side, at))
+                .say_if(at == place, "]");
         }
         text.end()
-    }
-
-    // A byte behind a space.
-    fn cell(self, byte: u8, is_meant: bool) -> Text {
-        if is_meant {
-            self.byte(" [", byte).say("]")
-        } else {
-            self.byte(" ", byte)
-        }
     }
 }

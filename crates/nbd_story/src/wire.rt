@@ -1,8 +1,9 @@
 //! Why a session was refused while its bytes were read.
 
-use crate::story::{Story, Told};
+use crate::story::Story;
 use crate::text::Text;
-use nbd_judge::{Breaker, wire_rule};
+use crate::told::{NO_MESSAGE, Told};
+use nbd_judge::{Breaker, Rule, wire_rule};
 use nbd_wire::{Side, WireFault};
 use std::alloc::Global;
 
@@ -13,58 +14,41 @@ const EARLY: &str =
 impl Text {
     /// Adds why the byte at this place was refused.
     pub fn wire_fault(self, alloc: Global, at: u64, fault: WireFault, story: &Story) -> Text {
-        let sender = match story.recording.byte(at) {
-            Some((side, _)) => Some(side),
-            None => None,
+        let sender = story.recording.sender(at);
+        let text = self.wire_rule(fault, sender, story);
+        let text = match (fault, sender) {
+            (WireFault::Unfinished, _) => text
+                .open_message(alloc, Side::Client, at, fault, story)
+                .open_message(alloc, Side::Server, at, fault, story),
+            (_, Some(side)) => text.open_message(alloc, side, at, fault, story),
+            (_, None) => text,
         };
-        let breaker = match story.is_answered_early(fault) {
-            true => EARLY,
-            false => breaker_name(wire_rule(fault).breaker, sender),
-        };
-        self.wire_rule(fault, breaker, story)
-            .open_messages(alloc, sender, at, fault, story)
-            .last_told(story)
-            .window(&story.recording, at)
+        text.told(
+            "before it: ",
+            story.told.last().unwrap_or(&NO_MESSAGE),
+            story,
+        )
+        .window(&story.recording, at)
     }
 
-    // The rule of a fault, where it judges the session.
-    fn wire_rule(self, fault: WireFault, breaker: &str, story: &Story) -> Text {
+    // The rule of a fault and who broke it, where it judges the session; `sender` sent the byte at which it was seen.
+    fn wire_rule(self, fault: WireFault, sender: Option<Side>, story: &Story) -> Text {
         let rule = wire_rule(fault);
         match fault {
-            WireFault::OutOfProfile => self.choice(rule.sentence, rule.section).instead(story),
-            WireFault::ExportTooLarge => self.choice(rule.sentence, rule.section),
-            _ => self.rule(&rule, breaker),
+            WireFault::OutOfProfile => self.not_judged(&rule).instead(story),
+            WireFault::ExportTooLarge => self.not_judged(&rule),
+            _ if story.is_answered_early(fault) => self.rule(&rule, EARLY),
+            _ => self.rule(&rule, breaker_name(rule.breaker, sender)),
         }
     }
 
     // What nbdcheck does not follow.
-    fn choice(self, sentence: &str, section: &str) -> Text {
-        self.say("not judged: ")
-            .say(sentence)
-            .say("\nsection: ")
-            .say(section)
-            .end()
+    fn not_judged(self, rule: &Rule) -> Text {
+        self.line("not judged: ", rule.sentence)
+            .line("section: ", rule.section)
     }
 
-    // The message of the sender that was not complete, and where the capture is cut off that of each side.
-    fn open_messages(
-        self,
-        alloc: Global,
-        sender: Option<Side>,
-        at: u64,
-        fault: WireFault,
-        story: &Story,
-    ) -> Text {
-        match sender {
-            _ if fault == WireFault::Unfinished => self
-                .open_message(alloc, Side::Client, at, fault, story)
-                .open_message(alloc, Side::Server, at, fault, story),
-            Some(side) => self.open_message(alloc, side, at, fault, story),
-            None => self,
-        }
-    }
-
-    // The message of a side that was not complete, where there is one.
+    // The message of a side that was not complete, where there is one, or its bytes that are no whole head of one.
     fn open_message(
         self,
         alloc: Global,
@@ -73,12 +57,17 @@ impl Text {
         fault: WireFault,
         story: &Story,
     ) -> Text {
-        let before = story.count(side);
-        let taken = story.recording.count_up_to(side, at).saturating_sub(before);
-        match story.begun(side) {
-            _ if taken == 0 => self,
-            Some(told) => self.begun(&told, story).related(alloc, fault, &told, story),
-            None => self.headless(side, taken, fault, story),
+        let taken = story
+            .recording
+            .count_up_to(side, at)
+            .saturating_sub(story.count(side));
+        let told = story.begun(side);
+        if taken == 0 {
+            self
+        } else if told.is_there() {
+            self.begun(&told, story).related(alloc, fault, &told, story)
+        } else {
+            self.headless(side, taken, fault, story)
         }
     }
 
@@ -86,7 +75,7 @@ impl Text {
     fn begun(self, told: &Told, story: &Story) -> Text {
         let there = story.recording.bytes_from(told.side, told.before).len() as u64;
         if told.length <= there {
-            self.told("message: ", told, story).end()
+            self.told("message: ", told, story)
         } else {
             self.say("message: ")
                 .message(told, story)
@@ -98,37 +87,22 @@ impl Text {
     // The bytes of a side, so many, that are no whole head of a message.
     fn headless(self, side: Side, taken: u64, fault: WireFault, story: &Story) -> Text {
         let before = story.count(side);
-        let end = before.saturating_add(taken).saturating_sub(1);
-        let (what, expected) = if fault == WireFault::BadMagic {
-            ("which begin no message; ", magic_of(side, story))
-        } else {
-            ("no whole head of a message; ", "")
-        };
-        self.say("message: ")
-            .count(taken, "byte")
-            .say(of_side(side))
-            .say(what)
+        let last = before.saturating_add(taken).saturating_sub(1);
+        let is_bad = fault == WireFault::BadMagic;
+        self.number("message: {byte} of the ", taken)
+            .say_either(side == Side::Client, "client, ", "server, ")
+            .say_either(
+                is_bad,
+                "which begin no message; ",
+                "no whole head of a message; ",
+            )
             .places(
+                "",
                 story.recording.place(side, before),
-                story.recording.place(side, end),
+                story.recording.place(side, last),
             )
             .end()
-            .say(expected)
-    }
-
-    // The message that came before the fault.
-    fn last_told(self, story: &Story) -> Text {
-        match story.told.last() {
-            Some(told) => self.told("before it: ", told, story).end(),
-            None => self,
-        }
-    }
-}
-
-fn of_side(side: Side) -> &'static str {
-    match side {
-        Side::Client => " of the client, ",
-        Side::Server => " of the server, ",
+            .say_if(is_bad, magic_of(side, story))
     }
 }
 

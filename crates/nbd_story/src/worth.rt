@@ -6,16 +6,15 @@ use nbd_wire::Entry;
 impl Text {
     /// Adds what an order is worth that was found.
     pub fn found(self, order: &[Entry]) -> Text {
-        self.number("entries: ", order.len() as u64)
-            .number(", of which ", count_of_parts(order))
-            .say(
-                " are parts\n\
-                shows: some order explains the session, not that the server kept it\n\
-                misses: of generated sessions in which one READ returned a stale value another order explained 3, 13 and 33 % \
-                at 4, 16 and 64 requests outstanding, on an export of 1 KiB\n\
-                stronger: an order that the server logged\n",
-            )
-            .assumed()
+        self.fill(
+            "entries: {}, of which {} are parts\n\
+            shows: some order explains the session, not that the server kept it\n\
+            misses: of generated sessions in which one READ returned a stale value another order explained 3, 13 and 33 % \
+            at 4, 16 and 64 requests outstanding, on an export of 1 KiB\n\
+            stronger: an order that the server logged\n",
+            &[order.len() as u64, count_of_parts(order)],
+        )
+        .assumed()
     }
 
     /// Adds on what an answer without an order rests.
@@ -40,18 +39,17 @@ impl Text {
 
     /// Adds how the search goes further: this option gives it more.
     pub fn further(self, option: &str) -> Text {
-        self.say("further: 'nbdcheck order' with the same words and more ")
-            .say(option)
-            .end()
+        self.line(
+            "further: 'nbdcheck order' with the same words and more ",
+            option,
+        )
     }
 }
 
 fn count_of_parts(order: &[Entry]) -> u64 {
     let mut count = 0u64;
     for entry in order {
-        if entry.part.is_some() {
-            count = count.saturating_add(1);
-        }
+        count = count.saturating_add(u64::from(entry.part.is_some()));
     }
     count
 }

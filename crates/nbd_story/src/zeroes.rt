@@ -1,10 +1,11 @@
 //! What a BLOCK_STATUS calls zero.
 
-use crate::layers::end_of;
-use crate::parts::{common, has_offset};
-use crate::story::{Request, Story, Told, range};
+use crate::parts::{common, end_of, has_offset};
+use crate::requests::range;
+use crate::story::Story;
+use crate::told::{EMPTY, NO_MESSAGE, Told};
 use nbd_wire::flags::has_wide;
-use nbd_wire::{Part, Side, commands, first_extent, head_lengths, states};
+use nbd_wire::{Part, Side, first_extent, head_lengths, states};
 
 /// Where the descriptors of a status chunk begin, in bytes of the chunk.
 const FIRST: u64 = head_lengths::CHUNK as u64 + 4;
@@ -12,147 +13,120 @@ const FIRST: u64 = head_lengths::CHUNK as u64 + 4;
 /// The length of a descriptor, in bytes.
 const LENGTH: u64 = 8;
 
-impl Request {
-    /// Whether it is a BLOCK_STATUS.
-    pub fn is_status(&self) -> bool {
-        self.head.command == commands::BLOCK_STATUS
-    }
-}
-
-/// Whether a request, if there is one, is a BLOCK_STATUS.
-pub fn is_status(request: Option<&Request>) -> bool {
-    match request {
-        Some(request) => request.is_status(),
-        None => false,
-    }
-}
-
 /// A descriptor of a status chunk.
 #[derive(Clone, Copy)]
 pub struct Descriptor {
-    /// From 1.
+    /// From 1; 0 where there is none.
     pub number: u64,
     /// The bytes that it speaks of; those of the last one may pass the range of the request.
     pub part: Part,
     pub flags: u32,
 }
 
+/// What stands for a descriptor where there is none.
+pub const NO_DESCRIPTOR: Descriptor = Descriptor {
+    number: 0,
+    part: EMPTY,
+    flags: 0,
+};
+
 impl Descriptor {
-    /// The places in the capture of its first byte and its last in this chunk.
-    pub fn places(&self, chunk: &Told, story: &Story) -> (u64, u64) {
-        let end = chunk
-            .before
-            .saturating_add(FIRST)
-            .saturating_add(self.number.saturating_mul(LENGTH));
-        (
-            story
-                .recording
-                .place(Side::Server, end.saturating_sub(LENGTH)),
-            story.recording.place(Side::Server, end.saturating_sub(1)),
+    /// The place in the capture of its first byte in this chunk, or of the first behind so many bytes of it.
+    pub fn place(&self, behind: u64, chunk: &Told, story: &Story) -> u64 {
+        let before = self.number.saturating_sub(1).saturating_mul(LENGTH);
+        story.recording.place(
+            Side::Server,
+            chunk
+                .before
+                .saturating_add(FIRST)
+                .saturating_add(before)
+                .saturating_add(behind),
         )
     }
+
+    /// The place of its last byte.
+    pub fn last(&self, chunk: &Told, story: &Story) -> u64 {
+        self.place(LENGTH - 1, chunk, story)
+    }
 }
 
-/// Descriptors of a status chunk that are left to be read.
-#[derive(Clone, Copy)]
-pub struct Descriptors<'a> {
-    bytes: &'a [u8],
-    /// How many stand before them.
-    read: u64,
-    /// The offset of the first.
-    offset: u64,
+/// How many descriptors these bytes of a status are.
+pub fn count_of(descriptors: &[u8]) -> u64 {
+    descriptors.len() as u64 / LENGTH
 }
 
-impl<'a> Descriptors<'a> {
-    /// Those with these bytes of a status from this offset on.
-    pub fn of(bytes: &'a [u8], offset: u64) -> Descriptors<'a> {
-        Descriptors {
-            bytes,
-            read: 0,
-            offset,
-        }
-    }
-
-    /// How many there are.
-    pub fn count(&self) -> u64 {
-        self.bytes.len() as u64 / LENGTH
-    }
-
-    /// Reads the next one.
-    pub fn next(&mut self) -> Option<Descriptor> {
-        let (extent, later) = first_extent(self.bytes)?;
-        let part = Part {
-            offset: self.offset,
-            length: u64::from(extent.length),
-        };
-        self.bytes = later;
-        self.read = self.read.saturating_add(1);
-        self.offset = end_of(part);
-        Some(Descriptor {
-            number: self.read,
-            part,
+/// The descriptor behind so many others, which speaks of bytes from this offset on.
+pub fn descriptor_in(descriptors: &[u8], before: u64, offset: u64) -> Descriptor {
+    let from = before.saturating_mul(LENGTH) as usize;
+    match first_extent(descriptors.get(from..).unwrap_or(&[])) {
+        Some((extent, _)) => Descriptor {
+            number: before.saturating_add(1),
+            part: Part {
+                offset,
+                length: u64::from(extent.length),
+            },
             flags: extent.flags,
-        })
+        },
+        None => NO_DESCRIPTOR,
     }
 }
 
-/// What a BLOCK_STATUS calls zero.
+/// What a BLOCK_STATUS calls zero: nothing where it has no descriptor.
 #[derive(Clone, Copy)]
 pub struct Zeroes<'a> {
     /// The chunk that says so, the first message of the reply.
     pub chunk: &'a Told,
     /// Those of the chunk.
-    pub descriptors: Descriptors<'a>,
+    pub descriptors: &'a [u8],
     /// The range of the request.
-    range: Part,
+    pub range: Part,
 }
 
 impl Story {
     /// What the request with this number calls zero, if it is a BLOCK_STATUS whose reply begins with a status of `base:allocation`.
-    pub fn zeroes_of(&self, request: u64) -> Option<Zeroes<'_>> {
-        let range = range(&self.request(request)?.head);
-        let chunk = self.first_reply(request)?;
-        let (id, bytes) = self.status_in(chunk)?;
-        if !self.is_allocation(id) {
-            return None;
-        }
-        Some(Zeroes {
+    pub fn zeroes_of(&self, request: u64) -> Zeroes<'_> {
+        let chunk = first_reply(&self.told, request);
+        let (id, descriptors) = self.status_in(chunk);
+        Zeroes {
             chunk,
-            descriptors: Descriptors::of(bytes, range.offset),
-            range,
-        })
-    }
-
-    // The first message of the reply to the request with this number.
-    fn first_reply(&self, request: u64) -> Option<&Told> {
-        for told in &self.told {
-            if told.side == Side::Server && told.request == Some(request) {
-                return Some(told);
-            }
+            descriptors: if self.contexts.is_allocation(id) {
+                descriptors
+            } else {
+                &[]
+            },
+            range: range(&self.request(request).head),
         }
-        None
     }
 }
 
-impl Zeroes<'_> {
-    /// The bytes of the range that a descriptor calls zero, if it is one that does.
-    pub fn part_of(&self, descriptor: Option<Descriptor>) -> Option<Part> {
-        match descriptor {
-            Some(one) if has_wide(one.flags, states::ZERO) => common(one.part, self.range),
-            _ => None,
+// The first message of the reply to the request with this number.
+fn first_reply(told: &[Told], request: u64) -> &Told {
+    for message in told {
+        if message.answers(request) {
+            return message;
         }
     }
+    &NO_MESSAGE
+}
 
-    /// The descriptor that calls an offset of the range zero.
-    pub fn descriptor_at(&self, offset: u64) -> Option<Descriptor> {
-        let mut rest = self.descriptors;
-        for _ in 0..rest.count() {
-            let one = rest.next();
-            match self.part_of(one) {
-                Some(part) if has_offset(part, offset) => return one,
-                _ => {}
-            }
-        }
-        None
+/// The bytes of a range that a descriptor calls zero.
+pub fn called_zero(descriptor: Descriptor, range: Part) -> Part {
+    if has_wide(descriptor.flags, states::ZERO) {
+        common(descriptor.part, range)
+    } else {
+        EMPTY
     }
+}
+
+/// The descriptor that calls an offset zero, if there is one.
+pub fn zero_at(zeroes: Zeroes<'_>, offset: u64) -> Descriptor {
+    let mut from = zeroes.range.offset;
+    for number in 0..count_of(zeroes.descriptors) {
+        let one = descriptor_in(zeroes.descriptors, number, from);
+        if has_offset(called_zero(one, zeroes.range), offset) {
+            return one;
+        }
+        from = end_of(one.part);
+    }
+    NO_DESCRIPTOR
 }

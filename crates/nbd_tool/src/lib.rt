@@ -15,8 +15,6 @@ pub mod opening;
 pub mod saying;
 pub mod show;
 pub mod start;
-#[cfg(test)]
-mod tests;
 pub mod verdict;
 
 pub use capture::{Unseen, Witness, session_over};

@@ -28,6 +28,7 @@ mod numbers;
 pub mod option_payloads;
 pub mod options;
 pub mod payloads;
+pub mod places;
 pub mod profile;
 pub mod sides;
 pub mod sizes;
@@ -48,9 +49,7 @@ pub use heads::transmission::{
 pub use message::{Message, Side};
 pub use option_payloads::{context_of, go_of, info_of, listed_of, name_in, queries_of};
 pub use payloads::{Content, Extent, Failure, Info, Piece};
+pub use places::{bit, bytes_in, place_before};
 pub use profile::Profile;
 pub use sides::{fits, side_of};
 pub use sizes::{Sizes, Sizing, asks_sizes, breaks_sizes, sizes_of};
-
-#[cfg(test)]
-mod tests;

@@ -88,16 +88,20 @@ fn profile_of(word: &str) -> Option<Profile> {
     }
 }
 
-/// Which orders are looked for, and what that may cost, as the words have it.
-fn scope_in(words: &ArgMatches<'_>) -> Option<Scope> {
+/// What a search may cost, as the words have it.
+fn limits_in(words: &ArgMatches<'_>) -> Option<Limits> {
     let usual = Limits::usual();
-    let limits = Limits {
+    Some(Limits {
         states: number_of(words.get_str("states"), usual.states)?,
         steps: number_of(words.get_str("steps"), usual.steps)?,
-    };
+    })
+}
+
+/// Which orders are looked for, and what that may cost, as the words have it.
+fn scope_in(words: &ArgMatches<'_>) -> Option<Scope> {
     Some(Scope {
         wanted: wanted_of(words.get_flag("whole")),
-        limits,
+        limits: limits_in(words)?,
     })
 }
 
@@ -180,8 +184,11 @@ fn explain(rt: &HostRuntime, words: &ArgMatches<'_>) -> u8 {
     let Some(profile) = profile_in(words) else {
         return complain(rt, "fault profile", USAGE);
     };
+    let Some(limits) = limits_in(words) else {
+        return complain(rt, "fault limit", USAGE);
+    };
     let capture = words.get_str("CAPTURE").unwrap_or("");
-    explain_from(rt, profile, capture, words.get_str("ORDER"), start)
+    explain_from(rt, profile, capture, words.get_str("ORDER"), start, limits)
 }
 
 fn explain_from(
@@ -190,11 +197,12 @@ fn explain_from(
     capture: &str,
     order: Option<&str>,
     start: StartWord<'_>,
+    limits: Limits,
 ) -> u8 {
     let mut files = Files::new(rt);
     let answer = match order {
         Some(order) => explain_files(&mut files, profile, capture, order, start),
-        None => explain_file(&mut files, profile, capture, start),
+        None => explain_file(&mut files, profile, capture, start, limits),
     };
     explained(&files, &answer, capture, order.unwrap_or(""))
 }

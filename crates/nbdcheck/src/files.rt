@@ -57,12 +57,13 @@ pub fn explain_files(
     )
 }
 
-/// Opens the capture and then the image, if there is one, and explains the session without an order.
+/// Opens the capture and then the image, if there is one, and explains the session without an order; looking for one may cost so much.
 pub fn explain_file(
     files: &mut Files<'_>,
     profile: Profile,
     capture: &str,
     start: StartWord<'_>,
+    limits: Limits,
 ) -> Result<Answer, RunFault> {
     let (rt, alloc) = (files.rt, files.rt.alloc());
     let capture = files.open_buffered(capture, RunFault::CaptureRead)?;
@@ -74,7 +75,7 @@ pub fn explain_file(
         capture,
         order,
         start,
-        Limits::usual(),
+        limits,
         &mut io::writer(rt),
         &mut Progress::new(terminal(rt)),
     )

@@ -99,14 +99,14 @@ const STATES: Word = Word {
     name: "states",
     form: Form::Number,
     help: "How many states the search may hold for one range, 5000 where not said",
-    excludes: &[],
+    excludes: &["ORDER"],
 };
 
 const STEPS: Word = Word {
     name: "steps",
     form: Form::Number,
     help: "How many steps the search may take, 10^9 where not said",
-    excludes: &[],
+    excludes: &["ORDER"],
 };
 
 const NAMES: Word = Word {
@@ -134,7 +134,7 @@ const COMMANDS: &[Told] = &[
         name: "explain",
         about: "Why is the answer no?",
         help: EXPLAIN_HELP,
-        words: &[CAPTURE, ORDER_IF_ANY, START, PROFILE],
+        words: &[CAPTURE, ORDER_IF_ANY, START, PROFILE, STATES, STEPS],
     },
     Told {
         name: "order",

@@ -4,6 +4,9 @@
 ghost use Rattle.std.specs.Prelude.{◌≡◌};
 ghost use Rattle.nbd_tool.specs.CommandLine.{exit_status};
 
+#[cfg(test)]
+mod tests;
+
 use nbd_tool::{Files, RunFault, StartWord, check_files, complain, hint, start_of};
 use std::process::ExitCode;
 use std::{env, io};

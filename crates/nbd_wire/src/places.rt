@@ -1,0 +1,29 @@
+//! Places: those of bytes in a slice, those of a capture's bytes, and places as the bits of a number.
+
+ghost use Rattle.std.specs.Prelude.{◌≡◌, ◌+◌, ◌-◌, ◌%◌, ◌^◌, ◌<◌, ◌≤◌, [], drop, length, take};
+
+/// How many places have a bit.
+pub const PLACES: usize = 128;
+
+/// So many bytes from an index on; none where not all of them are there.
+pub fn bytes_in(bytes: &[u8], from: usize, len: usize) -> &[u8]
+    ensures inside { from + len ≤ length bytes.now → result.now ≡ take len (drop from bytes.now) }
+    ensures outside { length bytes.now < from + len → result.now ≡ [] }
+{
+    bytes.get(from..from.saturating_add(len)).unwrap_or(&[])
+}
+
+/// The place so far before this one; the first place, which is 1, where there is none.
+pub fn place_before(place: u64, far: u64) -> u64
+    ensures before { 1 ≤ place - far → result ≡ place - far }
+    ensures first { place - far ≤ 1 → result ≡ 1 }
+{
+    place.saturating_sub(far).max(1)
+}
+
+/// The bit of a place, counted from 0; the bits of more places than there are begin again with that of 0.
+pub fn bit(place: usize) -> u128
+    ensures { result ≡ 2 ^ (place % 128) }
+{
+    1u128 << (place % PLACES)
+}

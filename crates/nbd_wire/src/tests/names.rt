@@ -1,9 +1,0 @@
-//! Names: numbers are those of proto.md.
-
-use crate::names::{COMMANDS, name_in};
-
-#[test]
-fn names_alone(rt: HostRuntime) {
-    assert!(rt; name_in(COMMANDS, 6) == Some("WRITE_ZEROES"));
-    assert!(rt; name_in(COMMANDS, 9) == None);
-}

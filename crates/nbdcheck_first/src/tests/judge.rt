@@ -1,0 +1,144 @@
+//! The public functions over records, and the rules in words. The built program is tested with sessions as data, in
+//! tools/cases/.
+
+ghost use Rattle.std.specs.Prelude.{ℕ};
+ghost use Rattle.nbd_export.specs.Starts.{FitsSize};
+
+mod countable;
+mod rules;
+
+use countable::are_countable;
+use nbd_export::{Flat, Start};
+use nbd_judge::{OrderFault, Verdict, check, judge};
+use nbd_session::{Session, Transcript};
+use nbd_wire::Side::{self, Client, Server};
+use nbd_wire::{Entry, Profile};
+use std::alloc::{AllocError, Global};
+use std::test::Fail;
+
+/// A negotiation of an export of 8 bytes, and a READ of one byte at 0, which gives 05.
+const RECORDS: [(Side, &[u8]); 7] = [
+    (Server, b"NBDMAGICIHAVEOPT\0\x03"),
+    (Client, b"\0\0\0\x03"),
+    (Client, b"IHAVEOPT\0\0\0\x07\0\0\0\x06\0\0\0\0\0\0"),
+    (
+        Server,
+        b"\0\x03\xe8\x89\x04\x55\x65\xa9\0\0\0\x07\0\0\0\x03\0\0\0\x0c\0\0\0\0\0\0\0\0\0\x08\0\x6d",
+    ),
+    (
+        Server,
+        b"\0\x03\xe8\x89\x04\x55\x65\xa9\0\0\0\x07\0\0\0\x01\0\0\0\0",
+    ),
+    (
+        Client,
+        b"\x25\x60\x95\x13\0\0\0\0\0\0\0\0\0\0\0\x01\0\0\0\0\0\0\0\0\0\0\0\x01",
+    ),
+    (Server, b"\x67\x44\x66\x98\0\0\0\0\0\0\0\0\0\0\0\x01\x05"),
+];
+
+/// An entry that serves the first request atomically.
+const ONE: Entry = Entry {
+    request: 1,
+    part: None,
+};
+
+fn records(alloc: Global) -> Result<Vec<(Side, Vec<u8>)>, Fail> {
+    let mut records = Vec::new(alloc);
+    for (side, bytes) in RECORDS {
+        records.push((side, bytes.to_vec(alloc)?))?;
+    }
+    Ok(records)
+}
+
+/// A yes of one request.
+const YES: Verdict = Verdict::Yes {
+    requests: 1,
+    answered: 1,
+    improper: 0,
+};
+
+/// The READ's byte is wrong.
+const WRONG: Verdict = Verdict::Content {
+    request: 1,
+    offset: 0,
+};
+
+/// The READ is answered and not served.
+const MISSING: Verdict = Verdict::Order {
+    entry: 1,
+    fault: OrderFault::Missing,
+};
+
+#[test]
+fn records_are_checked(rt: HostRuntime) -> Result<(), Fail> {
+    let records = records(rt.alloc())?;
+    assert!(rt;
+        is_checked(rt.alloc(), &records, &[ONE], Start::Unknown, &YES)?
+            && is_checked(rt.alloc(), &records, &[ONE], Start::Zeroes, &WRONG)?
+            && is_checked(rt.alloc(), &records, &[], Start::Unknown, &MISSING)?
+    );
+    Ok(())
+}
+
+/// Whether `check` has this verdict on records.
+fn is_checked(
+    alloc: Global,
+    records: &[(Side, Vec<u8>)],
+    order: &[Entry],
+    start: Start,
+    wanted: &Verdict,
+) -> Result<bool, AllocError> {
+    if !are_countable(records) {
+        return Ok(false);
+    }
+    Ok(check(alloc, records, order, start)? == *wanted)
+}
+
+#[test]
+fn a_transcript_is_judged_over_contents(rt: HostRuntime) -> Result<(), Fail> {
+    let transcript = transcript(rt.alloc())?.expect(&rt, "a whole session");
+    assert!(rt;
+        is_judged(rt.alloc(), &transcript, Start::Unknown, &YES)?
+            && is_judged(rt.alloc(), &transcript, Start::Zeroes, &WRONG)?
+    );
+    Ok(())
+}
+
+/// The transcript of the session of the records, if all of them are taken and every message is whole.
+fn transcript(alloc: Global) -> Result<Option<Transcript>, Fail> {
+    let mut session = Session::new(alloc);
+    if are_taken(&records(alloc)?, &mut session) {
+        Ok(session.finish().ok())
+    } else {
+        Ok(None)
+    }
+}
+
+/// Whether a session takes these records without a fault, and they are short.
+fn are_taken(records: &[(Side, Vec<u8>)], session: &mut Session) -> bool {
+    for (side, bytes) in records {
+        let is_short = session.taken() < 1000 && bytes.len() < 1000;
+        if !is_short || session.push(*side, bytes).is_err() {
+            return false;
+        }
+    }
+    true
+}
+
+/// Whether `judge` has this verdict where the order serves the first request alone.
+fn is_judged(
+    alloc: Global,
+    transcript: &Transcript,
+    start: Start,
+    wanted: &Verdict,
+) -> Result<bool, AllocError>
+    requires no_image { (size : ℕ) → FitsSize size start }
+{
+    match transcript.export() {
+        Some((size, _)) if size <= 1024 => {
+            let mut contents = Flat::new(alloc, size, start)?;
+            Ok(judge(alloc, Profile::Base, transcript, &[ONE], &mut contents)? == *wanted)
+        }
+        _ => Ok(false),
+    }
+}
