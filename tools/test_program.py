@@ -63,7 +63,7 @@ PARTS = {
 
 
 # Parts that measure seconds, or in which programs wait for one another: each of them has the machine for itself, behind the others.
-ALONE = ("picture_pages", "record", "record_answers", "record_programs", "sizes")
+ALONE = ("build", "picture_pages", "record", "record_answers", "record_programs", "sizes")
 
 
 def run_part(name):
