@@ -222,6 +222,6 @@ def run(tally):
 
 
 if __name__ == "__main__":
-    told = Tally()
-    run(told)
-    print(f"{told.passed} passed, {told.failed} failed")
+    tally = Tally()
+    run(tally)
+    print(f"{tally.passed} passed, {tally.failed} failed")
