@@ -40,6 +40,16 @@ pub struct Scope {
     pub limits: Limits,
 }
 
+/// What a search may cost where nobody says otherwise; this suffices for recorded sessions.
+pub fn usual_limits() -> Limits
+    ensures { result ≡ record { states = 5000; steps = 1000000000 } }
+{
+    Limits {
+        states: 5_000,
+        steps: 1_000_000_000,
+    }
+}
+
 /// What the search for an order came to.
 #[derive(Drop)]
 pub enum Found {

@@ -11,6 +11,6 @@ mod states;
 #[cfg(test)]
 mod tests;
 
-pub use finding::{Found, Scope, Wanted, find};
+pub use finding::{Found, Scope, Wanted, find, usual_limits};
 pub use refutation::{Refutation, State};
 pub use refuting::is_refuted;

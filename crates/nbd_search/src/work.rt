@@ -1,7 +1,5 @@
 //! What a search may cost, and why it is over.
 
-ghost use Rattle.std.specs.Prelude.{◌≡◌};
-
 use crate::progress::Progress;
 use crate::proposal::{Place, Reason};
 
@@ -16,18 +14,6 @@ pub struct Limits {
     /// How many steps may be taken in all, each of a few nanoseconds. The memory that the search holds is bounded by a small multiple
     /// of them, in bytes.
     pub steps: u64,
-}
-
-impl Limits {
-    /// Limits that suffice for recorded sessions.
-    pub fn usual() -> Limits
-        ensures { result ≡ record { states = 5000; steps = 1000000000 } }
-    {
-        Limits {
-            states: 5_000,
-            steps: 1_000_000_000,
-        }
-    }
 }
 
 /// Why a search is over before it has an order.

@@ -23,8 +23,8 @@ ghost use Rattle.nbd_state.specs.Shows.{AreKnown, Shows, export_shown_if, phase_
 
 use crate::asked::Exchange;
 use crate::options::{is_proper_option, last_info, takes_contexts};
-use crate::recording::told_in;
 use crate::state::{Chosen, Export, Phase, State};
+use crate::statuses::told_in;
 use nbd_wire::answers::is_error;
 use nbd_wire::flags::has;
 use nbd_wire::{Bytes, Message, RequestHead, Sizing, answers, chunks, commands, options};

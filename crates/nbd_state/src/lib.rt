@@ -16,6 +16,7 @@ mod recording;
 mod selection;
 mod span;
 mod state;
+mod statuses;
 mod transcript;
 
 pub use asked::{Asked, Exchange, Outcome};

@@ -1,22 +1,18 @@
 //! What the messages of transmission do to a request under way.
 
-ghost use Rattle.std.specs.Prelude.{◌≡◌, ◌≤◌, ◌<◌, ◌+◌, ◌^◌, ◌==◌, ◌&&◌, true, ◌++◌, ◌∷◌, ℕ, List, false, not, IfErr, IfOk, OnErr, MatchOption, [], if◌then◌else◌, is_some, length};
-ghost use Rattle.std.specs.BTreeSet.{contains};
-ghost use Rattle.std.specs.Ordering.{nat_cmp};
+ghost use Rattle.std.specs.Prelude.{◌≡◌, ◌<◌, ◌+◌, ◌^◌, ◌==◌, true, ◌++◌, ◌∷◌, ℕ, List, false, not, IfErr, IfOk, OnErr, [], if◌then◌else◌, is_some, length};
 ghost use Rattle.smallvec.specs.SmallVec.{HasRoomFor};
 ghost use Rattle.nbd_wire.specs.declared.message.Message.{Message};
 ghost use Rattle.nbd_wire.specs.declared.message.Message.TheVariants.{Chunk, Simple};
 ghost use Rattle.nbd_wire.specs.codec.Contents.{piece_of};
-ghost use Rattle.nbd_wire.specs.declared.chunks.TheConstants as chunks;
 ghost use Rattle.nbd_wire.specs.protocol.Contexts.{Context, Status};
 ghost use Rattle.nbd_wire.specs.protocol.Payloads as payloads;
 ghost use Rattle.nbd_wire.specs.protocol.Pieces as pieces;
 ghost use Rattle.nbd_wire.specs.protocol.Operations.{Operation, Exporting, ends_reply, is_error_chunk, is_failing, is_finished};
 ghost use Rattle.nbd_wire.specs.protocol.Pieces.{chunk_piece};
 ghost use Rattle.nbd_wire.specs.protocol.States.{with_reply};
-ghost use Rattle.nbd_wire.specs.declared.commands.TheConstants as commands;
 ghost use Rattle.nbd_wire.specs.protocol.Payloads.{extents_of};
-ghost use Rattle.nbd_wire.specs.protocol.Statuses.{is_allocation, status_in, zero_part, zeroes_in};
+ghost use Rattle.nbd_wire.specs.protocol.Statuses.{is_allocation, status_in};
 ghost use Rattle.nbd_state.specs.internal.Completing.{is_allocation_told};
 ghost use Rattle.nbd_state.specs.declared.asked.Outcome.TheVariants.{Failure, Success};
 ghost use Rattle.std.specs.Option.{option_copied};
@@ -28,11 +24,9 @@ use crate::asked::{Asked, Exchange, Outcome};
 use crate::index::SpanIndex;
 use crate::proper::{is_outside, is_proper};
 use crate::state::Export;
-use nbd_wire::flags::{has, has_wide};
-use nbd_wire::{
-    Bytes, Content, Piece, RequestHead, Sizes, chunks, commands, content_of, first_extent, states,
-    status_of,
-};
+use crate::statuses::{clear_if, tell, told_in, zeroes_told};
+use nbd_wire::flags::has;
+use nbd_wire::{Bytes, Content, Piece, RequestHead, Sizes, chunks, content_of};
 use smallvec::SmallVec;
 use std::alloc::{AllocError, Global};
 use std::collections::BTreeSet;
@@ -210,104 +204,6 @@ impl Exchange {
         self.asked.known_at = first(self.asked.known_at, known);
         self.asked.outcome = outcome_after(self.asked.outcome, ends, self.failed);
         Ok(())
-    }
-}
-
-/// The id of the context in a status chunk, and its descriptors.
-pub(crate) fn told_in(kind: u16, payload: &[u8]) -> Option<(u32, &[u8])>
-    ensures { (flags cookie : ℕ) → MatchOption result (status_in (Chunk flags kind cookie payload.now) ≡ [])
-        (λ v. (kind ≡ chunks.BLOCK_STATUS) × (status_in (Chunk flags kind cookie payload.now)
-        ≡ record { id = v.0; extents = extents_of v.1.now } ∷ [])) }
-{
-    if kind == chunks::BLOCK_STATUS {
-        status_of(payload)
-    } else {
-        None
-    }
-}
-
-// What descriptors call zero in the range of a request, if it is a proper BLOCK_STATUS and they tell that.
-fn zeroes_told(
-    alloc: Global,
-    asked: &Asked,
-    descriptors: &[u8],
-    zeroes: bool,
-) -> Result<Vec<Piece>, AllocError>
-    ensures { IfOk result (λ pieces. (asked.now.command ≡ commands.BLOCK_STATUS → asked.now.proper ≡ true →
-        asked.now.offset + asked.now.length < 2 ^ 64) →
-        pieces.items ≡ (if zeroes && ((asked.now.command == commands.BLOCK_STATUS) && asked.now.proper)
-        then zeroes_in asked.now.offset asked.now.length (extents_of descriptors.now) else [])) }
-{
-    if zeroes && asked.command == commands::BLOCK_STATUS && asked.proper {
-        zeroes_in(alloc, asked.offset, asked.length, descriptors)
-    } else {
-        Ok(Vec::new(alloc))
-    }
-}
-
-// The bytes of an extent behind the pieces, if there are some and it calls them zero.
-fn push_zero(pieces: &mut Vec<Piece>, offset: u64, size: u32, flags: u32) -> Result<(), AllocError>
-    ensures { IfOk result (λ _. pieces.new.items ≡ pieces.old.items ++ zero_part offset size flags) }
-{
-    if has_wide(flags, states::ZERO) && size > 0 {
-        pieces.push(Piece::Hole { offset, size })?;
-    }
-    Ok(())
-}
-
-// What descriptors call zero in a range, which ends below 2^64.
-fn zeroes_in(
-    alloc: Global,
-    offset: u64,
-    length: u32,
-    descriptors: &[u8],
-) -> Result<Vec<Piece>, AllocError>
-    ensures { IfOk result (λ pieces. offset + length < 2 ^ 64 →
-        pieces.items ≡ zeroes_in offset length (extents_of descriptors.now)) }
-{
-    let mut pieces = Vec::new(alloc);
-    let mut left = length;
-    let mut rest = descriptors;
-    while let Some((extent, later)) = first_extent(rest) {
-        let size = extent.length.min(left);
-        let at = offset.saturating_add(u64::from(length - left));
-        push_zero(&mut pieces, at, size, extent.flags)?;
-        left -= size;
-        rest = later;
-    }
-    Ok(pieces)
-}
-
-// One more context is told; where the reply ends, none is kept.
-fn tell(told: &mut BTreeSet<u32>, id: u32, ends: bool) -> Result<(), AllocError>
-    ensures told { IfOk result (λ _. ends ≡ false → (q : ℕ) → contains nat_cmp told.new q
-        ≡ (if id == q then true else contains nat_cmp told.old q)) }
-    ensures unchanged { IfErr result (λ _. told.new ≡ told.old) }
-{
-    if ends {
-        told.clear();
-        Ok(())
-    } else {
-        keep_id(told, id)
-    }
-}
-
-// One more id is kept.
-fn keep_id(told: &mut BTreeSet<u32>, id: u32) -> Result<(), AllocError>
-    ensures told { IfOk result (λ _. (q : ℕ) → contains nat_cmp told.new q
-        ≡ (if id == q then true else contains nat_cmp told.old q)) }
-    ensures unchanged { IfErr result (λ _. told.new ≡ told.old) }
-{
-    told.insert(id)?;
-    Ok(())
-}
-
-// Where the reply ends, nothing more is told.
-fn clear_if(told: &mut BTreeSet<u32>, ends: bool)
-    ensures { ends ≡ false → told.new ≡ told.old }
-{
-    if ends {
-        told.clear();
     }
 }
 

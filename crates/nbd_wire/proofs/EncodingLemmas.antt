@@ -1,8 +1,8 @@
 -- What is known of the parts of an encoding.
-use Rattle.std.proofs.Common.{◌≡◌, ℕ, ◌<◌, ◌^◌, List, ◌++◌, length, true, false, sym, ◌∙◌, ap, arith}
+use Rattle.std.proofs.Common.{◌<◌, ◌^◌, length, true, false, arith}
 use Rattle.nbd_wire.specs.declared.message.Message.{Message}
 use Rattle.nbd_wire.specs.declared.message.Message.TheVariants.{Greeting, ClientFlags, Choice, Answer, Exported, Request, Simple, Chunk}
-use Rattle.nbd_wire.specs.protocol.Encoding.{enc, head, tail}
+use Rattle.nbd_wire.specs.protocol.Encoding.{tail}
 use Rattle.nbd_wire.specs.protocol.Sendable.{IsSendable}
 use Rattle.nbd_wire.specs.declared.commands.TheConstants.{WRITE}
 use Rattle.std.proofs.lemmas.Bool.{cond_both}
@@ -21,11 +21,6 @@ length-tail (Exported size flags false) h = omega arith
 length-tail (Request flags command cookie offset len payload) h = h.0
 length-tail (Simple error cookie payload) h = h
 length-tail (Chunk flags kind cookie payload) h = h
-
--- a head and what follows it are the whole
-pub whole : (m known : Message) (prefix rest : List ℕ) → m ≡ known → prefix ≡ head known → rest ≡ tail m → prefix ++ rest ≡ enc m
-unfolding enc
-whole m known prefix rest is f r = ap (λ l. l ++ rest) (f ∙ ap head (sym is)) ∙ ap (λ l. head m ++ l) r
 
 -- what may be sent has an encoding
 pub sendable-fits : (m : Message) → IsSendable m → FitsItsHead m

@@ -1,5 +1,5 @@
 //! A payload that its owner keeps.
-ghost use Rattle.std.specs.Prelude.{◌≡◌, ◌==◌, ◌≤◌, ℕ, List, [], length, take, IfOk, IfSome, OnErr, OnOk};
+ghost use Rattle.std.specs.Prelude.{◌≡◌, ◌==◌, ◌<◌, ◌≤◌, ℕ, List, [], length, take, IfOk, MatchOption, OnErr, OnOk};
 ghost use Rattle.std.specs.Cmp.{partial_equiv_from_equiv};
 ghost use Rattle.std.specs.Cmp.Lexicographic.{nat_list_eq_equiv, pointwise};
 
@@ -69,9 +69,10 @@ impl Bytes {
         }
     }
 
-    /// A copy of these bytes.
+    /// A copy of these bytes. A short payload takes no memory.
     pub fn from_slice(alloc: Global, bytes: &[u8]) -> Result<Bytes, AllocError>
-        ensures { IfOk result (λ payload. payload ≡ bytes.now) }
+        ensures copied { IfOk result (λ payload. payload ≡ bytes.now) }
+        ensures long { OnErr result (14 < length bytes.now) }
     {
         match Short::of(bytes) {
             Some(short) => Ok(Bytes {
@@ -81,11 +82,13 @@ impl Bytes {
         }
     }
 
-    /// Takes the bytes out of a vector. A short payload leaves the vector its memory. After an `Err` the vector is as it was.
+    /// Takes the bytes out of a vector. A short payload takes no memory, and leaves the vector its own. After an `Err` the vector is as
+    /// it was.
     pub fn take(alloc: Global, bytes: &mut Vec<u8>) -> Result<Bytes, AllocError>
         ensures taken { IfOk result (λ payload. payload ≡ bytes.old.items) }
         ensures empty { OnOk result (bytes.new.items ≡ []) }
         ensures unchanged { OnErr result (bytes.new.items ≡ bytes.old.items) }
+        ensures long { OnErr result (14 < length bytes.old.items) }
     {
         if let Some(short) = Short::of(bytes.as_slice()) {
             bytes.clear();
@@ -145,7 +148,7 @@ impl Short {
 
     // These bytes, unless they are too many.
     fn of(from: &[u8]) -> Option<Short>
-        ensures { IfSome result (λ short. short_bytes short ≡ from.now) }
+        ensures { MatchOption result (14 < length from.now) (λ short. short_bytes short ≡ from.now) }
     {
         if from.len() > SHORT {
             return None;

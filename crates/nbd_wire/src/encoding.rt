@@ -1,25 +1,27 @@
 //! Messages as bytes.
 
-ghost use Rattle.std.specs.Prelude.{◌≡◌, ◌+◌, ◌<◌, ◌^◌, ◌++◌, length, vec_capacity, vec_len, OnErr, OnOk};
-ghost use Rattle.nbd_wire.specs.protocol.Encoding.{enc, tail};
+ghost use Rattle.std.specs.Prelude.{◌≡◌, ◌+◌, ◌<◌, ◌≤◌, ◌^◌, ◌++◌, length, vec_capacity, vec_len, OnErr, OnOk};
+ghost use Rattle.nbd_wire.specs.protocol.Encoding.{enc, head, tail};
 ghost use Rattle.nbd_wire.specs.codec.Fits.{FitsItsHead};
 
+use crate::Message;
 use crate::head_bytes::{
     answer_bytes, choice_bytes, chunk_bytes, client_flags_bytes, export_bytes, greeting_bytes,
     request_bytes, simple_bytes,
 };
-use crate::{Message, head_lengths};
+use crate::head_lengths::{PADDING, REQUEST};
 use std::alloc::AllocError;
+use std::marker::Model;
 
 /// What follows an export's size and flags where the client did not agree to leave it out
 /// (proto.md, "Newstyle negotiation").
-static PADDING: [u8; head_lengths::PADDING] = [0; head_lengths::PADDING];
+static ZEROES: [u8; PADDING] = [0; PADDING];
 
 /// Adds the bytes of a message at the end of `out`.
 ///
 /// The one growth comes first: after an error, which says that memory was refused, `out` holds
 /// what it held before.
-#[tactic(auto, unfolding(crate::specs::protocol::Encoding::enc, crate::specs::protocol::Encoding::head, crate::specs::protocol::Encoding::tail))]
+#[tactic(auto, unfolding(crate::specs::protocol::Encoding::enc))]
 pub fn append(out: &mut Vec<u8>, message: &Message) -> Result<(), AllocError>
     requires { FitsItsHead message.now }
     ensures ok { OnOk result (out.new.items ≡ out.old.items ++ enc message.now) }
@@ -27,15 +29,26 @@ pub fn append(out: &mut Vec<u8>, message: &Message) -> Result<(), AllocError>
     ensures full { OnErr result (vec_capacity out.old < vec_len out.old + length (enc message.now)) }
 {
     let tail = tail_of(message);
-    let size_of_tail = tail.len() as u32;
+    let head = head_of(message, tail.len() as u32);
+    put(out, head.as_slice(), tail)
+}
+
+// The fixed part of a message; what follows it has so many bytes.
+#[tactic(auto, unfolding(crate::specs::protocol::Encoding::head, crate::specs::protocol::Encoding::tail))]
+fn head_of(message: &Message, size_of_tail: u32) -> Head
+    requires { size_of_tail ≡ length (tail message.now) }
+    ensures { result ≡ head message.now }
+{
     match message {
-        Message::Greeting { flags } => put(out, &greeting_bytes(*flags), tail),
-        Message::ClientFlags { flags } => put(out, &client_flags_bytes(*flags), tail),
-        Message::Choice { id, .. } => put(out, &choice_bytes(*id, size_of_tail), tail),
-        Message::Answer { option, kind, .. } => {
-            put(out, &answer_bytes(*option, *kind, size_of_tail), tail)
-        }
-        Message::Exported { size, flags, .. } => put(out, &export_bytes(*size, *flags), tail),
+        Message::Greeting { flags } => Head::of(&greeting_bytes(*flags)),
+        Message::ClientFlags { flags } => Head::of(&client_flags_bytes(*flags)),
+        Message::Choice { id, .. } => Head::of(&choice_bytes(*id, size_of_tail)),
+        Message::Answer { option, kind, .. } => Head::of(&answer_bytes(
+            *option,
+            *kind,
+            size_of_tail,
+        )),
+        Message::Exported { size, flags, .. } => Head::of(&export_bytes(*size, *flags)),
         Message::Request {
             flags,
             command,
@@ -43,22 +56,14 @@ pub fn append(out: &mut Vec<u8>, message: &Message) -> Result<(), AllocError>
             offset,
             length,
             ..
-        } => put(
-            out,
-            &request_bytes(*flags, *command, *cookie, *offset, *length),
-            tail,
-        ),
-        Message::Simple { error, cookie, .. } => put(out, &simple_bytes(*error, *cookie), tail),
+        } => Head::of(&request_bytes(*flags, *command, *cookie, *offset, *length)),
+        Message::Simple { error, cookie, .. } => Head::of(&simple_bytes(*error, *cookie)),
         Message::Chunk {
             flags,
             kind,
             cookie,
             ..
-        } => put(
-            out,
-            &chunk_bytes(*flags, *kind, *cookie, size_of_tail),
-            tail,
-        ),
+        } => Head::of(&chunk_bytes(*flags, *kind, *cookie, size_of_tail)),
     }
 }
 
@@ -73,8 +78,46 @@ fn tail_of(message: &Message) -> &[u8]
         | Message::Request { payload, .. }
         | Message::Simple { payload, .. }
         | Message::Chunk { payload, .. } => payload.as_slice(),
-        Message::Exported { padded: true, .. } => &PADDING,
+        Message::Exported { padded: true, .. } => &ZEROES,
         Message::Greeting { .. } | Message::ClientFlags { .. } | Message::Exported { .. } => &[],
+    }
+}
+
+// The fixed part of a message, seen by contracts as the list of its bytes. They are the first `len` of these.
+#[derive(Drop)]
+struct Head {
+    len: u8,
+    bytes: [u8; REQUEST],
+    ghost fits: { len ≤ 28 },
+}
+
+impl Model for Head {
+    ghost use Rattle.std.specs.Prelude.{ℕ, List, take};
+
+    ghost Value = { List ℕ };
+
+    ghost view = { λ h. take h.len h.bytes };
+}
+
+impl Head {
+    // These bytes; a request has the most.
+    fn of(from: &[u8]) -> Head
+        requires { length from.now ≤ 28 }
+        ensures { result ≡ from.now }
+    {
+        let mut bytes = [0; REQUEST];
+        bytes[..from.len()].copy_from_slice(from);
+        Head {
+            len: from.len() as u8,
+            bytes,
+        }
+    }
+
+    // The bytes.
+    fn as_slice(&self) -> &[u8]
+        ensures { result.now ≡ self.now }
+    {
+        &self.bytes[..self.len as usize]
     }
 }
 

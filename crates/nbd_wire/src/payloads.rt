@@ -1,5 +1,8 @@
 //! The forms of payloads.
 
+ghost use Rattle.std.specs.Prelude.{◌≡◌};
+ghost use Rattle.nbd_wire.specs.declared.payloads.Piece.TheVariants.{Hole};
+
 use crate::Bytes;
 
 /// What an INFO answer states of an export (proto.md, "Option reply types").
@@ -77,7 +80,9 @@ pub enum Piece {
 
 /// A hole of no bytes.
 impl Default for Piece {
-    fn default() -> Piece {
+    fn default() -> Piece
+        ensures { result ≡ Hole 0 0 }
+    {
         Piece::Hole { offset: 0, size: 0 }
     }
 }

@@ -12,7 +12,7 @@ use crate::words::command;
 use clap::error::ErrorKind;
 use clap::{ArgMatches, Error};
 use nbd_explain::{Answer, Ordered, explain_status, order_status};
-use nbd_order::{Scope, Wanted};
+use nbd_order::{Scope, Wanted, usual_limits};
 use nbd_search::Limits;
 use nbd_tool::{Files, RunFault, StartWord, complain, exit_status, hint, start_of, tell};
 use nbd_wire::Profile;
@@ -90,7 +90,7 @@ fn profile_of(word: &str) -> Option<Profile> {
 
 /// What a search may cost, as the words have it.
 fn limits_in(words: &ArgMatches<'_>) -> Option<Limits> {
-    let usual = Limits::usual();
+    let usual = usual_limits();
     Some(Limits {
         states: number_of(words.get_str("states"), usual.states)?,
         steps: number_of(words.get_str("steps"), usual.steps)?,

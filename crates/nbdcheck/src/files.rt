@@ -1,7 +1,7 @@
 //! What is written of the files of a run.
 
 use nbd_explain::{Answer, Ordered, run_arrival_of, run_explain_of, run_names_of, run_order_of};
-use nbd_order::Scope;
+use nbd_order::{Scope, usual_limits};
 use nbd_search::{Limits, Progress};
 use nbd_tool::{
     Files, FinalWriter, RunFault, StartWord, open_inputs, open_start, run_check_of, run_make,
@@ -51,7 +51,7 @@ pub fn explain_files(
         capture,
         Some(inputs.order),
         inputs.start,
-        Limits::usual(),
+        usual_limits(),
         &mut io::writer(rt),
         &mut Progress::new(terminal(rt)),
     )

@@ -1,7 +1,7 @@
 use Rattle.std.proofs.Common.{◌≡◌, ◌+◌, ◌-◌, ◌<◌, ◌≤◌, ◌^◌, ◌++◌, length}
 use Rattle.nbd_wire.specs.protocol.Payloads.{extents_of}
 use Rattle.nbd_wire.specs.protocol.Statuses.{zeroes_in}
-use Rattle.nbd_state.proofs.recording.zeroes_in.Given as goal
+use Rattle.nbd_state.proofs.statuses.zeroes_in.Given as goal
 
 -- what was found, and what is found of the rest
 abbrev pub invariant-loop-extent : goal.invariant-loop-extent

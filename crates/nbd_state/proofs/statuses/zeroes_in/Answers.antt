@@ -3,7 +3,7 @@ use Rattle.nbd_wire.specs.codec.Contents.{extent_of}
 use Rattle.nbd_wire.specs.protocol.Payloads.{extents_of}
 use Rattle.nbd_wire.specs.protocol.Statuses.{zero_part, zeroes_in}
 use Rattle.nbd_state.proofs.ZeroLemmas.{next_zeroes}
-use Rattle.nbd_state.proofs.recording.zeroes_in.Goals as goal
+use Rattle.nbd_state.proofs.statuses.zeroes_in.Goals as goal
 
 pub loop-extent-init : goal.loop-extent-init
 loop-extent-init c = (
