@@ -79,7 +79,7 @@ def in_profiles(tally, room):
 
 def malformed(tally, room):
     for capture, order, fault in bad_lines.BAD_LINES:
-        tally.want(f"{capture!r} {order!r}", room.check(capture.encode(), order.encode()), ended(fault))
+        tally.want(f"{capture!r} {order!r}", room.check(capture.encode("latin-1"), order.encode("latin-1")), ended(fault))
 
 
 def proper_requests(tally, room):

@@ -8,7 +8,7 @@ from bench_order import Shape
 from built import PROGRAM, TOP, Ended, Room, Tally
 from cases.contexts import ONE_CONTEXT, TWO_CONTEXTS, told_last
 from cases.outside import CHUNKED
-from messages import begun, content, done, extents, failed, read, simple, status, text, write
+from messages import TRIM, begun, content, done, extents, failed, read, request, simple, status, text, write
 from test_commands import EMPTY, SEARCHED, fault, on_a_terminal
 
 # Sessions of examples/ for which `check` has another answer than that with an order which explains them.
@@ -102,6 +102,28 @@ WITH_SIZES = {
                                                   for one in (read(cookie, 1, 1), *got(cookie, 1, byte))), simple(1), simple(2)],
          b"no order explains requests 3 4 5 at offset 1\n"),
 }
+# A WRITE is seen while it is open, and then not.
+SEEN_ONCE = [write(1, 0, b"a"), read(2, 0, 1), *got(2, 0, b"a"), read(3, 0, 1), *got(3, 0, b"\0"), simple(1)]
+EARLY = [read(1, 0, 1), *got(1, 0, b"a"), write(2, 0, b"b")]
+TRIMMED, READ_A = [request(TRIM, 1, 0, 8), simple(1)], [read(3, 0, 1), *got(3, 0, b"a")]
+# READs in the profile base, from each of these starts.
+WITH_READS = {
+    "a write that was answered is not seen":
+        (SHUT_WRITE + [read(2, 0, 1), *got(2, 0, b"\0")], ("zero", "unknown"), b"no content request 2 offset 0 in any order\n"),
+    "a write is seen and then not": (SEEN_ONCE, ("zero",), b"no order explains requests 2 3 at offset 0\n"),
+    "a write is seen and then not, where nothing was known": (SEEN_ONCE, ("unknown",), None, False),
+    "a write came after the read": (EARLY, ("zero",), b"no content request 1 offset 0 in any order\n"),
+    "a write came after the read, where nothing was known": (EARLY, ("unknown",), None, False),
+    "a TRIM is overwritten":
+        (TRIMMED + [write(2, 0, b"b"), simple(2)] + READ_A, ("zero", "unknown"), b"no content request 3 offset 0 in any order\n"),
+    "a TRIM may come after the write": (TRIMMED[:1] + [write(2, 0, b"b"), simple(1), simple(2)] + READ_A, ("zero",), None, False),
+    "a TRIM before the read": (TRIMMED + READ_A, ("zero",), None, False),
+    "a write that is not answered": ([write(1, 0, b"b")] + READ_A, ("zero",), None, False),
+    "a write that failed": ([write(1, 0, b"b"), simple(1, error=5)] + READ_A, ("zero",), None, False),
+    "a read that failed": ([read(1, 2, 2), failed(1)], ("zero",), None, False),
+    "a read that failed behind its bytes": ([read(1, 2, 2), content(1, 2, b"ab"), failed(1)], ("zero",), None, False),
+    "a read that was not answered": ([read(1, 2, 2), content(1, 2, b"ab")], ("zero",), None, False),
+}
 
 
 def examples(tally, room):
@@ -167,19 +189,31 @@ def lines(tally, room):
     tally.want("torn and judged", room.run("check", torn, room.put("found", found.out), "--start", "zero"), yes)
 
 
+def looked_for(tally, room, name, records, line, in_parts, *words):
+    """What `order` says of a session, or that it finds an order, in parts or not, which `check` accepts."""
+    capture = room.put("capture", text(records))
+    found = room.run("order", capture, *words)
+    if line is not None:
+        tally.want(f"order: {name}", found, Ended(1, line, b""))
+        return
+    tally.want(f"order: {name}", (found.status, found.err), (0, b""))
+    judged = room.run("check", capture, room.put("found", found.out), *words)
+    tally.want(f"order: {name}, judged", (judged.status, judged.err), (0, b""))
+    tally.want(f"order: {name}, in parts", [any(b" " in entry for entry in found.out.splitlines())], in_parts)
+
+
+def reads(tally, room):
+    """Sessions in which a READ has a byte that is wrong in any order, and those that a change, a failure or the start explains."""
+    for name, (messages, starts, line, *in_parts) in WITH_READS.items():
+        for start in starts:
+            looked_for(tally, room, f"{name}, {start}", begun(True) + messages, line, in_parts, "--start", start)
+
+
 def statuses(tally, room):
     """Sessions in which a status calls bytes zero, or with requests outside of block sizes."""
     for begins, table in ((ONE_CONTEXT, WITH_STATUSES), (TWO_CONTEXTS, WITH_TWO), (CHUNKED, WITH_SIZES)):
         for name, (messages, line, *in_parts) in table.items():
-            capture = room.put("capture", text(begins + messages))
-            found = room.run("order", capture, "--start", "zero", "--profile", "wide")
-            if line is not None:
-                tally.want(f"order: {name}", found, Ended(1, line, b""))
-                continue
-            tally.want(f"order: {name}", (found.status, found.err), (0, b""))
-            judged = room.run("check", capture, room.put("found", found.out), "--start", "zero", "--profile", "wide")
-            tally.want(f"order: {name}, judged", (judged.status, judged.err), (0, b""))
-            tally.want(f"order: {name}, in parts", [any(b" " in entry for entry in found.out.splitlines())], in_parts)
+            looked_for(tally, room, name, begins + messages, line, in_parts, "--start", "zero", "--profile", "wide")
     alone = room.put("capture", text(ONE_CONTEXT + zero(1)))
     unknown = room.run("order", alone, "--profile", "wide")
     tally.want("order: zeroes from an unknown start", unknown, Ended(0, b"1\n", b""))
@@ -243,7 +277,7 @@ def terminals(tally, room):
 
 def run(tally):
     with Room() as room:
-        for part in (examples, lines, statuses, files, terminals):
+        for part in (examples, lines, reads, statuses, files, terminals):
             part(tally, room)
 
 

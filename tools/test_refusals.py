@@ -1,7 +1,7 @@
 """Each growth of memory refused in turn, and each read and each write failing once, in the built program.
 
-refuse.c is loaded into the program and refuses or fails one thing. What is asked of the calls of the library (a session, a
-reader of captures, an order, the contents of an export) stands in tests of their own, which are run in the same way.
+refuse.c is loaded into the program and refuses or fails one thing. How many ranges contents have where memory is refused, which
+no output tells, is asked by a test of the library, which is run in the same way.
 """
 
 import itertools
@@ -12,19 +12,14 @@ from pathlib import Path
 
 from built import TOP, Ended, Room, Tally
 from cases.statuses import MIXED, MIXED_ORDER
-from messages import begun, text
+from messages import begun, read, simple, text
 from test_cuts import SESSIONS
 from test_explain import ORDERLESS
 
 # The most refusals that are tried of one run: a run that meets no refusal comes before.
 MOST = 100_000
-# The tests of refused memory in the libraries, and the program that runs them.
-LIBRARY = (
-    "tests::capture::refusals::refused_memory",
-    "tests::capture::answers_want_of_memory_as_such",
-    "tests::session::memory::refused_memory",
-    "tests::export::refusals::refused_memory",
-)
+# The test of contents, and the program that has it.
+LIBRARY = "tests::ranges::split_and_join"
 LIBRARY_TESTS = TOP / "crates/nbdcheck_first/out/nbdcheck_first_tests"
 
 # The inputs of each command.
@@ -202,16 +197,26 @@ def writes(tally, room, name, words, whole):
 
 
 def library(tally, room):
-    """The libraries' tests, with each growth refused in turn."""
+    """The library's test, with each growth refused in turn."""
     if not LIBRARY_TESTS.exists():
         tally.holds(f"{LIBRARY_TESTS} was built: `rt ci` at the top does, or `rt test` in its crate", False)
         return
-    for name in LIBRARY:
-        refused = 0
-        for number, found, is_refused in room.each([name], "alloc", program=str(LIBRARY_TESTS)):
-            tally.holds(f"{name}, growth {number}", found.status == 0 and b"test result: ok" in found.out, found)
-            refused += is_refused
-        tally.holds(f"{name} grows", refused > 0, refused)
+    refused = 0
+    for number, found, is_refused in room.each([LIBRARY], "alloc", program=str(LIBRARY_TESTS)):
+        tally.holds(f"{LIBRARY}, growth {number}", found.status == 0 and b"test result: ok" in found.out, found)
+        refused += is_refused
+    tally.holds(f"{LIBRARY} grows", refused > 0, refused)
+
+
+def silent_lines(tally, room):
+    """Remarks and empty lines take no memory, however long they are."""
+    order, capture = room.put("order", b"1\n"), text([*begun(), read(1, 0, 1), simple(1, b"\0")])
+    remarked = capture.replace(b"\n", b"\n\n#" + b"x" * 10_000 + b"\n#\n")
+    counts = []
+    for name, data in (("plain", capture), ("remarked", remarked)):
+        words = ["check", room.put(f"{name}.cap", data), order, "--start", "zero"]
+        counts.append(sum(1 for _ in room.each(words, "alloc")))
+    tally.want("growths of a capture with remarks", counts[1], counts[0])
 
 
 def run(tally):
@@ -234,6 +239,7 @@ def run(tally):
             tally.holds(f"{name}, nothing else", status == 2 or whole.err == b"", whole.err)
             growths(tally, room, name, words, whole, 0)
         library(tally, room)
+        silent_lines(tally, room)
 
 
 if __name__ == "__main__":

@@ -25,6 +25,20 @@ MADE = [
         "S simple error=0 cookie=2 payload=ABcd\n",
         "S 67446698000000000000000000000002abcd\n",
     ),
+    # STARTTLS, and an answer that refuses it; an error with an offset.
+    (
+        "C option id=5 payload=\nS answer option=5 kind=2147483649 payload=\n"
+        "S chunk flags=1 kind=32770 cookie=1 payload=0000000500000000000000000001\n",
+        "C 49484156454f50540000000500000000\nS 0003e889045565a9000000058000000100000000\n"
+        "S 668e33ef0001800200000000000000010000000e0000000500000000000000000001\n",
+    ),
+    # Numbers at the ends of their fields, each in its place.
+    (
+        "C request flags=1 command=1 cookie=18446744073709551615 offset=4 length=2 payload=0aB0\n"
+        "S export size=18446744073709551615 flags=65535 padded=0\nS export size=8 flags=109 padded=1\n",
+        "C 2560951300010001ffffffffffffffff0000000000000004000000020ab0\n"
+        f"S ffffffffffffffffffff\nS 0000000000000008006d{'00' * 124}\n",
+    ),
 ]
 
 # A script, and its fault.
@@ -50,6 +64,26 @@ BAD_SCRIPTS = [
     ("\n#\nok\nok \n", "fault script line 4\n"),
     ("S greeting flags=3\nok", "fault script line 2\n"),
     ("ok\nno at byte 1: OutOfTurn\n", "fault script line 2\n"),
+    ("C client-flags flags=4294967296\n", "fault script line 1\n"),
+    ("S export size=18446744073709551616 flags=0 padded=0\n", "fault script line 1\n"),
+    (" S greeting flags=3\n", "fault script line 1\n"),
+    ("S greeting flags=3 \n", "fault script line 1\n"),
+    ("S greeting flags= 3\n", "fault script line 1\n"),
+    ("S greeting flags=+3\n", "fault script line 1\n"),
+    ("S greeting flags=\n", "fault script line 1\n"),
+    ("S greeting flags=0x3\n", "fault script line 1\n"),
+    ("S greeting flags=3\r\n", "fault script line 1\n"),
+    ("\r\n", "fault script line 1\n"),
+    ("S simple cookie=1 error=0 payload=\n", "fault script line 1\n"),
+    ("S simple error=0 cookie=1\n", "fault script line 1\n"),
+    ("S greeting flags=3 payload=\n", "fault script line 1\n"),
+    ("S answer option=7 kind=1 payload=0\n", "fault script line 1\n"),
+    ("S answer option=7 kind=1 payload=0g\n", "fault script line 1\n"),
+    # A WRITE with too few bytes.
+    ("C request flags=0 command=1 cookie=2 offset=0 length=2 payload=00\n", "fault script line 1\n"),
+    ("ok\n# x", "fault script line 2\n"),
+    # The first of two.
+    ("\nS greeting\n0\n", "fault script line 2\n"),
 ]
 
 # Accepted sessions of which no two messages overlap.

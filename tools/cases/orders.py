@@ -111,6 +111,12 @@ ENTRIES = [
         order="0\n",
         want="no order entry 1: NoSuchRequest\n",
     ),
+    Case(
+        name="the largest number",
+        capture=[BEGUN],
+        order="18446744073709551615\n",
+        want="no order entry 1: NoSuchRequest\n",
+    ),
 ]
 
 CASES = READS_ONE_AFTER_THE_OTHER + THREE_READS_THAT_OVERLAP + ENTRIES

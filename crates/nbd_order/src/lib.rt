@@ -8,8 +8,6 @@ mod offsets;
 pub mod refutation;
 pub mod refuting;
 mod states;
-#[cfg(test)]
-mod tests;
 
 pub use finding::{Found, Scope, Wanted, find, usual_limits};
 pub use refutation::{Refutation, State};

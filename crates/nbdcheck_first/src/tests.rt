@@ -1,9 +1,7 @@
-//! The tests of the libraries that `check` stands on. They stand beside the smallest program, so that no library is proved a second time for
-//! its tests.
+//! What no contract says and no run of the built program shows: readers and writers that fail, and how many ranges contents have. With
+//! that, how a caller in Rattle uses the libraries. All that a session can show is asked of the built program (tools/cases/).
 
-mod capture;
-mod export;
 mod judge;
-mod lines;
-mod session;
-mod tool;
+mod ranges;
+mod whole;
+mod writers;

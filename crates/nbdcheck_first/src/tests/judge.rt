@@ -1,11 +1,10 @@
-//! The public functions over records, and the rules in words. The built program is tested with sessions as data, in
+//! Records that are at hand, and a session that is pushed piece by piece, judged. The built program is tested with sessions as data, in
 //! tools/cases/.
 
 ghost use Rattle.std.specs.Prelude.{ℕ};
 ghost use Rattle.nbd_export.specs.Starts.{FitsSize};
 
 mod countable;
-mod rules;
 
 use countable::are_countable;
 use nbd_export::{Flat, Start};

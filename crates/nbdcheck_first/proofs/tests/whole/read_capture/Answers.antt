@@ -6,7 +6,7 @@ use Rattle.nbd_capture.specs.Capture.{chunk_of, chunks_of}
 use Rattle.nbd_capture.specs.Reading.{Reads, at_start}
 use Rattle.nbd_capture.proofs.ReadToEndLemmas.{names_first_bad, reads_to_end, whole_text}
 use Rattle.nbd_capture.proofs.ReadingStepLemmas.{reads-append, reads_same}
-use Rattle.nbdcheck_first.proofs.tests.capture.whole.read_capture.Goals as goal
+use Rattle.nbdcheck_first.proofs.tests.whole.read_capture.Goals as goal
 
 pub loop-chunks-init : goal.loop-chunks-init
 loop-chunks-init g c = (rw c.new-chunks.ensures.items (reads_same _ _ c.new-capture.ensures), ap (λ r. r.state) c.new-capture.ensures)

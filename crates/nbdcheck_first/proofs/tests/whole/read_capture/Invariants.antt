@@ -2,7 +2,7 @@ use Rattle.std.proofs.Common.{◌≡◌}
 use Rattle.nbd_capture.specs.Capture.{chunks_of}
 use Rattle.nbd_capture.specs.Reading.{Reads, at_start}
 use Rattle.nbd_capture.specs.declared.reader.State.TheVariants.{Open}
-use Rattle.nbdcheck_first.proofs.tests.capture.whole.read_capture.Given as goal
+use Rattle.nbdcheck_first.proofs.tests.whole.read_capture.Given as goal
 
 abbrev pub invariant-loop-chunks : goal.invariant-loop-chunks
 invariant-loop-chunks g l = Reads (at_start (g.R.Read.remaining l.fn.reader) l.limit) l.capture (chunks_of l.chunks.items) × (l.capture.state ≡ Open)

@@ -1,4 +1,0 @@
-//! Refutations by hand. tools/test_search.py has sessions at random.
-
-mod recordings;
-mod refutations;
