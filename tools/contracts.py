@@ -132,7 +132,7 @@ def page():
         modules, names = exported(source / "lib.rt")
         told = []
         for path in sorted(source.rglob("*.rt")):
-            if "tests" not in path.parts and path.name != "tests.rt":
+            if "tests" not in path.relative_to(source).parts and path.name != "tests.rt":
                 told += [line for function in functions_of(path, source, modules, names) for line in function.lines()]
         if told:
             parts.append(f"## {crate}\n\n" + "\n".join(told) + "\n")

@@ -3,8 +3,8 @@
 scripts round it: the build, the installation, the conversions of recordings and of captures, the pages of sessions, and the relay that records.
 
 The last line is `N passed, M failed`. With names as words, runs these parts alone: build, cases, commands, contexts, conversions,
-cuts, explain, install, names, order, picture, picture_pages, readme, record, record_answers, record_programs, refusals,
-search, sizes, texts, to_pcap.
+cuts, edits, explain, improper, install, names, order, picture, picture_pages, readme, record, record_answers, record_programs,
+refusals, search, sizes, texts, to_pcap.
 """
 
 import os
@@ -18,6 +18,7 @@ import test_commands
 import test_contexts
 import test_conversions
 import test_cuts
+import test_edits
 import test_explain
 import test_improper
 import test_install
@@ -43,6 +44,7 @@ PARTS = {
     "contexts": test_contexts,
     "conversions": test_conversions,
     "cuts": test_cuts,
+    "edits": test_edits,
     "explain": test_explain,
     "improper": test_improper,
     "install": test_install,

@@ -3,8 +3,8 @@
 -- A caller that loops over `next_into` or `next_chunk` keeps `Reads start now chunks`, from the reader as `new` made it
 -- to the reader as it is, with the chunks so far, and that its state is `Open`; `room` falls with each chunk. After
 -- `None` the laws `steps_are_joined` and `chunks_read_to_the_end` say that these are the text's chunks; after a line
--- fault `refused_line_is_the_first_bad_one` says that the text's first bad line has this number. src/tests/whole.rt is
--- such a caller.
+-- fault `refused_line_is_the_first_bad_one` says that the text's first bad line has this number. Such a caller is
+-- crates/nbdcheck_first/src/tests/whole.rt.
 use Rattle.std.specs.Prelude.{◌≡◌, ◌+◌, ◌++◌, ◌==◌, ℕ, List, [], Option, Some, None, OnSome, IfSome, Result, Ok, Err, count_by, length}
 use Rattle.std.specs.Io.KnownBytes.{Consumes, IsAtEnd}
 use Rattle.nbd_capture.specs.declared.capture.CaptureFault.{CaptureFault}

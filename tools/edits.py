@@ -1,0 +1,296 @@
+#!/usr/bin/env python3
+"""tools/edits.py [--keep FOLDER] [CRATE..]: has the prover refuse the must-fail edits of these crates, or of all. The crates are proved in
+a copy, which stands in FOLDER afterwards.
+
+`rt must-fail` checks a crate once for each edit, and most of that is the same every time: what the crate and its libraries hold is read.
+Here one check tries as many edits as stand in different functions, since whether a function meets its contract does not depend on the
+bodies of others. Of each edit the prover must say that the very function in which it stands is not proved, for a goal of its own and not
+because of what it calls; where it says less, the edit is tried again beside fewer. An edit outside of a body is tried by itself. The
+crate as it stands is proved first, each of these functions among the rest.
+
+The last line is `N passed, M failed`.
+"""
+
+import argparse
+import contextlib
+import heapq
+import itertools
+import os
+import re
+import shutil
+import subprocess
+import sys
+import tempfile
+import threading
+import time
+from collections import namedtuple
+from concurrent.futures import ThreadPoolExecutor
+from pathlib import Path
+
+TOP = Path(__file__).resolve().parent.parent
+# A line in which a function begins, and one in which what is implemented for a type does.
+FUNCTION = re.compile(r"( *)(?:pub(?:\(\w+\))? )?(?:const )?fn (\w+)")
+IMPL = re.compile(r"impl(?:<.*?>)? (?:.* for )?(\w+)")
+# What is said of a proof that names what an edit took away, which says nothing of the contract.
+NAMES = re.compile("has no field|is not in scope|has no `|was not admitted")
+
+# A crate's own proof comes before any edit.
+FIRST = 10**6
+
+Edit = namedtuple("Edit", "name file changes function")
+
+
+class Lanes:
+    """So many runs at a time; of those that wait the one with the most behind it is next."""
+
+    def __init__(self, count):
+        self.free, self.waiting, self.turn = count, [], threading.Condition()
+        self.numbers = itertools.count()
+
+    @contextlib.contextmanager
+    def lane(self, behind):
+        ticket = (-behind, next(self.numbers))
+        with self.turn:
+            heapq.heappush(self.waiting, ticket)
+            self.turn.wait_for(lambda: self.free and self.waiting[0] == ticket)
+            heapq.heappop(self.waiting)
+            self.free -= 1
+            self.turn.notify_all()
+        try:
+            yield
+        finally:
+            with self.turn:
+                self.free += 1
+                self.turn.notify_all()
+
+
+def read_crates():
+    """Of each crate the crates that it uses and the seconds that its build takes, as crates.txt has them."""
+    lines = re.findall(r"(?m)^(\w+):([^#\n]*)(?:# (\d+))?", (TOP / "crates.txt").read_text())
+    names = [name for name, _, _ in lines]
+    return {name: ([it for it in uses.split() if it in names], int(seconds or 1)) for name, uses, seconds in lines}
+
+
+def function_at(lines, place):
+    """The function in whose body a line stands: its type, if it has one, and its name."""
+    for top in range(place, -1, -1):
+        if not (match := FUNCTION.match(lines[top])):
+            continue
+        margin, name = match.groups()
+        body = next(it for it in range(top, len(lines)) if lines[it] == margin + "{" or lines[it].endswith((" {", "{}")))
+        end = next((it for it in range(body, len(lines)) if lines[it] == margin + "}"), body)
+        if not body < place <= end:
+            return None
+        headers = (IMPL.match(lines[it]) for it in range(top, -1, -1) if lines[it].startswith(("impl", "}")))
+        of = next(headers, None) if margin else None
+        return (of[1] if of else "", name)
+    return None
+
+
+def read_edit(crate, path):
+    """Reads an edit; answers None where it cannot be applied."""
+    said = re.findall(r"(?m)^(file|old|new): (.*)$", path.read_text())
+    file = next((text.strip() for word, text in said if word == "file"), "")
+    old, new = ([text for word, text in said if word == which] for which in ("old", "new"))
+    source = crate / file
+    if not old or len(old) != len(new) or not source.is_file():
+        return None
+    text = source.read_text()
+    if any(text.count(it) != 1 for it in old):
+        return None
+    lines = text.split("\n")
+    places = {function_at(lines, text[: text.index(it)].count("\n")) for it in old} if file.startswith("src/") else {None}
+    return Edit(path.stem, file, list(zip(old, new)), places.pop() if len(places) == 1 else None)
+
+
+def path_of(crate, edit, told):
+    """The path of the function in which an edit stands, if the prover names exactly one."""
+    of, name = edit.function
+    module = edit.file[len("src/") : -len(".rt")].replace("/", "::")
+    begin = f"{crate}::" if module in ("lib", "main") else f"{crate}::{module}::"
+    # (of a trait's impl the prover writes both names as one)
+    found = [it for it in told if it == begin + name or of and it.startswith(begin + of) and it.endswith(f"::{name}")]
+    return found[0] if len(found) == 1 else None
+
+
+def errors_in(folder, text):
+    """What was said of proofs by hand right in a folder of proofs/, or with "" of all."""
+    return re.findall(rf"(?m)^\./(proofs/{re.escape(folder)}\w+\.antt:\d+:\d+: error: .*)$" if folder else r"(?m)^\./(proofs/\S+: error: .*)$", text)
+
+
+def refusal(path, told, text):
+    """Why a function is refused for a goal of its own; answers "" where it is not, or where that is not known."""
+    if "did not prove" in told[path]:
+        return told[path]
+    # Its own proof by hand says why.
+    errors = errors_in("/".join(path.split("::")[1:]) + "/", text)
+    return next((it for it in errors if not NAMES.search(it)), "") if told[path] != "proved" else ""
+
+
+def linked(folder, to):
+    """Copies what a check kept; the modules by links, since a check replaces them and writes into none."""
+    shutil.rmtree(to, ignore_errors=True)
+    shutil.copytree(folder, to, copy_function=lambda one, other: (os.link if one.endswith(".oantt") else shutil.copy2)(one, other))
+
+
+class Crate:
+    def __init__(self, name, uses, tree, room, lanes):
+        self.name, self.uses, self.lanes = name, uses, lanes
+        self.home, self.tree, self.room = TOP / "crates" / name, tree / "crates" / name, room
+        self.checks, self.seconds, self.passed, self.failed = 0, 0.0, 0, 0
+
+    def rt(self, folder, words, behind):
+        """Runs rt in a crate's folder; answers its exit status, and what it said of each function."""
+        with self.lanes.lane(behind):
+            run = subprocess.Popen(["rt", *words, "--jobs", "1"], cwd=folder, stdin=subprocess.DEVNULL, stdout=subprocess.PIPE, stderr=subprocess.STDOUT, text=True, errors="replace")
+            text = run.stdout.read()
+            _, status, used = os.wait4(run.pid, 0)
+        self.seconds += used.ru_utime + used.ru_stime
+        return os.waitstatus_to_exitcode(status), dict(re.findall(r"(?m)^fn (\S+): (.*)$", text)), text
+
+    def prove(self, behind, is_library):
+        """Proves the crate as it stands, and builds the library of it."""
+        status, self.told, text = self.rt(self.tree, ["check"], behind)
+        if status == 0 and is_library:
+            status, _, text = self.rt(self.tree, ["lib"], behind)
+        if status:
+            print(f"{self.name} as it stands is not proved:\n{text}", flush=True)
+        return status == 0
+
+    def make_room(self, below):
+        """A copy of the repository in which the crate is edited."""
+        os.makedirs(self.room)
+        top = self.tree.parent.parent
+        lines = (top / "crates.txt").read_text().splitlines()
+        (self.room / "crates.txt").write_text("".join(f"{it}\n" for it in lines if it.split(":")[0] in [self.name, *below]))
+        shutil.copy2(top / "HANDLES", self.room)
+        for name in below:
+            shutil.copytree(top / "crates" / name, self.room / "crates" / name, copy_function=os.link, ignore=shutil.ignore_patterns("incremental"))
+        shutil.copytree(self.tree, self.room / "crates" / self.name, ignore=shutil.ignore_patterns("out"))
+
+    def check(self, edits, behind):
+        """Checks the crate with these edits."""
+        folder = self.room / "crates" / self.name
+        linked(self.tree / "out/incremental", folder / "out/incremental")
+        for file in {edit.file for edit in edits}:
+            text = (self.tree / file).read_text()
+            for old, new in (change for edit in edits if edit.file == file for change in edit.changes):
+                text = text.replace(old, new)
+            (folder / file).write_text(text)
+        self.checks += 1
+        before, begun = self.seconds, time.monotonic()
+        _, told, text = self.rt(folder, ["check"], behind)
+        print(f"{self.name}: {len(edits)} edits, {self.seconds - before:.0f} s of processor time, {time.monotonic() - begun:.0f} s", flush=True)
+        for file in {edit.file for edit in edits}:
+            shutil.copy2(self.tree / file, folder / file)
+        return told, text
+
+    def say(self, edit, is_refused, what):
+        self.passed, self.failed = self.passed + is_refused, self.failed + (not is_refused)
+        print(f"must-fail {self.name}/{edit}: {'refused' if is_refused else 'NOT REFUSED'}: {what[:160]}", flush=True)
+
+    def try_alone(self, edit, behind):
+        """Tries an edit by itself: some function must be refused for a goal of its own, or a lemma that rests on what was edited."""
+        told, text = self.check([edit], behind)
+        own = [why for path in told if (why := refusal(path, told, text))] + [it for it in errors_in("", text) if not NAMES.search(it)]
+        self.say(edit.name, bool(told) and bool(own), own[0] if own else f"the crate is still proved, or was not read: {text}")
+
+    def try_together(self, edits, behind):
+        """Tries edits of different functions; answers those of which nothing is known yet."""
+        told, text = self.check(edits, behind)
+        left = []
+        for edit in edits:
+            path = path_of(self.name, edit, told)
+            if path and told[path] == "proved":
+                self.say(edit.name, False, f"{path} is still proved")
+            elif path and (why := refusal(path, told, text)):
+                self.say(edit.name, True, why)
+            else:
+                left.append(edit)
+        return left
+
+    def try_edits(self, below):
+        """Tries all edits."""
+        paths = sorted((self.home / "must-fail").glob("*.edit"))
+        edits = {path.stem: read_edit(self.tree, path) for path in paths}
+        for name in (name for name, edit in edits.items() if not edit):
+            self.say(name, False, "it cannot be applied")
+        edits = [edit for edit in edits.values() if edit]
+        if not edits:
+            return
+        self.make_room(below)
+        # What stands in no body, or in a function that the prover does not name, is tried by itself.
+        left = [it for it in edits if it.function and path_of(self.name, it, self.told)]
+        alone = [it for it in edits if it not in left]
+        while left:
+            together = {}
+            for edit in left:
+                together.setdefault((edit.file, edit.function), edit)
+            left = [it for it in left if it not in together.values()]
+            alone += self.try_together(list(together.values()), len(left))
+        for number, edit in enumerate(alone):
+            self.try_alone(edit, len(alone) - number)
+        shutil.rmtree(self.room)
+        print(f"{self.name}: {len(paths)} edits in {self.checks} checks, {self.seconds:.0f} s of processor time with the crate's own proof", flush=True)
+
+
+def below_of(name, crates):
+    """The crates that a crate rests on."""
+    uses = crates[name][0]
+    return {it for use in uses for it in [use, *below_of(use, crates)]}
+
+
+def ways_of(crates):
+    """Of each crate the longest way to the end: its seconds, and those of what waits for it."""
+    ways = {}
+    for name in sorted(crates, key=lambda it: -len(below_of(it, crates))):
+        ways[name] = crates[name][1] + max((way for it, way in ways.items() if name in crates[it][0]), default=0)
+    return ways
+
+
+def run(crates, asked, folder):
+    """Proves the crates that are asked for and what they rest on, and tries the edits of each as soon as it is proved."""
+    tree, lanes, ways, proved = folder / "tree", Lanes(len(os.sched_getaffinity(0))), ways_of(crates), {}
+    shutil.copytree(TOP / "crates", tree / "crates", ignore=shutil.ignore_patterns("out", "must-fail"))
+    for file in ("crates.txt", "HANDLES"):
+        shutil.copy2(TOP / file, tree)
+    wanted = {it for name in asked for it in [name, *below_of(name, crates)]}
+    made = {name: Crate(name, crates[name][0], tree, folder / name, lanes) for name in wanted}
+
+    def prove(crate):
+        is_library = any(crate.name in uses for uses, _ in crates.values())
+        return all(proved[it].result() for it in crate.uses) and crate.prove(FIRST + ways[crate.name], is_library)
+
+    def try_edits(crate):
+        if proved[crate.name].result():
+            crate.try_edits(below_of(crate.name, crates))
+        else:
+            crate.failed += 1
+
+    with ThreadPoolExecutor(2 * len(made)) as pool:
+        for name in sorted(made, key=lambda it: len(below_of(it, crates))):
+            proved[name] = pool.submit(prove, made[name])
+        for done in [pool.submit(try_edits, made[name]) for name in asked]:
+            done.result()
+    return made.values()
+
+
+def main():
+    words = argparse.ArgumentParser(usage=__doc__)
+    words.add_argument("--keep", metavar="FOLDER")
+    words.add_argument("crate", nargs="*")
+    words = words.parse_args()
+    crates, begun = read_crates(), time.monotonic()
+    if unknown := [name for name in words.crate if name not in crates]:
+        sys.exit(f"crates.txt has no crate {unknown[0]}")
+    with contextlib.ExitStack() as stack:
+        folder = words.keep or stack.enter_context(tempfile.TemporaryDirectory(prefix="nbdcheck-edits-"))
+        tried = run(crates, words.crate or list(crates), Path(folder))
+    print(f"{time.monotonic() - begun:.0f} s, {sum(crate.seconds for crate in tried):.0f} s of processor time")
+    passed, failed = sum(crate.passed for crate in tried), sum(crate.failed for crate in tried)
+    print(f"{passed} passed, {failed} failed")
+    return failed != 0
+
+
+if __name__ == "__main__":
+    sys.exit(main())
