@@ -1,12 +1,13 @@
 #!/usr/bin/env python3
-"""tools/edits.py [--keep FOLDER] [CRATE..]: has the prover refuse the must-fail edits of these crates, or of all. The crates are proved in
-a copy, which stands in FOLDER afterwards.
+"""tools/edits.py [--keep FOLDER] [CRATE..]: has the prover refuse the must-fail edits of these crates, or of all. The
+crates are proved in a copy, which stands in FOLDER afterwards.
 
-`rt must-fail` checks a crate once for each edit, and most of that is the same every time: what the crate and its libraries hold is read.
-Here one check tries as many edits as stand in different functions, since whether a function meets its contract does not depend on the
-bodies of others. Of each edit the prover must say that the very function in which it stands is not proved, for a goal of its own and not
-because of what it calls; where it says less, the edit is tried again beside fewer. An edit outside of a body is tried by itself. The
-crate as it stands is proved first, each of these functions among the rest.
+`rt must-fail` checks a crate once for each edit, and most of that is the same every time: what the crate and its
+libraries hold is read. Here one check tries as many edits as stand in different functions, since whether a function
+meets its contract does not depend on the bodies of others. Of each edit the prover must say that the very function in
+which it stands is not proved, for a goal of its own and not because of what it calls; where it says less, the edit is
+tried by itself. So is one outside of a body. The crate as it stands is proved first, each of these functions among the
+rest.
 
 The last line is `N passed, M failed`.
 """
@@ -77,8 +78,9 @@ def function_at(lines, place):
         if not (match := FUNCTION.match(lines[top])):
             continue
         margin, name = match.groups()
-        body = next(it for it in range(top, len(lines)) if lines[it] == margin + "{" or lines[it].endswith((" {", "{}")))
-        end = next((it for it in range(body, len(lines)) if lines[it] == margin + "}"), body)
+        rest = range(top, len(lines))
+        body = next(it for it in rest if lines[it] == margin + "{" or lines[it].endswith((" {", "{}")))
+        end = next((it for it in rest if it > body and lines[it] == margin + "}"), body)
         if not body < place <= end:
             return None
         headers = (IMPL.match(lines[it]) for it in range(top, -1, -1) if lines[it].startswith(("impl", "}")))
@@ -98,9 +100,9 @@ def read_edit(crate, path):
     text = source.read_text()
     if any(text.count(it) != 1 for it in old):
         return None
-    lines = text.split("\n")
-    places = {function_at(lines, text[: text.index(it)].count("\n")) for it in old} if file.startswith("src/") else {None}
-    return Edit(path.stem, file, list(zip(old, new)), places.pop() if len(places) == 1 else None)
+    lines, places = text.split("\n"), [text[: text.index(it)].count("\n") for it in old]
+    functions = {function_at(lines, it) for it in places} if file.startswith("src/") else {None}
+    return Edit(path.stem, file, list(zip(old, new)), functions.pop() if len(functions) == 1 else None)
 
 
 def path_of(crate, edit, told):
@@ -113,24 +115,23 @@ def path_of(crate, edit, told):
     return found[0] if len(found) == 1 else None
 
 
-def errors_in(folder, text):
-    """What was said of proofs by hand right in a folder of proofs/, or with "" of all."""
-    return re.findall(rf"(?m)^\./(proofs/{re.escape(folder)}\w+\.antt:\d+:\d+: error: .*)$" if folder else r"(?m)^\./(proofs/\S+: error: .*)$", text)
+def errors_in(place, text):
+    """What was said of the proofs by hand at a place in proofs/, but for what only names what is gone."""
+    errors = re.findall(rf"(?m)^\./(proofs/{place}\.antt:\d+:\d+: error: .*)$", text)
+    return [it for it in errors if not NAMES.search(it)]
 
 
 def refusal(path, told, text):
     """Why a function is refused for a goal of its own; answers "" where it is not, or where that is not known."""
-    if "did not prove" in told[path]:
-        return told[path]
-    # Its own proof by hand says why.
-    errors = errors_in("/".join(path.split("::")[1:]) + "/", text)
-    return next((it for it in errors if not NAMES.search(it)), "") if told[path] != "proved" else ""
+    if told[path] == "proved" or "did not prove" in told[path]:
+        return told[path].removeprefix("proved")
+    errors = errors_in("/".join(path.split("::")[1:]) + r"/\w+", text)
+    return errors[0] if errors else ""
 
 
-def linked(folder, to):
-    """Copies what a check kept; the modules by links, since a check replaces them and writes into none."""
-    shutil.rmtree(to, ignore_errors=True)
-    shutil.copytree(folder, to, copy_function=lambda one, other: (os.link if one.endswith(".oantt") else shutil.copy2)(one, other))
+def link_or_copy(one, other):
+    """Copies a file; a module by a link, since a check replaces it and does not write into it."""
+    (os.link if one.endswith(".oantt") else shutil.copy2)(one, other)
 
 
 class Crate:
@@ -139,10 +140,11 @@ class Crate:
         self.home, self.tree, self.room = TOP / "crates" / name, tree / "crates" / name, room
         self.checks, self.seconds, self.passed, self.failed = 0, 0.0, 0, 0
 
-    def rt(self, folder, words, behind):
-        """Runs rt in a crate's folder; answers its exit status, and what it said of each function."""
+    def rt(self, folder, word, behind):
+        """Runs rt in a crate's folder; answers its exit status, what it said of each function, and all that it said."""
+        how = {"stdin": subprocess.DEVNULL, "stdout": subprocess.PIPE, "stderr": subprocess.STDOUT}
         with self.lanes.lane(behind):
-            run = subprocess.Popen(["rt", *words, "--jobs", "1"], cwd=folder, stdin=subprocess.DEVNULL, stdout=subprocess.PIPE, stderr=subprocess.STDOUT, text=True, errors="replace")
+            run = subprocess.Popen(["rt", word, "--jobs", "1"], cwd=folder, text=True, errors="replace", **how)
             text = run.stdout.read()
             _, status, used = os.wait4(run.pid, 0)
         self.seconds += used.ru_utime + used.ru_stime
@@ -150,9 +152,9 @@ class Crate:
 
     def prove(self, behind, is_library):
         """Proves the crate as it stands, and builds the library of it."""
-        status, self.told, text = self.rt(self.tree, ["check"], behind)
+        status, self.told, text = self.rt(self.tree, "check", behind)
         if status == 0 and is_library:
-            status, _, text = self.rt(self.tree, ["lib"], behind)
+            status, _, text = self.rt(self.tree, "lib", behind)
         if status:
             print(f"{self.name} as it stands is not proved:\n{text}", flush=True)
         return status == 0
@@ -161,39 +163,44 @@ class Crate:
         """A copy of the repository in which the crate is edited."""
         os.makedirs(self.room)
         top = self.tree.parent.parent
-        lines = (top / "crates.txt").read_text().splitlines()
-        (self.room / "crates.txt").write_text("".join(f"{it}\n" for it in lines if it.split(":")[0] in [self.name, *below]))
+        lines = (top / "crates.txt").read_text().splitlines(keepends=True)
+        (self.room / "crates.txt").write_text("".join(it for it in lines if it.split(":")[0] in [self.name, *below]))
         shutil.copy2(top / "HANDLES", self.room)
+        leave = shutil.ignore_patterns("incremental")
         for name in below:
-            shutil.copytree(top / "crates" / name, self.room / "crates" / name, copy_function=os.link, ignore=shutil.ignore_patterns("incremental"))
+            shutil.copytree(top / "crates" / name, self.room / "crates" / name, copy_function=os.link, ignore=leave)
         shutil.copytree(self.tree, self.room / "crates" / self.name, ignore=shutil.ignore_patterns("out"))
 
     def check(self, edits, behind):
         """Checks the crate with these edits."""
         folder = self.room / "crates" / self.name
-        linked(self.tree / "out/incremental", folder / "out/incremental")
+        shutil.rmtree(folder / "out/incremental", ignore_errors=True)
+        shutil.copytree(self.tree / "out/incremental", folder / "out/incremental", copy_function=link_or_copy)
         for file in {edit.file for edit in edits}:
             text = (self.tree / file).read_text()
             for old, new in (change for edit in edits if edit.file == file for change in edit.changes):
+                if text.count(old) != 1:
+                    raise ValueError(f"{self.name}: another edit changes this too: {old}")
                 text = text.replace(old, new)
             (folder / file).write_text(text)
         self.checks += 1
-        before, begun = self.seconds, time.monotonic()
-        _, told, text = self.rt(folder, ["check"], behind)
-        print(f"{self.name}: {len(edits)} edits, {self.seconds - before:.0f} s of processor time, {time.monotonic() - begun:.0f} s", flush=True)
+        before = self.seconds
+        _, told, text = self.rt(folder, "check", behind)
+        print(f"{self.name}: {len(edits)} edits in {self.seconds - before:.0f} s of processor time", flush=True)
         for file in {edit.file for edit in edits}:
             shutil.copy2(self.tree / file, folder / file)
         return told, text
 
     def say(self, edit, is_refused, what):
+        """Tells what an edit came to."""
         self.passed, self.failed = self.passed + is_refused, self.failed + (not is_refused)
         print(f"must-fail {self.name}/{edit}: {'refused' if is_refused else 'NOT REFUSED'}: {what[:160]}", flush=True)
 
     def try_alone(self, edit, behind):
-        """Tries an edit by itself: some function must be refused for a goal of its own, or a lemma that rests on what was edited."""
+        """Tries an edit by itself: some function must be refused for a goal of its own, or a lemma on what was edited."""
         told, text = self.check([edit], behind)
-        own = [why for path in told if (why := refusal(path, told, text))] + [it for it in errors_in("", text) if not NAMES.search(it)]
-        self.say(edit.name, bool(told) and bool(own), own[0] if own else f"the crate is still proved, or was not read: {text}")
+        own = [why for path in told if (why := refusal(path, told, text))] + errors_in(r"\S+", text)
+        self.say(edit.name, bool(told and own), own[0] if own else f"the crate is proved, or was not read: {text}")
 
     def try_together(self, edits, behind):
         """Tries edits of different functions; answers those of which nothing is known yet."""
@@ -231,7 +238,8 @@ class Crate:
         for number, edit in enumerate(alone):
             self.try_alone(edit, len(alone) - number)
         shutil.rmtree(self.room)
-        print(f"{self.name}: {len(paths)} edits in {self.checks} checks, {self.seconds:.0f} s of processor time with the crate's own proof", flush=True)
+        seconds = f"{self.seconds:.0f} s of processor time with its own proof"
+        print(f"{self.name}: {len(paths)} edits in {self.checks} checks, {seconds}", flush=True)
 
 
 def below_of(name, crates):
@@ -249,7 +257,7 @@ def ways_of(crates):
 
 
 def run(crates, asked, folder):
-    """Proves the crates that are asked for and what they rest on, and tries the edits of each as soon as it is proved."""
+    """Proves the crates that are asked for and what they rest on, and tries the edits of each that is asked for."""
     tree, lanes, ways, proved = folder / "tree", Lanes(len(os.sched_getaffinity(0))), ways_of(crates), {}
     shutil.copytree(TOP / "crates", tree / "crates", ignore=shutil.ignore_patterns("out", "must-fail"))
     for file in ("crates.txt", "HANDLES"):
