@@ -178,10 +178,10 @@ class Crate:
         shutil.copytree(self.tree / "out/incremental", folder / "out/incremental", copy_function=link_or_copy)
         for file in {edit.file for edit in edits}:
             text = (self.tree / file).read_text()
-            for old, new in (change for edit in edits if edit.file == file for change in edit.changes):
-                if text.count(old) != 1:
-                    raise ValueError(f"{self.name}: another edit changes this too: {old}")
-                text = text.replace(old, new)
+            changes = [(text.index(old), old, new) for edit in edits if edit.file == file for old, new in edit.changes]
+            # (from the last to the first, so that the others stay where they are)
+            for place, old, new in sorted(changes, reverse=True):
+                text = text[:place] + new + text[place + len(old) :]
             (folder / file).write_text(text)
         self.checks += 1
         before = self.seconds
@@ -197,7 +197,7 @@ class Crate:
         print(f"must-fail {self.name}/{edit}: {'refused' if is_refused else 'NOT REFUSED'}: {what[:160]}", flush=True)
 
     def try_alone(self, edit, behind):
-        """Tries an edit by itself: some function must be refused for a goal of its own, or a lemma on what was edited."""
+        """Tries an edit by itself: some function is refused for a goal of its own, or a lemma on what was edited."""
         told, text = self.check([edit], behind)
         own = [why for path in told if (why := refusal(path, told, text))] + errors_in(r"\S+", text)
         self.say(edit.name, bool(told and own), own[0] if own else f"the crate is proved, or was not read: {text}")

@@ -89,7 +89,7 @@ def limit(number):
 
 # A name, the edits, of each whether it is refused, and the words that stand in each check of the crate with edits.
 RUNS = [
-    ("different functions", {"a": change("one", "searched"), "b": change("two", "by_hand"), "c": change("three", "searched")},
+    ("different functions", {"a": change("one", "searched"), "b": change("two", "by_hand"), "c": change("three", "searched // right // one")},
      {"a": "refused", "b": "refused", "c": "refused"}, ["by_hand searched searched"]),
     ("one function", {"a": change("one", "searched"), "b": change("one", "by_hand")}, {"a": "refused", "b": "refused"}, ["searched", "by_hand"]),
     ("what it calls is refused", {"a": change("one", "hidden"), "b": change("two", "searched")},
