@@ -38,7 +38,8 @@ NAMES = re.compile("has no field|is not in scope|has no `|was not admitted")
 # A crate's own proof comes before any edit.
 FIRST = 10**6
 
-Edit = namedtuple("Edit", "name file changes function")
+# What an edit changes in which file; if it stands in the body of one function, that one's type and name, and its lines.
+Edit = namedtuple("Edit", "name file changes function lines")
 
 
 class Lanes:
@@ -73,7 +74,7 @@ def read_crates():
 
 
 def function_at(lines, place):
-    """The function in whose body a line stands: its type, if it has one, and its name."""
+    """The function in whose body a line stands: its type and name, and where its lines begin and end."""
     for top in range(place, -1, -1):
         if not (match := FUNCTION.match(lines[top])):
             continue
@@ -85,7 +86,7 @@ def function_at(lines, place):
             return None
         headers = (IMPL.match(lines[it]) for it in range(top, -1, -1) if lines[it].startswith(("impl", "}")))
         of = next(headers, None) if margin else None
-        return (of[1] if of else "", name)
+        return (of[1] if of else "", name), (top, end)
     return None
 
 
@@ -102,7 +103,8 @@ def read_edit(crate, path):
         return None
     lines, places = text.split("\n"), [text[: text.index(it)].count("\n") for it in old]
     functions = {function_at(lines, it) for it in places} if file.startswith("src/") else {None}
-    return Edit(path.stem, file, list(zip(old, new)), functions.pop() if len(functions) == 1 else None)
+    function, within = (len(functions) == 1 and functions.pop()) or (None, None)
+    return Edit(path.stem, file, list(zip(old, new)), function, within)
 
 
 def path_of(crate, edit, told):
@@ -115,18 +117,17 @@ def path_of(crate, edit, told):
     return found[0] if len(found) == 1 else None
 
 
-def errors_in(place, text):
-    """What was said of the proofs by hand at a place in proofs/, but for what only names what is gone."""
-    errors = re.findall(rf"(?m)^\./(proofs/{place}\.antt:\d+:\d+: error: .*)$", text)
-    return [it for it in errors if not NAMES.search(it)]
-
-
-def refusal(path, told, text):
-    """Why a function is refused for a goal of its own; answers "" where it is not, or where that is not known."""
-    if told[path] == "proved" or "did not prove" in told[path]:
-        return told[path].removeprefix("proved")
-    errors = errors_in("/".join(path.split("::")[1:]) + r"/\w+", text)
-    return errors[0] if errors else ""
+def refusals(edit, path, told, text):
+    """Why a function, with an edit in it, is refused for goals of its own; a name that is gone is no reason."""
+    if told[path] == "proved":
+        return []
+    notes = re.findall(rf"(?m)^note: ({re.escape(edit.file)}:(\d+):\d+: it is not proved that .*)$", text)
+    first, last = edit.lines
+    # (an edit leaves each line where it was)
+    found = [note for note, line in notes if first < int(line) <= last + 1]
+    proofs = "/".join(path.split("::")[1:])
+    errors = re.findall(rf"(?m)^\./(proofs/{proofs}/\w+\.antt:\d+:\d+: error: .*)$", text)
+    return [told[path]] * ("did not prove" in told[path]) + found + [it for it in errors if not NAMES.search(it)]
 
 
 def link_or_copy(one, other):
@@ -197,10 +198,11 @@ class Crate:
         print(f"must-fail {self.name}/{edit}: {'refused' if is_refused else 'NOT REFUSED'}: {what[:160]}", flush=True)
 
     def try_alone(self, edit, behind):
-        """Tries an edit by itself: some function is refused for a goal of its own, or a lemma on what was edited."""
+        """Tries an edit by itself: something is refused, and not for a name that is gone."""
         told, text = self.check([edit], behind)
-        own = [why for path in told if (why := refusal(path, told, text))] + errors_in(r"\S+", text)
-        self.say(edit.name, bool(told and own), own[0] if own else f"the crate is proved, or was not read: {text}")
+        found = [it for it in re.findall(r"(?m)^\./(proofs/\S+: error: .*)$", text) if not NAMES.search(it)]
+        found += re.findall(r"(?m)^fn .* did not prove .*$|^note: src/\S+: it is not proved that .*$", text)
+        self.say(edit.name, bool(told and found), found[0] if found else f"it is proved, or was not read: {text}")
 
     def try_together(self, edits, behind):
         """Tries edits of different functions; answers those of which nothing is known yet."""
@@ -210,8 +212,8 @@ class Crate:
             path = path_of(self.name, edit, told)
             if path and told[path] == "proved":
                 self.say(edit.name, False, f"{path} is still proved")
-            elif path and (why := refusal(path, told, text)):
-                self.say(edit.name, True, why)
+            elif path and (found := refusals(edit, path, told, text)):
+                self.say(edit.name, True, found[0])
             else:
                 left.append(edit)
         return left

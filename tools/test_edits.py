@@ -21,19 +21,23 @@ with open(os.environ["NOTES"], "a") as notes:
 os.makedirs("out/incremental", exist_ok=True)
 if crate == os.environ.get("FAILS") or "unread" in bodies.values():
     sys.exit("src/lib.rt:1:1: error[parse]: what is that")
-refused = {"searched", "by_hand"} & set(bodies.values())
+refused = {"searched", "by_hand", "noted"} & set(bodies.values())
 says = {
     "right": "proved",
     "same": "proved",
     "searched": "no proof: expected answers in ./proofs/NAME/Answers.antt; `search` did not prove `returns`",
     "by_hand": "not proved; it calls `low::three`, which is not proved",
     "named": "not proved",
+    "noted": "not proved",
     "hidden": "no proof: it calls `low::two`, which is not proved" if refused else "no proof: `search` did not prove `returns`",
 }
 for name, body in bodies.items():
     if body == "by_hand":
         print(f"./proofs/{name}/Answers.antt:5:1: error: `returns`: the two types differ")
-    if body == "named":
+    if body == "noted":
+        line = text[: text.index(f"fn {name}(")].count("\n") + 2
+        print(f"note: src/lib.rt:{line}:5: it is not proved that the index is in bounds (`index`)")
+    if body in ("named", "noted"):
         print(f"./proofs/{name}/Answers.antt:5:1: error: `returns`: `n` is not in scope")
     print(f"fn {crate}::{name}: {says[body]}")
 if limit == ["8"]:
@@ -91,6 +95,8 @@ def limit(number):
 RUNS = [
     ("different functions", {"a": change("one", "searched"), "b": change("two", "by_hand"), "c": change("three", "searched // right // one")},
      {"a": "refused", "b": "refused", "c": "refused"}, ["by_hand searched searched"]),
+    ("a name that is gone, and more", {"a": change("one", "noted"), "b": change("three", "noted")},
+     {"a": "refused", "b": "refused"}, ["noted noted"]),
     ("one function", {"a": change("one", "searched"), "b": change("one", "by_hand")}, {"a": "refused", "b": "refused"}, ["searched", "by_hand"]),
     ("what it calls is refused", {"a": change("one", "hidden"), "b": change("two", "searched")},
      {"a": "refused", "b": "refused"}, ["hidden searched", "hidden"]),
