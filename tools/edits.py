@@ -136,61 +136,70 @@ def link_or_copy(one, other):
 
 
 class Crate:
-    def __init__(self, name, uses, tree, room, lanes):
-        self.name, self.uses, self.lanes = name, uses, lanes
-        self.home, self.tree, self.room = TOP / "crates" / name, tree / "crates" / name, room
+    """A crate in a copy of the repository of its own, since in one copy rt has a crate and those below to itself."""
+
+    def __init__(self, name, below, folder, lanes):
+        self.name, self.below, self.lanes = name, below, lanes
+        self.home, self.top, self.kept = TOP / "crates" / name, folder / name, folder / name / "kept"
         self.checks, self.seconds, self.passed, self.failed = 0, 0.0, 0, 0
 
-    def rt(self, folder, word, behind):
-        """Runs rt in a crate's folder; answers its exit status, what it said of each function, and all that it said."""
-        how = {"stdin": subprocess.DEVNULL, "stdout": subprocess.PIPE, "stderr": subprocess.STDOUT}
+    def rt(self, word, behind):
+        """Runs rt on the crate; answers its exit status, what it said of each function, and all that it said."""
+        how = {"cwd": self.place(), "stdin": subprocess.DEVNULL, "stdout": subprocess.PIPE, "stderr": subprocess.STDOUT}
         with self.lanes.lane(behind):
-            run = subprocess.Popen(["rt", word, "--jobs", "1"], cwd=folder, text=True, errors="replace", **how)
+            run = subprocess.Popen(["rt", word, "--jobs", "1"], text=True, errors="replace", **how)
             text = run.stdout.read()
             _, status, used = os.wait4(run.pid, 0)
         self.seconds += used.ru_utime + used.ru_stime
         return os.waitstatus_to_exitcode(status), dict(re.findall(r"(?m)^fn (\S+): (.*)$", text)), text
 
-    def prove(self, behind, is_library):
+    def place(self, name=None):
+        """Where a crate stands in the copy."""
+        return self.top / "crates" / (name or self.name)
+
+    def copy(self, made):
+        """Copies the crate, and those below it as they were made."""
+        leave = shutil.ignore_patterns("out", "must-fail")
+        for name in [self.name, *self.below]:
+            shutil.copytree(TOP / "crates" / name, self.place(name), ignore=leave)
+        for name in self.below:
+            shutil.copytree(made[name].place() / "out/rlib", self.place(name) / "out/rlib", copy_function=os.link)
+        lines = (TOP / "crates.txt").read_text().splitlines(keepends=True)
+        lines = [it for it in lines if it.split(":")[0] in [self.name, *self.below]]
+        (self.top / "crates.txt").write_text("".join(lines))
+        shutil.copy2(TOP / "HANDLES", self.top)
+
+    def prove(self, made, behind, is_library):
         """Proves the crate as it stands, and builds the library of it."""
-        status, self.told, text = self.rt(self.tree, "check", behind)
+        self.copy(made)
+        status, self.told, text = self.rt("check", behind)
         if status == 0 and is_library:
-            status, _, text = self.rt(self.tree, "lib", behind)
+            status, _, text = self.rt("lib", behind)
         if status:
             print(f"{self.name} as it stands is not proved:\n{text}", flush=True)
+        else:
+            os.rename(self.place() / "out/incremental", self.kept)
         return status == 0
 
-    def make_room(self, below):
-        """A copy of the repository in which the crate is edited."""
-        os.makedirs(self.room)
-        top = self.tree.parent.parent
-        lines = (top / "crates.txt").read_text().splitlines(keepends=True)
-        (self.room / "crates.txt").write_text("".join(it for it in lines if it.split(":")[0] in [self.name, *below]))
-        shutil.copy2(top / "HANDLES", self.room)
-        leave = shutil.ignore_patterns("incremental")
-        for name in below:
-            shutil.copytree(top / "crates" / name, self.room / "crates" / name, copy_function=os.link, ignore=leave)
-        shutil.copytree(self.tree, self.room / "crates" / self.name, ignore=shutil.ignore_patterns("out"))
-
     def check(self, edits, behind):
-        """Checks the crate with these edits."""
-        folder = self.room / "crates" / self.name
-        shutil.rmtree(folder / "out/incremental", ignore_errors=True)
-        shutil.copytree(self.tree / "out/incremental", folder / "out/incremental", copy_function=link_or_copy)
-        for file in {edit.file for edit in edits}:
-            text = (self.tree / file).read_text()
+        """Checks the crate with these edits, over what was kept of it as it stands."""
+        over = self.place() / "out/incremental"
+        shutil.rmtree(over, ignore_errors=True)
+        shutil.copytree(self.kept, over, copy_function=link_or_copy)
+        files = {edit.file: (self.place() / edit.file).read_text() for edit in edits}
+        for file, text in files.items():
             changes = [(text.index(old), old, new) for edit in edits if edit.file == file for old, new in edit.changes]
             # (from the last to the first, so that the others stay where they are)
             for place, old, new in sorted(changes, reverse=True):
                 text = text[:place] + new + text[place + len(old) :]
-            (folder / file).write_text(text)
+            (self.place() / file).write_text(text)
         self.checks += 1
         before = self.seconds
-        _, told, text = self.rt(folder, "check", behind)
+        _, told, said = self.rt("check", behind)
         print(f"{self.name}: {len(edits)} edits in {self.seconds - before:.0f} s of processor time", flush=True)
-        for file in {edit.file for edit in edits}:
-            shutil.copy2(self.tree / file, folder / file)
-        return told, text
+        for file, text in files.items():
+            (self.place() / file).write_text(text)
+        return told, said
 
     def say(self, edit, is_refused, what):
         """Tells what an edit came to."""
@@ -218,16 +227,13 @@ class Crate:
                 left.append(edit)
         return left
 
-    def try_edits(self, below):
+    def try_edits(self):
         """Tries all edits."""
         paths = sorted((self.home / "must-fail").glob("*.edit"))
-        edits = {path.stem: read_edit(self.tree, path) for path in paths}
+        edits = {path.stem: read_edit(self.place(), path) for path in paths}
         for name in (name for name, edit in edits.items() if not edit):
             self.say(name, False, "it cannot be applied")
         edits = [edit for edit in edits.values() if edit]
-        if not edits:
-            return
-        self.make_room(below)
         # What stands in no body, or in a function that the prover does not name, is tried by itself.
         left = [it for it in edits if it.function and path_of(self.name, it, self.told)]
         alone = [it for it in edits if it not in left]
@@ -239,7 +245,6 @@ class Crate:
             alone += self.try_together(list(together.values()), len(left))
         for number, edit in enumerate(alone):
             self.try_alone(edit, len(alone) - number)
-        shutil.rmtree(self.room)
         seconds = f"{self.seconds:.0f} s of processor time with its own proof"
         print(f"{self.name}: {len(paths)} edits in {self.checks} checks, {seconds}", flush=True)
 
@@ -260,20 +265,18 @@ def ways_of(crates):
 
 def run(crates, asked, folder):
     """Proves the crates that are asked for and what they rest on, and tries the edits of each that is asked for."""
-    tree, lanes, ways, proved = folder / "tree", Lanes(len(os.sched_getaffinity(0))), ways_of(crates), {}
-    shutil.copytree(TOP / "crates", tree / "crates", ignore=shutil.ignore_patterns("out", "must-fail"))
-    for file in ("crates.txt", "HANDLES"):
-        shutil.copy2(TOP / file, tree)
+    lanes, ways, proved = Lanes(len(os.sched_getaffinity(0))), ways_of(crates), {}
     wanted = {it for name in asked for it in [name, *below_of(name, crates)]}
-    made = {name: Crate(name, crates[name][0], tree, folder / name, lanes) for name in wanted}
+    made = {name: Crate(name, below_of(name, crates), folder, lanes) for name in wanted}
 
     def prove(crate):
         is_library = any(crate.name in uses for uses, _ in crates.values())
-        return all(proved[it].result() for it in crate.uses) and crate.prove(FIRST + ways[crate.name], is_library)
+        are_below = all(proved[it].result() for it in crate.below)
+        return are_below and crate.prove(made, FIRST + ways[crate.name], is_library)
 
     def try_edits(crate):
         if proved[crate.name].result():
-            crate.try_edits(below_of(crate.name, crates))
+            crate.try_edits()
         else:
             crate.failed += 1
 

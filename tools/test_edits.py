@@ -19,6 +19,7 @@ limit = re.findall(r"LIMIT: u8 = (\d+);", text)
 with open(os.environ["NOTES"], "a") as notes:
     notes.write(f"{crate} {sys.argv[1]} {' '.join(it for it in bodies.values() if it != 'right')}\n")
 os.makedirs("out/incremental", exist_ok=True)
+os.makedirs("out/rlib", exist_ok=True)
 if crate == os.environ.get("FAILS") or "unread" in bodies.values():
     sys.exit("src/lib.rt:1:1: error[parse]: what is that")
 refused = {"searched", "by_hand", "noted"} & set(bodies.values())
@@ -126,7 +127,7 @@ def run(tally):
         tally.want("no such crate", tree.run("none"), (1, {}, "crates.txt has no crate none", []))
         kept = Path(folder, "kept")
         tree.run("--keep", str(kept))
-        tally.holds("the copy is kept", (kept / "tree/crates/low/out/incremental").is_dir())
+        tally.holds("the copy is kept", (kept / "low/kept").is_dir())
 
 
 if __name__ == "__main__":
