@@ -1,13 +1,15 @@
 #!/usr/bin/env python3
-"""tools/edits.py [--keep FOLDER] [CRATE..]: has the prover refuse the must-fail edits of these crates, or of all. The
-crates are proved in a copy, which stands in FOLDER afterwards.
+"""tools/edits.py [--over TREE] [--keep FOLDER] [CRATE..]: has the prover refuse the must-fail edits of these crates, or
+of all. `rt check` proves each crate first, as it stands here. With --over `rt ci` does, in TREE: a crate is taken as soon
+as it says on standard input that the crate is proved. What was checked stands in FOLDER afterwards.
 
 `rt must-fail` checks a crate once for each edit, and most of that is the same every time: what the crate and its
 libraries hold is read. Here one check tries as many edits as stand in different functions, since whether a function
 meets its contract does not depend on the bodies of others. Of each edit the prover must say that the very function in
 which it stands is not proved, for a goal of its own and not because of what it calls; where it says less, the edit is
-tried by itself. So is one outside of a body. The crate as it stands is proved first, each of these functions among the
-rest.
+tried once more without those of which enough was said, and then by itself. An edit outside of a body is tried by
+itself. If it says what it breaks (`breaks: module::function`, behind it the name of the clause if that has one), one
+check tries as many as break different clauses of one function, and the prover must say that this clause is not proved.
 
 The last line is `N passed, M failed`.
 """
@@ -29,17 +31,23 @@ from concurrent.futures import ThreadPoolExecutor
 from pathlib import Path
 
 TOP = Path(__file__).resolve().parent.parent
+KIT = Path(shutil.which("rt") or sys.exit("rt is not installed")).resolve().parent.parent
 # A line in which a function begins, and one in which what is implemented for a type does.
 FUNCTION = re.compile(r"( *)(?:pub(?:\(\w+\))? )?(?:const )?fn (\w+)")
-IMPL = re.compile(r"impl(?:<.*?>)? (?:.* for )?(\w+)")
+IMPL = re.compile(r"impl(?:<.*?>)? (?:(?:\w+::)*(\w+)(?:<(\w+).*>)? for )?(\w+)")
 # What is said of a proof that names what an edit took away, which says nothing of the contract.
 NAMES = re.compile("has no field|is not in scope|has no `|was not admitted")
 
-# A crate's own proof comes before any edit.
-FIRST = 10**6
+# What a check says of a function.
+FUNCTION_SAID = re.compile(r"(?m)^fn (\S+): (.*)$")
+# The seconds above which it is told that a function was tried for long.
+LONG = 10
+# The seconds that an edit takes, or so, for the order of what waits.
+EACH = 12
 
-# What an edit changes in which file; if it stands in the body of one function, that one's type and name, and its lines.
-Edit = namedtuple("Edit", "name file changes function lines")
+# What an edit changes in which file; if it stands in the body of one function, that one's type and name, and its lines;
+# else, if it says so, a function and the clause of it that it breaks.
+Edit = namedtuple("Edit", "name file changes function lines breaks")
 
 
 class Lanes:
@@ -67,10 +75,11 @@ class Lanes:
 
 
 def read_crates():
-    """Of each crate the crates that it uses and the seconds that its build takes, as crates.txt has them."""
+    """Of each crate the crates that it uses, the kit's libraries, and the seconds that its build takes."""
     lines = re.findall(r"(?m)^(\w+):([^#\n]*)(?:# (\d+))?", (TOP / "crates.txt").read_text())
     names = [name for name, _, _ in lines]
-    return {name: ([it for it in uses.split() if it in names], int(seconds or 1)) for name, uses, seconds in lines}
+    split = lambda uses: ([it for it in uses if it in names], [it for it in uses if it not in names])
+    return {name: (*split(uses.split()), int(seconds or 1)) for name, uses, seconds in lines}
 
 
 def function_at(lines, place):
@@ -86,14 +95,16 @@ def function_at(lines, place):
             return None
         headers = (IMPL.match(lines[it]) for it in range(top, -1, -1) if lines[it].startswith(("impl", "}")))
         of = next(headers, None) if margin else None
-        return (of[1] if of else "", name), (top, end)
+        # (of a trait's impl the prover writes the names as one)
+        return ("".join(it or "" for it in (of[3], of[1], of[2])) if of else "", name), (top, end)
     return None
 
 
 def read_edit(crate, path):
     """Reads an edit; answers None where it cannot be applied."""
-    said = re.findall(r"(?m)^(file|old|new): (.*)$", path.read_text())
+    said = re.findall(r"(?m)^(file|old|new|breaks): (.*)$", path.read_text())
     file = next((text.strip() for word, text in said if word == "file"), "")
+    breaks = next((tuple(text.split()) for word, text in said if word == "breaks"), None)
     old, new = ([text for word, text in said if word == which] for which in ("old", "new"))
     source = crate / file
     if not old or len(old) != len(new) or not source.is_file():
@@ -104,7 +115,7 @@ def read_edit(crate, path):
     lines, places = text.split("\n"), [text[: text.index(it)].count("\n") for it in old]
     functions = {function_at(lines, it) for it in places} if file.startswith("src/") else {None}
     function, within = (len(functions) == 1 and functions.pop()) or (None, None)
-    return Edit(path.stem, file, list(zip(old, new)), function, within)
+    return Edit(path.stem, file, list(zip(old, new)), function, within, breaks)
 
 
 def path_of(crate, edit, told):
@@ -112,8 +123,8 @@ def path_of(crate, edit, told):
     of, name = edit.function
     module = edit.file[len("src/") : -len(".rt")].replace("/", "::")
     begin = f"{crate}::" if module in ("lib", "main") else f"{crate}::{module}::"
-    # (of a trait's impl the prover writes both names as one)
-    found = [it for it in told if it == begin + name or of and it.startswith(begin + of) and it.endswith(f"::{name}")]
+    # (a method is named by the place of its type)
+    found = [it for it in told if (it.endswith(f"::{of}::{name}") if of else it == begin + name)]
     return found[0] if len(found) == 1 else None
 
 
@@ -131,122 +142,151 @@ def refusals(edit, path, told, text):
 
 
 def link_or_copy(one, other):
-    """Copies a file; a module by a link, since a check replaces it and does not write into it."""
-    (os.link if one.endswith(".oantt") else shutil.copy2)(one, other)
+    """Copies a file; a module by a link where that can be made, since a check replaces it and does not write into it."""
+    try:
+        (os.link if one.endswith(".oantt") else shutil.copy2)(one, other)
+    except OSError:
+        shutil.copy2(one, other)
 
 
 class Crate:
-    """A crate in a copy of the repository of its own, since in one copy rt has a crate and those below to itself."""
+    """A crate with its edits, over libraries that stand in a tree."""
 
-    def __init__(self, name, below, folder, lanes):
-        self.name, self.below, self.lanes = name, below, lanes
-        self.home, self.top, self.kept = TOP / "crates" / name, folder / name, folder / name / "kept"
-        self.checks, self.seconds, self.passed, self.failed = 0, 0.0, 0, 0
+    def __init__(self, name, crates, tree, folder, lanes):
+        self.name, self.below, self.lanes = name, below_of(name, crates), lanes
+        self.uses, self.beside, self.seconds_of_build = crates[name]
+        self.home, self.tree, self.place, self.over = TOP / "crates" / name, tree, folder / name, folder / f"{name}.kept"
+        self.told, self.checks, self.seconds, self.passed, self.failed = {}, 0, 0.0, 0, 0
 
-    def rt(self, word, behind):
-        """Runs rt on the crate; answers its exit status, what it said of each function, and all that it said."""
-        how = {"cwd": self.place(), "stdin": subprocess.DEVNULL, "stdout": subprocess.PIPE, "stderr": subprocess.STDOUT}
-        with self.lanes.lane(behind):
-            run = subprocess.Popen(["rt", word, "--jobs", "1"], text=True, errors="replace", **how)
-            text = run.stdout.read()
-            _, status, used = os.wait4(run.pid, 0)
-        self.seconds += used.ru_utime + used.ru_stime
-        return os.waitstatus_to_exitcode(status), dict(re.findall(r"(?m)^fn (\S+): (.*)$", text)), text
+    def copy(self):
+        """Copies the crate, and what a check of it kept."""
+        shutil.copytree(self.home, self.place, ignore=shutil.ignore_patterns("out", "must-fail"))
+        kept = self.tree / "crates" / self.name / "out/incremental"
+        if kept.is_dir():
+            shutil.copytree(kept, self.over, copy_function=link_or_copy)
 
-    def place(self, name=None):
-        """Where a crate stands in the copy."""
-        return self.top / "crates" / (name or self.name)
+    def words(self, only):
+        """The prover's command, for the whole crate or for these functions and what they call."""
+        library = lambda name: self.tree / "crates" / name / f"out/rlib/{name}.rlib"
+        top = "src/main.rt" if (self.home / "src/main.rt").exists() else "src/lib.rt"
+        uses = {"std": KIT / "rlibs/std.rlib", **{name: KIT / f"rlibs/{name}.rlib" for name in self.beside}}
+        uses |= {name: library(name) for name in self.uses}
+        words = [KIT / "bin/rattle", "check", "--crate-name", self.name, top, "--jobs", "1", "--incremental", self.over]
+        words += ["--antt-project", KIT / "rattle/logic/antt-project.json", "--logic-built", KIT / "logic_built"]
+        words += ["--progress", "--links", f"{self.name}=", "-L", f"dependency={KIT / 'rlibs'}"]
+        words += [word for name, it in uses.items() for word in ("--extern", f"{name}={it}")]
+        words += [word for name in self.below for word in ("-L", f"dependency={library(name).parent}")]
+        return words + [word for path in only for word in ("--only", path.removeprefix(f"{self.name}::"))]
 
-    def copy(self, made):
-        """Copies the crate, and those below it as they were made."""
-        leave = shutil.ignore_patterns("out", "must-fail")
-        for name in [self.name, *self.below]:
-            shutil.copytree(TOP / "crates" / name, self.place(name), ignore=leave)
-        for name in self.below:
-            shutil.copytree(made[name].place() / "out/rlib", self.place(name) / "out/rlib", copy_function=os.link)
-        lines = (TOP / "crates.txt").read_text().splitlines(keepends=True)
-        lines = [it for it in lines if it.split(":")[0] in [self.name, *self.below]]
-        (self.top / "crates.txt").write_text("".join(lines))
-        shutil.copy2(TOP / "HANDLES", self.top)
-
-    def prove(self, made, behind, is_library):
-        """Proves the crate as it stands, and builds the library of it."""
-        self.copy(made)
-        status, self.told, text = self.rt("check", behind)
-        if status == 0 and is_library:
-            status, _, text = self.rt("lib", behind)
-        if status:
-            print(f"{self.name} as it stands is not proved:\n{text}", flush=True)
-        else:
-            os.rename(self.place() / "out/incremental", self.kept)
-        return status == 0
-
-    def check(self, edits, behind):
-        """Checks the crate with these edits, over what was kept of it as it stands."""
-        over = self.place() / "out/incremental"
-        shutil.rmtree(over, ignore_errors=True)
-        shutil.copytree(self.kept, over, copy_function=link_or_copy)
-        files = {edit.file: (self.place() / edit.file).read_text() for edit in edits}
+    def check(self, edits, left, only=()):
+        """Checks the crate with these edits; answers what is said of each function, and all that is said."""
+        files = {edit.file: (self.place / edit.file).read_text() for edit in edits}
         for file, text in files.items():
             changes = [(text.index(old), old, new) for edit in edits if edit.file == file for old, new in edit.changes]
             # (from the last to the first, so that the others stay where they are)
             for place, old, new in sorted(changes, reverse=True):
                 text = text[:place] + new + text[place + len(old) :]
-            (self.place() / file).write_text(text)
-        self.checks += 1
-        before = self.seconds
-        _, told, said = self.rt("check", behind)
-        print(f"{self.name}: {len(edits)} edits in {self.seconds - before:.0f} s of processor time", flush=True)
+            (self.place / file).write_text(text)
+        behind = EACH * left + self.seconds_of_build * (not self.checks)
+        how = {"cwd": self.place, "stdin": subprocess.DEVNULL, "stdout": subprocess.PIPE, "stderr": subprocess.STDOUT}
+        with self.lanes.lane(behind):
+            run, said, took = subprocess.Popen(self.words(only), text=True, errors="replace", **how), "", []
+            before = time.monotonic()
+            for line in run.stdout:
+                said += line
+                if match := re.match(r"checked (\S+), ", line):
+                    now = time.monotonic()
+                    took.append((now - before, match[1]))
+                    before = now
+            used = os.wait4(run.pid, 0)[2]
+        seconds = used.ru_utime + used.ru_stime
+        self.checks, self.seconds = self.checks + 1, self.seconds + seconds
+        longest = "".join(f", {name} {it:.0f}" for it, name in sorted(took, reverse=True) if it > LONG)
+        print(f"{self.name}: {len(edits)} edits in {seconds:.0f} s of processor time{longest}", flush=True)
         for file, text in files.items():
-            (self.place() / file).write_text(text)
+            (self.place / file).write_text(text)
+        told = dict(FUNCTION_SAID.findall(said))
+        self.told = {**told, **self.told}
         return told, said
 
     def say(self, edit, is_refused, what):
         """Tells what an edit came to."""
         self.passed, self.failed = self.passed + is_refused, self.failed + (not is_refused)
-        print(f"must-fail {self.name}/{edit}: {'refused' if is_refused else 'NOT REFUSED'}: {what[:160]}", flush=True)
+        print(f"must-fail {self.name}/{edit.name}: {'refused' if is_refused else 'NOT REFUSED'}: {what[:160]}", flush=True)
 
-    def try_alone(self, edit, behind):
+    def only(self, edits):
+        """The functions in which edits stand, or none if one of them is not known."""
+        paths = [path_of(self.name, it, self.told) if it.function else None for it in edits]
+        return paths if all(paths) else ()
+
+    def try_alone(self, edit, left):
         """Tries an edit by itself: something is refused, and not for a name that is gone."""
-        told, text = self.check([edit], behind)
+        told, text = self.check([edit], left, self.only([edit]))
         found = [it for it in re.findall(r"(?m)^\./(proofs/\S+: error: .*)$", text) if not NAMES.search(it)]
         found += re.findall(r"(?m)^fn .* did not prove .*$|^note: src/\S+: it is not proved that .*$", text)
-        self.say(edit.name, bool(told and found), found[0] if found else f"it is proved, or was not read: {text}")
+        is_refused = bool(told and found)
+        self.say(edit, is_refused, found[0] if is_refused else f"it is proved, or was not read: {text}")
 
-    def try_together(self, edits, behind):
+    def try_together(self, edits, left):
         """Tries edits of different functions; answers those of which nothing is known yet."""
-        told, text = self.check(edits, behind)
-        left = []
+        told, text = self.check(edits, left, self.only(edits))
+        unclear = []
         for edit in edits:
             path = path_of(self.name, edit, told)
             if path and told[path] == "proved":
-                self.say(edit.name, False, f"{path} is still proved")
+                self.say(edit, False, f"{path} is still proved")
             elif path and (found := refusals(edit, path, told, text)):
-                self.say(edit.name, True, found[0])
+                self.say(edit, True, found[0])
             else:
-                left.append(edit)
-        return left
+                unclear.append(edit)
+        return unclear
 
-    def try_edits(self):
-        """Tries all edits."""
-        paths = sorted((self.home / "must-fail").glob("*.edit"))
-        edits = {path.stem: read_edit(self.place(), path) for path in paths}
-        for name in (name for name, edit in edits.items() if not edit):
-            self.say(name, False, "it cannot be applied")
-        edits = [edit for edit in edits.values() if edit]
-        # What stands in no body, or in a function that the prover does not name, is tried by itself.
-        left = [it for it in edits if it.function and path_of(self.name, it, self.told)]
-        alone = [it for it in edits if it not in left]
-        while left:
-            together = {}
-            for edit in left:
-                together.setdefault((edit.file, edit.function), edit)
-            left = [it for it in left if it not in together.values()]
-            alone += self.try_together(list(together.values()), len(left))
+    def try_in_rounds(self, edits):
+        """Tries edits, in each round one of each function; answers those of which nothing is known yet."""
+        unclear = []
+        while edits:
+            together = firsts(edits, lambda it: (it.file, it.function))
+            edits = [it for it in edits if it not in together]
+            unclear += self.try_together(together, len(edits) + len(together))
+        return unclear
+
+    def try_clauses(self, edits):
+        """Tries edits of which each says which clause of a function it breaks."""
+        while edits:
+            function = edits[0].breaks[0]
+            together = firsts([it for it in edits if it.breaks[0] == function], lambda it: it.breaks)
+            path, proofs = f"{self.name}::{function}", f"proofs/{function.replace('::', '/')}/"
+            told, text = self.check(together, len(edits), [path])
+            is_proved = told.get(path, "proved") == "proved"
+            for edit in together:
+                goal = rf"returns-clause-{edit.breaks[1]}" if edit.breaks[1:] else r"returns[\w-]*"
+                said = rf"note: (?=src/\S+: it is not proved that .*\(`{goal}`\))|\./(?={proofs}\S+: error: `{goal}`: )"
+                found = [it for it in re.findall(rf"(?m)^(?:{said})(.*)$", text) if not NAMES.search(it) and not is_proved]
+                self.say(edit, bool(found), found[0] if found else f"its clause is proved, or was not read: {text}")
+            edits = [it for it in edits if it not in together]
+
+    def try_edits(self, told):
+        """Tries all edits, given what was said of each function without them."""
+        self.told = told
+        self.copy()
+        edits = {path: read_edit(self.place, path) for path in sorted((self.home / "must-fail").glob("*.edit"))}
+        for path in (path for path, edit in edits.items() if not edit):
+            self.say(Edit(path.stem, *[None] * 5), False, "it cannot be applied")
+        read = [edit for edit in edits.values() if edit]
+        of_bodies, of_clauses = [it for it in read if it.function], [it for it in read if not it.function and it.breaks]
+        unclear = self.try_in_rounds(of_bodies)
+        # (where only a callee was refused, more is said without those that were clear)
+        unclear = self.try_in_rounds(unclear) if len(unclear) > 1 else unclear
+        self.try_clauses(of_clauses)
+        alone = unclear + [it for it in read if it not in of_bodies + of_clauses]
         for number, edit in enumerate(alone):
             self.try_alone(edit, len(alone) - number)
-        seconds = f"{self.seconds:.0f} s of processor time with its own proof"
-        print(f"{self.name}: {len(paths)} edits in {self.checks} checks, {seconds}", flush=True)
+        print(f"{self.name}: {len(edits)} edits in {self.checks} checks, {self.seconds:.0f} s of processor time", flush=True)
+
+
+def firsts(edits, of):
+    """Of edits with the same key the first."""
+    return list({of(it): it for it in reversed(edits)}.values())[::-1]
 
 
 def below_of(name, crates):
@@ -255,50 +295,73 @@ def below_of(name, crates):
     return {it for use in uses for it in [use, *below_of(use, crates)]}
 
 
-def ways_of(crates):
-    """Of each crate the longest way to the end: its seconds, and those of what waits for it."""
-    ways = {}
-    for name in sorted(crates, key=lambda it: -len(below_of(it, crates))):
-        ways[name] = crates[name][1] + max((way for it, way in ways.items() if name in crates[it][0]), default=0)
-    return ways
+class Proved:
+    """What rt ci has said so far on standard input."""
+
+    def __init__(self, crates):
+        self.ended = {name: threading.Event() for name in crates}
+        self.told, self.proved = {name: {} for name in crates}, set()
+        threading.Thread(target=self.read, daemon=True).start()
+
+    def read(self):
+        for line in sys.stdin:
+            if line.startswith("rt: ") and not line.startswith("rt: warning"):
+                print(line, end="", flush=True)
+            if (match := FUNCTION_SAID.match(line)) and (told := self.told.get(match[1].split("::")[0])) is not None:
+                told[match[1]] = match[2]
+            elif (match := re.match(r"rt: (\w+) (proved$|is kept: )", line)) and match[1] in self.ended:
+                self.proved.add(match[1])
+                self.ended[match[1]].set()
+        for it in self.ended.values():
+            it.set()
+
+    def functions(self, name):
+        """Waits until rt ci has proved a crate, or has ended; answers what it said of each function, or None."""
+        self.ended[name].wait()
+        return dict(self.told[name]) if name in self.proved else None
 
 
-def run(crates, asked, folder):
-    """Proves the crates that are asked for and what they rest on, and tries the edits of each that is asked for."""
-    lanes, ways, proved = Lanes(len(os.sched_getaffinity(0))), ways_of(crates), {}
-    wanted = {it for name in asked for it in [name, *below_of(name, crates)]}
-    made = {name: Crate(name, below_of(name, crates), folder, lanes) for name in wanted}
+def check_here(name):
+    """Checks a crate as it stands here; answers what is said of each function, or None."""
+    how = {"cwd": TOP / "crates" / name, "stdin": subprocess.DEVNULL, "stdout": subprocess.PIPE, "stderr": subprocess.STDOUT}
+    run = subprocess.run(["rt", "check"], text=True, errors="replace", **how)
+    if run.returncode:
+        print(run.stdout, flush=True)
+    return None if run.returncode else dict(FUNCTION_SAID.findall(run.stdout))
 
-    def prove(crate):
-        is_library = any(crate.name in uses for uses, _ in crates.values())
-        are_below = all(proved[it].result() for it in crate.below)
-        return are_below and crate.prove(made, FIRST + ways[crate.name], is_library)
+
+def run(crates, asked, tree, folder):
+    """Tries the edits of the crates that are asked for."""
+    lanes = Lanes(len(os.sched_getaffinity(0)))
+    made = [Crate(name, crates, tree or TOP, folder, lanes) for name in asked]
+    # (checks in one copy of the repository wait for one another)
+    functions = Proved(crates).functions if tree else {it.name: check_here(it.name) for it in made}.get
 
     def try_edits(crate):
-        if proved[crate.name].result():
-            crate.try_edits()
-        else:
+        if (told := functions(crate.name)) is None:
+            print(f"{crate.name} as it stands is not proved", flush=True)
             crate.failed += 1
+        else:
+            crate.try_edits(told)
 
-    with ThreadPoolExecutor(2 * len(made)) as pool:
-        for name in sorted(made, key=lambda it: len(below_of(it, crates))):
-            proved[name] = pool.submit(prove, made[name])
-        for done in [pool.submit(try_edits, made[name]) for name in asked]:
+    with ThreadPoolExecutor(len(made)) as pool:
+        for done in [pool.submit(try_edits, it) for it in made]:
             done.result()
-    return made.values()
+    return made
 
 
 def main():
     words = argparse.ArgumentParser(usage=__doc__)
-    words.add_argument("--keep", metavar="FOLDER")
+    words.add_argument("--over", metavar="TREE", type=Path)
+    words.add_argument("--keep", metavar="FOLDER", type=Path)
     words.add_argument("crate", nargs="*")
     words = words.parse_args()
     crates, begun = read_crates(), time.monotonic()
     if unknown := [name for name in words.crate if name not in crates]:
         sys.exit(f"crates.txt has no crate {unknown[0]}")
     with contextlib.ExitStack() as stack:
-        folder = words.keep or stack.enter_context(tempfile.TemporaryDirectory(prefix="nbdcheck-edits-"))
-        tried = run(crates, words.crate or list(crates), Path(folder))
+        folder = words.keep or Path(stack.enter_context(tempfile.TemporaryDirectory(prefix="nbdcheck-edits-")))
+        tried = run(crates, words.crate or list(crates), words.over and words.over.resolve(), folder.resolve())
     print(f"{time.monotonic() - begun:.0f} s, {sum(crate.seconds for crate in tried):.0f} s of processor time")
     passed, failed = sum(crate.passed for crate in tried), sum(crate.failed for crate in tried)
     print(f"{passed} passed, {failed} failed")

@@ -1,12 +1,13 @@
 """Sessions cut off behind each byte, with each byte inverted, and with large numbers.
 
-Each is run as it stands, as records of one byte and as longest one-sided runs; the answers are the same. In long sessions the
-bytes in the middle of a record, which are those of a payload, are tried at every SPARSEth place, or at some MIDDLE places where
-that is fewer, unless all are asked for.
+Each is run as it stands, as records of one byte and as longest one-sided runs; the answers are the same. In long sessions not
+every byte is tried, but the first NEAR ones, some SOME beside the ends of records, and some SOME of all, unless this file is
+run by itself.
 """
 
 import multiprocessing
 from dataclasses import dataclass, field
+from itertools import accumulate
 
 from built import TOP, Room, Tally
 from messages import (
@@ -18,8 +19,13 @@ from test_commands import hint_of
 MOST, LENGTH = 2**64 - 1, 2**32 - 1
 # How many places one process tries at a time.
 STEP = 64
-# A session of more bytes is long; of its records this many bytes at both ends are tried, and every so many in the middle.
-LONG, ENDS, SPARSE, MIDDLE = 4096, 40, 32, 1250
+# A session of more bytes is long.
+LONG, NEAR, SOME = 1024, 400, 150
+
+
+def spread(places):
+    """Some SOME of these places, from the first to the last."""
+    return places[:: -(-len(places) // SOME)]
 
 
 @dataclass
@@ -39,15 +45,12 @@ class Session:
 
     def places(self, each):
         """The places that are tried."""
-        size, ends, at = self.size(), set(), 0
-        if each or size <= LONG:
-            return list(range(size))
-        for _, data in self.records:
-            ends.update(range(at, min(at + ENDS, at + len(data))))
-            at += len(data)
-            ends.update(range(max(at - ENDS, at - len(data)), at))
-        step = max(SPARSE, size // MIDDLE)
-        return [place for place in range(size) if place in ends or place % step == 0]
+        whole = list(range(self.size()))
+        if each or len(whole) <= LONG:
+            return whole
+        ends = list(accumulate(len(data) for _, data in self.records))
+        beside = [place for end in ends for place in (end - 1, end) if place < len(whole)]
+        return sorted({*whole[:NEAR], *spread(beside), *spread(whole)})
 
     def is_open(self, count):
         """Whether a message is open behind so many bytes."""
@@ -209,7 +212,7 @@ def some(work):
         for place in places:
             cut_off(tally, room, session, place, bytewise)
             invert(tally, room, session, place, bytewise)
-        if places[-1] == session.size() - 1:
+        if places[0] == 0:
             cut_off(tally, room, session, session.size(), bytewise)
     return tally.passed, tally.failed
 
