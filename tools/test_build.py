@@ -6,25 +6,39 @@ import re
 import shutil
 import subprocess
 import tempfile
+import time
 from pathlib import Path
 
 from built import TOP, Tally
 
-# Notes where it runs and with which words; `run` makes the program. It fails in the crate that FAILS names.
+# Notes where it runs and with which words, and where JOBS is set with which priority and on how many processors. It fails where a crate that
+# it needs is not built, and in the crate that FAILS names; `lib` makes the library, `run` the program. In the crate that HANGS names it keeps
+# something, and does not end.
 RT = """#!/usr/bin/env bash
-echo "$(basename "$PWD") $*" >>"$NOTES"
-[ -z "${NICE:-}" ] || echo "$(basename "$PWD") $(nice)" >>"$NOTES"
+verb=$1 jobs=$3 own=$(basename "$PWD")
+[ "$2" = --jobs ] || exit 1
+shift 3
+mkdir -p out/rlib out/incremental
+cat out/incremental/kept >out/incremental/new 2>/dev/null
+echo "kept" >>out/incremental/new
+mv out/incremental/new out/incremental/kept
+echo "$own $verb${*:+ $*}" >>"$NOTES"
+[ -z "${JOBS:-}" ] || echo "$own $(nice) $jobs" >>"$NOTES"
 echo "what rt says"
-[ "$(basename "$PWD")" != "${FAILS:-}" ] || exit 1
+[ "$own" != "${FAILS:-}" ] || exit 1
+for other in $(sed -n "s/^$own:\\([^#]*\\).*/\\1/p" ../../crates.txt); do
+    [ ! -d "../$other" ] || [ -f "../$other/out/rlib/$other.rlib" ] || exit 1
+done
+[ "$own" != "${HANGS:-}" ] || exec sleep 60
 if [ -n "${SLOW:-}" ]; then
     sleep 0.2
-    echo "$(basename "$PWD") ends" >>"$NOTES"
+    echo "$own ends" >>"$NOTES"
 fi
-if [ "$1" = run ]; then
-    mkdir -p out
-    name=$(basename "$PWD")
-    printf '#!/bin/sh\\necho "%s $*"\\n' "$(case $name in nbdcheck) echo program ;; *) echo first ;; esac)" >"out/$name"
-    chmod +x "out/$name"
+if [ "$verb" = run ]; then
+    printf '#!/bin/sh\\necho "%s $*"\\n' "$(case $own in nbdcheck) echo program ;; *) echo first ;; esac)" >"out/$own"
+    chmod +x "out/$own"
+else
+    touch "out/rlib/$own.rlib"
 fi
 """
 BUILDS = ["low lib", "nbdcheck run -- --version"]
@@ -38,18 +52,19 @@ class Tree:
     """A repository of two crates."""
 
     def __init__(self, folder):
-        self.top, self.notes, self.temporary = Path(folder, "top"), Path(folder, "notes"), Path(folder, "tmp")
+        self.top, self.notes = Path(folder, "top"), Path(folder, "notes")
         self.command = []
-        for name in ("top/crates/low/src", "top/crates/nbdcheck/src", "bin", "tmp"):
+        for name in ("top/crates/low/src", "top/crates/nbdcheck/src", "bin"):
             Path(folder, name).mkdir(parents=True)
         shutil.copy(TOP / "nbdcheck", self.top / "nbdcheck")
         (self.top / "crates.txt").write_text(CRATES)
+        (self.top / "HANDLES").touch()
         (self.top / "crates/low/src/lib.rt").touch()
         rt = Path(folder, "bin/rt")
         rt.write_text(RT)
         rt.chmod(0o755)
         path = f"{folder}/bin:{os.environ['PATH']}"
-        self.environment = {"PATH": path, "NOTES": str(self.notes), "TMPDIR": str(self.temporary)}
+        self.environment = {"PATH": path, "NOTES": str(self.notes)}
 
     def run(self, *words, stderr=subprocess.PIPE, **more):
         """Runs the wrapper; answers its status, output and errors, and what it built."""
@@ -89,11 +104,17 @@ def whole(tree):
     return says("low", "nbdcheck", left=(3, "[01]"), end=built_by(tree))
 
 
+def nothing_left(tally, tree, name):
+    """The folder in which crates are built side by side is gone."""
+    tally.want(f"{name}: left", sorted(it.name for it in tree.top.iterdir()), ["HANDLES", "crates", "crates.txt", "nbdcheck"])
+
+
 def first_build(tally, tree):
     (status, out, err), built = tree.run("check", "a b")
     tally.want("first build", (status, out), (0, "program check a b\n"))
     told(tally, "first build", err, whole(tree), 2)
     tally.want("first build: crates", built, BUILDS)
+    nothing_left(tally, tree, "first build")
 
 
 def later_runs(tally, tree):
@@ -141,7 +162,39 @@ def failed_build(tally, tree):
     (status, out, err), built = tree.run("check", FAILS="low")
     tally.want("a failed build", (status, out, built), (125, "", BUILDS[:1]))
     told(tally, "a failed build", err, says("low", left=("[23]",), end="what rt says\nnbdcheck: the build of low failed\n"), 2)
-    tally.want("no log left", list(tree.temporary.iterdir()), [])
+    nothing_left(tally, tree, "a failed build")
+
+
+def ended_build(tally, tree):
+    """Where a build is ended, what it kept stands where the next one finds it."""
+    kept = tree.top / "crates/low/out/incremental/kept"
+    before = kept.read_text()
+    tree.touch("crates.txt", 1)
+    tree.notes.write_text("")
+    with subprocess.Popen([str(tree.top / "nbdcheck")], env={**tree.environment, "HANGS": "low"}, stdin=subprocess.DEVNULL,
+                          stdout=subprocess.PIPE, stderr=subprocess.PIPE, text=True) as child:
+        last = time.monotonic() + 20
+        while tree.notes.read_text() == "" and time.monotonic() < last:
+            time.sleep(0.05)
+        child.terminate()
+        out, _ = child.communicate(timeout=30)
+    tally.want("an ended build", (child.returncode != 0, out), (True, ""))
+    nothing_left(tally, tree, "an ended build")
+    tally.want("an ended build: kept", kept.read_text(), before + "kept\n")
+
+
+def two_builds(tally, tree):
+    """A second build in the same copy of the repository waits for the first, and builds nothing where that one has."""
+    tree.touch("crates.txt", 1)
+    tree.notes.write_text("")
+    how = {"env": {**tree.environment, "SLOW": "yes"}, "stdin": subprocess.DEVNULL, "stdout": subprocess.PIPE, "stderr": subprocess.PIPE}
+    both = [subprocess.Popen([str(tree.top / "nbdcheck"), "check"], text=True, **how) for _ in range(2)]
+    said = [child.communicate(timeout=60) for child in both]
+    tally.want("two builds", [(child.returncode, out) for child, (out, _) in zip(both, said)], [(0, "program check\n")] * 2)
+    waiting = "nbdcheck: waiting for another build in this copy of the repository\n"
+    tally.want("two builds: one waits", sorted(err == waiting for _, err in said), [False, True])
+    tally.want("two builds: crates", [it for it in tree.notes.read_text().splitlines() if not it.endswith(" ends")], BUILDS)
+    nothing_left(tally, tree, "two builds")
 
 
 def write_crates(tree, needs):
@@ -175,25 +228,32 @@ def longest_way_first(tally, tree):
         "short": ([], 8), "low": ([], 1), "high": (["low"], 9), "unused": (["high"], 90), "nbdcheck": (["high", "short"], 1),
     })
     tree.command = ["taskset", "-c", "0"]
-    (status, out, err), built = tree.run()
+    (status, out, err), built = tree.run(JOBS="yes")
     tree.command = []
     tally.want("one processor", (status, out), (0, "program \n"))
     told(tally, "one processor", err, says("low", "high", "short", "nbdcheck", minutes=1, end=built_by(tree)), 4)
-    tally.want("one processor: begun", built, ["low lib", "high lib", "short lib", "nbdcheck run -- --version"])
+    tally.want("one processor: begun", [it for it in built if not it.split()[1].isdigit()],
+               ["low lib", "high lib", "short lib", "nbdcheck run -- --version"])
+    tally.want("one processor: jobs", {it.split()[2] for it in built if it.split()[1].isdigit()}, {"1"})
 
 
 def longest_way_alone(tally, tree):
-    """A crate that is not on the longest way runs at a lower priority."""
+    """A crate that is not on the longest way runs at a lower priority and on one processor."""
     write_crates(tree, {"short": ([], 8), "low": ([], 1), "high": (["low"], 9), "nbdcheck": (["high", "short"], 1)})
-    (status, out, err), built = tree.run(SLOW="yes", NICE="yes")
+    (status, out, err), built = tree.run(SLOW="yes", JOBS="yes")
     tally.want("priorities", (status, out), (0, "program \n"))
     # Where there is memory for one build alone the short one comes later.
     second, third = ("short", "high") if err.index("proving short,") < err.index("proving high,") else ("high", "short")
     told(tally, "priorities", err, says("low", second, third, "nbdcheck", minutes=1, end=built_by(tree)), 4)
     mine = os.nice(0)
     wanted = {"short": min(mine + 10, 19), "low": mine, "high": mine, "nbdcheck": mine}
-    tally.want("priorities of crates", dict(it.split() for it in built if it.split()[1].isdigit()),
+    noted = {crate: (priority, int(jobs)) for crate, priority, jobs in (it.split() for it in built if it.split()[1].isdigit())}
+    tally.want("priorities of crates", {name: priority for name, (priority, _) in noted.items()},
                {name: str(nice) for name, nice in wanted.items()})
+    tally.want("jobs of a crate beside the longest way", noted["short"][1], 1)
+    most = min(3, len(os.sched_getaffinity(0)))
+    tally.holds("jobs of the others", all(1 <= noted[name][1] <= most for name in ("low", "high", "nbdcheck")), noted)
+    tally.holds("jobs of the last", noted["nbdcheck"][1] == noted["low"][1], noted)
 
 
 def on_a_terminal(tally, tree):
@@ -217,7 +277,9 @@ def on_a_terminal(tally, tree):
 def run(tally):
     with tempfile.TemporaryDirectory(prefix="nbdcheck-") as folder:
         tree = Tree(folder)
-        for part in (first_build, later_runs, plain_check, failed_build, on_a_terminal, side_by_side, longest_way_first, longest_way_alone):
+        for part in (first_build, later_runs, plain_check, failed_build, on_a_terminal, ended_build, two_builds):
+            part(tally, tree)
+        for part in (side_by_side, longest_way_first, longest_way_alone):
             part(tally, tree)
 
 
