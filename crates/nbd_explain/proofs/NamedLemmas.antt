@@ -6,8 +6,8 @@ use Rattle.nbd_wire.specs.declared.profile.Profile.{Profile}
 use Rattle.nbd_session.specs.declared.fault.SessionFault.{SessionFault}
 use Rattle.nbd_session.specs.Refusals.{IsComplete}
 use Rattle.nbd_session.specs.Sessions.{IsOfRun, SessionView, fault_at_end, fault_of}
-use Rattle.nbd_tool.specs.declared.fault.RunFault.{RunFault}
-use Rattle.nbd_tool.specs.declared.fault.RunFault.TheVariants as faults
+use Rattle.nbd_lines.specs.declared.fault.RunFault.{RunFault}
+use Rattle.nbd_lines.specs.declared.fault.RunFault.TheVariants as faults
 use Rattle.nbd_tool.specs.Ends.{IsOverText, LeavesLast, is_accepted, last_line}
 use Rattle.nbd_tool.specs.Runs.{flat_of}
 use Rattle.nbd_tool.specs.Shown.{IsShowCause, IsShown}

@@ -31,11 +31,11 @@ use Rattle.nbd_tool.specs.Ends.{IsOverText}
 use Rattle.nbd_explain.specs.Ordering.{IsOrdered, IsOrderedFrom, IsUnexplainedBy, Orders, found_text, ordered_of, spaced_numbers, unexplained_line}
 use Rattle.nbd_explain.specs.Ordering.IsOrdered.{gave_up, image, none_whole, order, unexplained, wire}
 use Rattle.nbd_explain.specs.declared.ordering.Ordered.TheVariants.{Refuted}
-use Rattle.nbd_tool.specs.declared.start.Beginning.{Beginning}
+use Rattle.nbd_tool.specs.declared.beginning.Beginning.{Beginning}
 use Rattle.nbd_tool.specs.Beginnings.{IsBeginningOf, room_in}
 use Rattle.nbd_explain.specs.internal.Outcomes.{IsToldFrom, IsToldOf}
 use Rattle.nbd_explain.specs.internal.Outcomes.IsToldOf.{of_refusal, of_report}
-use Rattle.nbd_tool.specs.declared.fault.RunFault.{RunFault}
+use Rattle.nbd_lines.specs.declared.fault.RunFault.{RunFault}
 use Rattle.nbd_explain.specs.declared.ordering.Ordered.{Ordered}
 use Rattle.nbd_tool.specs.Runs.{flat_of}
 use Rattle.nbd_tool.specs.Verdicts.{line, words}
@@ -46,7 +46,7 @@ use Rattle.nbd_judge.specs.Images.{IsOtherSize}
 use Rattle.nbd_judge.specs.Verdicts.{wrong_verdict}
 use Rattle.nbd_judge.specs.Servable.{size_of}
 use Rattle.nbd_tool.specs.Beginnings.{IsReadAs}
-use Rattle.nbd_tool.specs.declared.start.Beginning.TheVariants.{Longer}
+use Rattle.nbd_tool.specs.declared.beginning.Beginning.TheVariants.{Longer}
 
 -- an image that was counted has another size than the export
 pub counted_other : (export : Option Exporting) (initial : Start) (n size flags : ℕ) → Some (size, flags) ≡ size_and_flags export → IsReadAs (size_of export) initial (Longer n) → IsOtherSize export initial n size

@@ -27,7 +27,7 @@ use Rattle.nbd_tool.specs.Beginnings.{IsBeginningOf, IsReadAs, room_in}
 use Rattle.nbd_explain.specs.Ordering.{IsUnexplainedBy, unexplained_line}
 use Rattle.nbd_tool.specs.Runs.{flat_of}
 use Rattle.nbd_tool.specs.Verdicts.{IsYes, line}
-use Rattle.nbd_tool.specs.declared.start.Beginning.{Beginning}
+use Rattle.nbd_tool.specs.declared.beginning.Beginning.{Beginning}
 use Rattle.nbd_tool.proofs.OverLemmas.{fault_over, report_over}
 use Rattle.nbd_explain.specs.declared.answer.Answer.{Answer}
 use Rattle.nbd_explain.specs.declared.answer.Answer.TheVariants.{No, Open, Yes}

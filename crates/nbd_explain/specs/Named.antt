@@ -10,8 +10,8 @@ use Rattle.nbd_state.specs.declared.asked.Outcome.{Outcome}
 use Rattle.nbd_state.specs.declared.asked.Outcome.TheVariants.{Failure, Pending, Success}
 use Rattle.nbd_wire.specs.protocol.Rules.{cookie_of}
 use Rattle.nbd_capture.specs.Capture.{Chunk, IsCaptureText}
-use Rattle.nbd_tool.specs.declared.fault.RunFault.{RunFault}
-use Rattle.nbd_tool.specs.declared.fault.RunFault.TheVariants.{Write, Memory}
+use Rattle.nbd_lines.specs.declared.fault.RunFault.{RunFault}
+use Rattle.nbd_lines.specs.declared.fault.RunFault.TheVariants.{Write, Memory}
 use Rattle.nbd_tool.specs.Runs.{flat_of}
 use Rattle.nbd_tool.specs.Shown.{IsShown}
 

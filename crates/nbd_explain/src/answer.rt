@@ -4,8 +4,9 @@ ghost use Rattle.std.specs.Prelude.{◌≡◌};
 ghost use Rattle.nbd_explain.specs.Answering.{IsAnswerTo, answer_to, status_of};
 
 use nbd_judge::Verdict;
+use nbd_lines::RunFault;
 use nbd_order::Found;
-use nbd_tool::{RunFault, is_yes};
+use nbd_tool::is_yes;
 
 /// What a run of `explain` came to.
 #[derive(Clone, Copy, PartialEq, Eq, Drop)]

@@ -5,11 +5,11 @@ ghost use Rattle.std.specs.Io.KnownBytes.{Appends};
 ghost use Rattle.nbd_wire.specs.declared.profile.Profile.{Profile};
 ghost use Rattle.nbd_wire.specs.declared.profile.Profile.TheVariants.{Base};
 ghost use Rattle.nbd_tool.specs.Beginnings.{IsBeginningOf, room_in};
-ghost use Rattle.nbd_tool.specs.declared.fault.RunFault.TheVariants.{ImageRead, Memory, Write};
-ghost use Rattle.nbd_tool.specs.declared.start.Beginning.{Beginning};
+ghost use Rattle.nbd_lines.specs.declared.fault.RunFault.TheVariants.{ImageRead, Memory, Write};
+ghost use Rattle.nbd_tool.specs.declared.beginning.Beginning.{Beginning};
 ghost use Rattle.nbd_explain.specs.Ordering.{LeavesOrdered};
 ghost use Rattle.nbd_tool.specs.Runs.{IsCapture, IsCaptureCause, IsCause, IsOrder};
-ghost use Rattle.nbd_tool.specs.Starts.{HasImage, IsStartWithinLimit, IsWithinLimit, initial_from};
+ghost use Rattle.nbd_lines.specs.Starts.{HasImage, IsStartWithinLimit, IsWithinLimit, initial_from};
 ghost use Rattle.nbd_explain.specs.Explained.{Explains, IsExplainCause, IsExplained, IsOrderWithinLimit};
 ghost use Rattle.nbd_explain.specs.internal.Lines.{IsFinishOf, IsToldOn, OnWritten};
 
@@ -18,12 +18,11 @@ use crate::reading::{Recorder, finished_over};
 use crate::searching::told_searching;
 use crate::writing::{copy_of, kept_of, told_verdict};
 use nbd_capture::write_whole;
+use nbd_lines::{Measured, RunFault, StartFrom};
 use nbd_search::{Limits, Progress};
 use nbd_session::{SessionFault, Transcript};
 use nbd_story::Story;
-use nbd_tool::{
-    Beginning, Measured, RunFault, StartFrom, conclude_from, read_order, read_start, room_of,
-};
+use nbd_tool::{Beginning, conclude_from, read_order, read_start, room_of};
 use nbd_wire::{Entry, Profile};
 use std::alloc::{AllocError, Global};
 use std::io::{BufRead, Read, Write};

@@ -15,21 +15,19 @@ ghost use Rattle.nbd_capture.specs.Order.{entry_text};
 ghost use Rattle.nbd_order.specs.Finding.{IsFound, IsWanted, Says};
 ghost use Rattle.nbd_order.specs.declared.finding.Wanted.{Wanted};
 ghost use Rattle.nbd_tool.specs.Beginnings.{IsReadAs};
-ghost use Rattle.nbd_tool.specs.declared.start.Beginning.{Beginning};
+ghost use Rattle.nbd_tool.specs.declared.beginning.Beginning.{Beginning};
 ghost use Rattle.nbd_explain.specs.Ordering.{IsOrderingCause, LeavesOrdered, Orders, entry_lines, found_text, gave_up_line, ordered_of, reason_words, spaced_numbers, status_of, unexplained_line};
-ghost use Rattle.nbd_tool.specs.Starts.{HasImage, IsStartWithinLimit, IsWithinLimit, initial_from};
-ghost use Rattle.nbd_tool.specs.declared.fault.RunFault.TheVariants as faults;
+ghost use Rattle.nbd_lines.specs.Starts.{HasImage, IsStartWithinLimit, IsWithinLimit, initial_from};
+ghost use Rattle.nbd_lines.specs.declared.fault.RunFault.TheVariants as faults;
 ghost use Rattle.nbd_explain.specs.internal.Outcomes.{IsToldFrom, IsToldOf};
 
 use nbd_capture::write_whole;
 use nbd_judge::{Verdict, wrong_of};
+use nbd_lines::{Measured, RunFault, StartFrom};
 use nbd_order::{Found, Scope, find};
 use nbd_search::{Progress, Reason};
 use nbd_session::{SessionFault, Transcript};
-use nbd_tool::{
-    Beginning, Line, Measured, RunFault, StartFrom, Unseen, line_of, read_start, room_of,
-    session_over,
-};
+use nbd_tool::{Beginning, Line, Unseen, line_of, read_start, room_of, session_over};
 use nbd_wire::{Entry, Profile};
 use std::alloc::{AllocError, Global};
 use std::io::{BufRead, Write};

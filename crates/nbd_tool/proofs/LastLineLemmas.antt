@@ -14,11 +14,11 @@ use Rattle.nbd_session.specs.Refusals.{IsAcceptedOf, IsRefusalOf, IsComplete, Is
 use Rattle.nbd_session.proofs.judge.RefusalLemmas.{no_run_of, open_end_of}
 use Rattle.nbd_session.specs.Sessions.{HasRunOf, IsOfRun, SessionView, end_by, fault_at_end, pairs_of, bytes_taken, open_end_fault}
 use Rattle.nbd_lines.specs.Script.{message_lines}
-use Rattle.nbd_tool.specs.declared.fault.RunFault.{RunFault}
-use Rattle.nbd_tool.specs.declared.fault.RunFault.TheVariants as faults
+use Rattle.nbd_lines.specs.declared.fault.RunFault.{RunFault}
+use Rattle.nbd_lines.specs.declared.fault.RunFault.TheVariants as faults
 use Rattle.nbd_lines.specs.declared.output.OutputFault.{OutputFault}
 use Rattle.nbd_lines.specs.declared.output.OutputFault.TheVariants as output
-use Rattle.nbd_tool.specs.Faults.{of_output}
+use Rattle.nbd_lines.specs.RunFaults.{of_output}
 use Rattle.nbd_tool.specs.Runs.{IsCapture, flat_of}
 use Rattle.nbd_tool.specs.Ends.{IsOver, IsOverText, IsWireAt, LeavesLast, is_accepted, last_line}
 use Rattle.nbd_tool.specs.Shown.{IsShowCause, IsShown, Leads, LeavesShown, WritesAll, WritesSome, WritesMessages}

@@ -1,5 +1,4 @@
-pub mod EndLemmas
-pub mod FaultLemmas
+pub mod BeginningLemmas
 pub mod JudgedLemmas
 pub mod LastLineLemmas
 pub mod OverLemmas

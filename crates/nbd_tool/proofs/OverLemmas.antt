@@ -25,7 +25,7 @@ use Rattle.nbd_judge.specs.Conclusions.{Answers, IsConclusion, IsReportOf}
 use Rattle.nbd_judge.specs.declared.verdict.Verdict.{Verdict}
 use Rattle.nbd_judge.specs.internal.Captures.{HasReport}
 use Rattle.nbd_judge.proofs.verdicts.ChunkLemmas.{checked, told_of}
-use Rattle.nbd_tool.specs.Faults.{of_capture}
+use Rattle.nbd_lines.specs.RunFaults.{of_capture}
 use Rattle.nbd_tool.specs.Runs.{IsCaptureCause, flat_of}
 use Rattle.nbd_tool.specs.Ends.{IsOver, IsWireAt}
 

@@ -11,8 +11,8 @@ use Rattle.nbd_wire.specs.protocol.Explains.{IsExplainedOf, Start}
 use Rattle.nbd_judge.specs.declared.verdict.Verdict.{Verdict}
 use Rattle.nbd_judge.specs.declared.verdict.Verdict.TheVariants.{Yes, Wire, Image, Order, Content, Status}
 use Rattle.nbd_tool.specs.Runs.{IsVerdictOn, SaysYes, flat_of}
-use Rattle.nbd_tool.specs.declared.fault.RunFault.{RunFault}
-use Rattle.nbd_tool.specs.declared.fault.RunFault.TheVariants.{Memory, Write}
+use Rattle.nbd_lines.specs.declared.fault.RunFault.{RunFault}
+use Rattle.nbd_lines.specs.declared.fault.RunFault.TheVariants.{Memory, Write}
 use Rattle.nbd_tool.specs.Verdicts.{line}
 
 abbrev IsExplainedOn : Profile → (text order_text : List ℕ) → Start → Type 0

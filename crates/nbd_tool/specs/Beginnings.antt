@@ -5,8 +5,8 @@ use Rattle.nbd_wire.specs.protocol.Reports.{Report}
 use Rattle.nbd_session.specs.declared.fault.SessionFault.{SessionFault}
 use Rattle.nbd_judge.specs.Beginnings.{initial_of}
 use Rattle.nbd_judge.specs.Servable.{size_of}
-use Rattle.nbd_tool.specs.declared.start.Beginning.{Beginning}
-use Rattle.nbd_tool.specs.declared.start.Beginning.TheVariants.{Longer, Whole}
+use Rattle.nbd_tool.specs.declared.beginning.Beginning.{Beginning}
+use Rattle.nbd_tool.specs.declared.beginning.Beginning.TheVariants.{Longer, Whole}
 
 -- how many bytes of an image a verdict needs: as many as the export has, none where there is no export or no report
 abbrev pub room_in : Result Report SessionFault → ℕ

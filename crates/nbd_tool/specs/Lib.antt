@@ -1,12 +1,7 @@
 pub mod Beginnings
-pub mod CommandLine
 pub mod Ends
-pub mod Faults
-pub mod Opening
 pub mod Runs
-pub mod Scripts
 pub mod Shown
-pub mod Starts
 pub mod Uniqueness
 pub mod Verdicts
 pub mod internal

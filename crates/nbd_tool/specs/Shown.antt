@@ -12,8 +12,8 @@ use Rattle.nbd_session.specs.Refusals.{IsWireFaultOf}
 use Rattle.nbd_session.specs.Sessions.{HasRunOf}
 use Rattle.nbd_judge.specs.declared.verdict.Verdict.TheVariants.{Wire}
 use Rattle.nbd_lines.specs.Script.{message_lines}
-use Rattle.nbd_tool.specs.declared.fault.RunFault.{RunFault}
-use Rattle.nbd_tool.specs.declared.fault.RunFault.TheVariants.{Write, Memory}
+use Rattle.nbd_lines.specs.declared.fault.RunFault.{RunFault}
+use Rattle.nbd_lines.specs.declared.fault.RunFault.TheVariants.{Write, Memory}
 use Rattle.nbd_tool.specs.Runs.{IsCapture, IsCaptureCause, flat_of}
 use Rattle.nbd_tool.specs.Verdicts.{line}
 

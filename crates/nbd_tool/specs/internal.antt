@@ -1,4 +1,2 @@
-pub mod FaultWords
 pub mod Outcomes
-pub mod Texts
 pub mod VerdictParts

@@ -4,22 +4,24 @@ ghost use Rattle.nbd_capture.specs.Order.{IsOrderText};
 ghost use Rattle.nbd_wire.specs.declared.entry.Entry.{Entry};
 ghost use Rattle.nbd_wire.specs.declared.profile.Profile.TheVariants.{Base};
 ghost use Rattle.nbd_tool.specs.Runs.{IsCapture, IsOrder, IsCause, IsOrderCause, LeavesWritten, SaysYes, Tells};
-ghost use Rattle.nbd_tool.specs.declared.fault.RunFault.TheVariants.{ImageRead, Memory, Write};
+ghost use Rattle.nbd_lines.specs.declared.fault.RunFault.TheVariants.{ImageRead, Memory, Write};
 ghost use Rattle.nbd_tool.specs.internal.Outcomes.{IsConcluded};
-ghost use Rattle.nbd_tool.specs.Starts.{HasImage, IsStartWithinLimit, IsWithinLimit, initial_from};
+ghost use Rattle.nbd_lines.specs.Starts.{HasImage, IsStartWithinLimit, IsWithinLimit, initial_from};
 
+use crate::beginning::{read_start, room_of};
 use crate::capture::{Unseen, session_over};
 use crate::concluding::conclude_from;
-use crate::fault::RunFault;
-use crate::input::{ReadFault, read_whole};
-use crate::start::{Measured, StartFrom, read_start, room_of};
 use crate::verdict::write_verdict;
 use nbd_capture::parse_order;
 use nbd_judge::Verdict;
+use nbd_lines::{
+    Files, Measured, PORTION, ReadFault, RunFault, StartFrom, StartWord, open_inputs, read_whole,
+};
 use nbd_session::{SessionFault, Transcript};
 use nbd_wire::{Entry, Profile};
 use std::alloc::Global;
-use std::io::{BufRead, Read, Write};
+use std::io;
+use std::io::{BufRead, BufReader, Read, Write};
 
 /// Reads a capture text chunk by chunk, then an order text and an image, if there is one, whole; checks the
 /// session in the profile `Base` from this start, and writes the verdict's line. Answers true where the verdict is yes.
@@ -128,4 +130,25 @@ pub fn read_order<O: Read>(alloc: Global, order: &mut O) -> Result<Vec<Entry>, R
         Err(ReadFault::Read) => Err(RunFault::OrderRead),
         Err(ReadFault::Memory) => Err(RunFault::Memory),
     }
+}
+
+/// Opens the files in the order capture, order, image, and then checks.
+pub fn check_files(
+    files: &mut Files<'_>,
+    capture: &str,
+    order: &str,
+    start: StartWord<'_>,
+) -> Result<bool, RunFault> {
+    let (rt, alloc) = (files.rt, files.rt.alloc());
+    let inputs = open_inputs(files, capture, order, start)?;
+    let capture = BufReader::with_capacity(alloc, PORTION, inputs.capture).map_err(
+        |_| RunFault::Memory,
+    )?;
+    run_check(
+        alloc,
+        capture,
+        inputs.order,
+        inputs.start,
+        &mut io::writer(rt),
+    )
 }

@@ -8,7 +8,7 @@ ghost use Rattle.nbd_wire.specs.protocol.Rules.{IsRunOf};
 ghost use Rattle.nbd_judge.specs.Conclusions.{Answers, IsConclusion, IsReportOf};
 ghost use Rattle.nbd_tool.specs.Beginnings.{IsReadAs, room_in};
 
-use crate::start::Beginning;
+use crate::beginning::Beginning;
 use nbd_export::Start;
 use nbd_judge::{Verdict, conclude, laws};
 use nbd_session::{SessionFault, Transcript};

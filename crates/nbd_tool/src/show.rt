@@ -5,15 +5,14 @@ ghost use Rattle.nbd_wire.specs.declared.profile.Profile.TheVariants.{Base};
 ghost use Rattle.nbd_session.specs.Sessions.{fault_of};
 ghost use Rattle.nbd_tool.specs.Runs.{IsCapture};
 ghost use Rattle.nbd_tool.specs.Ends.{LeavesLast, is_accepted, last_line};
-ghost use Rattle.nbd_tool.specs.Starts.{IsWithinLimit};
+ghost use Rattle.nbd_lines.specs.Starts.{IsWithinLimit};
 ghost use Rattle.nbd_tool.specs.Shown.{IsShowCause, LeavesShown, WritesAll};
 
 use crate::capture::{Unseen, session_over};
-use crate::fault::RunFault;
 use crate::verdict::write_verdict;
 use nbd_capture::write_whole;
 use nbd_judge::Verdict;
-use nbd_lines::show;
+use nbd_lines::{RunFault, show};
 use nbd_session::{SessionFault, Transcript};
 use nbd_wire::Profile;
 use std::alloc::Global;

@@ -4,11 +4,11 @@ ghost use Rattle.std.specs.Io.KnownBytes.{Appends, Keeps};
 ghost use Rattle.nbd_capture.specs.Writing.{AppendsPrefix};
 ghost use Rattle.nbd_tool.specs.Verdicts.{IsYes, fault_name, line, order_fault_name, words};
 ghost use Rattle.nbd_tool.specs.internal.VerdictParts.{parts_words};
-ghost use Rattle.nbd_tool.specs.declared.fault.RunFault.TheVariants.{Memory, Write};
+ghost use Rattle.nbd_lines.specs.declared.fault.RunFault.TheVariants.{Memory, Write};
 
-use crate::fault::RunFault;
 use nbd_capture::write_whole;
 use nbd_judge::{OrderFault, Verdict};
+use nbd_lines::RunFault;
 use nbd_session::WireFault;
 use std::alloc::{AllocError, Global};
 use std::fmt;

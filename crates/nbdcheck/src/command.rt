@@ -2,7 +2,7 @@
 
 ghost use Rattle.std.specs.Prelude.{◌≡◌, IsTrue};
 ghost use Rattle.nbd_order.specs.declared.finding.Wanted.TheVariants.{Any, Whole};
-ghost use Rattle.nbd_tool.specs.CommandLine.{exit_status};
+ghost use Rattle.nbd_lines.specs.CommandLine.{exit_status};
 ghost use Rattle.nbd_explain.specs.Answering as answering;
 ghost use Rattle.nbd_explain.specs.Ordering as ordering;
 
@@ -12,9 +12,9 @@ use crate::words::command;
 use clap::error::ErrorKind;
 use clap::{ArgMatches, Error};
 use nbd_explain::{Answer, Ordered, explain_status, order_status};
+use nbd_lines::{Files, RunFault, StartWord, complain, exit_status, hint, start_of, tell};
 use nbd_order::{Scope, Wanted, usual_limits};
 use nbd_search::Limits;
-use nbd_tool::{Files, RunFault, StartWord, complain, exit_status, hint, start_of, tell};
 use nbd_wire::Profile;
 use std::{env, io};
 

@@ -1,12 +1,12 @@
 //! What is written of the files of a run.
 
 use nbd_explain::{Answer, Ordered, run_arrival_of, run_explain_of, run_names_of, run_order_of};
+use nbd_lines::{
+    Files, FinalWriter, RunFault, StartWord, open_inputs, open_start, run_make, terminal,
+};
 use nbd_order::{Scope, usual_limits};
 use nbd_search::{Limits, Progress};
-use nbd_tool::{
-    Files, FinalWriter, RunFault, StartWord, open_inputs, open_start, run_check_of, run_make,
-    run_show_of, terminal,
-};
+use nbd_tool::{run_check_of, run_show_of};
 use nbd_wire::Profile;
 use std::alloc::Global;
 use std::fs::File;

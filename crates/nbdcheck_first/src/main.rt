@@ -2,12 +2,13 @@
 #![tactic(auto)]
 
 ghost use Rattle.std.specs.Prelude.{◌≡◌};
-ghost use Rattle.nbd_tool.specs.CommandLine.{exit_status};
+ghost use Rattle.nbd_lines.specs.CommandLine.{exit_status};
 
 #[cfg(test)]
 mod tests;
 
-use nbd_tool::{Files, RunFault, StartWord, check_files, complain, hint, start_of};
+use nbd_lines::{Files, RunFault, StartWord, complain, hint, start_of};
+use nbd_tool::check_files;
 use std::process::ExitCode;
 use std::{env, io};
 

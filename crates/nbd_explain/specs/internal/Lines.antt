@@ -25,7 +25,7 @@ use Rattle.nbd_explain.specs.Ordering.{found_text}
 use Rattle.nbd_explain.specs.declared.answer.Answer.{Answer}
 use Rattle.nbd_explain.specs.Answering.{IsAnswerTo, answer_to}
 use Rattle.nbd_explain.specs.Orderless.{found_lines}
-use Rattle.nbd_tool.specs.declared.start.Beginning.{Beginning}
+use Rattle.nbd_tool.specs.declared.beginning.Beginning.{Beginning}
 use Rattle.nbd_wire.specs.declared.entry.Entry.{Entry}
 
 -- the line of the verdict on the order, from each start that was read so, and that the order was found

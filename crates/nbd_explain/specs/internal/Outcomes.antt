@@ -18,7 +18,7 @@ use Rattle.nbd_explain.specs.Ordering.{found_text, ordered_of}
 use Rattle.nbd_tool.specs.Verdicts.{line}
 use Rattle.nbd_explain.specs.declared.ordering.Ordered.{Ordered}
 use Rattle.nbd_explain.specs.declared.ordering.Ordered.TheVariants.{Refuted}
-use Rattle.nbd_tool.specs.declared.start.Beginning.{Beginning}
+use Rattle.nbd_tool.specs.declared.beginning.Beginning.{Beginning}
 
 -- the answer and the text: of a report those of what is found of it from this beginning, of a refused session the
 -- verdict's line

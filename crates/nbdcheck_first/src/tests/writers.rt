@@ -1,7 +1,6 @@
 //! A writer that fails once: what stands written is a front of the lines, and nothing is tried again.
 
-use nbd_lines::{MakeFault, OutputFault, make, parse_script, show};
-use nbd_tool::FinalWriter;
+use nbd_lines::{FinalWriter, MakeFault, OutputFault, make, parse_script, show};
 use nbd_wire::Message;
 use std::alloc::Global;
 use std::io;

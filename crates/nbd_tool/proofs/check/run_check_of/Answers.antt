@@ -1,5 +1,5 @@
 use Rattle.std.proofs.lemmas.Result.{err_from_is_err_and}
-use Rattle.nbd_tool.specs.Starts.{initial_from}
+use Rattle.nbd_lines.specs.Starts.{initial_from}
 use Rattle.nbd_tool.proofs.LastLineLemmas.{capture_over}
 use Rattle.nbd_tool.proofs.JudgedLemmas.{concluded, leaves, tells}
 use Rattle.nbd_tool.proofs.SayLemmas.{says_nothing, says_written}

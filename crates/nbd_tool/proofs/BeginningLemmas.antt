@@ -1,0 +1,23 @@
+-- What is kept of an image.
+use Rattle.std.proofs.Common.{ℕ, List, None, Some, IfSome, refl, sym, length, replicate, ◌<◌}
+use Rattle.std.proofs.lemmas.List.{length-replicate}
+use Rattle.std.specs.Prelude.{Option}
+use Rattle.nbd_wire.specs.protocol.Explains.{Image}
+use Rattle.nbd_lines.specs.Starts.{image_of}
+use Rattle.nbd_lines.specs.Texts.{IsText}
+use Rattle.nbd_lines.specs.declared.input.Text.TheVariants.{Longer}
+use Rattle.nbd_tool.specs.Beginnings.{IsBeginningOf}
+use Rattle.nbd_tool.specs.declared.beginning.Beginning.TheVariants as Beginning
+
+-- an image that was counted
+pub longer_read : (known : Option (List ℕ)) (room n : ℕ) → IfSome known (IsText room (Longer n)) → room < n → IsBeginningOf (image_of known) room (Beginning.Longer n)
+longer_read None room n counted l = record {
+  initial = Image (replicate n 0);
+  is_read = (replicate n 0, refl, sym (length-replicate n 0), l);
+  is_known = tt;
+}
+longer_read (Some bytes) room n counted l = record {
+  initial = Image bytes;
+  is_read = (bytes, refl, counted.0, counted.1);
+  is_known = refl;
+}
