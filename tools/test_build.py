@@ -246,14 +246,15 @@ def longest_way_alone(tally, tree):
     second, third = ("short", "high") if err.index("proving short,") < err.index("proving high,") else ("high", "short")
     told(tally, "priorities", err, says("low", second, third, "nbdcheck", minutes=1, end=built_by(tree)), 4)
     mine = os.nice(0)
-    wanted = {"short": min(mine + 10, 19), "low": mine, "high": mine, "nbdcheck": mine}
+    # Then nothing is built beside it.
+    wanted = {"short": min(mine + 10, 19) if second == "short" else mine, "low": mine, "high": mine, "nbdcheck": mine}
     noted = {crate: (priority, int(jobs)) for crate, priority, jobs in (it.split() for it in built if it.split()[1].isdigit())}
     tally.want("priorities of crates", {name: priority for name, (priority, _) in noted.items()},
                {name: str(nice) for name, nice in wanted.items()})
     tally.want("jobs of a crate beside the longest way", noted["short"][1], 1)
     most = min(3, len(os.sched_getaffinity(0)))
     tally.holds("jobs of the others", all(1 <= noted[name][1] <= most for name in ("low", "high", "nbdcheck")), noted)
-    tally.holds("jobs of the last", noted["nbdcheck"][1] == noted["low"][1], noted)
+    tally.holds("jobs with nothing beside", noted["nbdcheck"][1] == noted["low"][1] >= noted["high"][1], noted)
 
 
 def on_a_terminal(tally, tree):
