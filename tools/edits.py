@@ -254,7 +254,8 @@ class Crate:
         """Tries edits of which each says which clause of a function it breaks."""
         while edits:
             function = edits[0].breaks[0]
-            together = firsts([it for it in edits if it.breaks[0] == function], lambda it: it.breaks)
+            # (two edits of one place would not both be in)
+            together = firsts(firsts([it for it in edits if it.breaks[0] == function], lambda it: it.breaks), lambda it: it.changes[0][0])
             path, proofs = f"{self.name}::{function}", f"proofs/{function.replace('::', '/')}/"
             told, text = self.check(together, len(edits), [path])
             is_proved = told.get(path, "proved") == "proved"

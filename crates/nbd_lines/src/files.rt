@@ -3,7 +3,7 @@
 ghost use Rattle.std.specs.Prelude.{◌≡◌};
 ghost use Rattle.nbd_lines.specs.CommandLine.{exit_status};
 
-use crate::command_line::{StartWord, exit_status};
+use crate::command_line::exit_status;
 use crate::fault::RunFault;
 use crate::opening::Opener;
 use crate::saying::{hint, tell};

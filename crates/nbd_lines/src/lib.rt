@@ -1,6 +1,7 @@
-//! Messages as lines of text, and scripts of such lines.
+//! What the commands need that knows no session: messages as lines of text, scripts of such lines and `make`, the words of
+//! a command line, how files are opened and read, and why a run has no answer.
 //!
-//! Which lines there are is this project's choice.
+//! Which lines, words and faults there are is this project's choice.
 #![tactic(auto)]
 
 pub mod command_line;
