@@ -12,8 +12,8 @@ from pathlib import Path
 from built import TOP, Tally
 
 # Notes where it runs and with which words, and where JOBS is set with which priority and on how many processors. It fails where a crate that
-# it needs is not built, and in the crate that FAILS names; `lib` makes the library, `run` the program. In the crate that HANGS names it keeps
-# something, and does not end.
+# it needs is not built, and in the crate that FAILS names; `lib` makes the library, `run` the program. It takes SLOW seconds. In the crate that
+# HANGS names it keeps something, and does not end.
 RT = """#!/usr/bin/env bash
 verb=$1 jobs=$3 own=$(basename "$PWD")
 [ "$2" = --jobs ] || exit 1
@@ -31,21 +31,21 @@ for other in $(sed -n "s/^$own:\\([^#]*\\).*/\\1/p" ../../crates.txt); do
 done
 [ "$own" != "${HANGS:-}" ] || exec sleep 60
 if [ -n "${SLOW:-}" ]; then
-    sleep 0.2
+    sleep "$SLOW"
     echo "$own ends" >>"$NOTES"
 fi
 if [ "$verb" = run ]; then
     printf '#!/bin/sh\\necho "%s $*"\\n' "$(case $own in nbdcheck) echo program ;; *) echo first ;; esac)" >"out/$own"
     chmod +x "out/$own"
 else
-    touch "out/rlib/$own.rlib"
+    touch "out/rlib/$own.rlib" out/rlib/stamp
 fi
 """
 BUILDS = ["low lib", "nbdcheck run -- --version"]
 FIRST_ENDS = "nbdcheck: built what check needs; the other commands are proved when they are first asked for\n"
 PLAIN = ["check", "a.cap", "a.ord", "--start", "zero"]
 PLAIN_BUILDS = ["low lib", "nbdcheck_first run -- check data/first.cap data/first.ord --start zero"]
-CRATES = "low: # 60\nnbdcheck: low # 120\n"
+CRATES = "low: # 60\nnbdcheck: low # 110\n"
 
 
 class Tree:
@@ -99,9 +99,9 @@ def built_by(tree):
     return f"nbdcheck: built {tree.top}/crates/nbdcheck/out/nbdcheck; tools/install PREFIX installs it\n"
 
 
-def whole(tree):
-    """What is said of a build of both crates."""
-    return says("low", "nbdcheck", left=(3, "[01]"), end=built_by(tree))
+def whole(tree, minutes=3):
+    """What is said of a build of both crates. Where the lower one was built before it takes no time, and says nothing of the other's."""
+    return says("low", "nbdcheck", minutes=minutes, left=(minutes, 2), end=built_by(tree))
 
 
 def nothing_left(tally, tree, name):
@@ -133,7 +133,7 @@ def later_runs(tally, tree):
 def plain_check(tally, tree):
     """`check` with an order and a start is answered by nbdcheck_first until the whole program is built, and by that then."""
     program = tree.top / "crates/nbdcheck/out/nbdcheck"
-    write_crates(tree, {"low": ([], 60), "nbdcheck": (["low"], 120), "nbdcheck_first": (["low"], 60)})
+    write_crates(tree, {"low": ([], 60), "nbdcheck": (["low"], 110), "nbdcheck_first": (["low"], 60)})
     tree.touch("crates.txt", -60)
     program.unlink()
     (status, out, err), built = tree.run(*PLAIN)
@@ -145,7 +145,7 @@ def plain_check(tally, tree):
         program.unlink(missing_ok=True)
         (status, out, err), built = tree.run(*words)
         tally.want(f"{words}: the whole program", (status, out, built), (0, f"program {' '.join(words)}\n", BUILDS))
-        told(tally, f"{words}: the whole program", err, whole(tree), 2)
+        told(tally, f"{words}: the whole program", err, whole(tree, 2), 2)
     tally.want("a plain check of the whole program", tree.run(*PLAIN), ((0, f"program {' '.join(PLAIN)}\n", ""), []))
     program.unlink()
     (tree.top / "crates/nbdcheck_first/out/nbdcheck_first").unlink()
@@ -153,6 +153,15 @@ def plain_check(tally, tree):
     tally.want("a plain check that cannot be built", (status, out, built), (125, "", PLAIN_BUILDS))
     failed = "what rt says\nnbdcheck: the build of nbdcheck_first failed\n"
     told(tally, "a plain check that cannot be built", err, says("low", "nbdcheck_first", minutes=2, left=(2, r"\d+"), end=failed), 2)
+    (tree.top / "crates.txt").write_text(CRATES)
+    tree.run()
+
+
+def faster_than_told(tally, tree):
+    """Where what was built took less than its seconds, so will the rest."""
+    write_crates(tree, {"low": ([], 7), "nbdcheck": (["low"], 100)})
+    (_, _, err), built = tree.run(SLOW="2.2")
+    told(tally, "a fast build", err, says("low", "nbdcheck", minutes=2, left=(2, 1), end=built_by(tree)), 2)
     (tree.top / "crates.txt").write_text(CRATES)
     tree.run()
 
@@ -187,7 +196,7 @@ def two_builds(tally, tree):
     """A second build in the same copy of the repository waits for the first, and builds nothing where that one has."""
     tree.touch("crates.txt", 1)
     tree.notes.write_text("")
-    how = {"env": {**tree.environment, "SLOW": "yes"}, "stdin": subprocess.DEVNULL, "stdout": subprocess.PIPE, "stderr": subprocess.PIPE}
+    how = {"env": {**tree.environment, "SLOW": "0.2"}, "stdin": subprocess.DEVNULL, "stdout": subprocess.PIPE, "stderr": subprocess.PIPE}
     both = [subprocess.Popen([str(tree.top / "nbdcheck"), "check"], text=True, **how) for _ in range(2)]
     said = [child.communicate(timeout=60) for child in both]
     tally.want("two builds", [(child.returncode, out) for child, (out, _) in zip(both, said)], [(0, "program check\n")] * 2)
@@ -210,7 +219,7 @@ def side_by_side(tally, tree):
     """No crate is begun before those that it stands on are built, however many are built at once."""
     needs = {"low": ["other"], "left": ["low"], "right": ["low", "other"], "nbdcheck": ["left", "right"]}
     write_crates(tree, {name: (below, 1) for name, below in needs.items()})
-    (status, out, err), built = tree.run(SLOW="yes")
+    (status, out, err), built = tree.run(SLOW="0.2")
     tally.want("four crates", (status, out), (0, "program \n"))
     told(tally, "four crates", err, says("low", "left", "right", "nbdcheck", minutes=1, end=built_by(tree)), 4)
     tally.want("four crates: begun", sorted(built), sorted(
@@ -240,7 +249,7 @@ def longest_way_first(tally, tree):
 def longest_way_alone(tally, tree):
     """A crate that is not on the longest way runs at a lower priority and on one processor."""
     write_crates(tree, {"short": ([], 8), "low": ([], 1), "high": (["low"], 9), "nbdcheck": (["high", "short"], 1)})
-    (status, out, err), built = tree.run(SLOW="yes", JOBS="yes")
+    (status, out, err), built = tree.run(SLOW="0.2", JOBS="yes")
     tally.want("priorities", (status, out), (0, "program \n"))
     # Where there is memory for one build alone the short one comes later.
     second, third = ("short", "high") if err.index("proving short,") < err.index("proving high,") else ("high", "short")
@@ -260,7 +269,7 @@ def longest_way_alone(tally, tree):
 def on_a_terminal(tally, tree):
     shown, terminal = pty.openpty()
     # Slow builds leave the time in which a line is written.
-    (status, out, _), built = tree.run(stderr=terminal, SLOW="yes")
+    (status, out, _), built = tree.run(stderr=terminal, SLOW="0.2")
     os.close(terminal)
     err = b""
     try:
@@ -278,7 +287,7 @@ def on_a_terminal(tally, tree):
 def run(tally):
     with tempfile.TemporaryDirectory(prefix="nbdcheck-") as folder:
         tree = Tree(folder)
-        for part in (first_build, later_runs, plain_check, failed_build, on_a_terminal, ended_build, two_builds):
+        for part in (first_build, later_runs, plain_check, faster_than_told, failed_build, on_a_terminal, ended_build, two_builds):
             part(tally, tree)
         for part in (side_by_side, longest_way_first, longest_way_alone):
             part(tally, tree)

@@ -148,11 +148,11 @@ impl State {
     }
 
     // Whether an option that is chosen leads, if it is granted, into transmission with what is selected.
-    fn may_agree(&self, option: u32, data: &[u8]) -> bool
+    fn may_agree(&self, option: u32, payload: &[u8]) -> bool
         ensures { (core : Core) → Shows self.now core →
-            result ≡ (core.structured && agrees option data.now core.selection) }
+            result ≡ (core.structured && agrees option payload.now core.selection) }
     {
-        self.structured && self.selection.agrees(option, data)
+        self.structured && self.selection.agrees(option, payload)
     }
 
     // A request has completed.

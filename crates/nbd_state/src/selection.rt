@@ -78,28 +78,28 @@ impl Selection {
     }
 
     /// Whether an option that is chosen leads, if it is granted, into transmission with this selection.
-    pub fn agrees(&self, option: u32, data: &[u8]) -> bool
+    pub fn agrees(&self, option: u32, payload: &[u8]) -> bool
         ensures { (selection : contexts.Selection) → HasSelection self.now selection →
-            result ≡ agrees option data.now selection }
+            result ≡ agrees option payload.now selection }
     {
         self.granted
             && match option {
-                options::EXPORT_NAME => data == self.export_name.as_slice(),
-                options::GO => name_in(data) == self.export_name.as_slice(),
+                options::EXPORT_NAME => payload == self.export_name.as_slice(),
+                options::GO => name_in(payload) == self.export_name.as_slice(),
                 _ => false,
             }
     }
 
     /// An option was chosen. After an `Err`, that memory ran out, nothing is known of the selection.
-    pub fn choose(&mut self, option: u32, data: &[u8]) -> Result<(), AllocError>
+    pub fn choose(&mut self, option: u32, payload: &[u8]) -> Result<(), AllocError>
         ensures { OnOk result ((selection : contexts.Selection) → HasSelection self.old selection →
-            HasSelection self.new (selection_at option data.now selection)) }
+            HasSelection self.new (selection_at option payload.now selection)) }
     {
         if option != options::SET_META_CONTEXT {
             return Ok(());
         }
         self.export_name.clear();
-        self.export_name.extend_from_slice(name_in(data))?;
+        self.export_name.extend_from_slice(name_in(payload))?;
         self.ids.clear();
         self.allocations.clear();
         self.granted = false;

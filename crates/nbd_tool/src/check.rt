@@ -132,9 +132,11 @@ pub fn read_order<O: Read>(alloc: Global, order: &mut O) -> Result<Vec<Entry>, R
     }
 }
 
-/// Opens the files in the order capture, order, image, and then checks.
+/// Opens the files in the order capture, order, image, and then checks the session in this profile; the line is written on
+/// standard output.
 pub fn check_files(
     files: &mut Files<'_>,
+    profile: Profile,
     capture: &str,
     order: &str,
     start: StartWord<'_>,
@@ -144,8 +146,9 @@ pub fn check_files(
     let capture = BufReader::with_capacity(alloc, PORTION, inputs.capture).map_err(
         |_| RunFault::Memory,
     )?;
-    run_check(
+    run_check_of(
         alloc,
+        profile,
         capture,
         inputs.order,
         inputs.start,

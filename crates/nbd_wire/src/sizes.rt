@@ -63,13 +63,13 @@ pub fn sizes_of(answer: &[u8]) -> Option<Sizes>
 }
 
 /// Whether the data of INFO or GO has its form and asks for block sizes.
-pub fn asks_sizes(data: &[u8]) -> bool
-    ensures { result ≡ asks_sizes data.now }
+pub fn asks_sizes(payload: &[u8]) -> bool
+    ensures { result ≡ asks_sizes payload.now }
 {
-    let Some((_, count)) = go_of(data) else {
+    let Some((_, count)) = go_of(payload) else {
         return false;
     };
-    let Some((_, rest)) = listed_of(data) else {
+    let Some((_, rest)) = listed_of(payload) else {
         return false;
     };
     has_number(infos::BLOCK_SIZE, count, &rest[2..])
@@ -113,11 +113,11 @@ impl Sizing {
     }
 
     /// Once an option is chosen.
-    pub fn at(option: u32, data: &[u8]) -> Sizing
-        ensures { result ≡ sizing_at option data.now }
+    pub fn at(option: u32, payload: &[u8]) -> Sizing
+        ensures { result ≡ sizing_at option payload.now }
     {
         Sizing {
-            asked: option == options::GO && asks_sizes(data),
+            asked: option == options::GO && asks_sizes(payload),
             told: None,
         }
     }

@@ -1,103 +1,78 @@
 //! What is written of the files of a run.
 
+use crate::asked::Asked;
 use nbd_explain::{Answer, Ordered, run_arrival_of, run_explain_of, run_names_of, run_order_of};
 use nbd_lines::{
-    Files, FinalWriter, RunFault, StartWord, open_inputs, open_start, run_make, terminal,
+    Files, FinalWriter, Opener, RunFault, StartFrom, open_inputs, open_start, run_make, terminal,
 };
-use nbd_order::{Scope, usual_limits};
-use nbd_search::{Limits, Progress};
-use nbd_tool::{run_check_of, run_show_of};
+use nbd_search::Progress;
+use nbd_tool::run_show_of;
 use nbd_wire::Profile;
 use std::alloc::Global;
 use std::fs::File;
 use std::io;
 use std::io::{BufReader, BufWriter, Write};
 
-/// Opens the files in the order capture, order, image, and then checks the session in this profile.
-pub fn check_files(
-    files: &mut Files<'_>,
-    profile: Profile,
-    capture: &str,
-    order: &str,
-    start: StartWord<'_>,
-) -> Result<bool, RunFault> {
-    let (rt, alloc) = (files.rt, files.rt.alloc());
-    let inputs = open_inputs(files, capture, order, start)?;
-    let capture = BufReader::new(alloc, inputs.capture).map_err(|_| RunFault::Memory)?;
-    run_check_of(
-        alloc,
-        profile,
-        capture,
-        inputs.order,
-        inputs.start,
-        &mut io::writer(rt),
-    )
+/// Opens the files in the order capture, order, image, where there are such, and then explains.
+pub fn explain_files(files: &mut Files<'_>, asked: &Asked<'_>) -> Result<Answer, RunFault> {
+    match asked.order {
+        Some(order) => {
+            let inputs = open_inputs(files, asked.input, order, asked.start)?;
+            explain_over(
+                files.rt,
+                asked,
+                inputs.capture,
+                Some(inputs.order),
+                inputs.start,
+            )
+        }
+        None => explain_capture(files, asked),
+    }
 }
 
-/// Opens the files as `check` does, and then explains.
-pub fn explain_files(
-    files: &mut Files<'_>,
-    profile: Profile,
-    capture: &str,
-    order: &str,
-    start: StartWord<'_>,
-) -> Result<Answer, RunFault> {
-    let (rt, alloc) = (files.rt, files.rt.alloc());
-    let inputs = open_inputs(files, capture, order, start)?;
-    let capture = BufReader::new(alloc, inputs.capture).map_err(|_| RunFault::Memory)?;
-    run_explain_of(
-        alloc,
-        profile,
-        capture,
-        Some(inputs.order),
-        inputs.start,
-        usual_limits(),
-        &mut io::writer(rt),
-        &mut Progress::new(terminal(rt)),
-    )
+// The same without an order.
+fn explain_capture(files: &mut Files<'_>, asked: &Asked<'_>) -> Result<Answer, RunFault> {
+    let Ok(capture) = files.open(asked.input) else {
+        return Err(RunFault::CaptureRead);
+    };
+    let start = open_start(files, asked.start)?;
+    explain_over(files.rt, asked, capture, None, start)
 }
 
-/// Opens the capture and then the image, if there is one, and explains the session without an order; looking for one may cost so much.
-pub fn explain_file(
-    files: &mut Files<'_>,
-    profile: Profile,
-    capture: &str,
-    start: StartWord<'_>,
-    limits: Limits,
+// Explains a session from the files that were opened.
+fn explain_over(
+    rt: &HostRuntime,
+    asked: &Asked<'_>,
+    capture: File,
+    order: Option<File>,
+    start: StartFrom<File>,
 ) -> Result<Answer, RunFault> {
-    let (rt, alloc) = (files.rt, files.rt.alloc());
-    let capture = files.open_buffered(capture, RunFault::CaptureRead)?;
-    let order: Option<File> = None;
-    let start = open_start(files, start)?;
+    let Ok(capture) = BufReader::new(rt.alloc(), capture) else {
+        return Err(RunFault::Memory);
+    };
     run_explain_of(
-        alloc,
-        profile,
+        rt.alloc(),
+        asked.profile,
         capture,
         order,
         start,
-        limits,
+        asked.scope.limits,
         &mut io::writer(rt),
         &mut Progress::new(terminal(rt)),
     )
 }
 
 /// Opens the capture and then the image, if there is one, and looks for an order.
-pub fn order_files(
-    files: &mut Files<'_>,
-    profile: Profile,
-    capture: &str,
-    start: StartWord<'_>,
-    scope: Scope,
-) -> Result<Ordered, RunFault> {
+pub fn order_files(files: &mut Files<'_>, asked: &Asked<'_>) -> Result<Ordered, RunFault> {
     let (rt, alloc) = (files.rt, files.rt.alloc());
-    let capture = files.open_buffered(capture, RunFault::CaptureRead)?;
-    let start = open_start(files, start)?;
+    let capture = files.open_buffered(asked.input, RunFault::CaptureRead)?;
+    let start = open_start(files, asked.start)?;
     run_order_of(
         alloc,
-        profile,
+        asked.profile,
         capture,
         start,
-        scope,
+        asked.scope,
         &mut io::writer(rt),
         &mut Progress::new(terminal(rt)),
     )

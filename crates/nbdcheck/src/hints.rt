@@ -1,5 +1,6 @@
 //! What a person is told of an input beside the answer, on standard error: what the capture looks like, and what is wrong with a line.
 
+use crate::asked::Asked;
 use crate::glance::{is_answer, is_empty, is_exchanged, line_of};
 use crate::mistakes::{Mistake, capture_mistake, order_mistake};
 use nbd_lines::{RunFault, hint, tell, terminal};
@@ -17,14 +18,14 @@ pub fn tell_of_capture(rt: &HostRuntime, path: &str, is_refused: bool) {
 }
 
 /// Says what is wrong with the line that a fault names, where there is one.
-pub fn tell_of_fault(rt: &HostRuntime, fault: &RunFault, capture: &str, order: &str) {
+pub fn tell_of_fault(rt: &HostRuntime, fault: &RunFault, asked: &Asked<'_>) {
     match fault {
         RunFault::CaptureLine(number) => {
-            if let Some(line) = shown_line(rt, capture, *number) {
+            if let Some(line) = shown_line(rt, asked.input, *number) {
                 hint_at(rt, capture_mistake(&line));
             }
         }
-        RunFault::OrderLine(number) => tell_of_order(rt, order, *number),
+        RunFault::OrderLine(number) => tell_of_order(rt, asked.order.unwrap_or(""), *number),
         _ => {}
     }
 }

@@ -1,6 +1,7 @@
 //! `nbdcheck` checks recorded sessions between an NBD client and an NBD server.
 #![tactic(auto)]
 
+mod asked;
 mod command;
 mod files;
 mod glance;

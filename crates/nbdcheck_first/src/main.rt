@@ -9,6 +9,7 @@ mod tests;
 
 use nbd_lines::{Files, RunFault, StartWord, complain, hint, start_of};
 use nbd_tool::check_files;
+use nbd_wire::Profile;
 use std::process::ExitCode;
 use std::{env, io};
 
@@ -49,7 +50,7 @@ fn run_words(rt: &HostRuntime, words: &[String]) -> u8 {
 
 fn check(rt: &HostRuntime, capture: &str, order: &str, start: StartWord<'_>) -> u8 {
     let mut files = Files::new(rt);
-    let answer = check_files(&mut files, capture, order, start);
+    let answer = check_files(&mut files, Profile::Base, capture, order, start);
     checked(&files, &answer)
 }
 

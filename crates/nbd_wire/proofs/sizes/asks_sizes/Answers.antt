@@ -11,15 +11,15 @@ use Rattle.nbd_wire.proofs.sizes.asks_sizes.Goals as goal
 
 pub returns-in_default-listed_of : goal.returns-in_default-listed_of
 returns-in_default-listed_of c =
-    let bytes = c.args.data.now in
+    let bytes = c.args.payload.now in
     let name = c.in-Some.field-0-0.now in
     let g = go-only name bytes c.in-Some.count ((c.in-Some.ensures.form (name, c.in-Some.count)).0 refl) in
-    let listed : is_listed bytes ≡ true = is_listed_one name g.0 bytes (AreBytes-from_places bytes (λ i. omega (arith, c.type_inv.data i))) g.1 in
+    let listed : is_listed bytes ≡ true = is_listed_one name g.0 bytes (AreBytes-from_places bytes (λ i. omega (arith, c.type_inv.payload i))) g.1 in
     absurd (let z : false ≡ true = c.in_default-listed_of.ensures.same ∙ listed in (cc))
 
 pub slice_bounds-has_number-count : goal.slice_bounds-has_number-count
 slice_bounds-has_number-count c =
-    let bytes = c.args.data.now in
+    let bytes = c.args.payload.now in
     let name = c.in-Some.field-0-0.now in
     let first = c.in-Some-listed_of.field-0-0.now in
     let rest = c.in-Some-listed_of.rest.now in
@@ -29,7 +29,7 @@ slice_bounds-has_number-count c =
 
 pub slice_bounds-has_number-start : goal.slice_bounds-has_number-start
 slice_bounds-has_number-start c =
-    let bytes = c.args.data.now in
+    let bytes = c.args.payload.now in
     let name = c.in-Some.field-0-0.now in
     let first = c.in-Some-listed_of.field-0-0.now in
     let rest = c.in-Some-listed_of.rest.now in
@@ -39,7 +39,7 @@ slice_bounds-has_number-start c =
 
 pub has_number-requires : goal.has_number-requires
 has_number-requires c =
-    let bytes = c.args.data.now in
+    let bytes = c.args.payload.now in
     let name = c.in-Some.field-0-0.now in
     let first = c.in-Some-listed_of.field-0-0.now in
     let rest = c.in-Some-listed_of.rest.now in
@@ -49,7 +49,7 @@ has_number-requires c =
 
 pub returns : goal.returns
 returns c =
-    let bytes = c.args.data.now in
+    let bytes = c.args.payload.now in
     let name = c.in-Some.field-0-0.now in
     let first = c.in-Some-listed_of.field-0-0.now in
     let rest = c.in-Some-listed_of.rest.now in

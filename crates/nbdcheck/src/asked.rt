@@ -1,0 +1,97 @@
+//! What the words of a command line say.
+
+ghost use Rattle.std.specs.Prelude.{◌≡◌, Some, None, IsTrue};
+ghost use Rattle.nbd_order.specs.declared.finding.Wanted.TheVariants.{Any, Whole};
+
+use clap::ArgMatches;
+use nbd_lines::{StartWord, start_of};
+use nbd_order::{Scope, Wanted, usual_limits};
+use nbd_search::Limits;
+use nbd_wire::Profile;
+
+/// The words of a command. What it does not know is as where it is not said.
+#[derive(Clone, Copy)]
+pub struct Asked<'a> {
+    /// The file of the capture, or of the script.
+    pub input: &'a str,
+    /// The file of the order.
+    pub order: Option<&'a str>,
+    pub start: StartWord<'a>,
+    pub profile: Profile,
+    /// Which orders are looked for, and what a search may cost.
+    pub scope: Scope,
+    /// The order in which the requests came is wanted.
+    pub is_arrival: bool,
+    /// The messages are wanted in words.
+    pub is_named: bool,
+}
+
+impl<'a> Asked<'a> {
+    /// What these words say, or which fault is printed of them.
+    pub fn of(words: &ArgMatches<'a>) -> Result<Asked<'a>, &'static str> {
+        let Some(start) = start_of(words.get_str("start").unwrap_or("unknown")) else {
+            return Err("fault start");
+        };
+        let Some(profile) = profile_of(words.get_str("profile").unwrap_or("base")) else {
+            return Err("fault profile");
+        };
+        let Some(scope) = scope_in(words) else {
+            return Err("fault limit");
+        };
+        Ok(Asked {
+            start,
+            profile,
+            scope,
+            input: input_in(words),
+            order: words.get_str("ORDER"),
+            is_arrival: words.get_flag("arrival"),
+            is_named: words.get_flag("names"),
+        })
+    }
+}
+
+// The file that the words name first.
+fn input_in<'a>(words: &ArgMatches<'a>) -> &'a str {
+    match words.get_str("CAPTURE") {
+        Some(capture) => capture,
+        None => words.get_str("SCRIPT").unwrap_or(""),
+    }
+}
+
+// The profile that a word names, if it names one.
+fn profile_of(word: &str) -> Option<Profile> {
+    match word {
+        "base" => Some(Profile::Base),
+        "wide" => Some(Profile::Wide),
+        _ => None,
+    }
+}
+
+fn scope_in(words: &ArgMatches<'_>) -> Option<Scope> {
+    let usual = usual_limits();
+    Some(Scope {
+        wanted: wanted_of(words.get_flag("whole")),
+        limits: Limits {
+            states: number_of(words.get_str("states"), usual.states)?,
+            steps: number_of(words.get_str("steps"), usual.steps)?,
+        },
+    })
+}
+
+// Which orders are looked for: of whole requests alone, or any.
+fn wanted_of(is_whole: bool) -> Wanted
+    ensures whole { IsTrue is_whole → result ≡ Whole }
+    ensures any { (IsTrue is_whole → ⊥) → result ≡ Any }
+{
+    if is_whole { Wanted::Whole } else { Wanted::Any }
+}
+
+// The number that was said, or the usual one where none was; None where it is no number.
+fn number_of(text: Option<&str>, usual: u64) -> Option<u64>
+    ensures usual { text.entry ≡ None → result ≡ Some usual }
+{
+    match text {
+        Some(text) => text.parse().ok(),
+        None => Some(usual),
+    }
+}
