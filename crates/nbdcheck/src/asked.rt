@@ -3,13 +3,14 @@
 ghost use Rattle.std.specs.Prelude.{◌≡◌, Some, None, IsTrue};
 ghost use Rattle.nbd_order.specs.declared.finding.Wanted.TheVariants.{Any, Whole};
 
+use crate::words::{USUAL_PROFILE, USUAL_START};
 use clap::ArgMatches;
 use nbd_lines::{StartWord, start_of};
 use nbd_order::{Scope, Wanted, usual_limits};
 use nbd_search::Limits;
 use nbd_wire::Profile;
 
-/// The words of a command. What it does not know is as where it is not said.
+/// What the words behind a command say. A word that the command does not have counts as one that was not said.
 #[derive(Clone, Copy)]
 pub struct Asked<'a> {
     /// The file of the capture, or of the script.
@@ -27,12 +28,12 @@ pub struct Asked<'a> {
 }
 
 impl<'a> Asked<'a> {
-    /// What these words say, or which fault is printed of them.
+    /// What these words say, or the fault that is printed where one of them is malformed.
     pub fn of(words: &ArgMatches<'a>) -> Result<Asked<'a>, &'static str> {
-        let Some(start) = start_of(words.get_str("start").unwrap_or("unknown")) else {
+        let Some(start) = start_of(words.get_str("start").unwrap_or(USUAL_START)) else {
             return Err("fault start");
         };
-        let Some(profile) = profile_of(words.get_str("profile").unwrap_or("base")) else {
+        let Some(profile) = profile_of(words.get_str("profile").unwrap_or(USUAL_PROFILE)) else {
             return Err("fault profile");
         };
         let Some(scope) = scope_in(words) else {

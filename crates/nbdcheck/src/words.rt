@@ -40,6 +40,11 @@ enum Form {
     },
 }
 
+/// What the export held at first, where it is not said.
+pub const USUAL_START: &str = "unknown";
+/// What the session is held to, where it is not said.
+pub const USUAL_PROFILE: &str = "base";
+
 const CAPTURE: Word = Word {
     name: "CAPTURE",
     form: Form::File { is_required: true },
@@ -65,7 +70,7 @@ const START: Word = Word {
     name: "start",
     form: Form::Choice {
         value: "START",
-        usual: "unknown",
+        usual: USUAL_START,
     },
     help: "What the export held at first: unknown, zero or image:PATH",
     excludes: &[],
@@ -75,7 +80,7 @@ const PROFILE: Word = Word {
     name: "profile",
     form: Form::Choice {
         value: "PROFILE",
-        usual: "base",
+        usual: USUAL_PROFILE,
     },
     help: "What the session is held to: base, or wide, which also follows metadata contexts",
     excludes: &[],
