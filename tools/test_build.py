@@ -160,7 +160,7 @@ def plain_check(tally, tree):
 def faster_than_told(tally, tree):
     """Where what was built took less than its seconds, so will the rest."""
     write_crates(tree, {"low": ([], 7), "nbdcheck": (["low"], 100)})
-    (_, _, err), built = tree.run(SLOW="2.2")
+    (_, _, err), _ = tree.run(SLOW="2.2")
     told(tally, "a fast build", err, says("low", "nbdcheck", minutes=2, left=(2, 1), end=built_by(tree)), 2)
     (tree.top / "crates.txt").write_text(CRATES)
     tree.run()

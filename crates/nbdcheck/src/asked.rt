@@ -1,7 +1,8 @@
 //! What the words of a command line say.
 
-ghost use Rattle.std.specs.Prelude.{◌≡◌, Some, None, IsTrue};
+ghost use Rattle.std.specs.Prelude.{◌≡◌, ◌↔◌, Some, None, IsTrue, codes};
 ghost use Rattle.nbd_order.specs.declared.finding.Wanted.TheVariants.{Any, Whole};
+ghost use Rattle.nbd_wire.specs.declared.profile.Profile.TheVariants.{Base, Wide};
 
 use crate::words::{USUAL_PROFILE, USUAL_START};
 use clap::ArgMatches;
@@ -60,7 +61,10 @@ fn input_in<'a>(words: &ArgMatches<'a>) -> &'a str {
 }
 
 // The profile that a word names, if it names one.
-fn profile_of(word: &str) -> Option<Profile> {
+fn profile_of(word: &str) -> Option<Profile>
+    ensures base { (result ≡ Some Base) ↔ (word.now ≡ codes "base") }
+    ensures wide { (result ≡ Some Wide) ↔ (word.now ≡ codes "wide") }
+{
     match word {
         "base" => Some(Profile::Base),
         "wide" => Some(Profile::Wide),
