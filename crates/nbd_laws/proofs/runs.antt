@@ -15,6 +15,7 @@ pub mod ReachLemmas
 pub mod RestLemmas
 pub mod RunByteLemmas
 pub mod RunLemmas
+pub mod SameLemmas
 pub mod SelectedLemmas
 pub mod SplitLemmas
 pub mod TraceLemmas

@@ -1,6 +1,7 @@
 pub mod Announcing
 pub mod Bytes
 pub mod Cuts
+pub mod Equal
 pub mod Explaining
 pub mod Marking
 pub mod Moments
@@ -14,4 +15,3 @@ pub mod Selecting
 pub mod Service
 pub mod Soundness
 pub mod captures
-pub mod internal

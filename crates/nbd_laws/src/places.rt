@@ -1,5 +1,6 @@
 //! Laws over the table of faults and the places that it names: each is the contract of a function that does
 //! nothing.
+ghost use Rattle.nbd_laws.specs.Equal.{PlacesAreEqual, UnderWayIsEqual};
 ghost use Rattle.nbd_laws.specs.Marking.{BeginningsAreClear, CompletionsAreClear, PrefixesHaveNoPlace, HaveOnePlace, PlacesBeginNoRun, RunsAreClear, SplitsAgree, UnderWayAgree};
 
 /// In a run no row of the table holds before any byte: open bytes of which one holds, fewer than a whole message, begin
@@ -37,4 +38,10 @@ pub fn places_begin_no_run()
 pub fn one_place()
     ensures one { HaveOnePlace }
     ensures first { PrefixesHaveNoPlace }
+{}
+
+/// The place of a refusal and a session under way are the same by the table of faults and by reading.
+pub fn forms_are_equal()
+    ensures places { PlacesAreEqual }
+    ensures under_way { UnderWayIsEqual }
 {}

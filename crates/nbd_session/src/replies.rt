@@ -5,7 +5,7 @@ ghost use Rattle.nbd_wire.specs.declared.commands.TheConstants as commands;
 ghost use Rattle.nbd_wire.specs.protocol.Operations.{Exporting};
 ghost use Rattle.nbd_wire.specs.protocol.States.{Core};
 ghost use Rattle.nbd_wire.specs.protocol.States as definitions;
-ghost use Rattle.nbd_laws.specs.internal.JudgeTransmission.{chunk_head_fault, operation_counted, reply_with, simple_fault};
+ghost use Rattle.nbd_wire.specs.protocol.JudgeTransmission.{chunk_head_fault, operation_counted, reply_with, simple_fault};
 ghost use Rattle.nbd_session.specs.internal.Asking.{is_simple_forbidden};
 ghost use Rattle.nbd_session.specs.internal.Expecting.{IsChunkOf, IsPlaced, IsPlaceOf, IsReplyHead, IsSimpleOf, expected_decision};
 ghost use Rattle.nbd_state.specs.Shows.{Shows};

@@ -13,7 +13,7 @@ use Rattle.nbd_state.specs.declared.state.Export.{Export}
 use Rattle.nbd_state.specs.declared.state.Phase.TheVariants as shown
 use Rattle.nbd_state.specs.declared.state.State.{State}
 use Rattle.nbd_state.specs.internal.Completing.{AddsUnanswered}
-use Rattle.nbd_laws.specs.internal.Decisions.{is_none_yet}
+use Rattle.nbd_wire.specs.protocol.Decisions.{is_none_yet}
 use Rattle.nbd_state.specs.Showing.{IsShown, exporting}
 use Rattle.nbd_laws.specs.Reached.{IsReached}
 use Rattle.nbd_laws.specs.Selecting.{AreAskedWith}

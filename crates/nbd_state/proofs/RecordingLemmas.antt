@@ -17,7 +17,7 @@ use Rattle.nbd_wire.specs.protocol.States.{with_reply}
 use Rattle.nbd_state.specs.declared.asked.Exchange.{Exchange}
 use Rattle.nbd_state.specs.declared.asked.Outcome.{Outcome}
 use Rattle.nbd_state.specs.declared.asked.Outcome.TheVariants.{Success, Failure}
-use Rattle.nbd_laws.specs.internal.Decisions.{is_none_yet}
+use Rattle.nbd_wire.specs.protocol.Decisions.{is_none_yet}
 use Rattle.nbd_state.specs.Showing.{IsShown, outcome_of}
 use Rattle.nbd_state.specs.Shows.{TellsThese}
 use Rattle.nbd_state.proofs.ReplyLemmas.{any-snoc, proper-same}

@@ -18,8 +18,15 @@ pub mod Options
 pub mod Replies
 pub mod Rules
 pub mod Within
+pub mod Decisions
+pub mod JudgeNegotiation
+pub mod JudgeTransmission
+pub mod Judge
+pub mod Machine
+pub mod Concrete
 pub mod Splits
 pub mod Rows
+pub mod Places
 pub mod Reports
 pub mod ExportBytes
 pub mod Explains

@@ -21,8 +21,8 @@ use Rattle.nbd_wire.specs.protocol.Sendable.{IsSendable}
 use Rattle.nbd_wire.specs.protocol.Splits.{IsPlaceOf, IsSplitOf, IsUnderWayOf, open_bytes}
 use Rattle.nbd_wire.specs.protocol.States.{State, start_of}
 use Rattle.nbd_laws.specs.Profiles.{NothingParts}
-use Rattle.nbd_laws.specs.internal.Concrete.{concrete}
-use Rattle.nbd_laws.specs.internal.Machine.{Both, fresh_of, get, reads}
+use Rattle.nbd_wire.specs.protocol.Concrete.{concrete}
+use Rattle.nbd_wire.specs.protocol.Machine.{Both, fresh_of, get, reads}
 use Rattle.nbd_laws.proofs.judge.ExactLemmas.{exact}
 use Rattle.nbd_laws.proofs.judge.SoundLemmas.{sound}
 use Rattle.nbd_laws.proofs.machine.MachineLemmas.{Busy, Idle, Loose, Open, Walk, ended, final, loose, middle, opening, serving}

@@ -7,12 +7,12 @@ use Rattle.nbd_wire.specs.declared.message.Message.{Message}
 use Rattle.nbd_wire.specs.protocol.Captures.{side_pairs}
 use Rattle.nbd_wire.specs.protocol.States.{Core}
 use Rattle.nbd_wire.specs.declared.fault.WireFault.{WireFault}
-use Rattle.nbd_laws.specs.internal.Decisions.{Decision, awaited_length_by}
-use Rattle.nbd_laws.specs.internal.Judge.{awaited_length, decision}
+use Rattle.nbd_wire.specs.protocol.Decisions.{Decision, awaited_length_by}
+use Rattle.nbd_wire.specs.protocol.Judge.{awaited_length, decision}
 use Rattle.nbd_laws.proofs.judge.BlockLemmas.{Awaits, GoesOn, extended, judged_at_once, reads_at_once, reads_short, with_rest}
-use Rattle.nbd_laws.specs.internal.Concrete.{concrete, last_reading, reading_by_decision, read_by, staged_reading_by}
+use Rattle.nbd_wire.specs.protocol.Concrete.{concrete, last_reading, reading_by_decision, read_by, staged_reading_by}
 use Rattle.nbd_laws.proofs.machine.MachineLemmas.{AreHeld, Held, Kept, Later, Later-trans, at_once, begun, kept, none_held, old-filled, some_held}
-use Rattle.nbd_laws.specs.internal.Machine.{IsFilled, Machine, More, Rest, get, old_of, reads}
+use Rattle.nbd_wire.specs.protocol.Machine.{IsFilled, Machine, More, Rest, get, old_of, reads}
 use Rattle.nbd_laws.proofs.judge.SoundLemmas.{kept_later}
 use Rattle.nbd_laws.proofs.judge.SteadyLemmas.{IsDeciding, IsSameHead, IsSteady, deciding}
 

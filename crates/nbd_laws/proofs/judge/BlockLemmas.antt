@@ -6,7 +6,7 @@ use Rattle.nbd_wire.specs.protocol.Captures.{Pair, side_pairs}
 use Rattle.nbd_wire.specs.protocol.Rules.{complete}
 use Rattle.nbd_wire.specs.protocol.States.{Core}
 use Rattle.nbd_wire.specs.declared.fault.WireFault.{WireFault}
-use Rattle.nbd_laws.specs.internal.Machine.{Both, get, put, Rest, Machine, Reading, More, Whole, Bad, old_of, IsFilled, settle, Judge, rest_with, step, reads, on_ok}
+use Rattle.nbd_wire.specs.protocol.Machine.{Both, get, put, Rest, Machine, Reading, More, Whole, Bad, old_of, IsFilled, settle, Judge, rest_with, step, reads, on_ok}
 use Rattle.nbd_laws.proofs.machine.MachineLemmas.{get-put_same, old-filled, IsFilled-snoc, Later}
 
 -- no longer list of these bytes and more is judged before it has n of them

@@ -2,10 +2,10 @@
 use Rattle.std.proofs.Common.{◌≡◌, ℕ, zero, suc, ◌⊎◌, ◌+◌, ◌==◌, List, [], ◌∷◌, length, replicate, refl, ◌∙◌, ap, inl, inr, Option, Some, None, Bool, true, false, not, ◌&&◌, ◌||◌, nat_lt, eqb-true, arith}
 use Rattle.nbd_wire.specs.declared.message.Message.{Message}
 use Rattle.nbd_wire.specs.declared.fault.WireFault.{WireFault}
-use Rattle.nbd_laws.specs.internal.Decisions.{fault_if}
-use Rattle.nbd_laws.specs.internal.JudgeNegotiation.{are_zeroes, unless_error}
-use Rattle.nbd_laws.specs.internal.Concrete.{staged_reading_by, staged_reading, last_reading}
-use Rattle.nbd_laws.specs.internal.Machine.{Reading, Whole}
+use Rattle.nbd_wire.specs.protocol.Decisions.{fault_if}
+use Rattle.nbd_wire.specs.protocol.JudgeNegotiation.{are_zeroes, unless_error}
+use Rattle.nbd_wire.specs.protocol.Concrete.{staged_reading_by, staged_reading, last_reading}
+use Rattle.nbd_wire.specs.protocol.Machine.{Reading, Whole}
 
 pub not_false : (c : Bool) → not c ≡ false → c ≡ true
 not_false true e = refl

@@ -19,16 +19,16 @@ use Rattle.nbd_wire.specs.protocol.Sendable.{IsSendable}
 use Rattle.nbd_wire.specs.protocol.Sides.{side}
 use Rattle.nbd_wire.specs.protocol.States.{Core, Phase, Greet, Flags, Choosing, Naming, Aborting, Answering, Transmission, operation, target, in_force}
 use Rattle.nbd_wire.specs.declared.fault.WireFault.{WireFault}
-use Rattle.nbd_laws.specs.internal.Decisions.{Decision}
-use Rattle.nbd_laws.specs.internal.Judge.{decision, request_unless}
-use Rattle.nbd_laws.specs.internal.JudgeNegotiation.{abort_answer, answer, choice, client_flags, export_answer, greeting}
-use Rattle.nbd_laws.specs.internal.JudgeTransmission.{chunk_to, operation_if, operation_of, request, simple_to}
+use Rattle.nbd_wire.specs.protocol.Decisions.{Decision}
+use Rattle.nbd_wire.specs.protocol.Judge.{decision, request_unless}
+use Rattle.nbd_wire.specs.protocol.JudgeNegotiation.{abort_answer, answer, choice, client_flags, export_answer, greeting}
+use Rattle.nbd_wire.specs.protocol.JudgeTransmission.{chunk_to, operation_if, operation_of, request, simple_to}
 use Rattle.nbd_laws.proofs.judge.AwaitedLemmas.{in_head, in_payload}
-use Rattle.nbd_laws.specs.internal.Concrete.{concrete, last_reading, reading_by_decision, read_by, staged_reading_by}
+use Rattle.nbd_wire.specs.protocol.Concrete.{concrete, last_reading, reading_by_decision, read_by, staged_reading_by}
 use Rattle.nbd_laws.proofs.judge.ExactNegotiationLemmas.{Accepts, HasHead, HasLast, abort_accepts, answer_accepts, choice_accepts, exported_accepts, flags_accepts, greeting_accepts}
 use Rattle.nbd_laws.proofs.judge.ExactTransmissionLemmas.{AcceptsChunk, chunk_accepts, chunk_begins, cookie_of_chunk, cookie_of_simple, request_accepts, simple_accepts, simple_begins}
 use Rattle.nbd_laws.proofs.machine.MachineLemmas.{IsExact, Later, Later-trans}
-use Rattle.nbd_laws.specs.internal.Machine.{IsFilled, More, Whole, reads, fresh_of}
+use Rattle.nbd_wire.specs.protocol.Machine.{IsFilled, More, Whole, reads, fresh_of}
 use Rattle.nbd_laws.proofs.judge.PhaseLemmas.{IsAppended, Later-appended, Later-disconnected, Later-transmission, Later-turn, target-append}
 use Rattle.nbd_laws.proofs.runs.RunLemmas.{no_run}
 use Rattle.nbd_laws.proofs.judge.SoundLemmas.{kept_reached}

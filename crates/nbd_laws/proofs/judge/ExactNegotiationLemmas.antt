@@ -22,8 +22,8 @@ use Rattle.nbd_wire.specs.protocol.Flags.{has, has_only}
 use Rattle.nbd_wire.specs.protocol.Rules.{AreClientFlags, MayEnd}
 use Rattle.nbd_wire.specs.declared.fault.WireFault.{WireFault}
 use Rattle.nbd_wire.specs.declared.fault.WireFault.TheVariants.{NotFixedNewstyle, BadClientFlags, WrongOption, BadReplyKind, OutOfProfile, BadReplyPayload, BadExport, ExportTooLarge, SuccessOfImproper}
-use Rattle.nbd_laws.specs.internal.Decisions.{Decision, fault_if}
-use Rattle.nbd_laws.specs.internal.JudgeNegotiation.{abort_answer, abort_fault, ack_fault, answer, answer_fault, answers_option, are_zeroes, at_ack, choice, choice_fault, client_flags, client_flags_fault, export_fault, export_answer, greeting, greeting_fault, info_fault, is_bad_payload, is_followed, is_good_info, padding_fault, payload_fault, sets_more, success_fault, unless_error, earlier_to, is_good_context, is_wide}
+use Rattle.nbd_wire.specs.protocol.Decisions.{Decision, fault_if}
+use Rattle.nbd_wire.specs.protocol.JudgeNegotiation.{abort_answer, abort_fault, ack_fault, answer, answer_fault, answers_option, are_zeroes, at_ack, choice, choice_fault, client_flags, client_flags_fault, export_fault, export_answer, greeting, greeting_fault, info_fault, is_bad_payload, is_followed, is_good_info, padding_fault, payload_fault, sets_more, success_fault, unless_error, earlier_to, is_good_context, is_wide}
 use Rattle.nbd_wire.specs.declared.profile.Profile.{Profile}
 use Rattle.nbd_wire.specs.protocol.Contexts.{Selection, Context, has_id}
 use Rattle.nbd_wire.specs.declared.profile.Profile.TheVariants.{Base, Wide}

@@ -24,9 +24,9 @@ use Rattle.nbd_wire.specs.protocol.Sendable.{IsSendable}
 use Rattle.nbd_wire.specs.protocol.States.{Core, target, with_reply, in_force}
 use Rattle.nbd_wire.specs.declared.fault.WireFault.{WireFault}
 use Rattle.nbd_wire.specs.declared.fault.WireFault.TheVariants.{BadChunk, BadContent, BadDisconnect, ChunkForbidden, CookieInUse, IncompleteRead, SimpleForbidden, SuccessOfImproper, OutOfProfile, IncompleteStatus}
-use Rattle.nbd_laws.specs.internal.Decisions.{Decision, fault_if}
-use Rattle.nbd_laws.specs.internal.Decisions.{is_none_yet}
-use Rattle.nbd_laws.specs.internal.JudgeTransmission.{begins, chunk_fault, chunk_of, chunk_to, content_fault, cookie_fault, done_fault, finish_fault, fits_failure, fits_read, is_no_piece, request, request_fault, request_payload_length, simple_fault, simple_last_fault, simple_to, total, status_if, fits_status, fits_range}
+use Rattle.nbd_wire.specs.protocol.Decisions.{Decision, fault_if}
+use Rattle.nbd_wire.specs.protocol.Decisions.{is_none_yet}
+use Rattle.nbd_wire.specs.protocol.JudgeTransmission.{begins, chunk_fault, chunk_of, chunk_to, content_fault, cookie_fault, done_fault, finish_fault, fits_failure, fits_read, is_no_piece, request, request_fault, request_payload_length, simple_fault, simple_last_fault, simple_to, total, status_if, fits_status, fits_range}
 use Rattle.nbd_laws.proofs.judge.CoverLemmas.{ArePositive, covered_total, shares-apart_from}
 use Rattle.nbd_laws.proofs.judge.ExactNegotiationLemmas.{Accepts, HasHead, HasLast, no_fault_if, not_so}
 use Rattle.nbd_laws.proofs.judge.TidyLemmas.{IsTidy, failure_kind, no_content, none_content, tidy_reply, status_content}

@@ -12,12 +12,12 @@ use Rattle.nbd_wire.specs.protocol.Rules.{MayComplete, MayAsk}
 use Rattle.nbd_wire.specs.protocol.Sendable.{IsSendable}
 use Rattle.nbd_wire.specs.protocol.States.{Transmission, Core, target, in_force}
 use Rattle.nbd_wire.specs.declared.fault.WireFault.TheVariants.{CookieInUse, BadDisconnect, OutOfProfile}
-use Rattle.nbd_laws.specs.internal.Decisions.{fault_if}
-use Rattle.nbd_laws.specs.internal.Judge.{request_unless}
-use Rattle.nbd_laws.specs.internal.JudgeTransmission.{request, request_payload_length, request_of}
+use Rattle.nbd_wire.specs.protocol.Decisions.{fault_if}
+use Rattle.nbd_wire.specs.protocol.Judge.{request_unless}
+use Rattle.nbd_wire.specs.protocol.JudgeTransmission.{request, request_payload_length, request_of}
 use Rattle.nbd_laws.proofs.judge.BoolLemmas.{not_false, and_true, fault_none, and_false}
-use Rattle.nbd_laws.specs.internal.Concrete.{reading_by_decision}
-use Rattle.nbd_laws.specs.internal.Machine.{Whole}
+use Rattle.nbd_wire.specs.protocol.Concrete.{reading_by_decision}
+use Rattle.nbd_wire.specs.protocol.Machine.{Whole}
 use Rattle.nbd_laws.proofs.judge.SoundNegotiationLemmas.{IsFit, IsWhole, whole, magic_there}
 use Rattle.nbd_wire.specs.protocol.Contexts.{Context}
 use Rattle.std.proofs.lemmas.Bool.{eq-eqb}

@@ -10,10 +10,10 @@ use Rattle.nbd_wire.specs.protocol.Operations.{Exporting}
 use Rattle.nbd_wire.specs.protocol.Rules.{MayStartIn, MayComplete, request_of_reply}
 use Rattle.nbd_wire.specs.protocol.States.{Phase, Greet, Flags, Choosing, Naming, Aborting, Answering, Transmission, Core}
 use Rattle.nbd_wire.specs.declared.fault.WireFault.TheVariants.{OutOfTurn}
-use Rattle.nbd_laws.specs.internal.JudgeTransmission.{request_of}
-use Rattle.nbd_laws.specs.internal.Concrete.{judge_in, concrete}
+use Rattle.nbd_wire.specs.protocol.JudgeTransmission.{request_of}
+use Rattle.nbd_wire.specs.protocol.Concrete.{judge_in, concrete}
 use Rattle.nbd_laws.proofs.machine.MachineLemmas.{Kept, begun, kept, Later, at_once, Later-trans, IsSoundAt, IsSound}
-use Rattle.nbd_laws.specs.internal.Machine.{Reading, More, Whole, Bad, Judge}
+use Rattle.nbd_wire.specs.protocol.Machine.{Reading, More, Whole, Bad, Judge}
 use Rattle.nbd_laws.specs.Reached.{IsReached}
 use Rattle.nbd_laws.proofs.judge.PhaseLemmas.{IsTransmitting, Later-disconnected, Later-transmission, Later-turn}
 use Rattle.nbd_laws.proofs.judge.SoundClientLemmas.{IsAsked, request_sound}

@@ -26,11 +26,11 @@ use Rattle.nbd_wire.specs.protocol.Sides.{side}
 use Rattle.nbd_wire.specs.protocol.States.{Phase, Greet, Flags, Choosing, Naming, Aborting, Answering, Transmission, Core}
 use Rattle.nbd_wire.specs.declared.fault.WireFault.{WireFault}
 use Rattle.nbd_wire.specs.declared.fault.WireFault.TheVariants.{BadMagic, NotFixedNewstyle, BadClientFlags, WrongOption, OutOfProfile, BadReplyPayload, BadExport, ExportTooLarge, SuccessOfImproper}
-use Rattle.nbd_laws.specs.internal.Decisions.{Decision, fault_if}
-use Rattle.nbd_laws.specs.internal.JudgeNegotiation.{greeting, sets_more, client_flags, choice, are_zeroes, export_fault, export_answer, answer_of, ack_fault, abort_fault, abort_answer, answers_option, is_followed, info_fault, at_ack, unless_error, success_fault, is_good_info, is_bad_payload, payload_fault, answer, is_on_contexts, earlier_to, is_good_context, is_wide}
+use Rattle.nbd_wire.specs.protocol.Decisions.{Decision, fault_if}
+use Rattle.nbd_wire.specs.protocol.JudgeNegotiation.{greeting, sets_more, client_flags, choice, are_zeroes, export_fault, export_answer, answer_of, ack_fault, abort_fault, abort_answer, answers_option, is_followed, info_fault, at_ack, unless_error, success_fault, is_good_info, is_bad_payload, payload_fault, answer, is_on_contexts, earlier_to, is_good_context, is_wide}
 use Rattle.nbd_laws.proofs.judge.BoolLemmas.{not_false, or_false, or_true, and_true, and_false, whole_at, fault_none, ended_whole, are_zeroes-replicate, not_true}
-use Rattle.nbd_laws.specs.internal.Concrete.{read_by, last_reading, judge_in}
-use Rattle.nbd_laws.specs.internal.Machine.{Whole}
+use Rattle.nbd_wire.specs.protocol.Concrete.{read_by, last_reading, judge_in}
+use Rattle.nbd_wire.specs.protocol.Machine.{Whole}
 use Rattle.nbd_wire.specs.declared.profile.Profile.{Profile}
 use Rattle.nbd_wire.specs.protocol.Contexts.{Selection, Context, has_id}
 use Rattle.nbd_wire.specs.declared.profile.Profile.TheVariants.{Wide, Base}

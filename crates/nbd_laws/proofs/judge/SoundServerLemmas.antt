@@ -21,13 +21,13 @@ use Rattle.nbd_wire.specs.protocol.Rules.{MayComplete, request_of_reply}
 use Rattle.nbd_wire.specs.protocol.Sendable.{IsSendable}
 use Rattle.nbd_wire.specs.protocol.States.{Transmission, Core, target, operation, with_reply}
 use Rattle.nbd_wire.specs.declared.fault.WireFault.TheVariants.{BadMagic, UnknownCookie, SimpleForbidden, ChunkForbidden, BadChunk, BadContent, IncompleteRead, SuccessOfImproper, IncompleteStatus}
-use Rattle.nbd_laws.specs.internal.Decisions.{fault_if}
-use Rattle.nbd_laws.specs.internal.Decisions.{is_none_yet}
-use Rattle.nbd_laws.specs.internal.JudgeTransmission.{begins, chunk_fault, chunk_of, chunk_to, content_fault, done_fault, operation_if, operation_of, finish_fault, fits_failure, fits_read, is_apart_from, is_inside, is_no_piece, no_reply, reply, reply_by, simple_of, simple_to, total, lacks_status, fits_status, status_if, fits_range}
+use Rattle.nbd_wire.specs.protocol.Decisions.{fault_if}
+use Rattle.nbd_wire.specs.protocol.Decisions.{is_none_yet}
+use Rattle.nbd_wire.specs.protocol.JudgeTransmission.{begins, chunk_fault, chunk_of, chunk_to, content_fault, done_fault, operation_if, operation_of, finish_fault, fits_failure, fits_read, is_apart_from, is_inside, is_no_piece, no_reply, reply, reply_by, simple_of, simple_to, total, lacks_status, fits_status, status_if, fits_range}
 use Rattle.nbd_laws.proofs.judge.BoolLemmas.{not_false, not_true, or_false, or_true, and_true, and_false, fault_none}
-use Rattle.nbd_laws.specs.internal.Concrete.{read_by}
+use Rattle.nbd_wire.specs.protocol.Concrete.{read_by}
 use Rattle.nbd_laws.proofs.judge.CoverLemmas.{full_total_covers, apart_from-shares}
-use Rattle.nbd_laws.specs.internal.Machine.{Whole}
+use Rattle.nbd_wire.specs.protocol.Machine.{Whole}
 use Rattle.nbd_laws.proofs.machine.MachineLemmas.{Later}
 use Rattle.nbd_laws.proofs.judge.PhaseLemmas.{IsAppended, Later-appended, target-append}
 use Rattle.nbd_laws.proofs.judge.SoundNegotiationLemmas.{IsFit, IsWhole, no_length, whole}

@@ -13,10 +13,10 @@ use Rattle.nbd_wire.specs.protocol.Operations.{Operation, Exporting}
 use Rattle.nbd_wire.specs.protocol.Flags.{has}
 use Rattle.nbd_wire.specs.protocol.States.{Phase, Greet, Flags, Choosing, Naming, Aborting, Answering, Transmission, Core, operation, target, in_force}
 use Rattle.nbd_wire.specs.declared.fault.WireFault.TheVariants.{BadMagic, UnknownCookie}
-use Rattle.nbd_laws.specs.internal.Decisions.{Decision}
-use Rattle.nbd_laws.specs.internal.Judge.{decision, request_unless}
-use Rattle.nbd_laws.specs.internal.JudgeNegotiation.{abort_answer, abort_fault, answer, answer_fault, choice, choice_fault, client_flags, client_flags_fault, export_fault, export_answer, greeting, greeting_fault, success_fault, unless_error}
-use Rattle.nbd_laws.specs.internal.JudgeTransmission.{begins, chunk_to, operation_if, operation_of, no_reply, reply, reply_by, request, request_fault, request_payload_length, simple_payload_length, simple_to, simple_fault, chunk_head_fault}
+use Rattle.nbd_wire.specs.protocol.Decisions.{Decision}
+use Rattle.nbd_wire.specs.protocol.Judge.{decision, request_unless}
+use Rattle.nbd_wire.specs.protocol.JudgeNegotiation.{abort_answer, abort_fault, answer, answer_fault, choice, choice_fault, client_flags, client_flags_fault, export_fault, export_answer, greeting, greeting_fault, success_fault, unless_error}
+use Rattle.nbd_wire.specs.protocol.JudgeTransmission.{begins, chunk_to, operation_if, operation_of, no_reply, reply, reply_by, request, request_fault, request_payload_length, simple_payload_length, simple_to, simple_fault, chunk_head_fault}
 use Rattle.nbd_laws.proofs.machine.MachineLemmas.{Later}
 use Rattle.nbd_laws.proofs.judge.SoundServerLemmas.{magic_of}
 use Rattle.nbd_laws.proofs.judge.PhaseLemmas.{IsAppended, Later-appended, Later-disconnected, Later-in_force, Later-transmission, Later-turn, target_entry}

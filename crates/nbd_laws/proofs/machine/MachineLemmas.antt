@@ -10,7 +10,7 @@ use Rattle.nbd_wire.specs.protocol.Captures.{Pair, ArePairs}
 use Rattle.nbd_wire.specs.protocol.States.{Core}
 use Rattle.nbd_wire.specs.protocol.Sendable.{IsSendable}
 use Rattle.nbd_wire.specs.protocol.Rules.{MayStart, MayComplete, complete}
-use Rattle.nbd_laws.specs.internal.Machine.{Both, get, put, IsFilled, Rest, Machine, Reading, old_by, old_of, settle, Judge, rest_with, on_ok, reads, More, Whole, Bad}
+use Rattle.nbd_wire.specs.protocol.Machine.{Both, get, put, IsFilled, Rest, Machine, Reading, old_by, old_of, settle, Judge, rest_with, on_ok, reads, More, Whole, Bad}
 use Rattle.nbd_laws.specs.Reached.{IsReached, after_message}
 
 pub get-put_same : {A : Type 0} (p : Both A) (s : Side) (a : A) → get (put p s a) s ≡ a

@@ -1,10 +1,10 @@
 -- The laws of the table of faults, by the project's own judge.
 use Rattle.std.proofs.Common.{◌≡◌, List, [], ◌∷◌, ◌++◌, refl, sym, ◌∙◌, ap, append_assoc}
 use Rattle.nbd_wire.specs.protocol.Captures.{Pair}
-use Rattle.nbd_laws.specs.internal.Machine.{fresh_of, reads}
+use Rattle.nbd_wire.specs.protocol.Machine.{fresh_of, reads}
 use Rattle.nbd_laws.proofs.runs.ClearLemmas.{beginning_clear, completions_clear, run_clear}
 use Rattle.nbd_laws.proofs.runs.PlaceLemmas as unique
-use Rattle.nbd_laws.specs.internal.Concrete.{concrete}
+use Rattle.nbd_wire.specs.protocol.Concrete.{concrete}
 use Rattle.nbd_laws.specs.Marking.{BeginningsAreClear, CompletionsAreClear, PrefixesHaveNoPlace, HaveOnePlace, PlacesBeginNoRun, RunsAreClear, SplitsAgree, UnderWayAgree}
 use Rattle.nbd_laws.proofs.judge.ExactLemmas.{exact}
 use Rattle.nbd_laws.proofs.judge.SoundLemmas.{sound}

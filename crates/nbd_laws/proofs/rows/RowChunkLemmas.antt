@@ -21,8 +21,8 @@ use Rattle.nbd_wire.specs.protocol.Rows.IsMisplaced.{to_no_read, before_range, a
 use Rattle.nbd_wire.specs.protocol.Rows.IsWholeIn.{whole_simple, whole_chunk}
 use Rattle.nbd_wire.specs.protocol.Rows.RowIn.{wrong_magic, neither_magic, not_fixed_newstyle, out_of_turn, wrong_option, bad_reply_kind, ack_with_payload, export_too_large, unknown_cookie, simple_forbidden, chunk_forbidden, bad_chunk, bad_content, incomplete_read, success_of_improper, incomplete_status}
 use Rattle.nbd_wire.specs.protocol.States.{Core, Transmission, target, with_reply}
-use Rattle.nbd_laws.specs.internal.Decisions.{fault_if}
-use Rattle.nbd_laws.specs.internal.JudgeTransmission.{chunk_fault, chunk_head_fault, chunk_last_fault, chunk_to, content_fault, done_fault, operation_of, finish_fault, fits_failure, fits_read, is_apart, is_apart_from, is_inside, is_no_piece, total, status_if, fits_status}
+use Rattle.nbd_wire.specs.protocol.Decisions.{fault_if}
+use Rattle.nbd_wire.specs.protocol.JudgeTransmission.{chunk_fault, chunk_head_fault, chunk_last_fault, chunk_to, content_fault, done_fault, operation_of, finish_fault, fits_failure, fits_read, is_apart, is_apart_from, is_inside, is_no_piece, total, status_if, fits_status}
 use Rattle.nbd_laws.proofs.judge.BoolLemmas.{and_true, not_false, not_true}
 use Rattle.nbd_laws.proofs.judge.CoverLemmas.{ArePositive, full_total_covers, covered_total, no_overlap}
 use Rattle.nbd_laws.proofs.judge.ExactTransmissionLemmas.{content_positive, pieces_positive}

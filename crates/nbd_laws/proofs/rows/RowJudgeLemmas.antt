@@ -15,12 +15,12 @@ use Rattle.nbd_wire.specs.protocol.Rows.{IsHead, IsOutOfTurn, IsWhole, IsWholeIn
 use Rattle.nbd_wire.specs.protocol.Rows.IsWholeIn.{whole_greeting, whole_flags, whole_choice, whole_export, whole_abort_answer, whole_answer, whole_request, whole_simple, whole_chunk}
 use Rattle.nbd_wire.specs.protocol.Rows.RowIn.{wrong_magic, neither_magic, not_fixed_newstyle, bad_client_flags, out_of_turn, wrong_option, bad_reply_kind, out_of_profile, ack_with_payload, bad_reply_payload, missing_export_info, no_has_flags, bad_padding, export_too_large, cookie_in_use, unknown_cookie, simple_forbidden, chunk_forbidden, bad_chunk, bad_content, incomplete_read, incomplete_status, success_of_improper, bad_disconnect}
 use Rattle.nbd_wire.specs.protocol.States.{Core, Phase, Greet, Flags, Choosing, Naming, Aborting, Answering, Ended, Transmission, target, in_force}
-use Rattle.nbd_laws.specs.internal.Machine.{Bad, More}
+use Rattle.nbd_wire.specs.protocol.Machine.{Bad, More}
 use Rattle.nbd_laws.proofs.machine.MachineLemmas.{Kept, Later, Later-trans, at_once, begun, kept}
-use Rattle.nbd_laws.specs.internal.Concrete.{concrete, reading_by_decision, read_by}
-use Rattle.nbd_laws.specs.internal.Decisions.{Decision}
-use Rattle.nbd_laws.specs.internal.Judge.{decision, request_unless}
-use Rattle.nbd_laws.specs.internal.JudgeTransmission.{begins, operation_if, operation_of, no_reply, reply, request}
+use Rattle.nbd_wire.specs.protocol.Concrete.{concrete, reading_by_decision, read_by}
+use Rattle.nbd_wire.specs.protocol.Decisions.{Decision}
+use Rattle.nbd_wire.specs.protocol.Judge.{decision, request_unless}
+use Rattle.nbd_wire.specs.protocol.JudgeTransmission.{begins, operation_if, operation_of, no_reply, reply, request}
 use Rattle.nbd_laws.proofs.judge.AwaitedLemmas.{GoesBy, decision_of, first_more, goes_by, some_decided}
 use Rattle.nbd_laws.proofs.judge.PhaseLemmas.{IsAppended, Later-appended, Later-turn}
 use Rattle.nbd_laws.proofs.judge.SoundLemmas.{kept_later, kept_reached}

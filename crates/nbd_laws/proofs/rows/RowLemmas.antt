@@ -4,9 +4,9 @@ use Rattle.std.proofs.lemmas.Bool.{ltb-true, ltb-false, lt-ltb, eqb-false}
 use Rattle.nbd_wire.specs.declared.fault.WireFault.{WireFault}
 use Rattle.nbd_wire.specs.protocol.Rows.{rank}
 use Rattle.nbd_laws.proofs.runs.PlacingLemmas.{Tells}
-use Rattle.nbd_laws.specs.internal.Concrete.{last_reading, read_by, staged_reading_by}
-use Rattle.nbd_laws.specs.internal.Decisions.{Decision, fault_if}
-use Rattle.nbd_laws.specs.internal.JudgeNegotiation.{at_ack, unless_error}
+use Rattle.nbd_wire.specs.protocol.Concrete.{last_reading, read_by, staged_reading_by}
+use Rattle.nbd_wire.specs.protocol.Decisions.{Decision, fault_if}
+use Rattle.nbd_wire.specs.protocol.JudgeNegotiation.{at_ack, unless_error}
 
 -- a test of a fact
 pub record Link (C : Type 0) (c : Bool) : Type 0 where

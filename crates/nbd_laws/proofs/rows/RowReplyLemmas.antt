@@ -20,7 +20,7 @@ use Rattle.nbd_wire.specs.protocol.Rows.{IsBadPayload, IsFollowed, IsNoError, Is
 use Rattle.nbd_wire.specs.protocol.Rows.IsWholeIn.{whole_abort_answer, whole_answer}
 use Rattle.nbd_wire.specs.protocol.Rows.RowIn.{wrong_magic, not_fixed_newstyle, out_of_turn, wrong_option, bad_reply_kind, out_of_profile, ack_with_payload, bad_reply_payload, missing_export_info, export_too_large, success_of_improper}
 use Rattle.nbd_wire.specs.protocol.States.{Core, Aborting, Answering}
-use Rattle.nbd_laws.specs.internal.JudgeNegotiation.{abort_answer, answer, info_fault, is_good_info, success_fault, is_wide, is_good_context, earlier_to, is_followed}
+use Rattle.nbd_wire.specs.protocol.JudgeNegotiation.{abort_answer, answer, info_fault, is_good_info, success_fault, is_wide, is_good_context, earlier_to, is_followed}
 use Rattle.nbd_laws.proofs.rows.RowLemmas.{Above, IsLeast, IsTied, Link, above_if, above_none, above_with, least_at_ack, least_if, least_none, least_unless, link_and, link_eq, link_lt, link_neg, link_or, link_true}
 use Rattle.nbd_wire.specs.declared.profile.Profile.{Profile}
 use Rattle.nbd_wire.specs.protocol.Contexts.{Selection, Context, has_id}

@@ -12,8 +12,8 @@ use Rattle.nbd_wire.specs.protocol.Rows.{BeginsChunk, BeginsSimple, IsAnswered, 
 use Rattle.nbd_wire.specs.protocol.Rows.IsWholeIn.{whole_request, whole_simple, whole_chunk}
 use Rattle.nbd_wire.specs.protocol.Rows.RowIn.{wrong_magic, neither_magic, not_fixed_newstyle, out_of_turn, wrong_option, bad_reply_kind, ack_with_payload, export_too_large, cookie_in_use, unknown_cookie, simple_forbidden, chunk_forbidden, bad_chunk, bad_content, incomplete_read, success_of_improper, bad_disconnect, incomplete_status}
 use Rattle.nbd_wire.specs.protocol.States.{Core, Transmission, operation, target, in_force}
-use Rattle.nbd_laws.specs.internal.Decisions.{is_none_yet}
-use Rattle.nbd_laws.specs.internal.JudgeTransmission.{operation_if, operation_of, request, simple_fault, simple_last_fault, simple_payload_length, simple_to}
+use Rattle.nbd_wire.specs.protocol.Decisions.{is_none_yet}
+use Rattle.nbd_wire.specs.protocol.JudgeTransmission.{operation_if, operation_of, request, simple_fault, simple_last_fault, simple_payload_length, simple_to}
 use Rattle.nbd_laws.proofs.judge.PhaseLemmas.{IsAppended, target_entry}
 use Rattle.nbd_laws.proofs.rows.RowLemmas.{IsLeast, IsTied, Link, above_if, above_none, least_if, least_none, link_and, link_eq, link_neg, link_or, link_true}
 use Rattle.nbd_wire.specs.protocol.Contexts.{Context}

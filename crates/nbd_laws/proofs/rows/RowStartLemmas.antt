@@ -13,7 +13,7 @@ use Rattle.nbd_wire.specs.protocol.Rows.{IsWholeIn, Lacks, RowIn, SetsMore}
 use Rattle.nbd_wire.specs.protocol.Rows.IsWholeIn.{whole_greeting, whole_flags, whole_choice, whole_export}
 use Rattle.nbd_wire.specs.protocol.Rows.RowIn.{wrong_magic, not_fixed_newstyle, bad_client_flags, out_of_turn, wrong_option, bad_reply_kind, ack_with_payload, no_has_flags, bad_padding, export_too_large, success_of_improper}
 use Rattle.nbd_wire.specs.protocol.States.{Core, Greet, Flags, Choosing, Naming}
-use Rattle.nbd_laws.specs.internal.JudgeNegotiation.{are_zeroes, choice, client_flags, export_answer, greeting}
+use Rattle.nbd_wire.specs.protocol.JudgeNegotiation.{are_zeroes, choice, client_flags, export_answer, greeting}
 use Rattle.nbd_laws.proofs.judge.BoolLemmas.{are_zeroes-replicate}
 use Rattle.nbd_laws.proofs.rows.RowLemmas.{IsLeast, IsTied, Link, above_if, above_none, least_if, least_none, link_and, link_eq, link_lt, link_neg, link_or, link_true}
 

@@ -18,10 +18,10 @@ use Rattle.nbd_wire.specs.protocol.Rules.{complete}
 use Rattle.nbd_wire.specs.protocol.Splits.{IsPlace, IsPlaceOf}
 use Rattle.nbd_wire.specs.protocol.States.{target}
 use Rattle.nbd_laws.specs.captures.Openings.{hasty_client}
-use Rattle.nbd_laws.specs.internal.Machine.{Bad, Machine, Reading, More, Whole, Rest, fresh, fresh_of, get, rest_with, on_ok, reads, settle}
+use Rattle.nbd_wire.specs.protocol.Machine.{Bad, Machine, Reading, More, Whole, Rest, fresh, fresh_of, get, rest_with, on_ok, reads, settle}
 use Rattle.nbd_laws.proofs.runs.PlacingLemmas.{place_law}
 use Rattle.nbd_laws.proofs.runs.PlaceLemmas.{are_prefix, are_last}
-use Rattle.nbd_laws.specs.internal.Concrete.{concrete}
+use Rattle.nbd_wire.specs.protocol.Concrete.{concrete}
 use Rattle.nbd_laws.specs.captures.Refused as refused
 use Rattle.nbd_laws.specs.captures.Messages.{context_messages, opening_messages, status_asked_messages}
 use Rattle.nbd_laws.proofs.judge.BlockLemmas.{reads-append}

@@ -32,7 +32,7 @@ use Rattle.nbd_wire.specs.protocol.Rules.{IsRunBut, IsServedFor, MayAsk, MayEnd,
 use Rattle.nbd_wire.specs.protocol.States.{Core, Phase, Greet, Flags, Choosing, Naming, Aborting, Answering, Ended, Transmission, start_of, start}
 use Rattle.nbd_wire.proofs.FieldLemmas.{number_at-append}
 use Rattle.nbd_laws.specs.Profiles.{AnnouncesAllowed, IsFalseAnnouncement, IsParting, NothingParts, BaseIsWide, IsContextHead, RunsAgree, with_profile, PlacesAgree, UnderWayAgrees}
-use Rattle.nbd_laws.specs.internal.Machine.{Both, IsFilled, Machine, Rest, fresh_of, get, old_of, put, rest_with}
+use Rattle.nbd_wire.specs.protocol.Machine.{Both, IsFilled, Machine, Rest, fresh_of, get, old_of, put, rest_with}
 use Rattle.nbd_laws.proofs.judge.PhaseLemmas.{Later-turn}
 use Rattle.nbd_laws.proofs.machine.MachineLemmas.{Busy, Idle, Later, Loose, Open, Walk, ended, final, get-put_same, led, loose, middle, old-filled, opening, serving, with_byte}
 use Rattle.nbd_laws.proofs.machine.MarkLemmas.{within_middle, within_opening}

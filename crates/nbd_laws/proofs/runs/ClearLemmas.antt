@@ -14,7 +14,7 @@ use Rattle.nbd_wire.specs.protocol.Splits.{HasNoneAtOf, HoldsAtOf, IsClearOf, Is
 use Rattle.nbd_wire.specs.protocol.States.{Core, start_of}
 use Rattle.nbd_wire.specs.protocol.Within.{Begins, within}
 use Rattle.nbd_laws.proofs.machine.MachineLemmas.{AreHeld, Busy, IsExact, IsMore, IsMoreAt, IsSound, Kept, Open, Tracks, Walk, ended, final, get-put_same, held_more, held_whole, kept_next, led, loose, middle, opening, reads_held, serving, with_byte}
-use Rattle.nbd_laws.specs.internal.Machine.{Bad, Both, Judge, Machine, More, Reading, Rest, Whole, fresh_of, get, rest_with, old_of, on_ok, put, reads, settle}
+use Rattle.nbd_wire.specs.protocol.Machine.{Bad, Both, Judge, Machine, More, Reading, Rest, Whole, fresh_of, get, rest_with, old_of, on_ok, put, reads, settle}
 use Rattle.nbd_laws.proofs.runs.FollowLemmas.{HasEnd, IsSidedOpen, completes_later, each_with, follows}
 use Rattle.nbd_laws.proofs.machine.MarkLemmas.{AreInStep, InStep, IsRead, in_step_completed, in_step_sided, in_step_with, judged_whole, within_middle, within_opening}
 use Rattle.nbd_laws.proofs.runs.RunLemmas.{fresh_canonical, fresh_held, marks_law, walk_of}

@@ -8,7 +8,7 @@ use Rattle.nbd_wire.specs.protocol.Rules.{MayStart, MayComplete, Obeys, complete
 use Rattle.nbd_wire.specs.protocol.Sendable.{IsSendable}
 use Rattle.nbd_wire.specs.protocol.Sides.{side}
 use Rattle.nbd_wire.specs.protocol.States.{Core, State}
-use Rattle.nbd_laws.specs.internal.Machine.{Both, get, put}
+use Rattle.nbd_wire.specs.protocol.Machine.{Both, get, put}
 use Rattle.nbd_laws.proofs.machine.MachineLemmas.{get-put_same, get-put_other, same_or_not, Open, Idle, Busy, Loose, IsNotBusy, Walk, ended, serving, opening, middle, final, loose, Later, at_once, behind}
 
 -- what a side needs to begin a message

@@ -15,7 +15,7 @@ use Rattle.nbd_wire.specs.protocol.Splits.{HoldsAtOf, IsClearOf, IsPlaceOf, IsSp
 use Rattle.nbd_wire.specs.protocol.States.{Core, start_of}
 use Rattle.nbd_wire.specs.protocol.Within.{BeginsNoRunOf, within}
 use Rattle.nbd_laws.proofs.machine.MachineLemmas.{AreHeld, IsExact, IsSound, Kept, Walk, get-put_same, kept_next, led, reads_held, with_byte}
-use Rattle.nbd_laws.specs.internal.Machine.{Bad, Judge, Machine, More, Reading, Rest, Whole, fresh_of, get, old_of, on_ok, reads, settle, step}
+use Rattle.nbd_wire.specs.protocol.Machine.{Bad, Judge, Machine, More, Reading, Rest, Whole, fresh_of, get, old_of, on_ok, reads, settle, step}
 use Rattle.nbd_laws.proofs.runs.BlockLemmas.{Idles, marked_is_walk}
 use Rattle.nbd_laws.proofs.runs.RunLemmas.{fresh_held, no_run}
 use Rattle.nbd_laws.proofs.runs.PlacingLemmas.{HasNone, IsTelling, Tells, at_machine, from_held, from_machine, grown_by, last_of_pairs, to_held}

@@ -12,7 +12,7 @@ use Rattle.nbd_wire.specs.protocol.Rules.{ends_at}
 use Rattle.nbd_wire.specs.protocol.Splits.{IsClearOf, IsPlaceOf, IsSplitOf, completes_in, last_or, open_bytes, since_from}
 use Rattle.nbd_wire.specs.protocol.States.{Core, start_of}
 use Rattle.nbd_laws.proofs.machine.MachineLemmas.{old-filled, IsFilled-snoc, Kept, kept_next, reads_held, led, with_byte, IsMore, Tracks, get-put_same, Walk, IsSound, ended_by}
-use Rattle.nbd_laws.specs.internal.Machine.{get, put, IsFilled, Rest, Machine, Reading, More, Whole, Bad, old_of, Judge, rest_with, reads, fresh_of}
+use Rattle.nbd_wire.specs.protocol.Machine.{get, put, IsFilled, Rest, Machine, Reading, More, Whole, Bad, old_of, Judge, rest_with, reads, fresh_of}
 use Rattle.nbd_laws.proofs.runs.TraceLemmas.{IsTrace, trace_then, more_step, at_end, IsStray}
 use Rattle.nbd_laws.proofs.runs.BlockLemmas.{walk_is_marked, Idles}
 use Rattle.nbd_laws.proofs.runs.RunLemmas.{fresh_held, idle_at, both_idle, fresh_canonical}

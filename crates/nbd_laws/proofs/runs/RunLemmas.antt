@@ -11,7 +11,7 @@ use Rattle.nbd_wire.specs.protocol.Rules.{IsRunOf, IsRunBut, Obeys, complete, en
 use Rattle.nbd_wire.specs.protocol.Reports.{operations_of, known_count}
 use Rattle.nbd_laws.proofs.service.EntryLemmas.{HasNoFault}
 use Rattle.nbd_wire.specs.declared.fault.WireFault.{WireFault}
-use Rattle.nbd_laws.specs.internal.Machine.{fresh_of, Both, get, IsFilled, Rest, Machine, Judge, reads}
+use Rattle.nbd_wire.specs.protocol.Machine.{fresh_of, Both, get, IsFilled, Rest, Machine, Judge, reads}
 use Rattle.nbd_laws.specs.Reached.{at_start}
 use Rattle.nbd_laws.proofs.machine.MachineLemmas.{AreHeld, none_held, Walk, Open, Idle, Busy, Loose, IsSound, IsExact}
 use Rattle.nbd_laws.proofs.runs.TraceLemmas.{trace, IsTrace, IsCanonical, IsStray, Guess, not_empty}

@@ -26,7 +26,7 @@ use Rattle.nbd_wire.specs.protocol.States.{Core, Phase, Greet, Flags, Choosing, 
 use Rattle.nbd_wire.proofs.ListedFormLemmas.{go-only, is_go-exact}
 use Rattle.nbd_wire.proofs.QueryLemmas.{context-long, context-reads, name_is, queries_of-form, queries_of-found}
 use Rattle.nbd_laws.specs.Selecting.{AreSelected, ChooseNone, ChooseNoOther, ContextsAreSelected, Names, telling}
-use Rattle.nbd_laws.specs.internal.Machine.{Both, get}
+use Rattle.nbd_wire.specs.protocol.Machine.{Both, get}
 use Rattle.nbd_laws.proofs.judge.BoolLemmas.{and_true}
 use Rattle.nbd_laws.proofs.machine.MachineLemmas.{Open, Idle, Busy, Walk, ended, serving, opening, middle, final, loose}
 use Rattle.nbd_laws.proofs.runs.FollowLemmas.{Follows, each_with, follows}

@@ -12,7 +12,7 @@ use Rattle.nbd_wire.specs.protocol.Rules.{MayComplete, complete, Obeys}
 use Rattle.nbd_wire.specs.protocol.Splits.{last_or}
 use Rattle.nbd_wire.specs.protocol.Within.{within}
 use Rattle.nbd_laws.proofs.machine.MachineLemmas.{old-filled, Kept, AreHeld, kept_next, held_more, held_whole, get-put_same, get-put_other, same_or_not, Open, Idle, Busy, Loose, Walk, ended, ended_by, serving, opening, middle, final, loose, led, with_byte, Later, at_once, behind, Later-trans, IsExact}
-use Rattle.nbd_laws.specs.internal.Machine.{Both, get, put, Rest, Machine, Reading, More, Whole, Bad, old_of, settle, Judge, rest_with, reads, on_ok}
+use Rattle.nbd_wire.specs.protocol.Machine.{Both, get, put, Rest, Machine, Reading, More, Whole, Bad, old_of, settle, Judge, rest_with, reads, on_ok}
 use Rattle.nbd_laws.proofs.runs.FollowLemmas.{HasEnd, IsSidedOpen, completes_later, each_with, follows}
 use Rattle.nbd_laws.proofs.machine.MarkLemmas.{within_opening, within_middle}
 use Rattle.nbd_laws.proofs.runs.TraceLemmas.{IsWithin, led_whole}

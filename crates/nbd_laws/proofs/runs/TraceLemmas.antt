@@ -16,7 +16,7 @@ use Rattle.nbd_wire.specs.protocol.Sendable.{IsSendable}
 use Rattle.nbd_wire.specs.protocol.Rules.{MayStart, complete, reply_to, core_with_request, Obeys, request_of_reply, IsServedFor}
 use Rattle.nbd_laws.proofs.service.EntryLemmas.{Names-push_cases, NamesWhole-left, NamesWhole-push, served_atomically}
 use Rattle.nbd_laws.proofs.machine.MachineLemmas.{old-empty, old-filled, IsFilled-snoc, IsMoreAt, AreHeld, kept_next, held_more, held_whole, led, ended_by, with_byte, IsMore, Tracks, get-put_same, get-put_other, put-put, same_or_not, Open, Idle, Busy, Loose, IsNotBusy, Walk, ended, serving, opening, middle, final, loose, IsSoundAt, IsSound}
-use Rattle.nbd_laws.specs.internal.Machine.{Both, get, put, IsFilled, Rest, Machine, Reading, More, Whole, Bad, settle, Judge, rest_with, reads, on_ok}
+use Rattle.nbd_wire.specs.protocol.Machine.{Both, get, put, IsFilled, Rest, Machine, Reading, More, Whole, Bad, settle, Judge, rest_with, reads, on_ok}
 
 -- each request that has completed was served atomically, and no other
 pub record IsCanonical (state : State) : Type 0 where

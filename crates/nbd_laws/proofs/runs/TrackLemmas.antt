@@ -10,7 +10,7 @@ use Rattle.nbd_wire.specs.protocol.States.{Core}
 use Rattle.nbd_wire.specs.protocol.Rules.{complete, ends_at}
 use Rattle.nbd_wire.specs.protocol.Splits.{completes_in, open_bytes, since_from}
 use Rattle.nbd_laws.proofs.machine.MachineLemmas.{led, ended_by, get-put_same, get-put_other, same_or_not}
-use Rattle.nbd_laws.specs.internal.Machine.{Both, get, put, Rest, Machine, rest_with, old_of, old_by}
+use Rattle.nbd_wire.specs.protocol.Machine.{Both, get, put, Rest, Machine, rest_with, old_of, old_by}
 
 abbrev pub bytes_by : Bool → List ℕ → List ℕ → List ℕ
 bytes_by true before bytes = bytes

@@ -1,6 +1,6 @@
 -- Tests that decide the rules of replies by computing.
 use Rattle.nbd_laws.proofs.judge.SoundServerLemmas.{fits_it}
-use Rattle.nbd_laws.specs.internal.JudgeTransmission.{lacks_status, fits_status}
+use Rattle.nbd_wire.specs.protocol.JudgeTransmission.{lacks_status, fits_status}
 use Rattle.nbd_wire.specs.protocol.Contexts.{Status}
 use Rattle.std.proofs.Common.{◌≡◌, ℕ, ◌+◌, ◌==◌, ◌&&◌, ◌||◌, not, nat_le, List, length, refl, subst, inl, inr, Option, Some, None, Bool, true, false, IsTrue, is_some, is_none, eqb-true, eq-eqb, ap, sym, ◌∙◌}
 use Rattle.std.proofs.lemmas.Bool.{leb-true, ne_eqb}

@@ -19,7 +19,7 @@ use Rattle.nbd_wire.specs.protocol.Sides.{same_side, side}
 use Rattle.nbd_wire.specs.declared.profile.Profile.{Profile}
 use Rattle.nbd_wire.specs.declared.profile.Profile.TheVariants.{Base, Wide}
 use Rattle.nbd_wire.specs.protocol.Contexts.{Context}
-use Rattle.nbd_laws.specs.internal.JudgeNegotiation.{is_wide}
+use Rattle.nbd_wire.specs.protocol.JudgeNegotiation.{is_wide}
 use Rattle.nbd_laws.specs.Prefixes.{ended_messages}
 use Rattle.nbd_wire.specs.protocol.States.{Core, Phase, State, Greet, Flags, Choosing, Naming, Aborting, Answering, Transmission, in_force, start, start_of, target}
 use Rattle.nbd_laws.proofs.worked.DecidingLemmas.{answers_it, are_equal, both, empty, equal_bools, is_empty, is_sendable, is_served_for, is_fresh, may_answer, may_start_in, may_tell, one, same_sides, sendable, serves, starts_in, tells_it, then_too, true_is_fresh}

@@ -14,8 +14,8 @@ use Rattle.nbd_wire.specs.protocol.Operations.{Exporting}
 use Rattle.nbd_wire.specs.protocol.Options.{is_error}
 use Rattle.nbd_wire.specs.protocol.Payloads.{number_at}
 use Rattle.nbd_wire.specs.protocol.States.{Core}
-use Rattle.nbd_laws.specs.internal.Decisions.{fault_if}
-use Rattle.nbd_laws.specs.internal.JudgeNegotiation.{abort_answer, abort_fault, answer, answer_fault, choice, earlier_to, payload_fault, success_fault, unless_error}
+use Rattle.nbd_wire.specs.protocol.Decisions.{fault_if}
+use Rattle.nbd_wire.specs.protocol.JudgeNegotiation.{abort_answer, abort_fault, answer, answer_fault, choice, earlier_to, payload_fault, success_fault, unless_error}
 use Rattle.nbd_session.specs.declared.expected.Expected.TheVariants.{Answer, Choice}
 use Rattle.nbd_session.specs.internal.Expecting.{expected_decision}
 use Rattle.nbd_session.specs.internal.Leading.{answer_fields_of, answer_head_of, choice_head_of, unless_fault}

@@ -7,13 +7,13 @@ use Rattle.nbd_wire.specs.protocol.States.{start_of}
 use Rattle.nbd_state.specs.declared.asked.Exchange.{Exchange}
 use Rattle.nbd_session.specs.declared.fault.SessionFault.{SessionFault}
 use Rattle.nbd_session.specs.declared.held.Held.{Held}
-use Rattle.nbd_laws.specs.internal.Concrete.{concrete}
+use Rattle.nbd_wire.specs.protocol.Concrete.{concrete}
 use Rattle.nbd_session.specs.internal.Holdings.{holding_of, incoming_of}
 use Rattle.nbd_session.specs.Incoming.{bytes_come, nothing_come}
 use Rattle.nbd_session.specs.internal.Known.{IsKnown, decided}
 use Rattle.nbd_session.proofs.steps.KnownLemmas.{nothing_known}
 use Rattle.nbd_session.specs.internal.Logging.{log_of_pairs}
-use Rattle.nbd_laws.specs.internal.Machine.{fresh_of, get}
+use Rattle.nbd_wire.specs.protocol.Machine.{fresh_of, get}
 use Rattle.nbd_session.specs.Sessions.{AddsPrefix, IsOfRun, SessionView, pairs_of}
 use Rattle.nbd_state.specs.Shows.{AreKnown, Shows}
 use Rattle.nbd_session.specs.internal.Standing.{Holding, IsReadTo, held_pairs, rest_of}

@@ -17,9 +17,9 @@ use Rattle.nbd_session.specs.internal.Known.{IsCome, IsKnown, awaited, decided}
 use Rattle.nbd_session.proofs.steps.KnownLemmas.{come_with}
 use Rattle.nbd_session.proofs.steps.HoldingLemmas.{rest_is}
 use Rattle.nbd_session.specs.Views.{stretches_of}
-use Rattle.nbd_laws.specs.internal.Machine.{IsFilled, Machine, fresh_of, get}
+use Rattle.nbd_wire.specs.protocol.Machine.{IsFilled, Machine, fresh_of, get}
 use Rattle.nbd_session.specs.Sessions.{Adds}
-use Rattle.nbd_laws.specs.internal.Concrete.{concrete}
+use Rattle.nbd_wire.specs.protocol.Concrete.{concrete}
 use Rattle.nbd_session.specs.internal.Logging.{log_of_pairs}
 use Rattle.nbd_state.specs.Shows.{AreKnown, Shows}
 use Rattle.nbd_session.specs.internal.Standing.{AreStretchesOf, Holding, IsReadTo, held_pairs, rest_of, stretch_total, with_bytes}

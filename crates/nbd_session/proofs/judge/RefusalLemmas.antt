@@ -12,15 +12,15 @@ use Rattle.nbd_wire.specs.protocol.Within.{CompletesExactlyOf, IsOfNoRunOf, with
 use Rattle.nbd_wire.specs.declared.fault.WireFault.{WireFault}
 use Rattle.nbd_wire.specs.declared.fault.WireFault.TheVariants.{Unfinished}
 use Rattle.nbd_laws.proofs.machine.MachineLemmas.{AreHeld}
-use Rattle.nbd_laws.specs.internal.Machine.{Bad, IsFilled, Machine, More, Reading, Rest, Whole, fresh_of, get, rest_with, old_of, on_ok, reads, settle, step}
+use Rattle.nbd_wire.specs.protocol.Machine.{Bad, IsFilled, Machine, More, Reading, Rest, Whole, fresh_of, get, rest_with, old_of, on_ok, reads, settle, step}
 use Rattle.nbd_laws.proofs.machine.MarkLemmas.{IsRead}
 use Rattle.nbd_laws.proofs.runs.RunLemmas.{marks_law}
 use Rattle.nbd_session.specs.declared.fault.SessionFault.{SessionFault}
 use Rattle.nbd_session.specs.declared.fault.SessionFault.TheVariants.{Memory, Wire}
 use Rattle.nbd_session.specs.declared.held.Held.{Held}
-use Rattle.nbd_laws.specs.internal.Concrete.{concrete}
+use Rattle.nbd_wire.specs.protocol.Concrete.{concrete}
 use Rattle.nbd_session.specs.internal.Holdings.{holding_of}
-use Rattle.nbd_laws.specs.internal.Judge.{awaited_length}
+use Rattle.nbd_wire.specs.protocol.Judge.{awaited_length}
 use Rattle.nbd_wire.specs.protocol.Splits.{IsPlaceOf, IsUnderWayOf, open_bytes}
 use Rattle.nbd_laws.proofs.runs.ClearLemmas.{read_under_way}
 use Rattle.nbd_laws.proofs.runs.PlacingLemmas.{place_law}

@@ -5,11 +5,11 @@ use Rattle.nbd_wire.specs.declared.message.Side.{Side}
 use Rattle.nbd_wire.specs.declared.message.Side.TheVariants.{Client, Server}
 use Rattle.nbd_wire.specs.protocol.Operations.{Operation, Exporting}
 use Rattle.nbd_wire.specs.protocol.States.{Core, Phase, Greet, Flags, Choosing, Naming, Aborting, Answering, Ended, Transmission, is_awaiting, target, target_from}
-use Rattle.nbd_laws.specs.internal.Judge.{decision, decision_by_count, decision_with}
-use Rattle.nbd_laws.specs.internal.JudgeTransmission.{operation_counted, operation_if, operation_of, within}
-use Rattle.nbd_laws.specs.internal.Concrete.{concrete}
+use Rattle.nbd_wire.specs.protocol.Judge.{decision, decision_by_count, decision_with}
+use Rattle.nbd_wire.specs.protocol.JudgeTransmission.{operation_counted, operation_if, operation_of, within}
+use Rattle.nbd_wire.specs.protocol.Concrete.{concrete}
 use Rattle.nbd_laws.proofs.machine.MachineLemmas.{Held, Kept, Later, Later-trans, none_held, old-empty, old-filled, some_held}
-use Rattle.nbd_laws.specs.internal.Machine.{More, Rest, old_of}
+use Rattle.nbd_wire.specs.protocol.Machine.{More, Rest, old_of}
 use Rattle.nbd_laws.proofs.judge.PhaseLemmas.{IsAppended, Later-appended, Later-turn}
 use Rattle.nbd_laws.proofs.judge.SoundLemmas.{kept_later, turn_of_reading}
 

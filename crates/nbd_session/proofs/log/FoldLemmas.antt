@@ -10,7 +10,7 @@ use Rattle.nbd_state.specs.Completions.{core_from}
 use Rattle.nbd_state.specs.Logs.{LogEntry, known_by, known_here}
 use Rattle.nbd_laws.proofs.runs.ProfileLemmas.{complete_with}
 use Rattle.nbd_laws.specs.Profiles.{with_profile}
-use Rattle.nbd_laws.specs.internal.Machine.{Bad, Judge, Machine, More, Reading, Rest, Whole, get, rest_with, on_ok, reads, settle, fresh_of}
+use Rattle.nbd_wire.specs.protocol.Machine.{Bad, Judge, Machine, More, Reading, Rest, Whole, get, rest_with, on_ok, reads, settle, fresh_of}
 
 -- what messages lead to from the start
 abbrev pub core_of : Profile → List Message → Core

@@ -6,12 +6,12 @@ use Rattle.nbd_wire.specs.declared.message.Side.{Side}
 use Rattle.nbd_wire.specs.protocol.Captures.{Pair, side_pairs}
 use Rattle.nbd_wire.specs.protocol.Rules.{request_of_reply}
 use Rattle.nbd_wire.specs.protocol.States.{start}
-use Rattle.nbd_laws.specs.internal.Concrete.{concrete}
-use Rattle.nbd_laws.specs.internal.Judge.{awaited_length}
+use Rattle.nbd_wire.specs.protocol.Concrete.{concrete}
+use Rattle.nbd_wire.specs.protocol.Judge.{awaited_length}
 use Rattle.nbd_state.specs.Logs.{LogEntry, known_by}
 use Rattle.nbd_session.specs.internal.Logging.{log_with, log_of_pairs}
 use Rattle.nbd_laws.proofs.machine.MachineLemmas.{AreHeld}
-use Rattle.nbd_laws.specs.internal.Machine.{IsFilled, Judge, Machine, More, Whole, fresh_of, get, old_of, reads}
+use Rattle.nbd_wire.specs.protocol.Machine.{IsFilled, Judge, Machine, More, Whole, fresh_of, get, old_of, reads}
 use Rattle.nbd_laws.proofs.judge.BlockLemmas.{extended}
 use Rattle.nbd_session.proofs.log.CountLemmas.{count_of}
 use Rattle.nbd_state.proofs.KnownLemmas.{known_here-other, known_or, or_none}

@@ -9,16 +9,16 @@ use Rattle.nbd_wire.specs.protocol.Reports.{report}
 use Rattle.nbd_wire.specs.protocol.Rules.{IsRunOf, request_of_reply, complete}
 use Rattle.nbd_wire.specs.protocol.States.{start, Core, start_of}
 use Rattle.nbd_wire.specs.declared.fault.WireFault.{WireFault}
-use Rattle.nbd_laws.specs.internal.Concrete.{concrete}
+use Rattle.nbd_wire.specs.protocol.Concrete.{concrete}
 use Rattle.nbd_state.specs.Completions.{core_from}
-use Rattle.nbd_laws.specs.internal.Judge.{awaited_length}
+use Rattle.nbd_wire.specs.protocol.Judge.{awaited_length}
 use Rattle.nbd_state.specs.Logs.{LogEntry, known_by, known_here, messages_of}
 use Rattle.nbd_session.specs.internal.Logging.{log_with, log_of_pairs, log_of_rest}
 use Rattle.nbd_session.proofs.log.Logs.{report_by}
 use Rattle.nbd_laws.specs.Profiles.{with_profile}
 use Rattle.nbd_state.proofs.KnownLemmas.{core_from_with, known_by-snoc, known_or}
 use Rattle.nbd_laws.proofs.machine.MachineLemmas.{AreHeld, IsFilled-snoc, get-put_same, old-filled, with_byte}
-use Rattle.nbd_laws.specs.internal.Machine.{Bad, IsFilled, Judge, Machine, More, Reading, Rest, Whole, fresh_of, get, rest_with, old_of, on_ok, put, reads, settle, step}
+use Rattle.nbd_wire.specs.protocol.Machine.{Bad, IsFilled, Judge, Machine, More, Reading, Rest, Whole, fresh_of, get, rest_with, old_of, on_ok, put, reads, settle, step}
 use Rattle.nbd_laws.proofs.judge.AwaitedLemmas.{held_short}
 use Rattle.nbd_laws.proofs.judge.BlockLemmas.{GoesOn, extended}
 use Rattle.nbd_session.proofs.log.FoldLemmas.{core_is}

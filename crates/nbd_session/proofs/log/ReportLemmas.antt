@@ -10,12 +10,12 @@ use Rattle.nbd_wire.specs.protocol.States.{Core, Phase, Greet, Flags, Choosing, 
 use Rattle.nbd_state.specs.declared.asked.Exchange.{Exchange}
 use Rattle.nbd_session.specs.declared.held.Held.{Held}
 use Rattle.nbd_state.specs.declared.state.State.{State}
-use Rattle.nbd_laws.specs.internal.Concrete.{concrete}
+use Rattle.nbd_wire.specs.protocol.Concrete.{concrete}
 use Rattle.nbd_session.specs.internal.Holdings.{holding_of}
 use Rattle.nbd_state.specs.Logs.{LogEntry, known_by}
 use Rattle.nbd_session.specs.internal.Logging.{log_of_pairs}
 use Rattle.nbd_session.proofs.log.Logs.{report_by}
-use Rattle.nbd_laws.specs.internal.Machine.{fresh_of, get}
+use Rattle.nbd_wire.specs.protocol.Machine.{fresh_of, get}
 use Rattle.nbd_session.specs.Sessions.{IsReported}
 use Rattle.nbd_state.specs.Showing.{IsShown, exporting_if}
 use Rattle.nbd_state.specs.Shows.{AreKnown, AreShown, Shows, phase_shown}

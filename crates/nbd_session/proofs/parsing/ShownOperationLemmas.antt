@@ -10,7 +10,7 @@ use Rattle.nbd_wire.specs.protocol.States.{Core, Transmission, operation}
 use Rattle.nbd_state.specs.declared.asked.Exchange.{Exchange}
 use Rattle.nbd_state.specs.declared.state.State.{State}
 use Rattle.nbd_session.specs.internal.Expecting.{IsPlaceOf}
-use Rattle.nbd_laws.specs.internal.JudgeTransmission.{operation_counted, operation_if, within}
+use Rattle.nbd_wire.specs.protocol.JudgeTransmission.{operation_counted, operation_if, within}
 use Rattle.nbd_state.specs.Shows.{Shows}
 use Rattle.nbd_state.proofs.PlacedLemmas.{place_shows_operation}
 

@@ -14,9 +14,9 @@ use Rattle.nbd_laws.specs.Bytes.{bytes_of}
 use Rattle.nbd_wire.specs.protocol.Rules.{IsRunBut, Obeys, after, complete}
 use Rattle.nbd_wire.specs.protocol.Sides.{side, same_side}
 use Rattle.nbd_wire.specs.protocol.States.{State, start_of}
-use Rattle.nbd_laws.specs.internal.Concrete.{concrete}
+use Rattle.nbd_wire.specs.protocol.Concrete.{concrete}
 use Rattle.nbd_laws.proofs.machine.MachineLemmas.{AreHeld, IsSound, IsSoundAt, Open, Walk, ended, final, held_more, held_whole, kept_next, loose, middle, opening, serving, with_byte}
-use Rattle.nbd_laws.specs.internal.Machine.{Bad, Both, Judge, Machine, More, Reading, Rest, Whole, fresh_of, get, rest_with, on_ok, put, reads, settle}
+use Rattle.nbd_wire.specs.protocol.Machine.{Bad, Both, Judge, Machine, More, Reading, Rest, Whole, fresh_of, get, rest_with, on_ok, put, reads, settle}
 use Rattle.nbd_laws.proofs.runs.BlockLemmas.{IsCalm, byte_other, byte_same, marked_is_walk}
 use Rattle.nbd_session.specs.internal.Standing.{with_more}
 use Rattle.nbd_laws.specs.Bytes.{bytes_from}

@@ -12,8 +12,8 @@ use Rattle.nbd_wire.specs.protocol.States.{start_of}
 use Rattle.nbd_session.specs.declared.fault.SessionFault.TheVariants.{Memory}
 use Rattle.nbd_session.specs.declared.held.Held.{Held}
 use Rattle.nbd_state.specs.declared.asked.Exchange.{Exchange}
-use Rattle.nbd_laws.specs.internal.Concrete.{concrete}
-use Rattle.nbd_laws.specs.internal.Judge.{decision}
+use Rattle.nbd_wire.specs.protocol.Concrete.{concrete}
+use Rattle.nbd_wire.specs.protocol.Judge.{decision}
 use Rattle.nbd_state.specs.declared.state.State.{State}
 use Rattle.nbd_state.specs.Completions.{MayTake, core_from}
 use Rattle.nbd_session.specs.Incoming.{bytes_come, nothing_come}
@@ -22,7 +22,7 @@ use Rattle.nbd_session.specs.internal.Known.{IsKnown, decided}
 use Rattle.nbd_session.specs.Views.{stretches_of}
 use Rattle.nbd_state.specs.Logs.{messages_of}
 use Rattle.nbd_session.specs.internal.Logging.{log_of_pairs}
-use Rattle.nbd_laws.specs.internal.Machine.{Machine, Rest, Whole, fresh_of, get, old_of, put, reads}
+use Rattle.nbd_wire.specs.protocol.Machine.{Machine, Rest, Whole, fresh_of, get, old_of, put, reads}
 use Rattle.nbd_laws.specs.Reached.{IsReached}
 use Rattle.nbd_laws.proofs.machine.MachineLemmas.{at_once, behind, get-put_other, get-put_same, reached_of, same_or_not}
 use Rattle.nbd_state.specs.Shows.{AreKnown, Shows}

@@ -10,10 +10,10 @@ use Rattle.nbd_state.proofs.PlacedLemmas.{shown_length}
 use Rattle.nbd_state.specs.Completions.{Answers}
 use Rattle.nbd_state.specs.Shows.{AreKnown, Shows, place_of}
 use Rattle.nbd_state.specs.declared.state.State.{State}
-use Rattle.nbd_laws.specs.internal.Concrete.{concrete, reading_by_decision}
-use Rattle.nbd_laws.specs.internal.Decisions.{Decision}
-use Rattle.nbd_laws.specs.internal.Judge.{decision_by_count}
-use Rattle.nbd_laws.specs.internal.Machine.{Bad, IsFilled, More, Whole, fresh_of}
+use Rattle.nbd_wire.specs.protocol.Concrete.{concrete, reading_by_decision}
+use Rattle.nbd_wire.specs.protocol.Decisions.{Decision}
+use Rattle.nbd_wire.specs.protocol.Judge.{decision_by_count}
+use Rattle.nbd_wire.specs.protocol.Machine.{Bad, IsFilled, More, Whole, fresh_of}
 use Rattle.nbd_session.specs.declared.expected.Expected.{Expected}
 use Rattle.nbd_session.specs.declared.expected.Expected.TheVariants as expectations
 use Rattle.nbd_session.specs.declared.fault.SessionFault.TheVariants.{Wire}

@@ -1,8 +1,8 @@
 -- The bytes that have come of a side, with more.
 use Rattle.std.proofs.Common.{◌≡◌, ℕ, List, [], ◌∷◌, ◌++◌, refl, subst, Option, Some, None, true, false, is_some}
 use Rattle.nbd_wire.specs.protocol.States.{Core}
-use Rattle.nbd_laws.specs.internal.Decisions.{Decision}
-use Rattle.nbd_laws.specs.internal.Machine.{IsFilled}
+use Rattle.nbd_wire.specs.protocol.Decisions.{Decision}
+use Rattle.nbd_wire.specs.protocol.Machine.{IsFilled}
 use Rattle.nbd_session.specs.declared.expected.Expected.{Expected}
 use Rattle.nbd_session.specs.Incoming.{IncomingView, bytes_come, incoming_with}
 use Rattle.nbd_session.specs.internal.Incoming.{is_nothing}

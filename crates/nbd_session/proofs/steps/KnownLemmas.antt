@@ -10,16 +10,16 @@ use Rattle.nbd_wire.specs.declared.fault.WireFault.TheVariants.{BadMagic, Unknow
 use Rattle.nbd_wire.specs.protocol.Operations.{Exporting, Operation}
 use Rattle.nbd_wire.specs.protocol.Payloads.{number_at}
 use Rattle.nbd_wire.specs.protocol.States.{Core, Transmission, operation, target}
-use Rattle.nbd_laws.specs.internal.Concrete.{concrete}
-use Rattle.nbd_laws.specs.internal.Decisions.{Decision, awaited_length_by}
-use Rattle.nbd_laws.specs.internal.Judge.{awaited_length, decision, request_unless}
-use Rattle.nbd_laws.specs.internal.JudgeTransmission.{begins, chunk_head_fault, chunk_last_fault, chunk_of, cookie_fault, operation_if, operation_of, reply, reply_by, request, request_of, simple_fault, simple_last_fault, simple_of, simple_payload_length}
+use Rattle.nbd_wire.specs.protocol.Concrete.{concrete}
+use Rattle.nbd_wire.specs.protocol.Decisions.{Decision, awaited_length_by}
+use Rattle.nbd_wire.specs.protocol.Judge.{awaited_length, decision, request_unless}
+use Rattle.nbd_wire.specs.protocol.JudgeTransmission.{begins, chunk_head_fault, chunk_last_fault, chunk_of, cookie_fault, operation_if, operation_of, reply, reply_by, request, request_of, simple_fault, simple_last_fault, simple_of, simple_payload_length}
 use Rattle.nbd_laws.proofs.judge.AwaitedLemmas.{decision_of}
 use Rattle.nbd_laws.proofs.judge.PhaseLemmas.{IsAppended, Later-appended, Later-disconnected, Later-transmission, Later-turn, target-append}
 use Rattle.nbd_laws.proofs.judge.SoundLemmas.{kept_later, turn_of_reading}
 use Rattle.nbd_laws.proofs.judge.SteadyLemmas.{IsBegun, IsDeciding, as_chunk, as_neither, as_simple, bytes_are_begun, deciding, entry-append, is_chunk_reply, is_no_reply, is_simple_reply}
 use Rattle.nbd_laws.proofs.machine.MachineLemmas.{Held, Later, Later-trans, at_once, none_held, old-empty, old-filled, some_held}
-use Rattle.nbd_laws.specs.internal.Machine.{IsFilled, More, Rest, old_of}
+use Rattle.nbd_wire.specs.protocol.Machine.{IsFilled, More, Rest, old_of}
 use Rattle.nbd_wire.specs.declared.heads.transmission.RequestHead.{RequestHead}
 use Rattle.nbd_session.specs.declared.expected.Expected.{Expected}
 use Rattle.nbd_session.specs.declared.expected.Expected.TheVariants as expectations

@@ -4,12 +4,12 @@ use Rattle.std.proofs.lemmas.Bool.{lt-ltb}
 use Rattle.nbd_wire.specs.declared.message.Side.{Side}
 use Rattle.nbd_wire.specs.declared.fault.WireFault.{WireFault}
 use Rattle.nbd_wire.specs.protocol.States.{Core}
-use Rattle.nbd_laws.specs.internal.Concrete.{concrete, reading_by_decision}
-use Rattle.nbd_laws.specs.internal.Decisions.{Decision, awaited_length_by}
-use Rattle.nbd_laws.specs.internal.Judge.{awaited_length, decision, decision_by_count}
+use Rattle.nbd_wire.specs.protocol.Concrete.{concrete, reading_by_decision}
+use Rattle.nbd_wire.specs.protocol.Decisions.{Decision, awaited_length_by}
+use Rattle.nbd_wire.specs.protocol.Judge.{awaited_length, decision, decision_by_count}
 use Rattle.nbd_laws.proofs.judge.AwaitedLemmas.{held_short, in_head}
 use Rattle.nbd_laws.proofs.judge.SteadyLemmas.{IsDeciding, deciding}
-use Rattle.nbd_laws.specs.internal.Machine.{Bad, IsFilled, More, Rest, get, old_of}
+use Rattle.nbd_wire.specs.protocol.Machine.{Bad, IsFilled, More, Rest, get, old_of}
 use Rattle.nbd_laws.proofs.machine.MachineLemmas.{Held, at_once, none_held, old-empty, some_held}
 use Rattle.nbd_state.specs.Shows.{Shows}
 use Rattle.nbd_session.specs.declared.expected.Expected.{Expected}

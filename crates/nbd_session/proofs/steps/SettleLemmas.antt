@@ -8,15 +8,15 @@ use Rattle.nbd_session.specs.declared.fault.SessionFault.TheVariants.{Memory, Wi
 use Rattle.nbd_wire.specs.declared.fault.WireFault.{WireFault}
 use Rattle.nbd_session.specs.declared.held.Held.{Held}
 use Rattle.nbd_wire.specs.protocol.States.{Core}
-use Rattle.nbd_laws.specs.internal.Concrete.{concrete, reading_by_decision}
+use Rattle.nbd_wire.specs.protocol.Concrete.{concrete, reading_by_decision}
 use Rattle.nbd_session.specs.internal.Holdings.{holding_of, incoming_of}
-use Rattle.nbd_laws.specs.internal.Decisions.{Decision}
-use Rattle.nbd_laws.specs.internal.Judge.{decision}
+use Rattle.nbd_wire.specs.protocol.Decisions.{Decision}
+use Rattle.nbd_wire.specs.protocol.Judge.{decision}
 use Rattle.nbd_session.specs.declared.expected.Expected.{Expected}
 use Rattle.nbd_session.specs.Incoming.{bytes_come}
 use Rattle.nbd_session.specs.internal.Known.{IsKnown, decided, is_known_by}
 use Rattle.nbd_session.specs.internal.Logging.{log_of_pairs}
-use Rattle.nbd_laws.specs.internal.Machine.{Bad, IsFilled, Machine, More, Reading, Rest, fresh_of, get, old_of, put}
+use Rattle.nbd_wire.specs.protocol.Machine.{Bad, IsFilled, Machine, More, Reading, Rest, fresh_of, get, old_of, put}
 use Rattle.nbd_laws.proofs.machine.MachineLemmas.{get-put_other, get-put_same, old-filled, same_or_not}
 use Rattle.nbd_state.specs.Shows.{AreKnown}
 use Rattle.nbd_session.specs.internal.Standing.{Holding, IsReadTo, held_pairs, rest_of, with_bytes}

@@ -11,10 +11,10 @@ use Rattle.nbd_wire.specs.protocol.Rules.{complete}
 use Rattle.nbd_wire.specs.protocol.Sides.{side, same_side}
 use Rattle.nbd_wire.specs.protocol.States.{Core, Phase, Greet, Flags, Choosing, Naming, Aborting, Answering, Ended, Transmission}
 use Rattle.nbd_wire.specs.declared.fault.WireFault.{WireFault}
-use Rattle.nbd_laws.specs.internal.Concrete.{concrete}
-use Rattle.nbd_laws.specs.internal.Judge.{decision, decision_by_count, decision_with, awaited_length}
-use Rattle.nbd_laws.specs.internal.JudgeTransmission.{operation_counted}
-use Rattle.nbd_laws.specs.internal.Machine.{Machine, Rest, Reading, More, Whole, Bad, get, put, reads, fresh_of, old_of, settle, on_ok, IsFilled}
+use Rattle.nbd_wire.specs.protocol.Concrete.{concrete}
+use Rattle.nbd_wire.specs.protocol.Judge.{decision, decision_by_count, decision_with, awaited_length}
+use Rattle.nbd_wire.specs.protocol.JudgeTransmission.{operation_counted}
+use Rattle.nbd_wire.specs.protocol.Machine.{Machine, Rest, Reading, More, Whole, Bad, get, put, reads, fresh_of, old_of, settle, on_ok, IsFilled}
 use Rattle.nbd_laws.proofs.machine.MachineLemmas.{IsSoundAt, AreHeld, reads_held, old-empty, old-filled}
 use Rattle.nbd_session.specs.internal.Standing.{Holding, IsReadTo, AreStretchesOf, stretches_with, held_pairs, rest_of, with_more, with_bytes, count_at_server}
 use Rattle.nbd_laws.proofs.judge.AwaitedLemmas.{reads_up_to}

@@ -3,9 +3,9 @@ use Rattle.std.proofs.Common.{◌≡◌, ℕ, ◌<◌, ◌≤◌, List, [], ◌�
 use Rattle.nbd_wire.specs.declared.message.Side.{Side}
 use Rattle.nbd_wire.specs.protocol.Encoding.{AreBytes}
 use Rattle.nbd_wire.specs.protocol.States.{Core}
-use Rattle.nbd_laws.specs.internal.Concrete.{concrete}
-use Rattle.nbd_laws.specs.internal.Judge.{awaited_length}
-use Rattle.nbd_laws.specs.internal.Machine.{Rest, More, old_of, IsFilled}
+use Rattle.nbd_wire.specs.protocol.Concrete.{concrete}
+use Rattle.nbd_wire.specs.protocol.Judge.{awaited_length}
+use Rattle.nbd_wire.specs.protocol.Machine.{Rest, More, old_of, IsFilled}
 use Rattle.nbd_laws.specs.Reached.{IsReached}
 use Rattle.nbd_laws.proofs.machine.MachineLemmas.{Kept, kept, Held, kept_next, reached_of, at_once, IsFilled-snoc}
 use Rattle.nbd_laws.proofs.judge.AwaitedLemmas.{held_short}

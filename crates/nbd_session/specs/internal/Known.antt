@@ -2,9 +2,9 @@
 use Rattle.std.specs.Prelude.{◌≡◌, ◌<◌, ◌≤◌, ◌++◌, ℕ, List, [], Option, Some, None, length}
 use Rattle.nbd_wire.specs.declared.message.Side.{Side}
 use Rattle.nbd_wire.specs.protocol.States.{Core}
-use Rattle.nbd_laws.specs.internal.Decisions.{Decision}
-use Rattle.nbd_laws.specs.internal.Judge.{awaited_length, decision}
-use Rattle.nbd_laws.specs.internal.Machine.{IsFilled, Machine, get, old_of}
+use Rattle.nbd_wire.specs.protocol.Decisions.{Decision}
+use Rattle.nbd_wire.specs.protocol.Judge.{awaited_length, decision}
+use Rattle.nbd_wire.specs.protocol.Machine.{IsFilled, Machine, get, old_of}
 use Rattle.nbd_session.specs.declared.expected.Expected.{Expected}
 use Rattle.nbd_session.specs.Incoming.{IncomingView}
 use Rattle.nbd_session.specs.internal.Expecting.{IsPlaced, expected_decision, payload_length_of}

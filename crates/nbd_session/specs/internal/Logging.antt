@@ -2,7 +2,7 @@
 use Rattle.std.specs.Prelude.{List, [], ◌∷◌, ◌++◌, Result, Ok, Err, length}
 use Rattle.nbd_wire.specs.protocol.Captures.{Pair}
 use Rattle.nbd_wire.specs.declared.fault.WireFault.{WireFault}
-use Rattle.nbd_laws.specs.internal.Machine.{Bad, Judge, Machine, More, Reading, Rest, Whole, get, rest_with, step}
+use Rattle.nbd_wire.specs.protocol.Machine.{Bad, Judge, Machine, More, Reading, Rest, Whole, get, rest_with, step}
 use Rattle.nbd_state.specs.Logs.{LogEntry}
 
 -- what completes with a byte, by the side's bytes

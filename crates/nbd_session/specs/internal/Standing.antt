@@ -8,8 +8,8 @@ use Rattle.nbd_wire.specs.protocol.Captures.{Pair, ArePairs}
 use Rattle.nbd_laws.specs.Bytes.{bytes_of}
 use Rattle.nbd_session.specs.Pushed.{Stretch, pushed_pairs}
 use Rattle.nbd_wire.specs.protocol.Sides.{same_side}
-use Rattle.nbd_laws.specs.internal.Concrete.{concrete}
-use Rattle.nbd_laws.specs.internal.Machine.{Machine, get, reads, fresh_of, IsFilled}
+use Rattle.nbd_wire.specs.protocol.Concrete.{concrete}
+use Rattle.nbd_wire.specs.protocol.Machine.{Machine, get, reads, fresh_of, IsFilled}
 
 -- the stretches' bytes of a side
 abbrev pub stretch_total : Side → List Stretch → ℕ

@@ -8,13 +8,13 @@ use Rattle.nbd_wire.specs.protocol.Encoding.{AreBytes}
 use Rattle.nbd_session.specs.declared.fault.SessionFault.{SessionFault}
 use Rattle.nbd_session.specs.declared.fault.SessionFault.TheVariants.{Memory, Wire}
 use Rattle.nbd_session.specs.declared.held.Held.{Held}
-use Rattle.nbd_laws.specs.internal.Concrete.{concrete, reading_by_decision}
-use Rattle.nbd_laws.specs.internal.Decisions.{Decision}
+use Rattle.nbd_wire.specs.protocol.Concrete.{concrete, reading_by_decision}
+use Rattle.nbd_wire.specs.protocol.Decisions.{Decision}
 use Rattle.nbd_session.specs.internal.Holdings.{holding_of, incoming_of}
 use Rattle.nbd_session.specs.internal.Known.{IsCome, IsExpected, IsKnown, awaited, decided}
 use Rattle.nbd_session.specs.internal.Expecting.{last_fault_by, payload_length_of}
 use Rattle.nbd_session.specs.internal.Logging.{log_of_pairs}
-use Rattle.nbd_laws.specs.internal.Machine.{Bad, IsFilled, Machine, fresh_of, get}
+use Rattle.nbd_wire.specs.protocol.Machine.{Bad, IsFilled, Machine, fresh_of, get}
 use Rattle.nbd_session.specs.Sessions.{Adds, HasRunOf}
 use Rattle.nbd_state.specs.Shows.{AreKnown, Shows}
 use Rattle.nbd_session.specs.internal.Standing.{Holding, IsReadTo, held_pairs, with_bytes}

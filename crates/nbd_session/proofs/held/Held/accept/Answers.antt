@@ -3,8 +3,8 @@ use Rattle.nbd_wire.specs.declared.message.Side.{Side}
 use Rattle.nbd_state.specs.Completions.{Answers}
 use Rattle.nbd_state.specs.Shows.{AreKnown, Shows}
 use Rattle.nbd_state.specs.declared.state.State.{State}
-use Rattle.nbd_laws.specs.internal.Concrete.{concrete}
-use Rattle.nbd_laws.specs.internal.Machine.{Whole, fresh_of}
+use Rattle.nbd_wire.specs.protocol.Concrete.{concrete}
+use Rattle.nbd_wire.specs.protocol.Machine.{Whole, fresh_of}
 use Rattle.nbd_session.specs.declared.held.Held.{Held}
 use Rattle.nbd_session.specs.Incoming.{IncomingView}
 use Rattle.nbd_session.specs.internal.Expecting.{message_of}

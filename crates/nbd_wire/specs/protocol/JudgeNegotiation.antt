@@ -21,7 +21,7 @@ use Rattle.nbd_wire.specs.protocol.Sizes.{are_allowed}
 use Rattle.nbd_wire.specs.protocol.Flags.{has, has_only}
 use Rattle.nbd_wire.specs.declared.fault.WireFault.{WireFault}
 use Rattle.nbd_wire.specs.declared.fault.WireFault.TheVariants.{BadMagic, NotFixedNewstyle, BadClientFlags, WrongOption, BadReplyKind, OutOfProfile, BadReplyPayload, MissingExportInfo, BadExport, ExportTooLarge, SuccessOfImproper}
-use Rattle.nbd_laws.specs.internal.Decisions.{Decision, fault_if}
+use Rattle.nbd_wire.specs.protocol.Decisions.{Decision, fault_if}
 
 -- at the head of a greeting with these numbers
 abbrev pub greeting_fault : (magic second flags : ℕ) → Option WireFault

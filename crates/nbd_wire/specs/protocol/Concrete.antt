@@ -5,9 +5,9 @@ use Rattle.nbd_wire.specs.declared.message.Message.{Message}
 use Rattle.nbd_wire.specs.protocol.States.{Phase, Core}
 use Rattle.nbd_wire.specs.declared.fault.WireFault.{WireFault}
 use Rattle.nbd_wire.specs.declared.fault.WireFault.TheVariants.{OutOfTurn}
-use Rattle.nbd_laws.specs.internal.Decisions.{Decision}
-use Rattle.nbd_laws.specs.internal.Judge.{decision}
-use Rattle.nbd_laws.specs.internal.Machine.{Reading, More, Whole, Bad, Judge}
+use Rattle.nbd_wire.specs.protocol.Decisions.{Decision}
+use Rattle.nbd_wire.specs.protocol.Judge.{decision}
+use Rattle.nbd_wire.specs.protocol.Machine.{Reading, More, Whole, Bad, Judge}
 
 abbrev pub staged_reading_by : Bool → Option WireFault → Bool → Reading → Reading
 staged_reading_by true fault whole end = More

@@ -19,8 +19,8 @@ use Rattle.nbd_wire.specs.protocol.Statuses.{but_last, statuses, tells, tells_al
 use Rattle.nbd_wire.specs.protocol.States.{Core, target, operation, with_reply}
 use Rattle.nbd_wire.specs.declared.fault.WireFault.{WireFault}
 use Rattle.nbd_wire.specs.declared.fault.WireFault.TheVariants.{BadMagic, CookieInUse, UnknownCookie, SimpleForbidden, ChunkForbidden, BadChunk, BadContent, IncompleteRead, SuccessOfImproper, BadDisconnect, IncompleteStatus}
-use Rattle.nbd_laws.specs.internal.Decisions.{is_none_yet}
-use Rattle.nbd_laws.specs.internal.Decisions.{Decision, fault_if}
+use Rattle.nbd_wire.specs.protocol.Decisions.{is_none_yet}
+use Rattle.nbd_wire.specs.protocol.Decisions.{Decision, fault_if}
 
 -- at the head of a request
 abbrev pub request_fault : (magic command offset len : ℕ) → Option WireFault

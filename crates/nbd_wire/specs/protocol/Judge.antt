@@ -8,9 +8,9 @@ use Rattle.nbd_wire.specs.protocol.Options.{is_proper_option, takes_contexts}
 use Rattle.nbd_wire.specs.protocol.Operations.{Operation}
 use Rattle.nbd_wire.specs.protocol.Flags.{has}
 use Rattle.nbd_wire.specs.protocol.States.{Phase, Greet, Flags, Choosing, Naming, Aborting, Answering, Transmission, Core, in_force}
-use Rattle.nbd_laws.specs.internal.Decisions.{Decision, awaited_length_by}
-use Rattle.nbd_laws.specs.internal.JudgeNegotiation.{greeting, client_flags, choice, export_answer, abort_answer, answer}
-use Rattle.nbd_laws.specs.internal.JudgeTransmission.{operation_counted, operation_of, reply_with, request}
+use Rattle.nbd_wire.specs.protocol.Decisions.{Decision, awaited_length_by}
+use Rattle.nbd_wire.specs.protocol.JudgeNegotiation.{greeting, client_flags, choice, export_answer, abort_answer, answer}
+use Rattle.nbd_wire.specs.protocol.JudgeTransmission.{operation_counted, operation_of, reply_with, request}
 
 abbrev pub request_unless : (disconnected : Bool) → Core → List ℕ → Option Decision
 request_unless true now bytes = None
