@@ -1,7 +1,6 @@
 pub mod judge
 pub mod machine
 pub mod requests
-pub mod rows
 pub mod runs
 pub mod service
 pub mod worked

@@ -1,3 +1,4 @@
+pub mod AllowLemmas
 pub mod AwaitedLemmas
 pub mod BlockLemmas
 pub mod BoolLemmas
@@ -6,6 +7,7 @@ pub mod ExactLemmas
 pub mod ExactNegotiationLemmas
 pub mod ExactTransmissionLemmas
 pub mod PhaseLemmas
+pub mod SameLemmas
 pub mod SoundClientLemmas
 pub mod SoundLemmas
 pub mod SoundNegotiationLemmas

@@ -5,6 +5,7 @@ pub mod DecidingRunLemmas
 pub mod IndexLemmas
 pub mod SessionLemmas
 pub mod WorkedChunkLemmas
+pub mod WorkedPlaceLemmas
 pub mod WorkedOptionLemmas
 pub mod WorkedPartLemmas
 pub mod WorkedReadLemmas

@@ -2,7 +2,7 @@
 //! stand in specs/captures/Refused.antt.
 ghost use Rattle.std.specs.Prelude.{[], ◌∷◌};
 ghost use Rattle.nbd_wire.specs.protocol.Captures.{flat};
-ghost use Rattle.nbd_wire.specs.protocol.Splits.{IsPlace, IsPlaceOf};
+ghost use Rattle.nbd_wire.specs.protocol.Places.{IsPlace, IsPlaceOf};
 ghost use Rattle.nbd_wire.specs.declared.profile.Profile.TheVariants.{Base, Wide};
 ghost use Rattle.nbd_wire.specs.declared.fault.WireFault.TheVariants.{BadMagic, NotFixedNewstyle, BadClientFlags, OutOfTurn, OutOfProfile, UnknownCookie, BadDisconnect, IncompleteStatus};
 ghost use Rattle.nbd_wire.specs.declared.message.Message.TheVariants.{Greeting};

@@ -3,10 +3,9 @@ use Rattle.std.specs.Prelude.{◌≡◌, ◌≢◌, ◌⊎◌, ◌∷◌, ◌++�
 use Rattle.nbd_wire.specs.declared.profile.Profile.{Profile}
 use Rattle.nbd_wire.specs.declared.profile.Profile.TheVariants.{Base}
 use Rattle.nbd_wire.specs.declared.message.Message.{Message}
-use Rattle.nbd_wire.specs.declared.message.Side.TheVariants.{Client, Server}
 use Rattle.nbd_wire.specs.protocol.Captures.{Pair}
-use Rattle.nbd_wire.specs.protocol.Marks.{Item}
-use Rattle.nbd_wire.specs.protocol.Splits.{IsPlaceOf, IsUnderWayOf, open_bytes}
+use Rattle.nbd_wire.specs.protocol.Machine.{Machine}
+use Rattle.nbd_wire.specs.protocol.Places.{IsPlaceOf, IsUnderWayOf}
 use Rattle.nbd_wire.specs.protocol.Within.{BeginsNoRunOf, CompletesExactlyOf, IsOfNoRunOf}
 use Rattle.nbd_wire.specs.declared.fault.WireFault.{WireFault}
 use Rattle.nbd_wire.specs.declared.fault.WireFault.TheVariants.{Unfinished}
@@ -46,15 +45,15 @@ pub record IsAcceptedOf (profile : Profile) (ps : List Pair) (messages : List Me
 abbrev pub IsAccepted : List Pair → List Message → Type 0
 IsAccepted ps messages = IsAcceptedOf Base ps messages
 
--- bytes of a side are open at the end of these items
-abbrev pub LeavesOpen : List Item → Type 0
-LeavesOpen items = (open_bytes Client items ≢ []) ⊎ (open_bytes Server items ≢ [])
+-- bytes of a side are open where reading stands
+abbrev pub LeavesOpen : Machine → Type 0
+LeavesOpen end = (end.rests.client.bytes ≢ []) ⊎ (end.rests.server.bytes ≢ [])
 
 -- an end within a message: the bytes were taken without a fault, some are open at their end, and no run has exactly
 -- these bytes
 pub record IsOpenEndOf (profile : Profile) (ps : List Pair) (messages : List Message) : Type 0 where
   pub accepted : IsAcceptedOf profile ps messages
-  pub leaves_open : LeavesOpen accepted.under_way.items
+  pub leaves_open : LeavesOpen accepted.under_way.end
   pub none : IsOfNoRunOf profile ps
 
 -- the same, of the profile Base

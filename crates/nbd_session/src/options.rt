@@ -4,7 +4,7 @@ ghost use Rattle.std.specs.Prelude.{◌≡◌, ◌++◌, ℕ, List, IfErr, IfOk,
 ghost use Rattle.nbd_wire.specs.protocol.Options.{is_error};
 ghost use Rattle.nbd_wire.specs.protocol.Contexts as contexts;
 ghost use Rattle.nbd_wire.specs.protocol.Payloads.{context_of, info_of, number_at};
-ghost use Rattle.nbd_wire.specs.protocol.JudgeNegotiation.{abort_answer, abort_fault, ack_fault, answer, answer_fault, answers_option, choice, info_fault, earlier_to, is_bad_payload, is_followed, is_good_context, is_good_info, payload_fault, success_fault};
+ghost use Rattle.nbd_wire.specs.protocol.JudgeNegotiation.{abort_answer, abort_fault, ack_fault, answer, answered_fault, answers_option, choice, info_fault, earlier_to, is_bad_payload, is_followed, is_good_context, is_good_info, payload_fault, success_fault};
 ghost use Rattle.nbd_session.specs.internal.Leading.{answer_fields_of, unless_fault};
 ghost use Rattle.nbd_session.specs.internal.Expecting.{IsPlaced, expected_decision};
 ghost use Rattle.nbd_wire.specs.protocol.States.{Core};
@@ -93,7 +93,7 @@ pub(crate) fn payload_fault(
 /// The head of an option reply to this option.
 fn answer_to(option: u32, head: &[u8]) -> Result<AnswerHead, WireFault>
     requires { length head.now ≡ 20 }
-    ensures { result ≡ unless_fault (answer_fault option (number_at 0 8 head.now) (number_at 8 4 head.now)
+    ensures { result ≡ unless_fault (answered_fault option (number_at 0 8 head.now) (number_at 8 4 head.now)
         None) (answer_fields_of head.now) }
 {
     let Some(head) = answer_head(head) else {

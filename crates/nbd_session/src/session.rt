@@ -2,7 +2,7 @@
 
 ghost use Rattle.std.specs.Prelude.{◌≡◌, ◌+◌, ◌++◌, ◌<◌, ◌^◌, Err, IfErr, IfOk, None, OnOk, Some, length};
 ghost use Rattle.nbd_wire.specs.protocol.Captures.{side_pairs};
-ghost use Rattle.nbd_wire.specs.protocol.Splits.{IsUnderWayOf};
+ghost use Rattle.nbd_wire.specs.protocol.Places.{IsUnderWayOf};
 ghost use Rattle.nbd_wire.specs.protocol.Within.{CompletesExactlyOf};
 ghost use Rattle.nbd_session.specs.declared.fault.SessionFault.{SessionFault};
 ghost use Rattle.nbd_session.specs.Refusals.{EndsIn, HasNoPlaceOf, IsComplete, Refuses};

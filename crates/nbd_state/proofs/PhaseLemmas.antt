@@ -2,6 +2,7 @@
 use Rattle.std.proofs.Common.{◌≡◌, ℕ, ◌<◌, ◌||◌, ◌&&◌, ◌==◌, List, length, refl, sym, ◌∙◌, ap, subst, Option, Some, None, Bool}
 use Rattle.std.proofs.lemmas.Option.{slice_get_within}
 use Rattle.nbd_state.specs.Places.{place_at}
+use Rattle.nbd_laws.proofs.judge.AllowLemmas.{ask_allow}
 use Rattle.nbd_wire.specs.declared.commands.TheConstants as commands
 use Rattle.nbd_wire.specs.declared.message.Message.{Message}
 use Rattle.nbd_wire.specs.declared.message.Message.TheVariants.{Greeting, ClientFlags, Choice, Answer, Exported, Request, Simple, Chunk}
@@ -129,7 +130,7 @@ asked_in core Naming flags command cookie offset len payload ok = absurd ok
 asked_in core Aborting flags command cookie offset len payload ok = absurd ok
 asked_in core (Answering asked given info) flags command cookie offset len payload ok = absurd ok
 asked_in core Ended flags command cookie offset len payload ok = absurd ok
-asked_in core (Transmission export) flags command cookie offset len payload ok = (export, refl, ok)
+asked_in core (Transmission export) flags command cookie offset len payload ok = (export, refl, ask_allow core command cookie offset len ok.0 ok.1)
 
 pub simple_in : (core : Core) (p : Phase) (error cookie : ℕ) (payload : List ℕ) → MayComplete core p (Simple error cookie payload) →
     (export : Exporting) × (p ≡ Transmission export) × AnswersOne core export cookie (Simple error cookie payload)

@@ -24,8 +24,6 @@ pub mod JudgeTransmission
 pub mod Judge
 pub mod Machine
 pub mod Concrete
-pub mod Splits
-pub mod Rows
 pub mod Places
 pub mod Reports
 pub mod ExportBytes

@@ -1,5 +1,5 @@
 -- The judge is exact: it takes each message that the rules allow, at its last byte and not before.
-use Rattle.std.proofs.Common.{◌≡◌, ℕ, ◌+◌, ◌<◌, ◌≤◌, ◌⊎◌, ◌==◌, ◌^◌, List, [], ◌∷◌, ◌++◌, length, refl, sym, ◌∙◌, ap, subst, inl, inr, Option, Some, None, Err, Bool, true, false, not, nat_lt, is_some, IsTrue, eq-eqb, arith, length-append}
+use Rattle.std.proofs.Common.{◌≡◌, ℕ, ◌+◌, ◌<◌, ◌≤◌, ◌⊎◌, ◌==◌, List, [], ◌∷◌, ◌++◌, length, refl, sym, ◌∙◌, ap, subst, inl, inr, Option, Some, None, Err, Bool, true, false, not, nat_lt, is_some, IsTrue, eq-eqb, arith, length-append}
 use Rattle.std.proofs.lemmas.Bool.{le-ltb, ltb-false, ltb-true}
 use Rattle.nbd_wire.specs.declared.profile.Profile.{Profile}
 use Rattle.nbd_wire.specs.declared.handshake.TheConstants as handshake
@@ -17,7 +17,7 @@ use Rattle.nbd_wire.specs.protocol.Flags.{has}
 use Rattle.nbd_wire.specs.protocol.Rules.{IsRunOf, MayComplete, MayStart, MayStartIn, request_of_reply}
 use Rattle.nbd_wire.specs.protocol.Sendable.{IsSendable}
 use Rattle.nbd_wire.specs.protocol.Sides.{side}
-use Rattle.nbd_wire.specs.protocol.States.{Core, Phase, Greet, Flags, Choosing, Naming, Aborting, Answering, Transmission, operation, target, in_force}
+use Rattle.nbd_wire.specs.protocol.States.{Core, Phase, Greet, Flags, Choosing, Naming, Aborting, Answering, Transmission, operation, target}
 use Rattle.nbd_wire.specs.declared.fault.WireFault.{WireFault}
 use Rattle.nbd_wire.specs.protocol.Decisions.{Decision}
 use Rattle.nbd_wire.specs.protocol.Judge.{decision, request_unless}
@@ -26,24 +26,22 @@ use Rattle.nbd_wire.specs.protocol.JudgeTransmission.{chunk_to, operation_if, op
 use Rattle.nbd_laws.proofs.judge.AwaitedLemmas.{in_head, in_payload}
 use Rattle.nbd_wire.specs.protocol.Concrete.{concrete, last_reading, reading_by_decision, read_by, staged_reading_by}
 use Rattle.nbd_laws.proofs.judge.ExactNegotiationLemmas.{Accepts, HasHead, HasLast, abort_accepts, answer_accepts, choice_accepts, exported_accepts, flags_accepts, greeting_accepts}
-use Rattle.nbd_laws.proofs.judge.ExactTransmissionLemmas.{AcceptsChunk, chunk_accepts, chunk_begins, cookie_of_chunk, cookie_of_simple, request_accepts, simple_accepts, simple_begins}
+use Rattle.nbd_laws.proofs.judge.ExactTransmissionLemmas.{chunk_accepts, chunk_begins, cookie_of_chunk, cookie_of_simple, request_accepts, simple_accepts, simple_begins}
 use Rattle.nbd_laws.proofs.machine.MachineLemmas.{IsExact, Later, Later-trans}
 use Rattle.nbd_wire.specs.protocol.Machine.{IsFilled, More, Whole, reads, fresh_of}
 use Rattle.nbd_laws.proofs.judge.PhaseLemmas.{IsAppended, Later-appended, Later-disconnected, Later-transmission, Later-turn, target-append}
 use Rattle.nbd_laws.proofs.runs.RunLemmas.{no_run}
-use Rattle.nbd_laws.proofs.judge.SoundLemmas.{kept_reached}
 use Rattle.nbd_laws.proofs.judge.SteadyLemmas.{IsDeciding, IsSameHead, IsSteady, deciding, is_chunk_reply, is_simple_reply, no_chunk}
-use Rattle.nbd_laws.proofs.judge.TidyLemmas.{AreTidy, tidy, tidy_entry}
 
 -- what is decided of an encoding takes the message
 record IsTaken (o : Option Decision) (core : Core) (m : Message) : Type 0 where
   d : Decision
   is : o ≡ Some d
   at_head : HasHead d m
-  at_last : AreTidy core.entries → HasLast d m
+  at_last : HasLast d m
 
 taken : (d : Decision) (core : Core) (m : Message) → Accepts d m → IsTaken (Some d) core m
-taken d core m a = record { d = d; is = refl; at_head = a.at_head; at_last = λ t. a.at_last }
+taken d core m a = record { d = d; is = refl; at_head = a.at_head; at_last = a.at_last }
 
 -- the request that a reply answers, of those that had completed when it started
 same_target : (old now : Core) (cookie k : ℕ) (e : Operation) → IsAppended old now → IsTrue (is_some (target cookie old.entries)) → target cookie now.entries ≡ Some k → operation k now.entries ≡ Some e → operation_of old now cookie ≡ Some e
@@ -72,16 +70,14 @@ taken_in Flags old now (ClientFlags flags) sn b ok = taken (client_flags now.off
 taken_in Choosing old now (Choice id payload) sn b ok = taken (choice (enc (Choice id payload))) now _ (choice_accepts id payload sn.0 sn.1.0)
 taken_in Naming old now (Exported size flags padded) sn b ok =
     let no_zeroes : Bool = has now.client_flags handshake.C_NO_ZEROES in
-    subst (λ p. IsTaken (Some (export_answer no_zeroes (enc (Exported size flags p)))) now (Exported size flags p)) (sym ok.1)
-    (taken (export_answer no_zeroes (enc (Exported size flags (not no_zeroes)))) now _ (exported_accepts size flags no_zeroes sn.0 sn.1 ok.0 ok.2))
+    subst (λ p. IsTaken (Some (export_answer no_zeroes (enc (Exported size flags p)))) now (Exported size flags p)) (sym ok.0)
+    (taken (export_answer no_zeroes (enc (Exported size flags (not no_zeroes)))) now _ (exported_accepts size flags no_zeroes sn.0 sn.1 ok.1))
 taken_in Aborting old now (Answer option kind payload) sn b ok = taken (abort_answer (enc (Answer option kind payload))) now _ (abort_accepts option kind payload sn.0 sn.1 sn.2.0 ok)
 taken_in (Answering asked given info) old now (Answer option kind payload) sn b ok =
-    let G : List ℕ → Decision = answer now.profile asked (is_proper_option asked given) (takes_contexts asked given) info now.selection in
-    subst (λ o. IsTaken (Some (G (enc (Answer o kind payload)))) now (Answer o kind payload)) (sym ok.0)
-    (taken (G (enc (Answer asked kind payload))) now _
-    (answer_accepts now.profile asked given info now.selection kind payload (subst (λ o. o < 2 ^ 32) ok.0 sn.0) sn.1 sn.2.0 ok.1))
+    taken (answer now.profile asked (is_proper_option asked given) (takes_contexts asked given) info now.selection (enc (Answer option kind payload))) now _
+    (answer_accepts now.profile asked _ _ info now.selection option kind payload sn.0 sn.1 sn.2.0 ok.0 ok.1)
 taken_in (Transmission export) old now (Request flags command cookie offset len payload) sn b ok =
-    request_taken now now.disconnected (enc (Request flags command cookie offset len payload)) _ (b.1 refl) (request_accepts now flags command cookie offset len payload sn ok)
+    request_taken now now.disconnected (enc (Request flags command cookie offset len payload)) _ (b.1 refl) (request_accepts now flags command cookie offset len payload sn ok.0 ok.1)
 taken_in (Transmission export) old now (Simple error cookie payload) sn b (k, e, at, is, may) =
     let m : Message = Simple error cookie payload in
     let s : _ ≡ true = simple_begins error cookie payload in
@@ -91,17 +87,17 @@ taken_in (Transmission export) old now (Simple error cookie payload) sn b (k, e,
       d = simple_to export now (Some e) (enc m);
       is = ap Some (is_simple_reply export old now (enc m) (no_chunk (enc m) s) s ∙ ap (λ o. simple_to export now o (enc m)) to);
       at_head = a.at_head;
-      at_last = λ t. a.at_last;
+      at_last = a.at_last;
     }
 taken_in (Transmission export) old now (Chunk flags kind cookie payload) sn b (k, e, at, is, may) =
     let m : Message = Chunk flags kind cookie payload in
     let to : operation_of old now (number_at 8 8 (enc m)) ≡ Some e = ap (operation_of old now) (cookie_of_chunk flags kind cookie payload sn) ∙ same_target old now cookie k e (b.0 refl).0 (b.0 refl).1 at is in
-    let a : AcceptsChunk (chunk_to export now (Some e) (enc m)) e m = chunk_accepts now export e flags kind cookie payload sn may in
+    let a : Accepts (chunk_to export now (Some e) (enc m)) m = chunk_accepts now export e flags kind cookie payload sn may in
     record {
       d = chunk_to export now (Some e) (enc m);
       is = ap Some (is_chunk_reply export old now (enc m) (chunk_begins flags kind cookie payload) ∙ ap (λ o. chunk_to export now o (enc m)) to);
       at_head = a.at_head;
-      at_last = λ t. a.at_last (tidy_entry k now.entries e t is);
+      at_last = a.at_last;
     }
 taken_in phase old now m sn b ok = absurd ok
 
@@ -179,14 +175,14 @@ read_whole d m a b =
 -- what is decided of an encoding, by the side's decisions
 record IsTakenBy (F : Core → List ℕ → Decision) (now : Core) (m : Message) : Type 0 where
   at_head : HasHead (F now (enc m)) m
-  at_last : AreTidy now.entries → HasLast (F now (enc m)) m
+  at_last : HasLast (F now (enc m)) m
 
 taken_by : (old now : Core) (s : Side) (m : Message) (d : IsDeciding s old) → (l : Later s old now) → side m ≡ s → IsSendable m → MayStart old s m → MayComplete now now.phase m → IsTakenBy d.F now m
 taken_by old now s m d l sd sn st ok =
     let t : IsTaken (decision now.phase old now (side m) (enc m)) now m = taken_in now.phase old now m sn (began_at old now m s sd l st) ok in
     let q : Some t.d ≡ Some (d.F now (enc m)) = sym t.is ∙ ap (λ u. decision now.phase old now u (enc m)) sd ∙ d.decides now l (enc m) in
     let same : t.d ≡ d.F now (enc m) = cc in
-    record { at_head = subst (λ x. HasHead x m) same t.at_head; at_last = λ tidied. subst (λ x. HasLast x m) same (t.at_last tidied) }
+    record { at_head = subst (λ x. HasHead x m) same t.at_head; at_last = subst (λ x. HasLast x m) same t.at_last }
 
 exact_more : (old now later : Core) (s : Side) (m : Message) (bytes left : List ℕ) → Later s old now → Later s now later →
     side m ≡ s → IsSendable m → MayStart old s m → MayComplete later later.phase m → enc m ≡ bytes ++ left → IsFilled left → concrete old now s bytes ≡ More
@@ -198,16 +194,16 @@ exact_more old now later s m bytes left l l' sd sn st ok e f =
     let clean : (d.F later (bytes ++ left)).head_fault ≡ None = subst (λ bs. (d.F later bs).head_fault ≡ None) e t.at_head.clean in
     ap (λ o. reading_by_decision o bytes) (d.decides now l bytes) ∙ part_goes_on s now later d.F (d.steady now l) l' bytes left f long clean
 
-exact_whole : (old now : Core) (s : Side) (m : Message) → Later s old now → side m ≡ s → IsSendable m → MayStart old s m → MayComplete now now.phase m → AreTidy now.entries → concrete old now s (enc m) ≡ Whole m
-exact_whole old now s m l sd sn st ok tidied =
+exact_whole : (old now : Core) (s : Side) (m : Message) → Later s old now → side m ≡ s → IsSendable m → MayStart old s m → MayComplete now now.phase m → concrete old now s (enc m) ≡ Whole m
+exact_whole old now s m l sd sn st ok =
     let d : IsDeciding s old = deciding_of old.phase s old m refl st in
     let t : IsTakenBy d.F now m = taken_by old now s m d l sd sn st ok in
-    ap (λ o. reading_by_decision o (enc m)) (d.decides now l (enc m)) ∙ read_whole (d.F now (enc m)) m t.at_head (t.at_last tidied)
+    ap (λ o. reading_by_decision o (enc m)) (d.decides now l (enc m)) ∙ read_whole (d.F now (enc m)) m t.at_head t.at_last
 
 pub exact : IsExact concrete
 exact = record {
   more = λ old now later s m bytes left l l' sd sn st ok e fb fl k. exact_more old now later s m bytes left l l' sd sn st ok e fl;
-  whole = λ old now s m l sd sn st ok k. exact_whole old now s m l sd sn st ok (tidy (kept_reached k));
+  whole = λ old now s m l sd sn st ok k. exact_whole old now s m l sd sn st ok;
 }
 
 -- no run's bytes begin with a list that the machine refuses

@@ -1,6 +1,5 @@
 -- What the judge takes for a request is one that the rules allow.
-use Rattle.std.proofs.Common.{◌≡◌, ℕ, ◌≤◌, ◌+◌, ◌==◌, List, length, drop, refl, subst, Option, Some, None, Bool, true, false, not, ◌&&◌, eqb-true, is_some, arith, length-drop, [], ◌∷◌}
-use Rattle.nbd_wire.specs.declared.commands.TheConstants as commands
+use Rattle.std.proofs.Common.{◌≡◌, ℕ, ◌≤◌, ◌+◌, List, length, drop, refl, subst, Bool, true, false, arith, length-drop}
 use Rattle.nbd_wire.specs.declared.magics.TheConstants.{REQUEST_MAGIC}
 use Rattle.nbd_wire.specs.declared.message.Side.TheVariants.{Client}
 use Rattle.nbd_wire.specs.declared.message.Message.{Message}
@@ -8,19 +7,14 @@ use Rattle.nbd_wire.specs.protocol.Encoding.{enc, head, tail, AreBytes}
 use Rattle.nbd_wire.proofs.NumberLemmas.{with_number, number_at-lt, AreBytes-drop}
 use Rattle.nbd_wire.specs.protocol.Payloads.{number_at}
 use Rattle.nbd_wire.specs.protocol.Operations.{Exporting}
-use Rattle.nbd_wire.specs.protocol.Rules.{MayComplete, MayAsk}
+use Rattle.nbd_wire.specs.protocol.Rules.{MayComplete}
 use Rattle.nbd_wire.specs.protocol.Sendable.{IsSendable}
-use Rattle.nbd_wire.specs.protocol.States.{Transmission, Core, target, in_force}
-use Rattle.nbd_wire.specs.declared.fault.WireFault.TheVariants.{CookieInUse, BadDisconnect, OutOfProfile}
-use Rattle.nbd_wire.specs.protocol.Decisions.{fault_if}
+use Rattle.nbd_wire.specs.protocol.States.{Transmission, Core}
 use Rattle.nbd_wire.specs.protocol.Judge.{request_unless}
 use Rattle.nbd_wire.specs.protocol.JudgeTransmission.{request, request_payload_length, request_of}
-use Rattle.nbd_laws.proofs.judge.BoolLemmas.{not_false, and_true, fault_none, and_false}
 use Rattle.nbd_wire.specs.protocol.Concrete.{reading_by_decision}
 use Rattle.nbd_wire.specs.protocol.Machine.{Whole}
 use Rattle.nbd_laws.proofs.judge.SoundNegotiationLemmas.{IsFit, IsWhole, whole, magic_there}
-use Rattle.nbd_wire.specs.protocol.Contexts.{Context}
-use Rattle.std.proofs.lemmas.Bool.{eq-eqb}
 
 request_is : (bytes : List ℕ) → AreBytes bytes → 28 ≤ length bytes → number_at 0 4 bytes ≡ REQUEST_MAGIC → bytes ≡ enc (request_of bytes)
 unfolding enc head tail
@@ -37,14 +31,6 @@ request_sendable bytes a l =
     let p : length (drop 28 bytes) ≡ request_payload_length (number_at 6 2 bytes) (number_at 24 4 bytes) = omega (arith, length-drop 28 bytes, l) in
     (number_at-lt 4 2 bytes a, number_at-lt 6 2 bytes a, number_at-lt 8 8 bytes a, number_at-lt 16 8 bytes a, number_at-lt 24 4 bytes a, p, AreBytes-drop 28 bytes a)
 
-no_some : (o : Option ℕ) → is_some o ≡ false → o ≡ None
-no_some (Some k) e = absurd (cc)
-no_some None e = refl
-
-may_ask : (c : Bool) (now : Core) (cookie offset len : ℕ) → (c && not ((offset == 0) && (len == 0))) ≡ false → (not c && is_some (target cookie now.entries)) ≡ false → MayAsk c now cookie offset len
-may_ask true now cookie offset len e f = let h : ((offset == 0) ≡ true) × ((len == 0) ≡ true) = and_true _ _ (not_false _ e) in (eqb-true offset 0 h.0, eqb-true len 0 h.1)
-may_ask false now cookie offset len e f = no_some (target cookie now.entries) f
-
 pub record IsAsked (now : Core) (export : Exporting) (bytes : List ℕ) (m : Message) : Type 0 where
   pub fit : IsFit now (Transmission export) Client bytes m
   pub is : request_of bytes ≡ m
@@ -59,16 +45,13 @@ request_sound now export false bytes m is_d a e =
     let len : ℕ = number_at 24 4 bytes in
     let w : IsWhole (request now bytes) bytes m = whole (request now bytes) bytes m e in
     let long : length bytes ≡ 28 + request_payload_length command len = w.long in
-    let bad : Bool = (command == commands.DISC) && not ((offset == 0) && (len == 0)) in
-    let mg : (number_at 0 4 bytes ≡ REQUEST_MAGIC) × (fault_if bad BadDisconnect None ≡ None) = magic_there _ _ _ w.at_head in
-    let k : ((not (command == commands.DISC) && is_some (target (number_at 8 8 bytes) now.entries)) ≡ false) × (None ≡ None) = fault_none _ CookieInUse None w.at_last in
-    let j : (bad ≡ false) × (None ≡ None) = fault_none _ BadDisconnect None mg.1 in
+    let mg = magic_there (number_at 0 4 bytes) REQUEST_MAGIC _ w.at_head in
     record {
       fit = subst (IsFit now (Transmission export) Client bytes) w.is (record {
         encodes = request_is bytes a (omega (arith, long)) mg.0;
         sided = refl;
         sendable = request_sendable bytes a long;
-        completes = may_ask (command == commands.DISC) now (number_at 8 8 bytes) offset len j.0 k.0;
+        completes = (mg.1, w.at_last);
       });
       is = w.is;
       open_still = is_d;

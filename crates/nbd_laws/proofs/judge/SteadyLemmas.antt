@@ -1,26 +1,29 @@
 -- What is decided of a message does not change as its bytes come, nor where the other side's
 -- messages complete meanwhile.
-use Rattle.std.proofs.Common.{◌≡◌, ℕ, zero, suc, ◌+◌, ◌<◌, ◌≤◌, ◌==◌, List, [], ◌∷◌, ◌++◌, length, refl, sym, ◌∙◌, ap, subst, Option, Some, None, Bool, true, false, ◌&&◌, eq-eqb, nat_le, arith, length-append}
+use Rattle.std.proofs.Common.{not, ◌≡◌, ℕ, zero, suc, ◌+◌, ◌<◌, ◌≤◌, ◌==◌, List, [], ◌∷◌, ◌++◌, length, refl, sym, ◌∙◌, ap, subst, Option, Some, None, Bool, true, false, ◌&&◌, eq-eqb, nat_le, arith, length-append}
 use Rattle.std.proofs.lemmas.Bool.{le-leb, lt-leb}
 use Rattle.nbd_wire.specs.declared.handshake.TheConstants as handshake
 use Rattle.nbd_wire.specs.declared.magics.TheConstants.{SIMPLE_MAGIC, CHUNK_MAGIC}
 use Rattle.nbd_wire.specs.declared.message.Side.{Side}
 use Rattle.nbd_wire.specs.declared.message.Side.TheVariants.{Client, Server}
 use Rattle.nbd_wire.proofs.FieldLemmas.{number_at-append}
-use Rattle.nbd_wire.specs.protocol.Options.{is_error, is_proper_option, turn, takes_contexts}
+use Rattle.nbd_wire.specs.protocol.Options.{is_proper_option, turn, takes_contexts}
 use Rattle.nbd_wire.specs.protocol.Payloads.{number_at}
 use Rattle.nbd_wire.specs.protocol.Operations.{Operation, Exporting}
 use Rattle.nbd_wire.specs.protocol.Flags.{has}
-use Rattle.nbd_wire.specs.protocol.States.{Phase, Greet, Flags, Choosing, Naming, Aborting, Answering, Transmission, Core, operation, target, in_force}
+use Rattle.nbd_wire.specs.protocol.States.{Phase, Greet, Flags, Choosing, Naming, Aborting, Answering, Transmission, Core, operation, target}
 use Rattle.nbd_wire.specs.declared.fault.WireFault.TheVariants.{BadMagic, UnknownCookie}
 use Rattle.nbd_wire.specs.protocol.Decisions.{Decision}
 use Rattle.nbd_wire.specs.protocol.Judge.{decision, request_unless}
-use Rattle.nbd_wire.specs.protocol.JudgeNegotiation.{abort_answer, abort_fault, answer, answer_fault, choice, choice_fault, client_flags, client_flags_fault, export_fault, export_answer, greeting, greeting_fault, success_fault, unless_error}
+use Rattle.nbd_wire.specs.declared.magics.TheConstants.{GREETING_MAGIC, OPTION_MAGIC, ANSWER_MAGIC, REQUEST_MAGIC}
+use Rattle.nbd_wire.specs.declared.fault.WireFault.TheVariants.{BadMagic}
+use Rattle.nbd_wire.specs.protocol.Decisions.{fault_if}
+use Rattle.nbd_wire.specs.protocol.JudgeNegotiation.{answer_head_fault, abort_answer, abort_fault, answer, answer_fault, choice, client_flags, client_flags_fault, export_fault, export_answer, greeting, greeting_fault}
 use Rattle.nbd_wire.specs.protocol.JudgeTransmission.{begins, chunk_to, operation_if, operation_of, no_reply, reply, reply_by, request, request_fault, request_payload_length, simple_payload_length, simple_to, simple_fault, chunk_head_fault}
 use Rattle.nbd_laws.proofs.machine.MachineLemmas.{Later}
 use Rattle.nbd_laws.proofs.judge.SoundServerLemmas.{magic_of}
-use Rattle.nbd_laws.proofs.judge.PhaseLemmas.{IsAppended, Later-appended, Later-disconnected, Later-in_force, Later-transmission, Later-turn, target_entry}
-use Rattle.nbd_wire.specs.protocol.Contexts.{Context, Selection}
+use Rattle.nbd_laws.proofs.judge.PhaseLemmas.{IsAppended, Later-appended, Later-disconnected, Later-transmission, Later-turn, target_entry}
+use Rattle.nbd_wire.specs.protocol.Contexts.{Selection}
 use Rattle.nbd_wire.specs.declared.profile.Profile.{Profile}
 
 -- the same of a message's head and length
@@ -76,7 +79,7 @@ greeting_fixed = record {
   is = λ bytes. refl;
   same = λ bytes more l. record {
     head_length_is = refl;
-    head_fault_is = λ i. greeting_fault (at 0 8 18 bytes more l (omega arith) i) (at 8 8 18 bytes more l (omega arith) i) (at 16 2 18 bytes more l (omega arith) i);
+    head_fault_is = λ i. fault_if (not ((at 0 8 18 bytes more l (omega arith) i == GREETING_MAGIC) && (at 8 8 18 bytes more l (omega arith) i == OPTION_MAGIC))) BadMagic (greeting_fault (at 16 2 18 bytes more l (omega arith) i));
     payload_length_is = refl;
   };
 }
@@ -98,7 +101,7 @@ choice_fixed = record {
   is = λ bytes. refl;
   same = λ bytes more l. record {
     head_length_is = refl;
-    head_fault_is = λ i. choice_fault (at 0 8 16 bytes more l (omega arith) i);
+    head_fault_is = λ i. fault_if (not (at 0 8 16 bytes more l (omega arith) i == OPTION_MAGIC)) BadMagic None;
     payload_length_is = at 12 4 16 bytes more l (omega arith);
   };
 }
@@ -129,7 +132,7 @@ abort_fixed = record {
   is = λ bytes. refl;
   same = λ bytes more l. record {
     head_length_is = refl;
-    head_fault_is = λ i. answer_fault 2 (at 0 8 20 bytes more l (omega arith) i) (at 8 4 20 bytes more l (omega arith) i) (abort_fault (at 12 4 20 bytes more l (omega arith) i) (at 16 4 20 bytes more l (omega arith) i));
+    head_fault_is = λ i. fault_if (not (at 0 8 20 bytes more l (omega arith) i == ANSWER_MAGIC)) BadMagic (answer_fault 2 (at 8 4 20 bytes more l (omega arith) i) (abort_fault (at 12 4 20 bytes more l (omega arith) i) (at 16 4 20 bytes more l (omega arith) i)));
     payload_length_is = at 16 4 20 bytes more l (omega arith);
   };
 }
@@ -140,8 +143,8 @@ answer_fixed profile option proper takes info selection = record {
   is = λ bytes. refl;
   same = λ bytes more l. record {
     head_length_is = refl;
-    head_fault_is = λ i. answer_fault option (at 0 8 20 bytes more l (omega arith) i) (at 8 4 20 bytes more l (omega arith) i)
-        (unless_error (is_error (at 12 4 20 bytes more l (omega arith) i)) (success_fault profile option proper takes info (at 12 4 20 bytes more l (omega arith) i) (at 16 4 20 bytes more l (omega arith) i)));
+    head_fault_is = λ i. fault_if (not (at 0 8 20 bytes more l (omega arith) i == ANSWER_MAGIC)) BadMagic
+        (answer_head_fault profile option proper takes info (at 8 4 20 bytes more l (omega arith) i) (at 12 4 20 bytes more l (omega arith) i) (at 16 4 20 bytes more l (omega arith) i));
     payload_length_is = at 16 4 20 bytes more l (omega arith);
   };
 }
@@ -149,7 +152,7 @@ answer_fixed profile option proper takes info selection = record {
 request_same : (c d : Core) (bytes more : List ℕ) → 28 ≤ length bytes → IsSameHead (request c bytes) (request d (bytes ++ more))
 request_same c d bytes more l = record {
   head_length_is = refl;
-  head_fault_is = λ i. request_fault (at 0 4 28 bytes more l (omega arith) i) (at 6 2 28 bytes more l (omega arith) i) (at 16 8 28 bytes more l (omega arith) i) (at 24 4 28 bytes more l (omega arith) i);
+  head_fault_is = λ i. fault_if (not (at 0 4 28 bytes more l (omega arith) i == REQUEST_MAGIC)) BadMagic (request_fault (at 6 2 28 bytes more l (omega arith) i) (at 16 8 28 bytes more l (omega arith) i) (at 24 4 28 bytes more l (omega arith) i));
   payload_length_is = λ i. request_payload_length (at 6 2 28 bytes more l (omega arith) i) (at 24 4 28 bytes more l (omega arith) i);
 }
 

@@ -8,15 +8,16 @@ use Rattle.nbd_wire.specs.declared.payloads.Failure.{Failure}
 use Rattle.nbd_wire.specs.declared.payloads.Piece.{Piece}
 use Rattle.nbd_wire.specs.declared.payloads.Piece.TheVariants.{Bytes}
 use Rattle.nbd_wire.specs.protocol.Payloads.{number_at, content_of, failure_of}
-use Rattle.nbd_wire.specs.protocol.Replies.{IsChunk, MayReply}
+use Rattle.nbd_wire.specs.protocol.Replies.{IsChunk}
 use Rattle.nbd_wire.specs.protocol.Operations.{Operation, Exporting, pieces, pieces_of}
 use Rattle.nbd_wire.specs.protocol.Pieces.{chunk_piece, piece_of}
-use Rattle.nbd_wire.specs.protocol.Rules.{MayComplete, complete, core_with_request, reply_to}
+use Rattle.nbd_wire.specs.protocol.Rules.{MayComplete, MayReply, complete, core_with_request, reply_to}
 use Rattle.nbd_wire.specs.protocol.Sendable.{IsSendable}
 use Rattle.nbd_wire.specs.protocol.States.{Phase, Transmission, Core, target, operation, with_reply_at, with_reply}
 use Rattle.nbd_laws.specs.Reached.{IsReached, at_start, after_message}
 use Rattle.nbd_laws.proofs.requests.LaidLemmas.{AreApart, AreInside, apart_snoc, inside_snoc, pieces-snoc}
 use Rattle.nbd_laws.proofs.judge.BoolLemmas.{and_true}
+use Rattle.nbd_laws.proofs.judge.AllowLemmas.{chunk_allow, simple_allow}
 
 pub record IsTidy (e : Operation) : Type 0 where
   pub inside : AreInside e.offset e.length (pieces e)
@@ -119,12 +120,14 @@ tidy_chunk export e flags kind cookie bytes t h = one_more e _ t (elim h [
 
 pub tidy_reply : (structured : Bool) (export : Exporting) (e : Operation) (m : Message) → IsTidy e → MayReply structured export e m → IsTidy (with_reply e m)
 unfolding MayReply
-tidy_reply structured export e (Simple error cookie bytes) t h = one_more e _ t (simple_more e error cookie bytes t h.0 (at_most ((e.command == commands.READ) && (error == 0)) h.3))
+tidy_reply structured export e (Simple error cookie bytes) t h =
+    let s = simple_allow structured export e error cookie bytes h in
+    one_more e _ t (simple_more e error cookie bytes t s.0 (at_most ((e.command == commands.READ) && (error == 0)) s.3))
   where
     at_most : (b : Bool) → length bytes ≡ (if b then e.length else 0) → length bytes ≤ e.length
     at_most true q = omega (arith, q)
     at_most false q = omega (arith, q)
-tidy_reply structured export e (Chunk flags kind cookie bytes) t h = tidy_chunk export e flags kind cookie bytes t h.1
+tidy_reply structured export e (Chunk flags kind cookie bytes) t h = tidy_chunk export e flags kind cookie bytes t (chunk_allow structured export e flags kind cookie bytes h).1
 tidy_reply structured export e m t h = absurd h
 
 tidy_replied : (core : Core) (m : Message) (k : ℕ) (e : Operation) (o : Option ℕ) → o ≡ Some k → AreTidy core.entries → operation k core.entries ≡ Some e → IsTidy (with_reply e m) → AreTidy (reply_to o core m).entries
@@ -135,7 +138,7 @@ tidy_requested : (b : Bool) (core : Core) (e : Operation) → AreTidy core.entri
 tidy_requested true core e t h = t
 tidy_requested false core e t h = tidy_snoc core.entries e t h
 
-tidy_complete : (core : Core) (phase : Phase) (m : Message) → AreTidy core.entries → IsSendable m → MayComplete core phase m → AreTidy (complete core m).entries
+pub tidy_complete : (core : Core) (phase : Phase) (m : Message) → AreTidy core.entries → IsSendable m → MayComplete core phase m → AreTidy (complete core m).entries
 unfolding MayComplete complete IsSendable
 tidy_complete core phase (Greeting flags) t sn ok = t
 tidy_complete core phase (ClientFlags flags) t sn ok = t

@@ -7,7 +7,7 @@ use Rattle.nbd_wire.specs.protocol.Contexts.{Context}
 use Rattle.nbd_wire.specs.protocol.Marks.{Item, Byte, Starts, Completes, Serves}
 use Rattle.nbd_wire.specs.protocol.Operations.{Operation, Exporting}
 use Rattle.nbd_wire.specs.protocol.Rules.{MayComplete, Obeys, after, complete, core_with_request, ends_at, reply_to, request_of_reply}
-use Rattle.nbd_wire.specs.protocol.States.{Core, Phase, State, Greet, Flags, Choosing, Naming, Aborting, Answering, Ended, Transmission, export_in, in_force, operation, with_reply_at, start_of}
+use Rattle.nbd_wire.specs.protocol.States.{Core, Phase, State, Greet, Flags, Choosing, Naming, Aborting, Answering, Transmission, export_in, in_force, operation, with_reply_at, start_of}
 use Rattle.nbd_laws.specs.Selecting.{AreAskedWith, ContextsStay}
 
 pub asked_snoc : (contexts : List Context) (es : List Operation) (e : Operation) → AreAskedWith contexts es → e.contexts ≡ contexts → AreAskedWith contexts (es ++ e ∷ [])

@@ -1,5 +1,6 @@
 -- Nothing of the client comes after a DISC.
 use Rattle.std.proofs.Common.{◌≡◌, ℕ, ◌==◌, List, [], ◌∷◌, ◌++◌, refl, sym, ◌∙◌, subst, Option, Some, None, Bool, true, false}
+use Rattle.nbd_laws.proofs.judge.AllowLemmas.{ask_allow}
 use Rattle.nbd_wire.specs.declared.commands.TheConstants as commands
 use Rattle.nbd_wire.specs.declared.message.Side.TheVariants.{Client}
 use Rattle.nbd_wire.specs.declared.message.Message.{Message}
@@ -20,7 +21,7 @@ record IsAsked (core : Core) (phase : Phase) (command cookie offset len : ℕ) :
 
 request_row : (core : Core) (phase : Phase) (flags command cookie offset len : ℕ) (p : List ℕ) → MayComplete core phase (Request flags command cookie offset len p) → IsAsked core phase command cookie offset len
 unfolding MayComplete
-request_row core (Transmission export) flags command cookie offset len p ok = record { export = export; phase_is = refl; asks_it = ok }
+request_row core (Transmission export) flags command cookie offset len p ok = record { export = export; phase_is = refl; asks_it = ask_allow core command cookie offset len ok.0 ok.1 }
 request_row core phase flags command cookie offset len p ok = absurd ok
 
 gone-requested : (b : Bool) (core : Core) (e : Operation) → core.disconnected ≡ true → (core_with_request b core e).disconnected ≡ true

@@ -1,6 +1,8 @@
 -- What a request keeps as replies to it complete.
 use Rattle.std.proofs.Common.{◌≡◌, Option, ℕ, zero, suc, ◌<◌, ◌≤◌, ◌⊎◌, ◌+◌, ◌==◌, List, [], ◌∷◌, ◌++◌, length, refl, sym, ◌∙◌, ap, subst, inl, inr, Some, None, Bool, true, false, not, ◌&&◌, ◌||◌, if◌then◌else◌, eqb-true, eq-eqb, is_some, arith, IsTrue, append-nil, nat_le, nat_lt, le_refl}
 use Rattle.std.proofs.lemmas.Bool.{leb-true, ltb-true}
+use Rattle.nbd_laws.proofs.judge.AllowLemmas.{chunk_allow, finish_allow, simple_allow, total_covers}
+use Rattle.nbd_wire.specs.protocol.JudgeTransmission.{done_fault}
 use Rattle.nbd_wire.specs.declared.chunks.TheConstants as chunks
 use Rattle.nbd_wire.specs.declared.command_flags.TheConstants as command_flags
 use Rattle.nbd_wire.specs.declared.commands.TheConstants as commands
@@ -12,7 +14,8 @@ use Rattle.nbd_wire.specs.declared.payloads.Piece.TheVariants.{Bytes}
 use Rattle.nbd_wire.specs.declared.sizes.Sizes.{Sizes}
 use Rattle.nbd_wire.specs.protocol.Contexts.{Context}
 use Rattle.nbd_wire.specs.protocol.Payloads.{content_of, failure_of, number_at}
-use Rattle.nbd_wire.specs.protocol.Replies.{IsChunk, MayReply, simple_length}
+use Rattle.nbd_wire.specs.protocol.Replies.{IsChunk, simple_length}
+use Rattle.nbd_wire.specs.protocol.Rules.{MayReply}
 use Rattle.nbd_wire.specs.protocol.Operations.{Covers, Operation, Exporting, Outcome, Success, Pending, any, ends_reply, has_failed, has_range, is_failing, is_finished, is_proper, outcome, pieces, pieces_of}
 use Rattle.nbd_wire.specs.protocol.Pieces.{byte_at, chunk_piece, holds, is_in, piece_of, piece_offset, piece_size, simple_piece}
 use Rattle.nbd_wire.specs.protocol.Flags.{has}
@@ -154,19 +157,19 @@ kept_chunk export e flags kind cookie payload g h = elim h [
 -- a chunk
 pub good_chunk : (structured : Bool) (export : Exporting) (e : Operation) (flags kind cookie : ℕ) (payload : List ℕ) → IsGood export e → is_finished e ≡ false → MayReply structured export e (Chunk flags kind cookie payload) →
     IsGood export (with_reply e (Chunk flags kind cookie payload))
-unfolding MayReply ends_reply is_proper
+unfolding ends_reply is_proper
 good_chunk structured export e flags kind cookie payload g not_true_is_false h =
-    let k : Keeps export e (pieces (with_reply e (Chunk flags kind cookie payload))) = kept_chunk export e flags kind cookie payload g h.1 in
-    record { carried = g.carried; inside = k.inside; apart = k.apart; reads = k.reads; single = k.single; success = λ s. (finish s).0; covered = λ s. (finish s).1 }
+    let k : Keeps export e (pieces (with_reply e (Chunk flags kind cookie payload))) = kept_chunk export e flags kind cookie payload g (chunk_allow structured export e flags kind cookie payload h).1 in
+    record { carried = g.carried; inside = k.inside; apart = k.apart; reads = k.reads; single = k.single; success = λ s. (finish k s).0; covered = λ s. (finish k s).1 }
   where
-    finish : outcome (with_reply e (Chunk flags kind cookie payload)) ≡ Success →
+    finish : Keeps export e (pieces (with_reply e (Chunk flags kind cookie payload))) → outcome (with_reply e (Chunk flags kind cookie payload)) ≡ Success →
         IsTrue (is_proper export (with_reply e (Chunk flags kind cookie payload))) × (e.command ≡ commands.READ → Covers e (pieces (with_reply e (Chunk flags kind cookie payload))))
-    finish s =
+    finish k s =
         let w : Succeeds (with_reply e (Chunk flags kind cookie payload)) = succeeds (with_reply e (Chunk flags kind cookie payload)) s in
-        elim (h.2 (any-last ends_reply e.replies (Chunk flags kind cookie payload) not_true_is_false w.finished)) [
-          | inl f ↦ absurd (let q : true ≡ false = sym f ∙ w.unfailed in (cc))
-          | inr r ↦ (r.0, r.1)
-        ]
+        let f : Operation = with_reply e (Chunk flags kind cookie payload) in
+        let done : has flags chunks.DONE ≡ true = any-last ends_reply e.replies (Chunk flags kind cookie payload) not_true_is_false w.finished in
+        let r = finish_allow export f w.unfailed (subst (λ b. done_fault b export f ≡ None) done (chunk_allow structured export e flags kind cookie payload h).2) in
+        (r.0, λ c. total_covers f k.inside k.apart (r.1 c))
 
 -- a request with one simple reply
 abbrev pub once : Operation → (error cookie : ℕ) (payload : List ℕ) → Operation
@@ -219,8 +222,9 @@ simple_covers e (b ∷ bytes) l x i = go (holds (Bytes e.offset (b ∷ bytes)) x
     go false q = absurd (cc)
 
 pub good_simple : (structured : Bool) (export : Exporting) (e : Operation) (error cookie : ℕ) (payload : List ℕ) → IsGood export e → MayReply structured export e (Simple error cookie payload) → IsGood export (with_reply e (Simple error cookie payload))
-unfolding MayReply piece_of is_proper
-good_simple structured export e error cookie payload g h =
+unfolding piece_of is_proper
+good_simple structured export e error cookie payload g may =
+    let h = simple_allow structured export e error cookie payload may in
     let k : Keeps export e (simple_piece e.offset payload ++ []) = simple_keeps export e payload
     (let m : simple_length e error ≤ e.length = simple_most e error in let q : length payload ≡ simple_length e error = h.3 in omega arith)
     (λ n. h.3 ∙ simple_none e error n) in

@@ -1,5 +1,6 @@
 -- The outstanding requests of a core have distinct cookies.
 use Rattle.std.proofs.Common.{◌≡◌, ℕ, zero, suc, ◌+◌, ◌==◌, ◌&&◌, ◌||◌, not, ◌<◌, ◌≤◌, length, List, [], ◌∷◌, ◌++◌, refl, sym, ◌∙◌, ap, subst, Option, Some, None, Bool, true, false, if◌then◌else◌, arith, eqb-true, eq-eqb, IsTrue, is_some}
+use Rattle.nbd_laws.proofs.judge.AllowLemmas.{ask_allow}
 use Rattle.nbd_wire.specs.declared.entry.Entry.{Entry}
 use Rattle.nbd_wire.specs.protocol.Entries.{IsWhollyServed, MayServe}
 use Rattle.nbd_wire.specs.declared.commands.TheConstants as commands
@@ -106,7 +107,7 @@ distinct_complete core phase (ClientFlags flags) ok d = d
 distinct_complete core phase (Choice id p) ok d = d
 distinct_complete core phase (Answer option kind p) ok d = d
 distinct_complete core phase (Exported size flags padded) ok d = d
-distinct_complete core (Transmission export) (Request flags command cookie offset len p) ok d = distinct_requested (command == commands.DISC) core _ offset len ok d
+distinct_complete core (Transmission export) (Request flags command cookie offset len p) ok d = distinct_requested (command == commands.DISC) core _ offset len (ask_allow core command cookie offset len ok.0 ok.1) d
 distinct_complete core phase (Request flags command cookie offset len p) ok d = absurd ok
 distinct_complete core phase (Simple error cookie p) ok d = distinct_reply_to (request_of_reply core (Simple error cookie p)) core (Simple error cookie p) d
 distinct_complete core phase (Chunk flags kind cookie p) ok d = distinct_reply_to (request_of_reply core (Chunk flags kind cookie p)) core (Chunk flags kind cookie p) d

@@ -1,9 +1,14 @@
 -- The replies to a request are one simple reply, or chunks of which the last and only the last ends the reply.
 use Rattle.std.proofs.Common.{◌≡◌, ℕ, zero, suc, ◌==◌, ◌||◌, List, [], ◌∷◌, ◌++◌, refl, sym, ◌∙◌, ap, subst, inl, inr, Option, Some, None, Bool, true, false, not, eqb-true}
+use Rattle.nbd_laws.proofs.judge.AllowLemmas.{chunk_allow, finish_allow, simple_allow}
+use Rattle.nbd_wire.specs.protocol.Flags.{has}
+use Rattle.nbd_wire.specs.declared.chunks.TheConstants as chunks
+use Rattle.nbd_wire.specs.protocol.JudgeTransmission.{done_fault}
+use Rattle.nbd_wire.specs.protocol.Replies.{IsChunk}
 use Rattle.nbd_wire.specs.declared.commands.TheConstants as commands
 use Rattle.nbd_wire.specs.declared.message.Message.{Message}
 use Rattle.nbd_wire.specs.declared.message.Message.TheVariants.{Greeting, ClientFlags, Choice, Answer, Exported, Request, Simple, Chunk}
-use Rattle.nbd_wire.specs.protocol.Replies.{MayReply}
+use Rattle.nbd_wire.specs.protocol.Rules.{MayReply}
 use Rattle.nbd_wire.specs.protocol.Sizes.{sizes_kept}
 use Rattle.nbd_wire.specs.protocol.Reports.{operations_of}
 use Rattle.nbd_wire.specs.protocol.Operations.{Operation, Exporting, any, ends_reply, is_finished}
@@ -117,22 +122,24 @@ found_cookie core cookie k e t is =
     subst (λ (y : Operation). y.cookie ≡ cookie) s (eqb-true f.found.cookie cookie (both_true (f.found.cookie == cookie) (not (is_finished f.found)) f.waits).0)
 
 simple_behind : (structured : Bool) (export : Exporting) (e : Operation) (error cookie : ℕ) (p : List ℕ) → MayReply structured export e (Simple error cookie p) → IsReplyAfter structured e e.replies (Simple error cookie p)
-unfolding MayReply
-simple_behind structured export e error cookie p h = (h.0, h.1, h.2)
+simple_behind structured export e error cookie p may = let h = simple_allow structured export e error cookie p may in (h.0, h.1, h.2)
 
 chunk_behind : (structured : Bool) (export : Exporting) (e : Operation) (flags kind cookie : ℕ) (p : List ℕ) → MayReply structured export e (Chunk flags kind cookie p) → IsReplyAfter structured e e.replies (Chunk flags kind cookie p)
-unfolding MayReply ends_reply
-chunk_behind structured export e flags kind cookie p h = (
-  h.0,
-  elim h.1 [
-    | inl q ↦ inl q
-    | inr r ↦ elim r [ inl c ↦ inr (inl (c.0, c.1, c.2.0)) | inr o ↦ elim o [ inl f ↦ inr (inr (inl f)) | inr s ↦ inr (inr (inr s)) ] ]
-  ],
-  λ done well c n. elim (h.2 done) [
-    | inl f ↦ absurd (let z : true ≡ false = sym f ∙ well in (cc))
-    | inr s ↦ s.2 c n
-  ],
-)
+unfolding ends_reply
+chunk_behind structured export e flags kind cookie p may = go (chunk_allow structured export e flags kind cookie p may)
+  where
+    f : Operation
+    f = with_reply e (Chunk flags kind cookie p)
+
+    go : (structured ≡ true) × IsChunk export e flags kind p × (done_fault (has flags chunks.DONE) export f ≡ None) → IsReplyAfter structured e e.replies (Chunk flags kind cookie p)
+    go h = (
+      h.0,
+      elim h.1 [
+        | inl q ↦ inl q
+        | inr r ↦ elim r [ inl c ↦ inr (inl (c.0, c.1, c.2.0)) | inr o ↦ elim o [ inl f ↦ inr (inr (inl f)) | inr s ↦ inr (inr (inr s)) ] ]
+      ],
+      λ done well c n. (finish_allow export f well (subst (λ b. done_fault b export f ≡ None) done h.2)).2 c n,
+    )
 
 structured-requested : (b : Bool) (core : Core) (e : Operation) → (core_with_request b core e).structured ≡ core.structured
 structured-requested true core e = refl

@@ -1,6 +1,7 @@
 -- What holds of each request of a core that completed messages lead to, and of every report.
 use Rattle.std.proofs.Common.{◌≡◌, ℕ, ◌<◌, ◌≤◌, ◌+◌, ◌==◌, List, [], ◌∷◌, length, refl, sym, ◌∙◌, ap, subst, inl, inr, Option, Some, None, Bool, true, false, not, ◌&&◌, ◌||◌, if◌then◌else◌, eqb-true, arith, IsTrue, nat_le, ◌⊎◌, ◌++◌, ◌≢◌, append-nil}
 use Rattle.std.proofs.lemmas.Bool.{leb-true}
+use Rattle.nbd_laws.proofs.judge.AllowLemmas.{answer_allow, export_allow}
 use Rattle.nbd_wire.specs.declared.answers.TheConstants as answers
 use Rattle.nbd_wire.specs.declared.commands.TheConstants as commands
 use Rattle.nbd_wire.specs.declared.limits.TheConstants.{EXPORT_SIZE}
@@ -161,10 +162,10 @@ sound_complete core Greet (Greeting flags) q ok sn g = subst (λ phase. InPhase 
 sound_complete core Flags (ClientFlags flags) q ok sn g = subst (λ phase. InPhase (next_phase phase (ClientFlags flags)) core.entries) (sym q) g
 sound_complete core Choosing (Choice id p) q ok sn g = subst (λ phase. InPhase (next_phase phase (Choice id p)) core.entries) (sym q) (chosen_in id p core.entries g)
 sound_complete core Naming (Exported size flags padded) q ok sn g =
-    subst (λ phase. InPhase (next_phase phase (Exported size flags padded)) core.entries) (sym q) (ok.2, ok.0, subst (AreGood (record { size = size; flags = flags })) (sym g) tt)
+    subst (λ phase. InPhase (next_phase phase (Exported size flags padded)) core.entries) (sym q) ((export_allow size flags ok.1).1, (export_allow size flags ok.1).0, subst (AreGood (record { size = size; flags = flags })) (sym g) tt)
 sound_complete core Aborting (Answer option kind p) q ok sn g = subst (λ phase. InPhase (next_phase phase (Answer option kind p)) core.entries) (sym q) g
 sound_complete core (Answering asked asked_with info) (Answer option kind p) q ok sn g =
-    subst (λ phase. InPhase (next_phase phase (Answer option kind p)) core.entries) (sym q) (elim ok.1 [ inl a ↦ answered_in asked asked_with info core.entries g kind p a | inr a ↦ told_in asked asked_with info core.entries g core.selection kind p a.1 ])
+    subst (λ phase. InPhase (next_phase phase (Answer option kind p)) core.entries) (sym q) (elim (answer_allow core.profile asked asked_with info core.selection option kind p ok.0 ok.1).1 [ inl a ↦ answered_in asked asked_with info core.entries g kind p a | inr a ↦ told_in asked asked_with info core.entries g core.selection kind p a.1 ])
 sound_complete core (Transmission export) m q ok sn g =
     let i : InTransmission core export m = transmission_row core export m ok in
     subst (λ phase. InPhase phase (complete core m).entries) (sym (phase-complete core export m i ∙ q)) (g.0, g.1, good_transmitted core export m i sn g.2)

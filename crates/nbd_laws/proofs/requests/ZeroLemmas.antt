@@ -1,5 +1,5 @@
 -- What a status calls zero: pieces in its request's range, which share no offset.
-use Rattle.std.proofs.Common.{◌≡◌, ℕ, ◌+◌, ◌-◌, ◌<◌, ◌≤◌, ◌==◌, ◌&&◌, List, [], ◌∷◌, ◌++◌, length, min, refl, sym, ◌∙◌, ap, subst, Option, Some, None, Bool, true, false, not, if◌then◌else◌, nat_le, nat_lt, arith, IsTrue, leb-true, leb-false, ltb-true, eqb-true, eq-eqb, ◌||◌}
+use Rattle.std.proofs.Common.{◌≡◌, ℕ, ◌+◌, ◌-◌, ◌<◌, ◌≤◌, ◌==◌, ◌&&◌, List, [], ◌∷◌, ◌++◌, min, refl, sym, ◌∙◌, ap, subst, Some, None, Bool, true, false, not, if◌then◌else◌, nat_le, nat_lt, arith, IsTrue, leb-true, leb-false, ltb-true, eqb-true, eq-eqb, ◌||◌}
 use Rattle.std.proofs.lemmas.Nat.{and_assoc}
 use Rattle.std.specs.Int.Bits.{and_zero_r, bit_and}
 use Rattle.nbd_wire.specs.declared.command_flags.TheConstants as command_flags
@@ -9,9 +9,9 @@ use Rattle.nbd_wire.specs.declared.message.Message.{Message}
 use Rattle.nbd_wire.specs.declared.payloads.Piece.{Piece}
 use Rattle.nbd_wire.specs.declared.payloads.Piece.TheVariants.{Hole}
 use Rattle.nbd_wire.specs.protocol.Contexts.{Extent, Status}
-use Rattle.nbd_wire.specs.protocol.Operations.{Exporting, Operation, allowed_flags, is_proper, mask_if, pieces}
+use Rattle.nbd_wire.specs.protocol.Operations.{Exporting, Operation, allowed_flags, is_proper, mask_if}
 use Rattle.nbd_wire.specs.protocol.Flags.{has, has_only}
-use Rattle.nbd_wire.specs.protocol.Pieces.{SharesNone, byte_at, holds, is_in, piece_byte, piece_offset, piece_size}
+use Rattle.nbd_wire.specs.protocol.Pieces.{byte_at, holds, piece_byte, piece_offset, piece_size}
 use Rattle.nbd_wire.specs.protocol.Statuses.{is_allocation, status_in, zero_part, zeroes, zeroes_first, zeroes_in, zeroes_told}
 use Rattle.nbd_laws.proofs.requests.LaidLemmas.{AreApart, AreInside}
 use Rattle.nbd_laws.proofs.requests.OutstandingLemmas.{both_true}

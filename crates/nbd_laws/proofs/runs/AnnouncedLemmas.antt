@@ -1,5 +1,5 @@
 -- The block sizes that a client has to keep are those that came last.
-use Rattle.std.proofs.Common.{◌≡◌, ◌≢◌, ℕ, ◌==◌, List, [], ◌∷◌, ◌++◌, refl, sym, ◌∙◌, ap, Option, Some, None, Bool, true, false, if◌then◌else◌, All}
+use Rattle.std.proofs.Common.{◌≡◌, ◌≢◌, ℕ, ◌==◌, List, [], ◌∷◌, ◌++◌, refl, ◌∙◌, ap, Option, Some, None, Bool, true, false, if◌then◌else◌}
 use Rattle.std.proofs.lemmas.List.Elements.{All-head, All-tail}
 use Rattle.nbd_wire.specs.declared.answers.TheConstants as answers
 use Rattle.nbd_wire.specs.declared.commands.TheConstants as commands

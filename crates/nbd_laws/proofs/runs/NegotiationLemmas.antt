@@ -1,6 +1,7 @@
 -- A session begins with a greeting and flags, and each answer follows a choice.
 use Rattle.std.proofs.Common.{◌≡◌, ℕ, zero, suc, ◌⊎◌, ◌≤◌, ◌==◌, List, [], ◌∷◌, ◌++◌, refl, sym, ◌∙◌, ap, subst, inl, inr, Option, Some, None, Bool, true, false, if◌then◌else◌, IsTrue, is_some, bit_and, arith, eqb-true, ◌||◌, ◌≢◌, not}
 use Rattle.std.proofs.lemmas.Nat.{and_le_r}
+use Rattle.nbd_laws.proofs.judge.AllowLemmas.{abort_allow, answer_allow, flags_allow, greeting_allow}
 use Rattle.nbd_wire.specs.declared.answers.TheConstants as answers
 use Rattle.nbd_wire.specs.declared.handshake.TheConstants as handshake
 use Rattle.nbd_wire.specs.declared.options.TheConstants as options
@@ -45,11 +46,11 @@ offered-greeting core flags = refl
 
 flags_fair : (core : Core) (flags : ℕ) → MayComplete core Flags (ClientFlags flags) → AreFairFlags core.offered flags
 unfolding MayComplete
-flags_fair core flags ok = fair core.offered flags ok
+flags_fair core flags ok = fair core.offered flags (flags_allow core.offered flags ok)
 
 greeting_fair : (core : Core) (flags : ℕ) → MayComplete core Greet (Greeting flags) → IsTrue (has flags handshake.FIXED_NEWSTYLE)
 unfolding MayComplete
-greeting_fair core flags ok = ok
+greeting_fair core flags ok = greeting_allow flags ok
 
 flags_first : (items : List Item) (core : Core) → Follows core items → core.phase ≡ Flags → BeginsWithFlags core.offered (completed_messages items)
 flags_first [] core f p = inl refl
@@ -322,8 +323,8 @@ unfolding MayComplete
 follow core Aborting option kind p choice last told ok k = (
   record { option = options.ABORT; payload = k.0 },
   k.1,
-  sym ok.0,
-  elim ok.1 [
+  sym (abort_allow option kind p ok).0,
+  elim (abort_allow option kind p ok).1 [
     | inl e ↦ inl e
     | inr x ↦ inr (abort_is_proper k.0, inl (x.0, x.1, inl refl))
   ],
@@ -331,9 +332,9 @@ follow core Aborting option kind p choice last told ok k = (
 follow core (Answering asked asked_with info) option kind p choice last told ok k = (
   record { option = asked; payload = asked_with },
   k.0,
-  sym ok.0,
+  sym (answer_allow core.profile asked asked_with info core.selection option kind p ok.0 ok.1).0,
   subst (λ i. IsAnswer core.profile (record { option = asked; payload = asked_with }) i told kind p) (sym k.1)
-      (elim ok.1 [ inl a ↦ is_answer core.profile asked asked_with info told kind p a | inr a ↦ tells core.profile asked asked_with info told kind p core.selection k.2 a.0 a.1 ]),
+      (elim (answer_allow core.profile asked asked_with info core.selection option kind p ok.0 ok.1).1 [ inl a ↦ is_answer core.profile asked asked_with info told kind p a | inr a ↦ tells core.profile asked asked_with info told kind p core.selection k.2 a.0 a.1 ]),
 )
 follow core phase option kind p choice last told ok k = absurd ok
 

@@ -1,6 +1,7 @@
 -- Of two messages of a side that may complete, neither's bytes are a proper prefix of the other's.
 use Rattle.std.proofs.Common.{◌≡◌, ℕ, zero, suc, ◌<◌, ◌^◌, ◌==◌, List, [], ◌∷◌, ◌++◌, length, drop, refl, sym, ◌∙◌, ap, subst, Option, Some, None, Bool, true, false, not, if◌then◌else◌, arith, length-append, append-nil, slice_index}
 use Rattle.byteorder.specs.Numbers.{big_number-reads_back}
+use Rattle.nbd_laws.proofs.judge.AllowLemmas.{ask_allow}
 use Rattle.nbd_wire.specs.declared.commands.TheConstants as commands
 use Rattle.nbd_wire.specs.declared.handshake.TheConstants as handshake
 use Rattle.nbd_wire.specs.declared.message.Side.{Side}
@@ -9,7 +10,8 @@ use Rattle.nbd_wire.specs.declared.message.Message.{Message}
 use Rattle.nbd_wire.specs.declared.message.Message.TheVariants.{Greeting, ClientFlags, Choice, Answer, Exported, Request, Simple, Chunk}
 use Rattle.nbd_wire.specs.protocol.Encoding.{enc, head, tail}
 use Rattle.nbd_wire.specs.protocol.Payloads.{number_at}
-use Rattle.nbd_wire.specs.protocol.Replies.{MayReply, simple_length}
+use Rattle.nbd_wire.specs.protocol.Replies.{simple_length}
+use Rattle.nbd_wire.specs.protocol.Rules.{MayReply}
 use Rattle.nbd_wire.specs.protocol.Operations.{Operation, Exporting}
 use Rattle.nbd_wire.specs.protocol.Flags.{has}
 use Rattle.nbd_wire.specs.protocol.Rules.{AnswersOne, MayAsk, MayStartIn, MayComplete, complete, core_with_request, reply_to, request_of_reply}
@@ -156,7 +158,7 @@ choosing_row core m ok = absurd ok
 
 naming_row : (core : Core) (m : Message) → MayComplete core Naming m → (size : ℕ) × (flags : ℕ) × (m ≡ Exported size flags (not (has core.client_flags handshake.C_NO_ZEROES)))
 unfolding MayComplete
-naming_row core (Exported size flags padded) ok = (size, flags, ap (Exported size flags) ok.1)
+naming_row core (Exported size flags padded) ok = (size, flags, ap (Exported size flags) ok.0)
 naming_row core m ok = absurd ok
 
 aborting_row : (core : Core) (m : Message) → MayComplete core Aborting m → (option : ℕ) × (kind : ℕ) × (p : List ℕ) × (m ≡ Answer option kind p)
@@ -227,7 +229,7 @@ pub data InTransmission (core : Core) (export : Exporting) : Message → Type 0 
 
 pub transmission_row : (core : Core) (export : Exporting) (m : Message) → MayComplete core (Transmission export) m → InTransmission core export m
 unfolding MayComplete
-transmission_row core export (Request flags command cookie offset len p) ok = asks flags command cookie offset len p ok
+transmission_row core export (Request flags command cookie offset len p) ok = asks flags command cookie offset len p (ask_allow core command cookie offset len ok.0 ok.1)
 transmission_row core export (Simple error cookie p) ok = replies error cookie p ok
 transmission_row core export (Chunk flags kind cookie p) ok = gives flags kind cookie p ok
 transmission_row core export m ok = absurd ok
@@ -304,7 +306,7 @@ simple_prefix now end export error error' cookie cookie' p p' left l t sn sn' (k
     let found_too : target cookie' end.entries ≡ Some k = subst (λ c. target c end.entries ≡ Some k) f.1 found in
     let kk : k' ≡ k = (let w : Some k' ≡ Some k = sym same.found ∙ found_too in cc) in
     let ee : e' ≡ e = (let w : Some e' ≡ Some e = sym same.is ∙ ap (λ j. operation j end.entries) kk ∙ is in cc) in
-    let n : length p ≡ length p' = h.3 ∙ ap (simple_length e) f.0 ∙ ap (λ x. simple_length x error') (sym ee) ∙ sym h'.3 in
+    let n : length p ≡ length p' = h.0 ∙ ap (simple_length e) f.0 ∙ ap (λ x. simple_length x error') (sym ee) ∙ sym h'.0 in
     let r : (p ≡ p') × (left ≡ []) = same_prefix p p' left n f.2 in
     (ap (λ x. Simple x cookie p) f.0 ∙ ap (λ x. Simple error' x p) f.1 ∙ ap (Simple error' cookie') r.0, r.1)
 

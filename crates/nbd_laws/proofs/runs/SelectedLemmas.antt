@@ -4,6 +4,7 @@ use Rattle.std.specs.Prelude.{All}
 use Rattle.std.specs.Str.{bytes_eq}
 use Rattle.byteorder.specs.Endian.{big_bytes}
 use Rattle.byteorder.specs.Numbers.{big_number-reads_back}
+use Rattle.nbd_laws.proofs.judge.AllowLemmas.{abort_allow, answer_allow}
 use Rattle.nbd_wire.specs.declared.answers.TheConstants as answers
 use Rattle.nbd_wire.specs.declared.commands.TheConstants as commands
 use Rattle.nbd_wire.specs.declared.options.TheConstants as options
@@ -414,13 +415,12 @@ happens core Aborting (Answer option kind p) at sn ok =
     quietly core (Answer option kind p) Ended (λ id payload q. cc) (record {
       selection_is = ap (λ phase. selection_after phase kind p core.selection) at;
       agreed_is = refl;
-      structured_is = or_no core.structured (grants_structured option kind) (no_grant option kind ok.0);
+      structured_is = or_no core.structured (grants_structured option kind) (no_grant option kind (abort_allow option kind p ok).0);
     }) (ap (λ phase. next_phase phase (Answer option kind p)) at)
     (λ asked info q. cc) (λ id payload l. tt)
-happens core (Answering asked p info) (Answer option kind answer) at sn ok = answer_happens core asked p info option kind answer at ok.0 sn.2.1 (elim ok.1 [
-  | inl a ↦ said asked p kind answer info a
-  | inr t ↦ told_so asked p kind answer core.selection t.1
-])
+happens core (Answering asked p info) (Answer option kind answer) at sn ok =
+    let a = answer_allow core.profile asked p info core.selection option kind answer ok.0 ok.1 in
+    answer_happens core asked p info option kind answer at a.0 sn.2.1 (elim a.1 [ inl b ↦ said asked p kind answer info b | inr t ↦ told_so asked p kind answer core.selection t.1 ])
 happens core phase m at sn ok = absurd ok
 
 -- a list that holds something

@@ -1,27 +1,18 @@
 -- Tests that decide the rules of negotiation by computing, and what a message needs to start.
 use Rattle.std.proofs.Common.{◌≡◌, ℕ, zero, suc, ◌+◌, ◌<◌, ◌≤◌, ◌^◌, ◌⊎◌, ◌==◌, ◌&&◌, ◌||◌, not, nat_le, nat_lt, List, [], ◌∷◌, length, refl, ap, subst, inl, inr, Option, Some, None, Bool, true, false, if◌then◌else◌, IsTrue, is_some, eqb-true, arith, sym, ◌∙◌, eq-eqb}
 use Rattle.std.proofs.lemmas.Bool.{eqb-false, leb-true, ltb-true}
+use Rattle.nbd_wire.specs.declared.fault.WireFault.{WireFault}
 use Rattle.nbd_wire.specs.declared.entry.Entry.{Entry}
 use Rattle.nbd_wire.specs.declared.entry.Part.{Part}
 use Rattle.nbd_wire.specs.protocol.Entries.{IsWhollyServed, MayServe, Names, NamesWhole, inside, is_served, inside_of}
-use Rattle.nbd_wire.specs.declared.answers.TheConstants as answers
 use Rattle.nbd_wire.specs.declared.commands.TheConstants as commands
-use Rattle.nbd_wire.specs.declared.limits.TheConstants.{EXPORT_SIZE}
-use Rattle.nbd_wire.specs.declared.options.TheConstants as options
-use Rattle.nbd_wire.specs.declared.transmission.TheConstants as transmission
 use Rattle.nbd_wire.specs.declared.message.Side.{Side}
 use Rattle.nbd_wire.specs.declared.message.Side.TheVariants.{Client, Server}
 use Rattle.nbd_wire.specs.declared.message.Message.{Message}
 use Rattle.nbd_wire.specs.declared.message.Message.TheVariants.{Greeting, ClientFlags, Choice, Answer, Exported, Request, Simple, Chunk}
-use Rattle.nbd_wire.specs.declared.payloads.Info.{Info}
-use Rattle.nbd_wire.specs.declared.payloads.Info.TheVariants.{Export, BlockSize, Other}
 use Rattle.nbd_wire.specs.protocol.Encoding.{AreBytes}
-use Rattle.nbd_wire.specs.protocol.Contexts.{Context, Selection, has_id}
-use Rattle.nbd_wire.specs.declared.profile.Profile.{Profile}
-use Rattle.nbd_wire.specs.protocol.Options.{IsFreshFor, IsInfo, MayAcknowledge, MayAnswer, MayTell, is_error, is_proper_option, takes_contexts, turn}
-use Rattle.nbd_wire.specs.protocol.Payloads.{info_of, is_listed, context_of}
+use Rattle.nbd_wire.specs.protocol.Options.{turn}
 use Rattle.nbd_wire.specs.protocol.Operations.{Exporting, Operation, has_range, is_proper, proper_on}
-use Rattle.nbd_wire.specs.protocol.Flags.{has}
 use Rattle.nbd_wire.specs.protocol.Pieces.{is_in}
 use Rattle.nbd_wire.specs.protocol.Rules.{IsServedFor, MayStartIn, inside_at, inside_operation, request_of_reply, is_request}
 use Rattle.nbd_wire.specs.protocol.Sendable.{IsPayload, IsSendable}
@@ -272,110 +263,11 @@ true_is_fresh within before e h = go e.part h
           ],
         )
 
-abbrev pub is_info : Option Info → Bool
-is_info (Some (Export size flags)) = has flags transmission.HAS_FLAGS
-is_info (Some (BlockSize least preferred most)) = false
-is_info (Some (Other kind)) = true
-is_info None = false
+-- nothing is refused
+abbrev pub is_clean : Option WireFault → Bool
+is_clean None = true
+is_clean (Some fault) = false
 
-pub info_is : (profile : Profile) (payload : List ℕ) → IsTrue (is_info (info_of payload)) → IsInfo profile payload
-info_is profile payload e = go (info_of payload) refl e
-  where
-    go : (o : Option Info) → info_of payload ≡ o → IsTrue (is_info o) → IsInfo profile payload
-    go (Some (Export size flags)) q e = (Export size flags, q, λ size' flags' h. (let f : flags ≡ flags' = cc in subst (λ f. IsTrue (has f transmission.HAS_FLAGS)) f e), λ w sizes h. absurd (cc))
-    go (Some (BlockSize least preferred most)) q e = absurd (cc)
-    go (Some (Other kind)) q e = (Other kind, q, λ size flags h. absurd (cc), λ w sizes h. absurd (cc))
-    go None q e = absurd (cc)
-
-abbrev pub fits_limit : Option Exporting → Bool
-fits_limit (Some export) = nat_le export.size EXPORT_SIZE
-fits_limit None = false
-
-abbrev pub may_acknowledge : ℕ → Option Exporting → Bool
-may_acknowledge option info =
-    (option == options.LIST) || ((option == options.STRUCTURED_REPLY) || (((option == options.INFO) && is_some info) || ((option == options.GO) && fits_limit info)))
-
-pub acknowledges : (option : ℕ) (info : Option Exporting) → IsTrue (may_acknowledge option info) → MayAcknowledge option info
-acknowledges option info e = elim (one (option == options.LIST) _ e) [
-  | inl h ↦ inl (eqb-true option options.LIST h)
-  | inr e ↦ elim (one (option == options.STRUCTURED_REPLY) _ e) [
-    | inl h ↦ inr (inl (eqb-true option options.STRUCTURED_REPLY h))
-    | inr e ↦ elim (one ((option == options.INFO) && is_some info) _ e) [
-      | inl h ↦ (let b = both (option == options.INFO) (is_some info) h in inr (inr (inl (eqb-true option options.INFO b.0, b.1))))
-      | inr h ↦ (let b = both (option == options.GO) (fits_limit info) h in inr (inr (inr (eqb-true option options.GO b.0, fit info b.1))))
-    ]
-  ]
-]
-  where
-    fit : (o : Option Exporting) → IsTrue (fits_limit o) → (export : Exporting) × (o ≡ Some export) × (export.size ≤ EXPORT_SIZE)
-    fit (Some export) e = (export, refl, leb-true export.size EXPORT_SIZE e)
-    fit None e = absurd (cc)
-
-abbrev pub is_fresh_for : ℕ → Selection → Option Context → Bool
-is_fresh_for option selection (Some context) = not (option == options.SET_META_CONTEXT) || not (has_id selection.contexts context.id)
-is_fresh_for option selection None = false
-
-fresh_for : (option : ℕ) (selection : Selection) (answer : List ℕ) → IsTrue (is_fresh_for option selection (context_of answer))
-    → (context : Context) × (context_of answer ≡ Some context) × IsFreshFor option selection context
-fresh_for option selection answer e = go (context_of answer) refl e
-  where
-    go : (o : Option Context) → context_of answer ≡ o → IsTrue (is_fresh_for option selection o) → (context : Context) × (context_of answer ≡ Some context) × IsFreshFor option selection context
-    go (Some context) q e = (
-      context,
-      q,
-      λ h. was_false (has_id selection.contexts context.id)
-          (then_too (option == options.SET_META_CONTEXT) (not (has_id selection.contexts context.id)) e (eq-eqb option options.SET_META_CONTEXT h)),
-    )
-    go None q e = absurd (cc)
-
-abbrev pub may_tell : Selection → (option : ℕ) (payload : List ℕ) (kind : ℕ) (answer : List ℕ) → Bool
-may_tell selection option payload kind answer =
-    ((option == options.LIST_META_CONTEXT) || (option == options.SET_META_CONTEXT))
-    && (is_proper_option option payload
-    && (((kind == answers.ACK) && is_empty answer)
-    || ((kind == answers.META_CONTEXT) && (takes_contexts option payload && is_fresh_for option selection (context_of answer)))))
-
-pub tells_it : (selection : Selection) (option : ℕ) (payload : List ℕ) (kind : ℕ) (answer : List ℕ) → IsTrue (may_tell selection option payload kind answer) → MayTell selection option payload kind answer
-tells_it selection option payload kind answer e =
-    let a = both ((option == options.LIST_META_CONTEXT) || (option == options.SET_META_CONTEXT)) _ e in
-    let b = both (is_proper_option option payload) _ a.1 in (
-      elim (one (option == options.LIST_META_CONTEXT) (option == options.SET_META_CONTEXT) a.0) [
-        | inl q ↦ inl (eqb-true option options.LIST_META_CONTEXT q)
-        | inr q ↦ inr (eqb-true option options.SET_META_CONTEXT q)
-      ],
-      b.0,
-      elim (one ((kind == answers.ACK) && is_empty answer) _ b.1) [
-        | inl h ↦ (let c = both (kind == answers.ACK) (is_empty answer) h in inl (eqb-true kind answers.ACK c.0, empty answer c.1))
-        | inr h ↦ (let c = both (kind == answers.META_CONTEXT) _ h in let d = both (takes_contexts option payload) _ c.1 in
-            inr (eqb-true kind answers.META_CONTEXT c.0, d.0, fresh_for option selection answer d.1))
-      ],
-    )
-
-abbrev pub may_answer : (option : ℕ) (payload : List ℕ) (info : Option Exporting) (kind : ℕ) (answer : List ℕ) → Bool
-may_answer option payload info kind answer =
-    is_error kind
-    || (is_proper_option option payload
-    && (((kind == answers.ACK) && (is_empty answer && may_acknowledge option info))
-    || (((kind == answers.SERVER) && ((option == options.LIST) && is_listed answer))
-    || ((kind == answers.INFO) && (((option == options.INFO) || (option == options.GO)) && is_info (info_of answer))))))
-
-pub answers_it : (profile : Profile) (option : ℕ) (payload : List ℕ) (info : Option Exporting) (kind : ℕ) (answer : List ℕ) → IsTrue (may_answer option payload info kind answer) → MayAnswer profile option payload info kind answer
-answers_it profile option payload info kind answer e = elim (one (is_error kind) _ e) [
-  | inl h ↦ inl h
-  | inr e ↦ (let p = both (is_proper_option option payload) _ e in
-      elim (one ((kind == answers.ACK) && (is_empty answer && may_acknowledge option info)) _ p.1) [
-        | inl h ↦ (let a = both (kind == answers.ACK) _ h in let b = both (is_empty answer) _ a.1 in
-            inr (inl (p.0, eqb-true kind answers.ACK a.0, empty answer b.0, acknowledges option info b.1)))
-        | inr e ↦ elim (one ((kind == answers.SERVER) && ((option == options.LIST) && is_listed answer)) _ e) [
-          | inl h ↦ (let a = both (kind == answers.SERVER) _ h in let b = both (option == options.LIST) _ a.1 in
-              inr (inr (inl (p.0, eqb-true kind answers.SERVER a.0, eqb-true option options.LIST b.0, b.1))))
-          | inr h ↦ (let a = both (kind == answers.INFO) _ h in let b = both ((option == options.INFO) || (option == options.GO)) _ a.1 in
-              inr (inr (inr (
-                p.0,
-                eqb-true kind answers.INFO a.0,
-                elim (one (option == options.INFO) (option == options.GO) b.0) [ inl q ↦ inl (eqb-true option options.INFO q) | inr q ↦ inr (eqb-true option options.GO q) ],
-                info_is profile answer b.1,
-              ))))
-        ]
-      ])
-]
+pub clean_is : (o : Option WireFault) → IsTrue (is_clean o) → o ≡ None
+clean_is None h = refl
+clean_is (Some fault) h = absurd (cc)

@@ -1,90 +1,52 @@
 -- Tests that decide by computing whether items are a run.
-use Rattle.std.proofs.Common.{◌≡◌, ℕ, ◌+◌, ◌==◌, ◌&&◌, ◌||◌, not, nat_le, nat_lt, List, [], ◌∷◌, ◌++◌, length, inl, inr, Bool, true, false, IsTrue, is_none, eqb-true, eq-eqb, flat_map, refl}
+use Rattle.std.proofs.Common.{◌≡◌, ◌&&◌, not, nat_le, nat_lt, List, [], ◌∷◌, ◌++◌, length, Bool, true, false, IsTrue, flat_map}
 use Rattle.std.proofs.lemmas.Bool.{leb-true, ltb-true}
-use Rattle.nbd_wire.specs.declared.answers.TheConstants as answers
-use Rattle.nbd_wire.specs.declared.commands.TheConstants as commands
 use Rattle.nbd_wire.specs.declared.handshake.TheConstants as handshake
-use Rattle.nbd_wire.specs.declared.limits.TheConstants.{EXPORT_SIZE}
 use Rattle.nbd_wire.specs.declared.options.TheConstants as options
-use Rattle.nbd_wire.specs.declared.transmission.TheConstants as transmission
 use Rattle.nbd_wire.specs.declared.message.Side.{Side}
 use Rattle.nbd_wire.specs.declared.message.Side.TheVariants.{Client, Server}
 use Rattle.nbd_wire.specs.declared.message.Message.{Message}
 use Rattle.nbd_wire.specs.declared.message.Message.TheVariants.{Greeting, ClientFlags, Choice, Answer, Exported, Request, Simple, Chunk}
 use Rattle.nbd_wire.specs.protocol.Marks.{Item, Byte, Starts, Completes, Serves, IsTight, MayFollow, block, of_side}
-use Rattle.nbd_wire.specs.protocol.Options.{is_error}
-use Rattle.nbd_wire.specs.protocol.Flags.{has, has_only}
-use Rattle.nbd_wire.specs.protocol.Rules.{Allows, IsRun, IsRunOf, MayAsk, MayComplete, Obeys, after, inside_at}
+use Rattle.nbd_wire.specs.protocol.Flags.{has}
+use Rattle.nbd_wire.specs.protocol.Rules.{Allows, IsRun, IsRunOf, MayComplete, Obeys, after, inside_at}
 use Rattle.nbd_wire.specs.protocol.Sides.{same_side, side}
 use Rattle.nbd_wire.specs.declared.profile.Profile.{Profile}
-use Rattle.nbd_wire.specs.declared.profile.Profile.TheVariants.{Base, Wide}
-use Rattle.nbd_wire.specs.protocol.Contexts.{Context}
-use Rattle.nbd_wire.specs.protocol.JudgeNegotiation.{is_wide}
+use Rattle.nbd_wire.specs.declared.profile.Profile.TheVariants.{Base}
 use Rattle.nbd_laws.specs.Prefixes.{ended_messages}
-use Rattle.nbd_wire.specs.protocol.States.{Core, Phase, State, Greet, Flags, Choosing, Naming, Aborting, Answering, Transmission, in_force, start, start_of, target}
-use Rattle.nbd_laws.proofs.worked.DecidingLemmas.{answers_it, are_equal, both, empty, equal_bools, is_empty, is_sendable, is_served_for, is_fresh, may_answer, may_start_in, may_tell, one, same_sides, sendable, serves, starts_in, tells_it, then_too, true_is_fresh}
-use Rattle.nbd_laws.proofs.worked.DecidingReplyLemmas.{answers_one, answers_target, none_is}
-
-abbrev pub may_ask : Bool → Core → (cookie offset len : ℕ) → Bool
-may_ask true core cookie offset len = (offset == 0) && (len == 0)
-may_ask false core cookie offset len = is_none (target cookie core.entries)
-
-pub asks : (b : Bool) (core : Core) (cookie offset len : ℕ) → IsTrue (may_ask b core cookie offset len) → MayAsk b core cookie offset len
-asks true core cookie offset len h = (let a = both (offset == 0) (len == 0) h in (eqb-true offset 0 a.0, eqb-true len 0 a.1))
-asks false core cookie offset len h = none_is (target cookie core.entries) h
+use Rattle.nbd_wire.specs.protocol.States.{Core, Phase, State, Greet, Flags, Choosing, Naming, Aborting, Answering, Transmission, start, start_of, target}
+use Rattle.nbd_laws.proofs.worked.DecidingLemmas.{are_equal, both, clean_is, equal_bools, is_clean, is_fresh, is_sendable, is_served_for, may_start_in, same_sides, sendable, serves, starts_in, true_is_fresh}
+use Rattle.nbd_wire.specs.protocol.Options.{is_proper_option, takes_contexts}
+use Rattle.nbd_wire.specs.protocol.JudgeNegotiation.{abort_fault, answer_fault, answer_head_fault, answer_last_fault, client_flags_fault, export_fault, greeting_fault}
+use Rattle.nbd_wire.specs.protocol.JudgeTransmission.{cookie_fault, request_fault}
+use Rattle.nbd_laws.proofs.worked.DecidingReplyLemmas.{answers_one, answers_target}
 
 abbrev pub may_complete : Core → Phase → Message → Bool
-may_complete core Greet (Greeting flags) = has flags handshake.FIXED_NEWSTYLE
-may_complete core Flags (ClientFlags flags) =
-    has flags handshake.C_FIXED_NEWSTYLE && (has_only flags (handshake.C_FIXED_NEWSTYLE + handshake.C_NO_ZEROES)
-    && (not (has flags handshake.C_NO_ZEROES) || has core.offered handshake.NO_ZEROES))
+may_complete core Greet (Greeting flags) = is_clean (greeting_fault flags)
+may_complete core Flags (ClientFlags flags) = is_clean (client_flags_fault core.offered flags)
 may_complete core Choosing (Choice id payload) = true
-may_complete core Naming (Exported size flags padded) =
-    has flags transmission.HAS_FLAGS && (equal_bools padded (not (has core.client_flags handshake.C_NO_ZEROES)) && nat_le size EXPORT_SIZE)
-may_complete core Aborting (Answer option kind payload) =
-    (option == options.ABORT) && (is_error kind || ((kind == answers.ACK) && is_empty payload))
-may_complete core (Answering asked asked_with info) (Answer option kind payload) =
-    (option == asked) && (may_answer asked asked_with info kind payload || (is_wide core.profile && may_tell core.selection asked asked_with kind payload))
+may_complete core Naming (Exported size flags padded) = equal_bools padded (not (has core.client_flags handshake.C_NO_ZEROES)) && is_clean (export_fault size flags)
+may_complete core Aborting (Answer option kind payload) = is_clean (answer_fault options.ABORT option (abort_fault kind (length payload)))
+may_complete core (Answering asked given info) (Answer option kind payload) =
+    is_clean (answer_head_fault core.profile asked (is_proper_option asked given) (takes_contexts asked given) info option kind (length payload))
+    && is_clean (answer_last_fault core.profile asked (is_proper_option asked given) core.selection kind payload)
 may_complete core (Transmission export) (Request flags command cookie offset len payload) =
-    may_ask (command == commands.DISC) core cookie offset len
+    is_clean (request_fault command offset len) && is_clean (cookie_fault command (target cookie core.entries))
 may_complete core (Transmission export) (Simple error cookie payload) = answers_target core export (Simple error cookie payload) (target cookie core.entries)
 may_complete core (Transmission export) (Chunk flags kind cookie payload) = answers_target core export (Chunk flags kind cookie payload) (target cookie core.entries)
 may_complete core phase m = false
 
-pub wide_is : (profile : Profile) → IsTrue (is_wide profile) → profile ≡ Wide
-wide_is Base h = absurd (let q : false ≡ true = h in cc)
-wide_is Wide h = refl
-
 pub completes : (core : Core) (phase : Phase) (m : Message) → IsTrue (may_complete core phase m) → MayComplete core phase m
 unfolding MayComplete
-completes core Greet (Greeting flags) h = h
-completes core Flags (ClientFlags flags) h =
-    let a = both (has flags handshake.C_FIXED_NEWSTYLE) _ h in
-    let b = both (has_only flags (handshake.C_FIXED_NEWSTYLE + handshake.C_NO_ZEROES)) _ a.1 in
-    (a.0, b.0, λ q. then_too (has flags handshake.C_NO_ZEROES) (has core.offered handshake.NO_ZEROES) b.1 q)
+completes core Greet (Greeting flags) h = clean_is _ h
+completes core Flags (ClientFlags flags) h = clean_is _ h
 completes core Choosing (Choice id payload) h = tt
 completes core Naming (Exported size flags padded) h =
-    let a = both (has flags transmission.HAS_FLAGS) _ h in
-    let b = both (equal_bools padded (not (has core.client_flags handshake.C_NO_ZEROES))) (nat_le size EXPORT_SIZE) a.1 in
-    (a.0, are_equal padded (not (has core.client_flags handshake.C_NO_ZEROES)) b.0, leb-true size EXPORT_SIZE b.1)
-completes core Aborting (Answer option kind payload) h =
-    let a = both (option == options.ABORT) _ h in (
-      eqb-true option options.ABORT a.0,
-      elim (one (is_error kind) _ a.1) [
-        | inl q ↦ inl q
-        | inr q ↦ (let b = both (kind == answers.ACK) (is_empty payload) q in inr (eqb-true kind answers.ACK b.0, empty payload b.1))
-      ],
-    )
-completes core (Answering asked asked_with info) (Answer option kind payload) h =
-    let a = both (option == asked) _ h in (
-      eqb-true option asked a.0,
-      elim (one (may_answer asked asked_with info kind payload) _ a.1) [
-        | inl q ↦ inl (answers_it core.profile asked asked_with info kind payload q)
-        | inr q ↦ (let b = both (is_wide core.profile) _ q in inr (wide_is core.profile b.0, tells_it core.selection asked asked_with kind payload b.1))
-      ],
-    )
-completes core (Transmission export) (Request flags command cookie offset len payload) h =
-    asks (command == commands.DISC) core cookie offset len h
+    let b = both (equal_bools padded (not (has core.client_flags handshake.C_NO_ZEROES))) _ h in
+    (are_equal padded (not (has core.client_flags handshake.C_NO_ZEROES)) b.0, clean_is _ b.1)
+completes core Aborting (Answer option kind payload) h = clean_is _ h
+completes core (Answering asked given info) (Answer option kind payload) h = let a = both (is_clean (answer_head_fault core.profile asked _ _ info option kind (length payload))) _ h in (clean_is _ a.0, clean_is _ a.1)
+completes core (Transmission export) (Request flags command cookie offset len payload) h = let a = both (is_clean (request_fault command offset len)) _ h in (clean_is _ a.0, clean_is _ a.1)
 completes core (Transmission export) (Simple error cookie payload) h = answers_one core export cookie (Simple error cookie payload) h
 completes core (Transmission export) (Chunk flags kind cookie payload) h = answers_one core export cookie (Chunk flags kind cookie payload) h
 completes core phase m h = absurd (cc)

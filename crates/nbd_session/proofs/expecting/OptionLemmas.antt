@@ -15,7 +15,7 @@ use Rattle.nbd_wire.specs.protocol.Options.{is_error}
 use Rattle.nbd_wire.specs.protocol.Payloads.{number_at}
 use Rattle.nbd_wire.specs.protocol.States.{Core}
 use Rattle.nbd_wire.specs.protocol.Decisions.{fault_if}
-use Rattle.nbd_wire.specs.protocol.JudgeNegotiation.{abort_answer, abort_fault, answer, answer_fault, choice, earlier_to, payload_fault, success_fault, unless_error}
+use Rattle.nbd_wire.specs.protocol.JudgeNegotiation.{abort_answer, abort_fault, answer, answered_fault, choice, earlier_to, payload_fault, success_fault, unless_error}
 use Rattle.nbd_session.specs.declared.expected.Expected.TheVariants.{Answer, Choice}
 use Rattle.nbd_session.specs.internal.Expecting.{expected_decision}
 use Rattle.nbd_session.specs.internal.Leading.{answer_fields_of, answer_head_of, choice_head_of, unless_fault}
@@ -55,7 +55,7 @@ by_kind true false by e = absurd (let q : Some WrongOption ≡ None = e in cc)
 by_kind false o by e = absurd (let q : Some BadMagic ≡ None = e in cc)
 
 module _ (asked : ℕ) (head : List ℕ) where
-  pub right_answer : (by : Option WireFault) → answer_fault asked (number_at 0 8 head) (number_at 8 4 head) None ≡ None → answer_fault asked (number_at 0 8 head) (number_at 8 4 head) by ≡ by
+  pub right_answer : (by : Option WireFault) → answered_fault asked (number_at 0 8 head) (number_at 8 4 head) None ≡ None → answered_fault asked (number_at 0 8 head) (number_at 8 4 head) by ≡ by
   right_answer by e = by_kind (number_at 0 8 head == ANSWER_MAGIC) (number_at 8 4 head == asked) by e
 
 -- the fields of a head, with more bytes after it
@@ -64,12 +64,12 @@ fields_same head payload len =
     let at = fields_stay 20 head payload len in
     (λ i. record { option = at 8 4 (omega arith) i; kind = at 12 4 (omega arith) i; length = at 16 4 (omega arith) i })
 
-fault_same : (asked : ℕ) (head payload : List ℕ) → length head ≡ 20 → answer_fault asked (number_at 0 8 (head ++ payload)) (number_at 8 4 (head ++ payload)) None ≡ answer_fault asked (number_at 0 8 head) (number_at 8 4 head) None
+fault_same : (asked : ℕ) (head payload : List ℕ) → length head ≡ 20 → answered_fault asked (number_at 0 8 (head ++ payload)) (number_at 8 4 (head ++ payload)) None ≡ answered_fault asked (number_at 0 8 head) (number_at 8 4 head) None
 fault_same asked head payload len =
     let at = fields_stay 20 head payload len in
-    (λ i. answer_fault asked (at 0 8 (omega arith) i) (at 8 4 (omega arith) i) None)
+    (λ i. answered_fault asked (at 0 8 (omega arith) i) (at 8 4 (omega arith) i) None)
 
-pub good_abort : (head payload : List ℕ) (h : AnswerHead) (now : Core) → length head ≡ 20 → answer_fault options.ABORT (number_at 0 8 head) (number_at 8 4 head) None ≡ None → h ≡ answer_fields_of head →
+pub good_abort : (head payload : List ℕ) (h : AnswerHead) (now : Core) → length head ≡ 20 → answered_fault options.ABORT (number_at 0 8 head) (number_at 8 4 head) None ≡ None → h ≡ answer_fields_of head →
     abort_fault h.kind h.length ≡ None → abort_answer (head ++ payload) ≡ expected_decision now (Answer h None) 20 payload
 good_abort head payload h now len none is fits =
     let same : answer_fields_of (head ++ payload) ≡ h = fields_same head payload len ∙ sym is in
@@ -79,7 +79,7 @@ good_abort head payload h now len none is fits =
     (λ i. record { head_length = 20; head_fault = fault i; payload_length = (same i).length; last_fault = None; message = messages.Answer (same i).option (same i).kind (after_head 20 head payload len i) })
 
 -- an error
-pub good_error : (profile : Profile) (asked : ℕ) (proper takes : Bool) (info : Option Exporting) (head payload : List ℕ) (h : AnswerHead) (now : Core) → length head ≡ 20 → answer_fault asked (number_at 0 8 head) (number_at 8 4 head) None ≡ None → h ≡ answer_fields_of head →
+pub good_error : (profile : Profile) (asked : ℕ) (proper takes : Bool) (info : Option Exporting) (head payload : List ℕ) (h : AnswerHead) (now : Core) → length head ≡ 20 → answered_fault asked (number_at 0 8 head) (number_at 8 4 head) None ≡ None → h ≡ answer_fields_of head →
     is_error h.kind ≡ true → answer profile asked proper takes info now.selection (head ++ payload) ≡ expected_decision now (Answer h None) 20 payload
 good_error profile asked proper takes info head payload h now len none is error =
     let same : answer_fields_of (head ++ payload) ≡ h = fields_same head payload len ∙ sym is in
@@ -96,7 +96,7 @@ good_error profile asked proper takes info head payload h now len none is error 
     })
 
 -- an answer whose head has no fault has the option's number
-pub right_option : (asked : ℕ) (head : List ℕ) (h : AnswerHead) → answer_fault asked (number_at 0 8 head) (number_at 8 4 head) None ≡ None → h ≡ answer_fields_of head → h.option ≡ asked
+pub right_option : (asked : ℕ) (head : List ℕ) (h : AnswerHead) → answered_fault asked (number_at 0 8 head) (number_at 8 4 head) None ≡ None → h ≡ answer_fields_of head → h.option ≡ asked
 right_option asked head h none is = ap (λ (f : AnswerHead). f.option) is ∙ go (number_at 0 8 head == ANSWER_MAGIC) (number_at 8 4 head == asked) refl none
   where
     go : (m o : Bool) → (number_at 8 4 head == asked) ≡ o → fault_if (not m) BadMagic (fault_if (not o) WrongOption None) ≡ None → number_at 8 4 head ≡ asked
@@ -105,7 +105,7 @@ right_option asked head h none is = ap (λ (f : AnswerHead). f.option) is ∙ go
     go false false q e = absurd (let w : Some BadMagic ≡ None = e in cc)
 
 -- a success
-pub good_success : (profile : Profile) (asked : ℕ) (proper takes : Bool) (info : Option Exporting) (head payload : List ℕ) (h : AnswerHead) (now : Core) → now.profile ≡ profile → length head ≡ 20 → h.option ≡ asked → answer_fault asked (number_at 0 8 head) (number_at 8 4 head) None ≡ None → h ≡ answer_fields_of head →
+pub good_success : (profile : Profile) (asked : ℕ) (proper takes : Bool) (info : Option Exporting) (head payload : List ℕ) (h : AnswerHead) (now : Core) → now.profile ≡ profile → length head ≡ 20 → h.option ≡ asked → answered_fault asked (number_at 0 8 head) (number_at 8 4 head) None ≡ None → h ≡ answer_fields_of head →
     is_error h.kind ≡ false → success_fault profile asked proper takes info h.kind h.length ≡ None → answer profile asked proper takes info now.selection (head ++ payload) ≡ expected_decision now (Answer h (Some proper)) 20 payload
 good_success profile asked proper takes info head payload h now held len option none is error fits =
     let same : answer_fields_of (head ++ payload) ≡ h = fields_same head payload len ∙ sym is in
@@ -119,22 +119,22 @@ good_success profile asked proper takes info head payload h now held len option 
     (λ i. record { head_length = 20; head_fault = fault i; payload_length = (same i).length; last_fault = last i; message = messages.Answer (same i).option (same i).kind (after_head 20 head payload len i) })
 
 module _ (asked : ℕ) (head : List ℕ) where
-  pub no_answer : None ≡ answer_head_of head → answer_fault asked (number_at 0 8 head) (number_at 8 4 head) None ≡ Some BadMagic
+  pub no_answer : None ≡ answer_head_of head → answered_fault asked (number_at 0 8 head) (number_at 8 4 head) None ≡ Some BadMagic
   no_answer e = ap (λ b. fault_if (not b) BadMagic (fault_if (not (number_at 8 4 head == asked)) WrongOption None)) (none_read (number_at 0 8 head == ANSWER_MAGIC) (answer_fields_of head) e)
 
-  pub other_answer : (h : AnswerHead) → Some h ≡ answer_head_of head → (h.option ≡ asked → ⊥) → answer_fault asked (number_at 0 8 head) (number_at 8 4 head) None ≡ Some WrongOption
+  pub other_answer : (h : AnswerHead) → Some h ≡ answer_head_of head → (h.option ≡ asked → ⊥) → answered_fault asked (number_at 0 8 head) (number_at 8 4 head) None ≡ Some WrongOption
   other_answer h e ne =
       let r = some_read (number_at 0 8 head == ANSWER_MAGIC) (answer_fields_of head) h e in
       let other : (number_at 8 4 head == asked) ≡ false = ne_eqb _ _ (λ q. ne (ap (λ (f : AnswerHead). f.option) r.1 ∙ q)) in
       (λ i. fault_if (not (r.0 i)) BadMagic (fault_if (not (other i)) WrongOption None))
 
-  pub this_answer : (h : AnswerHead) → Some h ≡ answer_head_of head → h.option ≡ asked → (answer_fault asked (number_at 0 8 head) (number_at 8 4 head) None ≡ None) × (h ≡ answer_fields_of head)
+  pub this_answer : (h : AnswerHead) → Some h ≡ answer_head_of head → h.option ≡ asked → (answered_fault asked (number_at 0 8 head) (number_at 8 4 head) None ≡ None) × (h ≡ answer_fields_of head)
   this_answer h e is =
       let r = some_read (number_at 0 8 head == ANSWER_MAGIC) (answer_fields_of head) h e in
       let same : (number_at 8 4 head == asked) ≡ true = eq-eqb _ _ (sym (ap (λ (f : AnswerHead). f.option) r.1) ∙ is) in
       ((λ i. fault_if (not (r.0 i)) BadMagic (fault_if (not (same i)) WrongOption None)), r.1)
 
-pub bad_success : (profile : Profile) (asked : ℕ) (proper takes : Bool) (info : Option Exporting) (selection : Selection) (head : List ℕ) (h : AnswerHead) (f : WireFault) → answer_fault asked (number_at 0 8 head) (number_at 8 4 head) None ≡ None → h ≡ answer_fields_of head →
+pub bad_success : (profile : Profile) (asked : ℕ) (proper takes : Bool) (info : Option Exporting) (selection : Selection) (head : List ℕ) (h : AnswerHead) (f : WireFault) → answered_fault asked (number_at 0 8 head) (number_at 8 4 head) None ≡ None → h ≡ answer_fields_of head →
     is_error h.kind ≡ false → success_fault profile asked proper takes info h.kind h.length ≡ Some f → (answer profile asked proper takes info selection head).head_fault ≡ Some f
 bad_success profile asked proper takes info selection head h f none is error bad =
     let success = success_fault profile asked proper takes info (number_at 12 4 head) (number_at 16 4 head) in

@@ -21,11 +21,8 @@ use Rattle.nbd_session.specs.declared.held.Held.{Held}
 use Rattle.nbd_wire.specs.protocol.Concrete.{concrete}
 use Rattle.nbd_session.specs.internal.Holdings.{holding_of}
 use Rattle.nbd_wire.specs.protocol.Judge.{awaited_length}
-use Rattle.nbd_wire.specs.protocol.Splits.{IsPlaceOf, IsUnderWayOf, open_bytes}
-use Rattle.nbd_laws.proofs.runs.ClearLemmas.{read_under_way}
-use Rattle.nbd_laws.proofs.runs.PlacingLemmas.{place_law}
+use Rattle.nbd_wire.specs.protocol.Places.{IsPlaceOf, IsUnderWayOf}
 use Rattle.nbd_laws.proofs.runs.PlaceLemmas.{read_no_place}
-use Rattle.nbd_laws.proofs.rows.RowJudgeLemmas.{telling}
 use Rattle.nbd_session.specs.Refusals.{EndsIn, HasNoPlaceOf, IsAcceptedOf, IsComplete, IsOpenEndOf, IsRefusalOf, IsWireFaultOf, LeavesOpen, Refuses}
 use Rattle.nbd_session.specs.Sessions.{HasRunOf, SessionView, fault_at_end, fault_of, pairs_of, bytes_taken, open_end_fault}
 use Rattle.nbd_session.specs.internal.Standing.{Holding, IsReadTo, held_pairs, with_bytes}
@@ -142,27 +139,20 @@ stopped_reads h fault st =
     ∙ ap (λ o. on_ok o (λ next. reads concrete next (st.last ∷ []))) st.reads_it
     ∙ ap (λ o. on_ok o (λ next. Ok next)) st.refused
 
-bad_of : (machine : Machine) (s : Side) (rest : Rest) (r : Reading) (fault : WireFault) → settle machine s rest r ≡ Err fault → r ≡ Bad fault
-bad_of machine s rest More fault e = absurd (cc)
-bad_of machine s rest (Whole m) fault e = absurd (cc)
-bad_of machine s rest (Bad f) fault e = let q : f ≡ fault = cc in ap Bad q
-
-last_byte : (ps : List Pair) (p : Pair) → ArePairs (ps ++ p ∷ []) → p.byte < 256
-last_byte [] p a = a.0
-last_byte (q ∷ ps) p a = last_byte ps p a.1
-
 -- where a session was stopped is the place
 stopped_place : (h : Holding) (fault : WireFault) → IsStopped h fault → IsPlaceOf h.profile (held_pairs h) h.messages fault
-stopped_place h fault st =
-    let are : ArePairs (st.prefix ++ st.last ∷ []) = subst ArePairs st.parts st.are_pairs in
-    subst (λ ps. IsPlaceOf h.profile ps h.messages fault) (sym st.parts)
-    (subst (λ ms. IsPlaceOf h.profile (st.prefix ++ st.last ∷ []) ms fault) st.messages_are
-    (place_law h.profile concrete sound telling st.prefix st.machine st.last (are_prefix st.prefix (st.last ∷ []) are) (last_byte st.prefix st.last are) st.reads_it fault
-    (bad_of st.machine st.last.from (rest_with st.machine.core (get st.machine.rests st.last.from) st.last.byte) _ fault st.refused)))
+stopped_place h fault st = record {
+  are_pairs = st.are_pairs;
+  prefix = st.prefix;
+  last = st.last;
+  parts = st.parts;
+  before = record { are_pairs = are_prefix st.prefix (st.last ∷ []) (subst ArePairs st.parts st.are_pairs); end = st.machine; reads_it = st.reads_it; has_messages = st.messages_are };
+  refused = st.refused;
+}
 
 -- no prefix of what was read without a fault has a place
 placeless : {profile : Profile} (ps : List Pair) (end : Machine) → reads concrete (fresh_of profile) ps ≡ Ok end → HasNoPlaceOf profile ps
-placeless {profile} ps end e prefix rest messages fault parts place = read_no_place concrete sound exact telling prefix rest end (ap (reads concrete (fresh_of profile)) parts ∙ e) messages fault place
+placeless {profile} ps end e prefix rest messages fault parts place = read_no_place prefix rest end (ap (reads concrete (fresh_of profile)) parts ∙ e) messages fault place
 
 -- a session that was stopped was refused
 pub refusal : (h : Holding) (fault : WireFault) → IsStopped h fault → IsRefusalOf h.profile (held_pairs h) h.messages fault
@@ -188,9 +178,7 @@ pub stands_placeless : (held : Held) (closed : Option SessionFault) → Stands h
 stands_placeless held closed st = placeless (held_pairs (holding_of held)) st.machine st.read_to.reads_it
 
 pub stands_under_way : (held : Held) (closed : Option SessionFault) → Stands held → IsUnderWayOf held.state.profile (pairs_of (session_view held closed)) held.messages.items
-stands_under_way held closed st =
-    subst (IsUnderWayOf held.state.profile (held_pairs (holding_of held))) st.read_to.messages_are
-    (read_under_way concrete sound exact telling (held_pairs (holding_of held)) st.machine st.read_to.are_pairs st.read_to.reads_it)
+stands_under_way held closed st = record { are_pairs = st.read_to.are_pairs; end = st.machine; reads_it = st.read_to.reads_it; has_messages = st.read_to.messages_are }
 
 stands_accepted : (held : Held) (closed : Option SessionFault) → Stands held → IsAcceptedOf held.state.profile (pairs_of (session_view held closed)) held.messages.items
 stands_accepted held closed st = record { under_way = stands_under_way held closed st; placeless = stands_placeless held closed st; all = stands_exactly held closed st }
@@ -202,30 +190,14 @@ within_all (Starts s m ∷ items) = within_all items
 within_all (Completes s m ∷ items) = ap (λ l. m ∷ l) (within_all items)
 within_all (Serves k ∷ items) = within_all items
 
--- the open bytes of a session under way are those that a run with its bytes and messages leaves
-opens : {profile : Profile} (ps : List Pair) (messages : List Message) (client server : List ℕ) → (u : IsUnderWayOf profile ps messages) → HasRunOf profile ps messages client server → (open_bytes Client u.items ≡ client) × (open_bytes Server u.items ≡ server)
-opens ps messages client server u has =
-    let here : AreBytesOf u.items (open_bytes Client u.items) (open_bytes Server u.items) = run_bytes u.items (open_bytes Client u.items) (open_bytes Server u.items) u.split.run in
-    let there : AreBytesOf has.items client server = run_bytes has.items client server has.is_run in
-    (same Client (open_bytes Client u.items) client here.of_client there.of_client, same Server (open_bytes Server u.items) server here.of_server there.of_server)
-  where
-    same : (s : Side) (a b : List ℕ) → bytes_from s (pairs u.items) ≡ bytes_of s (completed_messages u.items) ++ a → bytes_from s (pairs has.items) ≡ bytes_of s (completed_messages has.items) ++ b → a ≡ b
-    same s a b here there =
-        append_cancel_left (bytes_of s messages) a b
-        (ap (λ ms. bytes_of s ms ++ a) (sym u.split.has_messages)
-        ∙ sym here
-        ∙ ap (bytes_from s) (u.split.has_pairs ∙ sym has.has_pairs)
-        ∙ there
-        ∙ ap (λ ms. bytes_of s ms ++ b) has.has_messages)
-
-some_open : {profile : Profile} (ps : List Pair) (messages : List Message) (client server : List ℕ) → (u : IsUnderWayOf profile ps messages) → HasRunOf profile ps messages client server → ((client ≡ []) × (server ≡ []) → ⊥) → LeavesOpen u.items
-some_open ps messages [] [] u has some = absurd (some (refl, refl))
-some_open ps messages (b ∷ client) server u has some = inl (λ e. (let q : b ∷ client ≡ [] = sym (opens ps messages (b ∷ client) server u has).0 ∙ e in cc))
-some_open ps messages [] (b ∷ server) u has some = inr (λ e. (let q : b ∷ server ≡ [] = sym (opens ps messages [] (b ∷ server) u has).1 ∙ e in cc))
+some_open : (end : Machine) (client server : List ℕ) → (get end.rests Client).bytes ≡ client → (get end.rests Server).bytes ≡ server → ((client ≡ []) × (server ≡ []) → ⊥) → LeavesOpen end
+some_open end [] [] c s some = absurd (some (refl, refl))
+some_open end (b ∷ client) server c s some = inl (λ e. (let q : b ∷ client ≡ [] = sym c ∙ e in cc))
+some_open end [] (b ∷ server) c s some = inr (λ e. (let q : b ∷ server ≡ [] = sym s ∙ e in cc))
 
 -- where bytes that were taken without a fault stand after the messages of a run, no run has exactly the bytes
-pub open_end_of : {profile : Profile} (ps : List Pair) (messages : List Message) (client server : List ℕ) → HasRunOf profile ps messages client server → IsAcceptedOf profile ps messages → ((client ≡ []) × (server ≡ []) → ⊥) → IsOpenEndOf profile ps messages
-open_end_of {profile} ps messages client server has accepted some = record { accepted = accepted; leaves_open = some_open ps messages client server accepted.under_way has some; none = none }
+pub open_end_of : {profile : Profile} (ps : List Pair) (messages : List Message) (client server : List ℕ) → HasRunOf profile ps messages client server → (accepted : IsAcceptedOf profile ps messages) → LeavesOpen accepted.under_way.end → ((client ≡ []) × (server ≡ []) → ⊥) → IsOpenEndOf profile ps messages
+open_end_of {profile} ps messages client server has accepted leaves some = record { accepted = accepted; leaves_open = leaves; none = none }
   where
     none : IsOfNoRunOf profile ps
     none items run is =
@@ -247,6 +219,7 @@ held_run held st =
 
 unfinished_end : (held : Held) → Stands held → (client server : List ℕ) → (bytes_come held.client) ≡ client → (bytes_come held.server) ≡ server → (at : ℕ) (fault : SessionFault) →
     at ≡ length (held_pairs (holding_of held)) → open_end_fault client server at ≡ Some fault → EndsIn (session_view held None) fault
+unfolding stands_accepted stands_under_way
 unfinished_end held st client server c s at Memory n e = absurd (no_memory client server e)
   where
     no_memory : (client server : List ℕ) → open_end_fault client server at ≡ Some Memory → ⊥
@@ -259,6 +232,7 @@ unfinished_end held st client server c s at (Wire place fault) n e =
       sym is.0,
       sym is.1 ∙ n,
       open_end_of (held_pairs (holding_of held)) held.messages.items (bytes_come held.client) (bytes_come held.server) (held_run held st) (stands_accepted held None st)
+          (some_open st.machine client server (st.read_to.rests_are Client ∙ c) (st.read_to.rests_are Server ∙ s) is.2)
           (λ none. is.2 (sym c ∙ none.0, sym s ∙ none.1)),
     )
   where

@@ -17,6 +17,11 @@ abbrev pub fault_if : Bool → WireFault → Option WireFault → Option WireFau
 fault_if true fault next = Some fault
 fault_if false fault next = next
 
+infixr 1 ◌when◌else◌
+-- a line of a list of tests: this fault where the test holds, else what the next line says
+abbrev pub ◌when◌else◌ : WireFault → Bool → Option WireFault → Option WireFault
+fault when test else next = fault_if test fault next
+
 -- the next length at which something is decided of these bytes; a side that may not send is refused
 -- at its first byte
 abbrev pub awaited_length_by : Option Decision → List ℕ → ℕ

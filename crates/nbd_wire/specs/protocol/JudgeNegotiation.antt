@@ -1,5 +1,6 @@
--- What is decided of the bytes of a message of the negotiation (proto.md, "Newstyle negotiation",
--- "Fixed newstyle negotiation"). Where two faults hold at one byte, the one named first counts.
+-- What is refused of a message of the negotiation: for each message the tests at the last byte of its head, and those
+-- at its last byte, in order; the first that holds names the fault. Names in quotes are sections of proto.md. "Choice":
+-- this project's choice.
 use Rattle.std.specs.Prelude.{ℕ, List, [], ◌∷◌, ◌+◌, Bool, true, false, not, ◌&&◌, ◌||◌, ◌==◌, if◌then◌else◌, nat_lt, Option, Some, None, drop}
 use Rattle.nbd_wire.specs.declared.answers.TheConstants as answers
 use Rattle.nbd_wire.specs.declared.handshake.TheConstants as handshake
@@ -21,22 +22,14 @@ use Rattle.nbd_wire.specs.protocol.Sizes.{are_allowed}
 use Rattle.nbd_wire.specs.protocol.Flags.{has, has_only}
 use Rattle.nbd_wire.specs.declared.fault.WireFault.{WireFault}
 use Rattle.nbd_wire.specs.declared.fault.WireFault.TheVariants.{BadMagic, NotFixedNewstyle, BadClientFlags, WrongOption, BadReplyKind, OutOfProfile, BadReplyPayload, MissingExportInfo, BadExport, ExportTooLarge, SuccessOfImproper}
-use Rattle.nbd_wire.specs.protocol.Decisions.{Decision, fault_if}
+use Rattle.nbd_wire.specs.protocol.Decisions.{Decision, ◌when◌else◌}
 
--- at the head of a greeting with these numbers
-abbrev pub greeting_fault : (magic second flags : ℕ) → Option WireFault
-greeting_fault magic second flags =
-    fault_if (not ((magic == GREETING_MAGIC) && (second == OPTION_MAGIC))) BadMagic
-    (fault_if (not (has flags handshake.FIXED_NEWSTYLE)) NotFixedNewstyle None)
-
-abbrev pub greeting : List ℕ → Decision
-greeting bytes = record {
-  head_length = 18;
-  head_fault = greeting_fault (number_at 0 8 bytes) (number_at 8 8 bytes) (number_at 16 2 bytes);
-  payload_length = 0;
-  last_fault = None;
-  message = Greeting (number_at 16 2 bytes);
-}
+-- a greeting, at its head
+abbrev pub greeting_fault : (flags : ℕ) → Option WireFault
+greeting_fault flags =
+    -- no fixed newstyle ("Handshake flags"; that others are refused is a choice)
+    NotFixedNewstyle when not (has flags handshake.FIXED_NEWSTYLE) else
+    None
 
 -- a flag that is unknown, or that the server did not offer
 abbrev pub sets_more : (offered flags : ℕ) → Bool
@@ -44,39 +37,23 @@ sets_more offered flags =
     not (has_only flags (handshake.C_FIXED_NEWSTYLE + handshake.C_NO_ZEROES))
     || (has flags handshake.C_NO_ZEROES && not (has offered handshake.NO_ZEROES))
 
--- at the client's flags
+-- the client's flags
 abbrev pub client_flags_fault : (offered flags : ℕ) → Option WireFault
 client_flags_fault offered flags =
-    fault_if (not (has flags handshake.C_FIXED_NEWSTYLE)) NotFixedNewstyle
-    (fault_if (sets_more offered flags) BadClientFlags None)
+    -- no fixed newstyle ("Client flags")
+    NotFixedNewstyle when not (has flags handshake.C_FIXED_NEWSTYLE) else
+    -- more than was offered ("Client flags")
+    BadClientFlags when sets_more offered flags else
+    None
 
-abbrev pub client_flags : (offered : ℕ) → List ℕ → Decision
-client_flags offered bytes = record {
-  head_length = 4;
-  head_fault = client_flags_fault offered (number_at 0 4 bytes);
-  payload_length = 0;
-  last_fault = None;
-  message = ClientFlags (number_at 0 4 bytes);
-}
-
--- at the head of an option
-abbrev pub choice_fault : (magic : ℕ) → Option WireFault
-choice_fault magic = fault_if (not (magic == OPTION_MAGIC)) BadMagic None
-
-abbrev pub choice : List ℕ → Decision
-choice bytes = record {
-  head_length = 16;
-  head_fault = choice_fault (number_at 0 8 bytes);
-  payload_length = number_at 12 4 bytes;
-  last_fault = None;
-  message = Choice (number_at 8 4 bytes) (drop 16 bytes);
-}
-
--- at an export's size and flags
+-- the answer to EXPORT_NAME, at its head
 abbrev pub export_fault : (size flags : ℕ) → Option WireFault
 export_fault size flags =
-    fault_if (not (has flags transmission.HAS_FLAGS)) BadExport
-    (fault_if (nat_lt EXPORT_SIZE size) ExportTooLarge None)
+    -- no HAS_FLAGS ("Transmission flags")
+    BadExport when not (has flags transmission.HAS_FLAGS) else
+    -- too large an export (choice)
+    ExportTooLarge when nat_lt EXPORT_SIZE size else
+    None
 
 abbrev pub are_zeroes : List ℕ → Bool
 are_zeroes [] = true
@@ -84,52 +61,31 @@ are_zeroes (b ∷ bytes) = (b == 0) && are_zeroes bytes
 
 -- at the last of the zeroes after an export's size and flags
 abbrev pub padding_fault : List ℕ → Option WireFault
-padding_fault padding = fault_if (not (are_zeroes padding)) BadExport None
+padding_fault padding =
+    -- the padding is not zeroes ("Newstyle negotiation")
+    BadExport when not (are_zeroes padding) else
+    None
 
--- the answer to EXPORT_NAME, by whether the client took NO_ZEROES
-abbrev pub export_answer : (no_zeroes : Bool) → List ℕ → Decision
-export_answer true bytes = record {
-  head_length = 10;
-  head_fault = export_fault (number_at 0 8 bytes) (number_at 8 2 bytes);
-  payload_length = 0;
-  last_fault = None;
-  message = Exported (number_at 0 8 bytes) (number_at 8 2 bytes) false;
-}
-export_answer false bytes = record {
-  head_length = 10;
-  head_fault = export_fault (number_at 0 8 bytes) (number_at 8 2 bytes);
-  payload_length = 124;
-  last_fault = padding_fault (drop 10 bytes);
-  message = Exported (number_at 0 8 bytes) (number_at 8 2 bytes) true;
-}
+-- an answer's option, at its head; `next` is the fault of its kind
+abbrev pub answer_fault : (asked option : ℕ) → (next : Option WireFault) → Option WireFault
+answer_fault asked option next =
+    -- another option's number ("Fixed newstyle negotiation")
+    WrongOption when not (option == asked) else
+    next
 
-abbrev pub answer_of : List ℕ → Message
-answer_of bytes = Answer (number_at 8 4 bytes) (number_at 12 4 bytes) (drop 20 bytes)
-
--- at the head of an answer; `by_kind` is the fault of its kind
-abbrev pub answer_fault : (asked magic option : ℕ) → (by_kind : Option WireFault) → Option WireFault
-answer_fault asked magic option by_kind =
-    fault_if (not (magic == ANSWER_MAGIC)) BadMagic
-    (fault_if (not (option == asked)) WrongOption by_kind)
-
--- an ACK has no payload; `next` is the fault of one that has none
+-- an ACK, at its head; `next` is the fault of one that has no payload
 abbrev pub ack_fault : (kind len : ℕ) → (next : Option WireFault) → Option WireFault
-ack_fault kind len next = fault_if ((kind == answers.ACK) && not (len == 0)) BadReplyPayload next
+ack_fault kind len next =
+    -- an ACK with a payload ("Option reply types")
+    BadReplyPayload when (kind == answers.ACK) && not (len == 0) else
+    next
 
--- at the head of the answer to ABORT, by its kind
+-- the answer to ABORT, at its head, by its kind
 abbrev pub abort_fault : (kind len : ℕ) → Option WireFault
-abort_fault kind len = fault_if (not (is_error kind) && not (kind == answers.ACK)) BadReplyKind
-    (ack_fault kind len None)
-
-abbrev pub abort_answer : List ℕ → Decision
-abort_answer bytes = record {
-  head_length = 20;
-  head_fault = answer_fault options.ABORT (number_at 0 8 bytes) (number_at 8 4 bytes)
-      (abort_fault (number_at 12 4 bytes) (number_at 16 4 bytes));
-  payload_length = number_at 16 4 bytes;
-  last_fault = None;
-  message = answer_of bytes;
-}
+abort_fault kind len =
+    -- neither an error nor an ACK ("Option types"; that it may be an error is a choice)
+    BadReplyKind when not (is_error kind) && not (kind == answers.ACK) else
+    ack_fault kind len None
 
 -- the option is on metadata contexts
 abbrev pub is_on_contexts : ℕ → Bool
@@ -153,12 +109,16 @@ answers_option option takes kind =
     || ((((option == options.INFO) || (option == options.GO)) && (kind == answers.INFO))
     || (takes && (kind == answers.META_CONTEXT))))
 
--- at an ACK, by the last EXPORT info before it
+-- an ACK, by the last EXPORT info before it
 abbrev pub info_fault : (option : ℕ) (proper : Bool) → Option Exporting → Option WireFault
-info_fault option proper None = fault_if (((option == options.INFO) || (option == options.GO))
-    && proper) MissingExportInfo None
-info_fault option proper (Some export) = fault_if
-    ((option == options.GO) && nat_lt EXPORT_SIZE export.size) ExportTooLarge None
+info_fault option proper None =
+    -- no info on the export came before ("Option types")
+    MissingExportInfo when ((option == options.INFO) || (option == options.GO)) && proper else
+    None
+info_fault option proper (Some export) =
+    -- GO into too large an export (choice)
+    ExportTooLarge when (option == options.GO) && nat_lt EXPORT_SIZE export.size else
+    None
 
 abbrev pub at_ack : Bool → Option WireFault → Option WireFault
 at_ack true fault = fault
@@ -169,13 +129,15 @@ abbrev pub unless_error : Bool → Option WireFault → Option WireFault
 unless_error true fault = None
 unless_error false fault = fault
 
--- at the head of an answer that is no error, by its kind
+-- an answer that is no error, at its head, by its kind
 abbrev pub success_fault : Profile → (option : ℕ) (proper takes : Bool) (info : Option Exporting) (kind len : ℕ)
     → Option WireFault
 success_fault profile option proper takes info kind len =
-    fault_if (is_followed profile option && not (answers_option option takes kind)) BadReplyKind
-    (fault_if (not (is_followed profile option)) OutOfProfile
-    (ack_fault kind len (at_ack (kind == answers.ACK) (info_fault option proper info))))
+    -- a kind that the option does not take ("Option types")
+    BadReplyKind when is_followed profile option && not (answers_option option takes kind) else
+    -- no error, to an option that is not followed (choice)
+    OutOfProfile when not (is_followed profile option) else
+    ack_fault kind len (at_ack (kind == answers.ACK) (info_fault option proper info))
 
 -- an info on the export has HAS_FLAGS, and in Wide block sizes are such as a server may announce
 abbrev pub is_good_info : Profile → Option Info → Bool
@@ -190,6 +152,7 @@ abbrev pub is_good_context : List Context → Option Context → Bool
 is_good_context earlier None = false
 is_good_context earlier (Some context) = not (has_id earlier context.id)
 
+-- a payload without its form, an info or a context that is not good
 abbrev pub is_bad_payload : Profile → List Context → (kind : ℕ) → List ℕ → Bool
 is_bad_payload profile earlier kind payload =
     ((kind == answers.SERVER) && not (is_listed payload))
@@ -200,23 +163,100 @@ is_bad_payload profile earlier kind payload =
 abbrev pub earlier_to : (option : ℕ) → Selection → List Context
 earlier_to option selection = if option == options.SET_META_CONTEXT then selection.contexts else []
 
--- at the last byte of an answer that is no error
+-- an answer that is no error, at its last byte
 abbrev pub payload_fault : Profile → List Context → (proper : Bool) (kind : ℕ) → List ℕ → Option WireFault
 payload_fault profile earlier proper kind payload =
-    fault_if (is_bad_payload profile earlier kind payload) BadReplyPayload
-    (fault_if (not proper) SuccessOfImproper None)
+    -- a bad payload ("Option reply types", "Transmission flags", "Metadata querying")
+    BadReplyPayload when is_bad_payload profile earlier kind payload else
+    -- success of an option whose data has not its form (choice)
+    SuccessOfImproper when not proper else
+    None
 
--- the answer to this option: whether its data was proper and takes contexts, the last EXPORT info since, and what is
--- selected
+-- an answer to this option, at its head: whether its data was proper and takes contexts, the last EXPORT info since
+abbrev pub answer_head_fault : Profile → (asked : ℕ) (proper takes : Bool) (info : Option Exporting)
+    → (option kind len : ℕ) → Option WireFault
+answer_head_fault profile asked proper takes info option kind len =
+    answer_fault asked option (unless_error (is_error kind) (success_fault profile asked proper takes info kind len))
+
+-- and at its last byte: what is selected
+abbrev pub answer_last_fault : Profile → (asked : ℕ) (proper : Bool) → Selection → (kind : ℕ) → List ℕ
+    → Option WireFault
+answer_last_fault profile asked proper selection kind payload =
+    unless_error (is_error kind) (payload_fault profile (earlier_to asked selection) proper kind payload)
+
+-- below: the same, of bytes. A head with another magic number than its message's is BadMagic ("Newstyle negotiation")
+abbrev pub greeting : List ℕ → Decision
+greeting bytes = record {
+  head_length = 18;
+  head_fault = BadMagic when not ((number_at 0 8 bytes == GREETING_MAGIC) && (number_at 8 8 bytes == OPTION_MAGIC)) else
+      greeting_fault (number_at 16 2 bytes);
+  payload_length = 0;
+  last_fault = None;
+  message = Greeting (number_at 16 2 bytes);
+}
+
+abbrev pub client_flags : (offered : ℕ) → List ℕ → Decision
+client_flags offered bytes = record {
+  head_length = 4;
+  head_fault = client_flags_fault offered (number_at 0 4 bytes);
+  payload_length = 0;
+  last_fault = None;
+  message = ClientFlags (number_at 0 4 bytes);
+}
+
+abbrev pub choice : List ℕ → Decision
+choice bytes = record {
+  head_length = 16;
+  head_fault = BadMagic when not (number_at 0 8 bytes == OPTION_MAGIC) else None;
+  payload_length = number_at 12 4 bytes;
+  last_fault = None;
+  message = Choice (number_at 8 4 bytes) (drop 16 bytes);
+}
+
+-- the answer to EXPORT_NAME, by whether the client took NO_ZEROES
+abbrev pub export_answer : (no_zeroes : Bool) → List ℕ → Decision
+export_answer true bytes = record {
+  head_length = 10;
+  head_fault = export_fault (number_at 0 8 bytes) (number_at 8 2 bytes);
+  payload_length = 0;
+  last_fault = None;
+  message = Exported (number_at 0 8 bytes) (number_at 8 2 bytes) false;
+}
+export_answer false bytes = record {
+  head_length = 10;
+  head_fault = export_fault (number_at 0 8 bytes) (number_at 8 2 bytes);
+  payload_length = 124;
+  last_fault = padding_fault (drop 10 bytes);
+  message = Exported (number_at 0 8 bytes) (number_at 8 2 bytes) true;
+}
+
+abbrev pub answer_of : List ℕ → Message
+answer_of bytes = Answer (number_at 8 4 bytes) (number_at 12 4 bytes) (drop 20 bytes)
+
+-- an answer's magic number and option, at its head
+abbrev pub answered_fault : (asked magic option : ℕ) → (next : Option WireFault) → Option WireFault
+answered_fault asked magic option next =
+    BadMagic when not (magic == ANSWER_MAGIC) else
+    answer_fault asked option next
+
+abbrev pub abort_answer : List ℕ → Decision
+abort_answer bytes = record {
+  head_length = 20;
+  head_fault = BadMagic when not (number_at 0 8 bytes == ANSWER_MAGIC) else
+      answer_fault options.ABORT (number_at 8 4 bytes) (abort_fault (number_at 12 4 bytes) (number_at 16 4 bytes));
+  payload_length = number_at 16 4 bytes;
+  last_fault = None;
+  message = answer_of bytes;
+}
+
 abbrev pub answer : Profile → (option : ℕ) (proper takes : Bool) (info : Option Exporting) → Selection → List ℕ
     → Decision
 answer profile option proper takes info selection bytes = record {
   head_length = 20;
-  head_fault = answer_fault option (number_at 0 8 bytes) (number_at 8 4 bytes)
-      (unless_error (is_error (number_at 12 4 bytes))
-      (success_fault profile option proper takes info (number_at 12 4 bytes) (number_at 16 4 bytes)));
+  head_fault = BadMagic when not (number_at 0 8 bytes == ANSWER_MAGIC) else
+      answer_head_fault profile option proper takes info (number_at 8 4 bytes) (number_at 12 4 bytes)
+      (number_at 16 4 bytes);
   payload_length = number_at 16 4 bytes;
-  last_fault = unless_error (is_error (number_at 12 4 bytes))
-      (payload_fault profile (earlier_to option selection) proper (number_at 12 4 bytes) (drop 20 bytes));
+  last_fault = answer_last_fault profile option proper selection (number_at 12 4 bytes) (drop 20 bytes);
   message = answer_of bytes;
 }

@@ -20,13 +20,14 @@ use Rattle.nbd_wire.specs.protocol.States.{Core, target, operation, with_reply}
 use Rattle.nbd_wire.specs.declared.fault.WireFault.{WireFault}
 use Rattle.nbd_wire.specs.declared.fault.WireFault.TheVariants.{BadMagic, CookieInUse, UnknownCookie, SimpleForbidden, ChunkForbidden, BadChunk, BadContent, IncompleteRead, SuccessOfImproper, BadDisconnect, IncompleteStatus}
 use Rattle.nbd_wire.specs.protocol.Decisions.{is_none_yet}
-use Rattle.nbd_wire.specs.protocol.Decisions.{Decision, fault_if}
+use Rattle.nbd_wire.specs.protocol.Decisions.{Decision, fault_if, ◌when◌else◌}
 
--- at the head of a request
-abbrev pub request_fault : (magic command offset len : ℕ) → Option WireFault
-request_fault magic command offset len =
-    fault_if (not (magic == REQUEST_MAGIC)) BadMagic
-    (fault_if ((command == commands.DISC) && not ((offset == 0) && (len == 0))) BadDisconnect None)
+-- a request, at its head
+abbrev pub request_fault : (command offset len : ℕ) → Option WireFault
+request_fault command offset len =
+    -- a DISC with an offset or a length ("Request types")
+    BadDisconnect when (command == commands.DISC) && not ((offset == 0) && (len == 0)) else
+    None
 
 -- how many bytes follow the head of a request
 abbrev pub request_payload_length : (command len : ℕ) → ℕ
@@ -34,7 +35,10 @@ request_payload_length command len = if command == commands.WRITE then len else 
 
 -- at the last byte of a request; `outstanding` is the request that has its cookie
 abbrev pub cookie_fault : (command : ℕ) (outstanding : Option ℕ) → Option WireFault
-cookie_fault command outstanding = fault_if (not (command == commands.DISC) && is_some outstanding) CookieInUse None
+cookie_fault command outstanding =
+    -- an outstanding request has its cookie ("Request message"; that it is refused is a choice)
+    CookieInUse when not (command == commands.DISC) && is_some outstanding else
+    None
 
 abbrev pub request_of : List ℕ → Message
 request_of bytes = Request (number_at 4 2 bytes) (number_at 6 2 bytes) (number_at 8 8 bytes) (number_at 16 8 bytes)
@@ -43,8 +47,8 @@ request_of bytes = Request (number_at 4 2 bytes) (number_at 6 2 bytes) (number_a
 abbrev pub request : Core → List ℕ → Decision
 request now bytes = record {
   head_length = 28;
-  head_fault = request_fault (number_at 0 4 bytes) (number_at 6 2 bytes) (number_at 16 8 bytes)
-      (number_at 24 4 bytes);
+  head_fault = BadMagic when not (number_at 0 4 bytes == REQUEST_MAGIC) else
+      request_fault (number_at 6 2 bytes) (number_at 16 8 bytes) (number_at 24 4 bytes);
   payload_length = request_payload_length (number_at 6 2 bytes) (number_at 24 4 bytes);
   last_fault = cookie_fault (number_at 6 2 bytes) (target (number_at 8 8 bytes) now.entries);
   message = request_of bytes;
@@ -61,8 +65,12 @@ operation_of old now cookie = operation_if (target cookie old.entries) now.entri
 -- at the head of a simple reply
 abbrev pub simple_fault : (structured : Bool) → Option Operation → (error : ℕ) → Option WireFault
 simple_fault structured None error = Some UnknownCookie
-simple_fault structured (Some e) error = fault_if (not (is_none_yet e.replies)
-    || (((e.command == commands.READ) && structured) || (asks_status e && (error == 0)))) SimpleForbidden None
+simple_fault structured (Some e) error =
+    -- after a chunk, to a READ under structured replies, or success to a BLOCK_STATUS ("Simple reply message", "Request
+    -- types")
+    SimpleForbidden when not (is_none_yet e.replies)
+    || (((e.command == commands.READ) && structured) || (asks_status e && (error == 0))) else
+    None
 
 -- how many bytes follow the head of a simple reply
 abbrev pub simple_payload_length : Option Operation → (error : ℕ) → ℕ
@@ -72,7 +80,10 @@ simple_payload_length (Some e) error = simple_length e error
 -- at the last byte of a simple reply
 abbrev pub simple_last_fault : Exporting → Option Operation → (error : ℕ) → Option WireFault
 simple_last_fault export None error = None
-simple_last_fault export (Some e) error = fault_if ((error == 0) && not (is_proper export e)) SuccessOfImproper None
+simple_last_fault export (Some e) error =
+    -- success of an improper request (choice)
+    SuccessOfImproper when (error == 0) && not (is_proper export e) else
+    None
 
 abbrev pub simple_of : List ℕ → Message
 simple_of bytes = Simple (number_at 4 4 bytes) (number_at 8 8 bytes) (drop 16 bytes)
@@ -157,8 +168,13 @@ lacks_status e =
 abbrev pub finish_fault : Exporting → Operation → (failed : Bool) → List Piece → Option WireFault
 finish_fault export e true ps = None
 finish_fault export e false ps =
-    fault_if ((e.command == commands.READ) && not (total ps == e.length)) IncompleteRead
-    (fault_if (not (is_proper export e)) SuccessOfImproper (fault_if (lacks_status e) IncompleteStatus None))
+    -- a READ that is not covered: its pieces share no offset, so their sizes add up ("Request types")
+    IncompleteRead when (e.command == commands.READ) && not (total ps == e.length) else
+    -- success of an improper request (choice)
+    SuccessOfImproper when not (is_proper export e) else
+    -- a context without its status ("Request types", "Structured reply types")
+    IncompleteStatus when lacks_status e else
+    None
 
 abbrev pub done_fault : (done : Bool) → Exporting → Operation → Option WireFault
 done_fault false export e = None
@@ -177,7 +193,10 @@ chunk_fault false export e with_chunk flags kind payload =
 -- at the head of a chunk
 abbrev pub chunk_head_fault : (structured : Bool) → Option Operation → Option WireFault
 chunk_head_fault structured None = Some UnknownCookie
-chunk_head_fault structured (Some e) = fault_if (not structured) ChunkForbidden None
+chunk_head_fault structured (Some e) =
+    -- structured replies are not in force ("Structured reply chunk message")
+    ChunkForbidden when not structured else
+    None
 
 abbrev pub chunk_of : List ℕ → Message
 chunk_of bytes = Chunk (number_at 4 2 bytes) (number_at 6 2 bytes) (number_at 8 8 bytes) (drop 20 bytes)

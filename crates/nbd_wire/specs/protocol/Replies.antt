@@ -74,10 +74,10 @@ MayFinish export e = IsTrue (has_failed e) ⊎ IsTrue (is_proper export e)
     × (e.command ≡ commands.BLOCK_STATUS → e.length ≢ 0 → IsTrue (tells_all (statuses e) e.contexts))
 
 -- the message may complete in answer to the request; chunks need structured replies in force
-unfoldable pub MayReply : Bool → Exporting → Operation → Message → Type 0
-MayReply structured export e (Simple error cookie payload) = IsSimpleReply structured export e error payload
-MayReply structured export e (Chunk flags kind cookie payload) =
+unfoldable pub FitsReply : Bool → Exporting → Operation → Message → Type 0
+FitsReply structured export e (Simple error cookie payload) = IsSimpleReply structured export e error payload
+FitsReply structured export e (Chunk flags kind cookie payload) =
     (structured ≡ true)
     × IsChunk export e flags kind payload
     × (IsTrue (has flags chunks.DONE) → MayFinish export (with_reply e (Chunk flags kind cookie payload)))
-MayReply structured export e _ = ⊥
+FitsReply structured export e _ = ⊥

@@ -14,13 +14,16 @@ use Rattle.nbd_wire.specs.declared.profile.Profile.TheVariants.{Base, Wide}
 use Rattle.nbd_wire.specs.protocol.Marks.{Item, Byte, Starts, Completes, Serves, IsMarkedBut}
 use Rattle.nbd_wire.specs.protocol.Entries.{IsWhollyServed, MayServe, inside_of}
 use Rattle.nbd_wire.specs.protocol.Sizes.{sizes_kept, sizing_after, sizing_at}
-use Rattle.nbd_wire.specs.protocol.Options.{FitsLimit, MayAnswer, MayTell, agrees, is_error, next_phase, selection_after, selection_at, turn}
-use Rattle.nbd_wire.specs.protocol.Replies.{MayReply}
+use Rattle.nbd_wire.specs.protocol.Options.{FitsLimit, agrees, is_error, is_proper_option, takes_contexts, next_phase, selection_after, selection_at, turn}
+use Rattle.nbd_wire.specs.protocol.Replies.{simple_length}
+use Rattle.nbd_wire.specs.protocol.JudgeNegotiation.{abort_fault, answer_fault, answer_head_fault, answer_last_fault, client_flags_fault, export_fault, greeting_fault}
+use Rattle.nbd_wire.specs.protocol.JudgeTransmission.{chunk_fault, chunk_head_fault, cookie_fault, request_fault, simple_fault, simple_last_fault}
+use Rattle.nbd_wire.specs.declared.chunks.TheConstants as chunks
 use Rattle.nbd_wire.specs.protocol.Operations.{Operation, Exporting, proper_on}
 use Rattle.nbd_wire.specs.protocol.Flags.{has, has_only}
 use Rattle.nbd_wire.specs.protocol.Sendable.{IsSendable}
 use Rattle.nbd_wire.specs.protocol.Sides.{side}
-use Rattle.nbd_wire.specs.protocol.States.{Core, Phase, State, Greet, Flags, Choosing, Naming, Aborting, Answering, Transmission, export_in, in_force, with_reply_at, operation, start_of, target}
+use Rattle.nbd_wire.specs.protocol.States.{Core, Phase, State, Greet, Flags, Choosing, Naming, Aborting, Answering, Transmission, export_in, in_force, with_reply, with_reply_at, operation, start_of, target}
 
 -- the cookie that a reply repeats
 abbrev pub cookie_of : Message → Option ℕ
@@ -80,25 +83,38 @@ abbrev pub MayAsk : (is_disc : Bool) → Core → (cookie offset len : ℕ) → 
 MayAsk true core cookie offset len = (offset ≡ 0) × (len ≡ 0)
 MayAsk false core cookie offset len = target cookie core.entries ≡ None
 
--- a reply answers the outstanding request with its cookie, and may stand in that request's reply
+-- a reply to this request: as many bytes as it asks for, and nothing is refused at its head or its last byte
+unfoldable pub MayReply : Bool → Exporting → Operation → Message → Type 0
+MayReply structured export e (Simple error cookie payload) =
+    (length payload ≡ simple_length e error) × (simple_fault structured (Some e) error ≡ None)
+    × (simple_last_fault export (Some e) error ≡ None)
+MayReply structured export e (Chunk flags kind cookie payload) =
+    (chunk_head_fault structured (Some e) ≡ None)
+    × (chunk_fault (kind == chunks.NONE) export e (with_reply e (Chunk flags kind cookie payload)) flags kind payload
+    ≡ None)
+MayReply structured export e _ = ⊥
+
+-- a reply answers the outstanding request with its cookie
 abbrev pub AnswersOne : Core → Exporting → (cookie : ℕ) → Message → Type 0
 AnswersOne core export cookie m =
     (k : ℕ) × (e : Operation) × (target cookie core.entries ≡ Some k) × (operation k core.entries ≡ Some e)
     × MayReply core.structured export e m
 
--- what a message's completion needs, by the phase
+-- a message may complete in a phase where nothing is refused at its head or at its last byte
 unfoldable pub MayComplete : Core → Phase → Message → Type 0
-MayComplete core Greet (Greeting flags) = IsTrue (has flags handshake.FIXED_NEWSTYLE)
-MayComplete core Flags (ClientFlags flags) = AreClientFlags core.offered flags
+MayComplete core Greet (Greeting flags) = greeting_fault flags ≡ None
+MayComplete core Flags (ClientFlags flags) = client_flags_fault core.offered flags ≡ None
 MayComplete core Choosing (Choice id payload) = Unit {0}
-MayComplete core Naming (Exported size flags padded) = MayExport core (record { size = size; flags = flags }) padded
-MayComplete core Aborting (Answer option kind payload) = MayEnd option kind payload
-MayComplete core (Answering asked asked_with info) (Answer option kind payload) =
-    (option ≡ asked)
-    × (MayAnswer core.profile asked asked_with info kind payload
-    ⊎ (core.profile ≡ Wide) × MayTell core.selection asked asked_with kind payload)
+MayComplete core Naming (Exported size flags padded) =
+    (padded ≡ not (has core.client_flags handshake.C_NO_ZEROES)) × (export_fault size flags ≡ None)
+MayComplete core Aborting (Answer option kind payload) =
+    answer_fault options.ABORT option (abort_fault kind (length payload)) ≡ None
+MayComplete core (Answering asked given info) (Answer option kind payload) =
+    (answer_head_fault core.profile asked (is_proper_option asked given) (takes_contexts asked given) info option kind
+    (length payload) ≡ None)
+    × (answer_last_fault core.profile asked (is_proper_option asked given) core.selection kind payload ≡ None)
 MayComplete core (Transmission export) (Request flags command cookie offset len payload) =
-    MayAsk (command == commands.DISC) core cookie offset len
+    (request_fault command offset len ≡ None) × (cookie_fault command (target cookie core.entries) ≡ None)
 MayComplete core (Transmission export) (Simple error cookie payload) =
     AnswersOne core export cookie (Simple error cookie payload)
 MayComplete core (Transmission export) (Chunk flags kind cookie payload) =

@@ -1,4 +1,4 @@
-use Rattle.nbd_laws.proofs.rows.MarkLemmas as marking
+use Rattle.nbd_laws.proofs.runs.PlaceLemmas as marking
 use Rattle.nbd_laws.proofs.places.one_place.Goals as goal
 
 pub returns-clause-one : goal.returns-clause-one

@@ -1,4 +1,4 @@
-use Rattle.nbd_laws.proofs.rows.MarkLemmas.{places_begin_no_run}
+use Rattle.nbd_laws.proofs.runs.PlaceLemmas.{places_begin_no_run}
 use Rattle.nbd_laws.proofs.places.places_begin_no_run.Goals as goal
 
 pub returns : goal.returns

@@ -1,4 +1,4 @@
-use Rattle.nbd_laws.proofs.rows.WorkedLemmas as worked
+use Rattle.nbd_laws.proofs.worked.WorkedPlaceLemmas as worked
 use Rattle.nbd_laws.proofs.refusals.contexts_of_profiles.Goals as goal
 
 pub returns-clause-base : goal.returns-clause-base

@@ -15,19 +15,15 @@ use Rattle.nbd_wire.specs.protocol.Operations.{ends_reply, is_failing, is_proper
 use Rattle.nbd_wire.specs.protocol.Flags.{has, has_only}
 use Rattle.nbd_wire.specs.protocol.Pieces.{piece_of}
 use Rattle.nbd_wire.specs.protocol.Rules.{complete}
-use Rattle.nbd_wire.specs.protocol.Splits.{IsPlace, IsPlaceOf}
+use Rattle.nbd_wire.specs.protocol.Places.{IsPlace, IsPlaceOf}
 use Rattle.nbd_wire.specs.protocol.States.{target}
 use Rattle.nbd_laws.specs.captures.Openings.{hasty_client}
-use Rattle.nbd_wire.specs.protocol.Machine.{Bad, Machine, Reading, More, Whole, Rest, fresh, fresh_of, get, rest_with, on_ok, reads, settle}
-use Rattle.nbd_laws.proofs.runs.PlacingLemmas.{place_law}
-use Rattle.nbd_laws.proofs.runs.PlaceLemmas.{are_prefix, are_last}
+use Rattle.nbd_wire.specs.protocol.Machine.{Machine, fresh, fresh_of, on_ok, reads, step}
 use Rattle.nbd_wire.specs.protocol.Concrete.{concrete}
 use Rattle.nbd_laws.specs.captures.Refused as refused
 use Rattle.nbd_laws.specs.captures.Messages.{context_messages, opening_messages, status_asked_messages}
 use Rattle.nbd_laws.proofs.judge.BlockLemmas.{reads-append}
 use Rattle.nbd_laws.proofs.judge.BoolLemmas.{and_true}
-use Rattle.nbd_laws.proofs.judge.SoundLemmas.{sound}
-use Rattle.nbd_laws.proofs.rows.RowJudgeLemmas.{telling}
 
 abbrev are_bytes : List Pair → Bool
 are_bytes [] = true
@@ -42,68 +38,70 @@ abbrev messages_in : Result Machine WireFault → Option (List Message)
 messages_in (Ok machine) = Some machine.messages
 messages_in (Err fault) = None
 
-bad_of : (machine : Machine) (p : Pair) (rest : Rest) (r : Reading) (fault : WireFault) → on_ok (settle machine p.from rest r) (λ next. Ok next) ≡ Err fault → r ≡ Bad fault
-bad_of machine p rest More fault e = absurd (cc)
-bad_of machine p rest (Whole m) fault e = absurd (cc)
-bad_of machine p rest (Bad f) fault e = let q : f ≡ fault = cc in ap Bad q
-
-worked : (profile : Profile) (prefix : List Pair) (p : Pair) (messages : List Message) (fault : WireFault) → are_bytes (prefix ++ p ∷ []) ≡ true → messages_in (reads concrete (fresh_of profile) prefix) ≡ Some messages →
+worked : (profile : Profile) (prefix : List Pair) (p : Pair) (messages : List Message) (fault : WireFault) → are_bytes prefix ≡ true → are_bytes (prefix ++ p ∷ []) ≡ true → messages_in (reads concrete (fresh_of profile) prefix) ≡ Some messages →
     reads concrete (fresh_of profile) (prefix ++ p ∷ []) ≡ Err fault → IsPlaceOf profile (prefix ++ p ∷ []) messages fault
-worked profile prefix p messages fault bytes read refused = go (reads concrete (fresh_of profile) prefix) refl read (sym (reads-append concrete (fresh_of profile) prefix (p ∷ [])) ∙ refused)
+worked profile prefix p messages fault some bytes read refused = go (reads concrete (fresh_of profile) prefix) refl read (sym (reads-append concrete (fresh_of profile) prefix (p ∷ [])) ∙ refused)
   where
+    err : (r : Result Machine WireFault) → on_ok r (λ next. Ok next) ≡ Err fault → r ≡ Err fault
+    err (Ok next) e = absurd (cc)
+    err (Err f) e = e
+
     go : (o : Result Machine WireFault) → reads concrete (fresh_of profile) prefix ≡ o → messages_in o ≡ Some messages → on_ok o (λ next. reads concrete next (p ∷ [])) ≡ Err fault → IsPlaceOf profile (prefix ++ p ∷ []) messages fault
     go (Err f) e m r = absurd (cc)
-    go (Ok mid) e m r =
-        let are : ArePairs (prefix ++ p ∷ []) = are_pairs (prefix ++ p ∷ []) bytes in
-        let same : mid.messages ≡ messages = cc in
-        subst (λ ms. IsPlaceOf profile (prefix ++ p ∷ []) ms fault) same
-        (place_law profile concrete sound telling prefix mid p (are_prefix prefix (p ∷ []) are) (are_last prefix p are) e fault (bad_of mid p (rest_with mid.core (get mid.rests p.from) p.byte) _ fault r))
+    go (Ok mid) e m r = record {
+      are_pairs = are_pairs (prefix ++ p ∷ []) bytes;
+      prefix = prefix;
+      last = p;
+      parts = refl;
+      before = record { are_pairs = are_pairs prefix some; end = mid; reads_it = e; has_messages = (cc) };
+      refused = err (step concrete mid p.from p.byte) r;
+    }
 
-at_of : (profile : Profile) (ps : List Pair) (n : ℕ) (p : Pair) (messages : List Message) (fault : WireFault) → take n ps ++ p ∷ [] ≡ ps → are_bytes ps ≡ true → messages_in (reads concrete (fresh_of profile) (take n ps)) ≡ Some messages →
+at_of : (profile : Profile) (ps : List Pair) (n : ℕ) (p : Pair) (messages : List Message) (fault : WireFault) → take n ps ++ p ∷ [] ≡ ps → are_bytes (take n ps) ≡ true → are_bytes ps ≡ true → messages_in (reads concrete (fresh_of profile) (take n ps)) ≡ Some messages →
     reads concrete (fresh_of profile) ps ≡ Err fault → IsPlaceOf profile ps messages fault
-at_of profile ps n p messages fault parts bytes read refused = subst (λ qs. IsPlaceOf profile qs messages fault) parts
-    (worked profile (take n ps) p messages fault (ap are_bytes parts ∙ bytes) read (ap (reads concrete (fresh_of profile)) parts ∙ refused))
+at_of profile ps n p messages fault parts some bytes read refused = subst (λ qs. IsPlaceOf profile qs messages fault) parts
+    (worked profile (take n ps) p messages fault some (ap are_bytes parts ∙ bytes) read (ap (reads concrete (fresh_of profile)) parts ∙ refused))
 
-at : (ps : List Pair) (n : ℕ) (p : Pair) (messages : List Message) (fault : WireFault) → take n ps ++ p ∷ [] ≡ ps → are_bytes ps ≡ true → messages_in (reads concrete fresh (take n ps)) ≡ Some messages → reads concrete fresh ps ≡ Err fault →
+at : (ps : List Pair) (n : ℕ) (p : Pair) (messages : List Message) (fault : WireFault) → take n ps ++ p ∷ [] ≡ ps → are_bytes (take n ps) ≡ true → are_bytes ps ≡ true → messages_in (reads concrete fresh (take n ps)) ≡ Some messages → reads concrete fresh ps ≡ Err fault →
     IsPlace ps messages fault
-at ps n p messages fault parts bytes read refused = at_of Base ps n p messages fault parts bytes read refused
+at ps n p messages fault parts some bytes read refused = at_of Base ps n p messages fault parts some bytes read refused
 
 pub client_first : IsPlace (flat hasty_client) [] OutOfTurn
 unfolding complete next_phase target has has_only is_proper is_proper_option info_of is_listed is_go content_of failure_of ends_reply is_failing piece_of
-client_first = at (flat hasty_client) 0 (record { from = Client; byte = 0 }) [] OutOfTurn refl refl refl refl
+client_first = at (flat hasty_client) 0 (record { from = Client; byte = 0 }) [] OutOfTurn refl refl refl refl refl
 
 pub wrong_greeting : IsPlace (flat refused.wrong_greeting) [] BadMagic
 unfolding complete next_phase target has has_only is_proper is_proper_option info_of is_listed is_go content_of failure_of ends_reply is_failing piece_of
-wrong_greeting = at (flat refused.wrong_greeting) 17 (record { from = Server; byte = 3 }) [] BadMagic refl refl refl refl
+wrong_greeting = at (flat refused.wrong_greeting) 17 (record { from = Server; byte = 3 }) [] BadMagic refl refl refl refl refl
 
 pub old_greeting : IsPlace (flat refused.old_greeting) [] NotFixedNewstyle
 unfolding complete next_phase target has has_only is_proper is_proper_option info_of is_listed is_go content_of failure_of ends_reply is_failing piece_of
-old_greeting = at (flat refused.old_greeting) 17 (record { from = Server; byte = 2 }) [] NotFixedNewstyle refl refl refl refl
+old_greeting = at (flat refused.old_greeting) 17 (record { from = Server; byte = 2 }) [] NotFixedNewstyle refl refl refl refl refl
 
 pub wrong_old_greeting : IsPlace (flat refused.wrong_old_greeting) [] BadMagic
 unfolding complete next_phase target has has_only is_proper is_proper_option info_of is_listed is_go content_of failure_of ends_reply is_failing piece_of
-wrong_old_greeting = at (flat refused.wrong_old_greeting) 17 (record { from = Server; byte = 2 }) [] BadMagic refl refl refl refl
+wrong_old_greeting = at (flat refused.wrong_old_greeting) 17 (record { from = Server; byte = 2 }) [] BadMagic refl refl refl refl refl
 
 pub greedy_client : IsPlace (flat refused.greedy_client) (Greeting 1 ∷ []) BadClientFlags
 unfolding complete next_phase target has has_only is_proper is_proper_option info_of is_listed is_go content_of failure_of ends_reply is_failing piece_of
-greedy_client = at (flat refused.greedy_client) 21 (record { from = Client; byte = 3 }) (Greeting 1 ∷ []) BadClientFlags refl refl refl refl
+greedy_client = at (flat refused.greedy_client) 21 (record { from = Client; byte = 3 }) (Greeting 1 ∷ []) BadClientFlags refl refl refl refl refl
 
 pub strange_client : IsPlace (flat refused.strange_client) (Greeting 3 ∷ []) NotFixedNewstyle
 unfolding complete next_phase target has has_only is_proper is_proper_option info_of is_listed is_go content_of failure_of ends_reply is_failing piece_of
-strange_client = at (flat refused.strange_client) 21 (record { from = Client; byte = 4 }) (Greeting 3 ∷ []) NotFixedNewstyle refl refl refl refl
+strange_client = at (flat refused.strange_client) 21 (record { from = Client; byte = 4 }) (Greeting 3 ∷ []) NotFixedNewstyle refl refl refl refl refl
 
 pub unasked_reply : IsPlace (flat refused.unasked_reply) opening_messages UnknownCookie
 unfolding complete next_phase target has has_only is_proper is_proper_option info_of is_listed is_go content_of failure_of ends_reply is_failing piece_of
-unasked_reply = at (flat refused.unasked_reply) 111 (record { from = Server; byte = 1 }) opening_messages UnknownCookie refl refl refl refl
+unasked_reply = at (flat refused.unasked_reply) 111 (record { from = Server; byte = 1 }) opening_messages UnknownCookie refl refl refl refl refl
 
 pub long_disconnect : IsPlace (flat refused.long_disconnect) opening_messages BadDisconnect
 unfolding complete next_phase target has has_only is_proper is_proper_option info_of is_listed is_go content_of failure_of ends_reply is_failing piece_of
-long_disconnect = at (flat refused.long_disconnect) 123 (record { from = Client; byte = 1 }) opening_messages BadDisconnect refl refl refl refl
+long_disconnect = at (flat refused.long_disconnect) 123 (record { from = Client; byte = 1 }) opening_messages BadDisconnect refl refl refl refl refl
 
 pub context_in_base : IsPlaceOf Base (flat refused.context_head) context_messages OutOfProfile
 unfolding complete next_phase target has has_only is_proper is_proper_option queries_of context_of info_of is_listed is_go content_of failure_of ends_reply is_failing piece_of
-context_in_base = at_of Base (flat refused.context_head) 120 (record { from = Server; byte = 19 }) context_messages OutOfProfile refl refl refl refl
+context_in_base = at_of Base (flat refused.context_head) 120 (record { from = Server; byte = 19 }) context_messages OutOfProfile refl refl refl refl refl
 
 pub status_missing : IsPlaceOf Wide (flat refused.status_missing) status_asked_messages IncompleteStatus
 unfolding complete next_phase target has has_only is_proper is_proper_option queries_of context_of info_of is_listed is_go content_of failure_of status_of ends_reply is_failing piece_of
-status_missing = at_of Wide (flat refused.status_missing) 281 (record { from = Server; byte = 0 }) status_asked_messages IncompleteStatus refl refl refl refl
+status_missing = at_of Wide (flat refused.status_missing) 281 (record { from = Server; byte = 0 }) status_asked_messages IncompleteStatus refl refl refl refl refl
