@@ -1,21 +1,17 @@
 -- Where the profiles take no bytes differently their verdicts differ in a count at most.
-use Rattle.std.specs.Prelude.{ℕ, List, ◌≡◌, ◌++◌}
+use Rattle.std.specs.Prelude.{ℕ, List}
 use Rattle.nbd_wire.specs.declared.entry.Entry.{Entry}
-use Rattle.nbd_wire.specs.declared.message.Message.{Message}
 use Rattle.nbd_wire.specs.declared.profile.Profile.{Profile}
 use Rattle.nbd_wire.specs.protocol.Captures.{Pair}
 use Rattle.nbd_wire.specs.protocol.Explains.{Start}
-use Rattle.nbd_wire.specs.protocol.Marks.{Item}
-use Rattle.nbd_wire.specs.protocol.Splits.{IsSplitOf}
 use Rattle.nbd_laws.specs.Profiles.{NothingParts}
 use Rattle.nbd_judge.specs.Captures.{IsChecked}
 use Rattle.nbd_judge.specs.declared.verdict.Verdict.{Verdict}
 use Rattle.nbd_judge.specs.declared.verdict.Verdict.TheVariants.{Yes}
 
--- in no split of a prefix of the capture come bytes that the profiles take differently
+-- in the capture, read in either profile, come no bytes that the profiles take differently
 abbrev pub NothingPartsIn : List Pair → Type 0
-NothingPartsIn capture = (profile : Profile) (items : List Item) (ps rest : List Pair) (messages : List Message)
-    → ps ++ rest ≡ capture → IsSplitOf profile items ps messages → NothingParts items
+NothingPartsIn capture = (profile : Profile) → NothingParts profile capture
 
 -- the same verdict, with this count of requests that a client should not have sent where it is a yes
 abbrev pub with_improper : ℕ → Verdict → Verdict

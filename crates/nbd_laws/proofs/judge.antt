@@ -7,7 +7,6 @@ pub mod ExactLemmas
 pub mod ExactNegotiationLemmas
 pub mod ExactTransmissionLemmas
 pub mod PhaseLemmas
-pub mod SameLemmas
 pub mod SoundClientLemmas
 pub mod SoundLemmas
 pub mod SoundNegotiationLemmas

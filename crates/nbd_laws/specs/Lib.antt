@@ -1,7 +1,7 @@
+pub mod Allowed
 pub mod Announcing
 pub mod Bytes
 pub mod Cuts
-pub mod Equal
 pub mod Explaining
 pub mod Marking
 pub mod Moments

@@ -1,5 +1,21 @@
 -- What the profiles have in common.
 use Rattle.std.specs.Prelude.{◌≡◌, List, Some, All, IsTrue}
+use Rattle.std.specs.Prelude.{[], ◌∷◌, ◌≤◌, Ok, drop}
+use Rattle.std.specs.Prelude.{ℕ}
+use Rattle.std.specs.Prelude.{◌⊎◌, ◌++◌, ◌+◌, List, length, false, IsTrue, Some}
+use Rattle.nbd_wire.specs.declared.message.Side.TheVariants.{Server}
+use Rattle.nbd_wire.specs.declared.head_lengths.TheConstants as head_lengths
+use Rattle.nbd_wire.specs.declared.fault.WireFault.{WireFault}
+use Rattle.nbd_wire.specs.protocol.Rules.{IsRunOf}
+use Rattle.nbd_wire.specs.protocol.States.{Answering, Phase}
+use Rattle.nbd_wire.specs.protocol.Captures.{ArePairs}
+use Rattle.nbd_wire.specs.protocol.Concrete.{concrete}
+use Rattle.nbd_wire.specs.protocol.JudgeNegotiation.{is_on_contexts}
+use Rattle.nbd_wire.specs.protocol.Machine.{Machine, fresh_of, reads}
+use Rattle.nbd_wire.specs.protocol.Marks.{pairs}
+use Rattle.nbd_wire.specs.protocol.Options.{is_error}
+use Rattle.nbd_wire.specs.protocol.Payloads.{number_at}
+use Rattle.nbd_wire.specs.protocol.Places.{IsPlaceOf, IsUnderWayOf}
 use Rattle.nbd_wire.specs.declared.entry.Entry.{Entry}
 use Rattle.nbd_wire.specs.declared.answers.TheConstants as answers
 use Rattle.nbd_wire.specs.declared.message.Message.{Message}
@@ -35,3 +51,46 @@ abbrev pub BaseIsWide : Type 0
 BaseIsWide = (capture : List Pair) (order : List Entry) (initial : Start)
     (explained : IsExplainedOf Base capture order initial) → All AnnouncesAllowed (completed_messages explained.items)
     → IsExplainedOf Wide capture order initial
+
+-- a server's bytes hold the head of an answer of success to an option on metadata contexts
+abbrev pub IsContextHead : Phase → List ℕ → Type 0
+IsContextHead (Answering option payload info) bytes =
+    IsTrue (is_on_contexts option) × (head_lengths.ANSWER ≤ length bytes) × (is_error (number_at 12 4 bytes) ≡ false)
+IsContextHead phase bytes = ⊥
+
+-- a server's bytes are a whole answer that announces block sizes which a server may not announce
+abbrev pub IsFalseAnnouncement : Phase → List ℕ → Type 0
+IsFalseAnnouncement (Answering option payload info) bytes =
+    (length bytes ≡ head_lengths.ANSWER + number_at 16 4 bytes) × (number_at 12 4 bytes ≡ answers.INFO)
+    × ((sizes : Sizes) × (sizes_of (info_of (drop head_lengths.ANSWER bytes)) ≡ Some sizes)
+    × (are_allowed sizes ≡ false))
+IsFalseAnnouncement phase bytes = ⊥
+
+-- the profiles take these bytes of the server differently
+abbrev pub IsParting : Phase → List ℕ → Type 0
+IsParting phase bytes = IsContextHead phase bytes ⊎ IsFalseAnnouncement phase bytes
+
+-- from this machine on, no byte of the server makes its bytes such
+abbrev pub NothingFrom : Machine → List Pair → Type 0
+NothingFrom machine ps = (before more : List Pair) (b : ℕ) (mid : Machine)
+    → ps ≡ before ++ record { from = Server; byte = b } ∷ more → reads concrete machine before ≡ Ok mid
+    → IsParting mid.core.phase (mid.rests.server.bytes ++ b ∷ []) → ⊥
+
+-- in these bytes, read in the profile, no such bytes come
+abbrev pub NothingParts : Profile → List Pair → Type 0
+NothingParts profile ps = NothingFrom (fresh_of profile) ps
+
+-- items in which nothing parts the profiles are a run of both or of none
+abbrev pub RunsAgree : Type 0
+RunsAgree = (p q : Profile) (items : List Item) → ArePairs (pairs items) → NothingParts p (pairs items)
+    → IsRunOf p items → IsRunOf q items
+
+-- and bytes have the same place in both, with the same fault
+abbrev pub PlacesAgree : Type 0
+PlacesAgree = (p q : Profile) (ps : List Pair) (messages : List Message) (fault : WireFault)
+    → NothingParts p ps → IsPlaceOf p ps messages fault → IsPlaceOf q ps messages fault
+
+-- and are a session under way in both
+abbrev pub UnderWayAgrees : Type 0
+UnderWayAgrees = (p q : Profile) (ps : List Pair) (messages : List Message) → NothingParts p ps
+    → IsUnderWayOf p ps messages → IsUnderWayOf q ps messages

@@ -1,5 +1,5 @@
 -- What the replies to a request are.
-use Rattle.nbd_wire.specs.protocol.Replies.{IsStatus}
+use Rattle.nbd_laws.specs.Allowed.{IsStatus}
 use Rattle.nbd_wire.specs.protocol.Contexts.{Status}
 use Rattle.std.specs.Prelude.{◌≡◌, ◌⊎◌, ℕ, List, [], ◌∷◌, ◌++◌, Bool, true, false, Some, IsTrue, ◌≢◌}
 use Rattle.nbd_wire.specs.declared.chunks.TheConstants as chunks

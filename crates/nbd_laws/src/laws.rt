@@ -6,12 +6,11 @@ ghost use Rattle.nbd_laws.specs.Prefixes.{CompletionsStandAfterBytes, PrefixesAr
 ghost use Rattle.nbd_laws.specs.Cuts.{CutsDoNotCount};
 ghost use Rattle.nbd_laws.specs.Moments.{LatestMoments, OrdersAreFaultless};
 ghost use Rattle.nbd_laws.specs.Negotiating.{AnswersFollowChoices, HandshakesAreFair};
-ghost use Rattle.nbd_laws.specs.Profiles.{BaseIsWide, EndsAgree};
+ghost use Rattle.nbd_laws.specs.Profiles.{BaseIsWide, EndsAgree, PlacesAgree, RunsAgree, UnderWayAgrees};
 ghost use Rattle.nbd_laws.specs.Replying.{RepliesAreWhole};
 ghost use Rattle.nbd_laws.specs.Selecting.{ContextsAreSelected, ContextsStay};
 ghost use Rattle.nbd_laws.specs.Sameness.{SameMarks, SameReports, ReportsIgnoreService};
 ghost use Rattle.nbd_laws.specs.Service.{CookiesAreDistinct, DisconnectsAreEmpty, EachReplyAnswersOne, EmptyIsExplained, NothingAfterDisconnect, RepliesEndAsTheyStart, ServedOnceAfterCompletion};
-ghost use Rattle.nbd_laws.specs.Equal.{RunsAreEqual};
 ghost use Rattle.nbd_laws.specs.Explaining.{PassingIsExplained, ExplainedPasses};
 
 /// A run with given bytes and a given order of service exists exactly where a run with these bytes
@@ -153,6 +152,14 @@ pub fn base_is_wide()
     ensures { BaseIsWide }
 {}
 
+/// Items in which no head of an answer of success to an option on metadata contexts completes are a run, the place
+/// of a fault or a session under way in both profiles or in none.
+pub fn profiles_agree()
+    ensures runs { RunsAgree }
+    ensures places { PlacesAgree }
+    ensures under_way { UnderWayAgrees }
+{}
+
 /// In transmission the metadata contexts in force are those that the last SET_META_CONTEXT selected, where an ACK ended
 /// its answer, structured replies were in force and the option that led into transmission names the same export. Where
 /// there is no such selection, none is in force.
@@ -169,9 +176,4 @@ pub fn sizes_are_announced()
 /// The metadata contexts stay as they are in transmission: each request was asked while those were in force that are at the end.
 pub fn contexts_stay()
     ensures { ContextsStay }
-{}
-
-/// Runs by relations are those by the lists of tests.
-pub fn runs_are_equal()
-    ensures { RunsAreEqual }
 {}

@@ -3,6 +3,7 @@ use Rattle.std.proofs.Common.{◌≡◌, ℕ, ◌<◌, ◌||◌, ◌&&◌, ◌==
 use Rattle.std.proofs.lemmas.Option.{slice_get_within}
 use Rattle.nbd_state.specs.Places.{place_at}
 use Rattle.nbd_laws.proofs.judge.AllowLemmas.{ask_allow}
+use Rattle.nbd_laws.specs.Allowed.{MayAsk}
 use Rattle.nbd_wire.specs.declared.commands.TheConstants as commands
 use Rattle.nbd_wire.specs.declared.message.Message.{Message}
 use Rattle.nbd_wire.specs.declared.message.Message.TheVariants.{Greeting, ClientFlags, Choice, Answer, Exported, Request, Simple, Chunk}
@@ -10,7 +11,7 @@ use Rattle.nbd_wire.specs.declared.sizes.Sizing.{Sizing}
 use Rattle.nbd_wire.specs.protocol.Sizes.{sizing_after, sizing_at}
 use Rattle.nbd_wire.specs.protocol.Options.{agrees, reply_phase, choice_phase, is_proper_option, next_phase, selection_after, selection_at, takes_contexts}
 use Rattle.nbd_wire.specs.protocol.Operations.{Exporting}
-use Rattle.nbd_wire.specs.protocol.Rules.{AnswersOne, MayAsk, MayComplete, complete, grants_structured}
+use Rattle.nbd_wire.specs.protocol.Rules.{AnswersOne, MayComplete, complete, grants_structured}
 use Rattle.nbd_wire.specs.protocol.States.{Core, Phase, Greet, Flags, Choosing, Naming, Aborting, Answering, Ended, Transmission, export_in}
 use Rattle.nbd_state.specs.declared.state.Chosen.{Chosen}
 use Rattle.nbd_state.specs.declared.state.Phase as states

@@ -18,7 +18,7 @@ use Rattle.nbd_wire.specs.protocol.Marks.{Item, completed_messages, pairs}
 use Rattle.nbd_wire.specs.protocol.Reports.{Report, report}
 use Rattle.nbd_wire.specs.protocol.Rules.{IsRunBut, IsRunOf, Obeys}
 use Rattle.nbd_wire.specs.protocol.Sendable.{IsSendable}
-use Rattle.nbd_wire.specs.protocol.Splits.{IsPlaceOf, IsSplitOf, IsUnderWayOf, open_bytes}
+use Rattle.nbd_wire.specs.protocol.Places.{IsPlaceOf, IsUnderWayOf}
 use Rattle.nbd_wire.specs.protocol.States.{State, start_of}
 use Rattle.nbd_laws.specs.Profiles.{NothingParts}
 use Rattle.nbd_wire.specs.protocol.Concrete.{concrete}
@@ -26,17 +26,15 @@ use Rattle.nbd_wire.specs.protocol.Machine.{Both, fresh_of, get, reads}
 use Rattle.nbd_laws.proofs.judge.ExactLemmas.{exact}
 use Rattle.nbd_laws.proofs.judge.SoundLemmas.{sound}
 use Rattle.nbd_laws.proofs.machine.MachineLemmas.{Busy, Idle, Loose, Open, Walk, ended, final, loose, middle, opening, serving}
-use Rattle.nbd_laws.proofs.rows.MarkLemmas.{places_begin_no_run}
-use Rattle.nbd_laws.proofs.rows.RowJudgeLemmas.{telling}
-use Rattle.nbd_laws.proofs.runs.AgreeLemmas.{clear_agrees, none_agrees, places_agree, runs_agree, split_agrees}
+use Rattle.nbd_laws.proofs.runs.AgreeLemmas.{nothing_before, places_agree, runs_agree, under_way_in}
 use Rattle.nbd_laws.proofs.runs.FollowLemmas.{each_with}
-use Rattle.nbd_laws.proofs.runs.PlaceLemmas.{are_prefix, but_last, place_read, read_no_place, under_way_read}
-use Rattle.nbd_laws.proofs.runs.RestLemmas.{rest_of_blocks}
+use Rattle.nbd_laws.proofs.runs.PlaceLemmas.{but_last, places_begin_no_run, read_no_place}
 use Rattle.nbd_laws.proofs.runs.RunLemmas.{walk_of}
 use Rattle.nbd_laws.proofs.service.ExplainingLemmas.{explained_passes, passing_is_explained}
 use Rattle.nbd_laws.proofs.service.MomentLemmas.{orders_are_faultless}
 use Rattle.nbd_laws.proofs.service.ServiceLemmas.{same_reports}
-use Rattle.nbd_session.specs.Refusals.{IsOpenEndOf, IsRefusalOf, IsWireFaultOf}
+use Rattle.nbd_session.specs.Refusals.{IsOpenEndOf, IsRefusalOf, IsWireFaultOf, LeavesOpen}
+use Rattle.nbd_wire.specs.protocol.Within.{CompletesExactlyOf}
 use Rattle.nbd_session.proofs.judge.RefusalLemmas.{completes_exactly}
 use Rattle.nbd_judge.specs.declared.verdict.Verdict.{Verdict}
 use Rattle.nbd_judge.specs.declared.verdict.Verdict.TheVariants.{Yes, Wire, Image, Order, Content, Status}
@@ -108,15 +106,9 @@ walk_bytes {o} (final s m b is w) state ob are =
     (sent.0, walk_bytes w _ ob.1.1 (each_with LeavesBytes o s Idle are tt))
 walk_bytes (loose s b absent is w) state ob are = absurd absent
 
--- a run is a split of its bytes
-run_is_split : (profile : Profile) (items : List Item) → IsRunOf profile items → IsSplitOf profile items (pairs items) (completed_messages items)
-run_is_split profile items run = record {
-  run = subst (λ l. IsRunBut profile items l (open_bytes Server items)) (sym (rest_of_blocks Client items [] run.marked.client_side))
-      (subst (λ l. IsRunBut profile items [] l) (sym (rest_of_blocks Server items [] run.marked.server_side)) run);
-  are_pairs = walk_bytes (walk_of run) (start_of profile) run.obeys (elim [ Client ↦ tt | Server ↦ tt ]);
-  has_pairs = refl;
-  has_messages = refl;
-}
+-- the bytes of a run
+run_pairs : (profile : Profile) (items : List Item) → IsRunOf profile items → ArePairs (pairs items)
+run_pairs profile items run = walk_bytes (walk_of run) (start_of profile) run.obeys (elim [ Client ↦ tt | Server ↦ tt ])
 
 -- what the rules name as a place is a refusal
 place_refuses : (profile : Profile) (ps : List Pair) (messages : List Message) (fault : WireFault) → IsPlaceOf profile ps messages fault → IsRefusalOf profile ps messages fault
@@ -124,9 +116,8 @@ place_refuses profile ps messages fault place = record {
   place = place;
   none = places_begin_no_run profile ps messages fault place;
   before = λ prefix last parts.
-      (let r = place_read concrete sound exact telling ps messages fault place in
-      let same : r.prefix ≡ prefix = (but_last r.prefix prefix r.last last (sym r.parts ∙ parts)).0 in
-      completes_exactly prefix r.end messages (are_prefix prefix (last ∷ []) (subst ArePairs parts place.split.are_pairs)) (ap (reads concrete (fresh_of profile)) (sym same) ∙ r.reads_it) r.messages_are);
+      (let same : place.prefix ≡ prefix = (but_last place.prefix prefix place.last last (sym place.parts ∙ parts)).0 in
+      subst (λ qs. CompletesExactlyOf profile qs messages) same (completes_exactly place.prefix place.before.end messages place.before.are_pairs place.before.reads_it place.before.has_messages));
 }
 
 -- a verdict is one of the other profile too, with its count
@@ -139,14 +130,14 @@ other_count p q r order initial (Image i s) h = h
 other_count p q r order initial (Wire at fault) h = h
 
 module _ (p q : Profile) (capture : List Pair) (tells : NothingPartsIn capture) where
-  none_told : (profile : Profile) (items : List Item) → IsRunOf profile items → pairs items ≡ capture → NothingParts items
-  none_told profile items run is = tells profile items (pairs items) [] (completed_messages items) (append-nil (pairs items) ∙ is) (run_is_split profile items run)
+  none_told : (profile : Profile) (items : List Item) → pairs items ≡ capture → NothingParts profile (pairs items)
+  none_told profile items is = subst (NothingParts profile) (sym is) (tells profile)
 
   -- the verdict on a run
   same_verdict : (order : List Entry) (initial : Start) (v : Verdict) (h : HasVerdict p capture order initial v) → HasVerdict q capture order initial (with_improper (improper_count q (report h.items)) v)
   same_verdict order initial v h =
       let w : Verdict = with_improper (improper_count q (report h.items)) v in
-      let run : IsRunOf q h.items = runs_agree p q h.items (none_told p h.items h.is_run h.has_pairs) h.is_run in
+      let run : IsRunOf q h.items = runs_agree p q h.items (run_pairs p h.items h.is_run) (none_told p h.items h.has_pairs) h.is_run in
       let here : IsVerdict q (report h.items) order initial w = other_count p q (report h.items) order initial v (h.is_verdict h.items h.is_run h.has_pairs) in
       record {
         items = h.items;
@@ -160,27 +151,20 @@ module _ (p q : Profile) (capture : List Pair) (tells : NothingPartsIn capture) 
   same_open_end : (messages : List Message) → IsOpenEndOf p capture messages → IsOpenEndOf q capture messages
   same_open_end messages e =
       let u : IsUnderWayOf p capture messages = e.accepted.under_way in
-      let none : NothingParts u.items = tells p u.items capture [] messages (append-nil capture) u.split in
-      let under : IsUnderWayOf q capture messages = record {
-        items = u.items;
-        split = split_agrees p q u.items capture messages none u.split;
-        clear = clear_agrees p q u.items none u.clear;
-        none_at = none_agrees p q u.items (none u.items [] (sym (append-nil u.items))) u.none_at;
-      } in
-      let r = under_way_read concrete sound exact telling capture messages under in
+      let v = under_way_in p q capture messages (tells p) u in
       record {
         accepted = record {
-          under_way = under;
-          placeless = λ prefix rest more fault parts place. read_no_place concrete sound exact telling prefix rest r.0 (ap (reads concrete (fresh_of q)) parts ∙ r.1) more fault place;
-          all = completes_exactly capture r.0 messages u.split.are_pairs r.1 r.2;
+          under_way = v.0;
+          placeless = λ prefix rest more fault parts place. read_no_place prefix rest v.0.end (ap (reads concrete (fresh_of q)) parts ∙ v.0.reads_it) more fault place;
+          all = completes_exactly capture v.0.end messages v.0.are_pairs v.0.reads_it v.0.has_messages;
         };
-        leaves_open = e.leaves_open;
-        none = λ items run has. e.none items (runs_agree q p items (none_told q items run has) run) has;
+        leaves_open = subst LeavesOpen (sym v.1) e.leaves_open;
+        none = λ items run has. e.none items (runs_agree q p items (run_pairs q items run) (none_told q items has) run) has;
       }
 
   same_wire_fault : (messages : List Message) (at : ℕ) (fault : WireFault) → IsWireFaultOf p capture messages at fault → IsWireFaultOf q capture messages at fault
   same_wire_fault messages at fault (inl r) =
-      let place : IsPlaceOf q r.prefix messages fault = places_agree p q r.prefix messages fault r.refusal.place (tells p r.refusal.place.items r.prefix r.rest messages r.parts r.refusal.place.split) in
+      let place : IsPlaceOf q r.prefix messages fault = places_agree p q r.prefix messages fault (nothing_before (fresh_of p) r.prefix r.rest (subst (NothingParts p) (sym r.parts) (tells p))) r.refusal.place in
       inl (record { prefix = r.prefix; rest = r.rest; parts = r.parts; at_is = r.at_is; refusal = place_refuses q r.prefix messages fault place })
   same_wire_fault messages at fault (inr e) = inr (e.0, e.1, same_open_end messages e.2)
 

@@ -7,8 +7,8 @@ use Rattle.nbd_wire.specs.declared.message.Message.{Message}
 use Rattle.nbd_wire.specs.protocol.Captures.{Pair}
 use Rattle.nbd_wire.specs.protocol.Explains.{Start}
 use Rattle.nbd_wire.specs.protocol.Reports.{report}
-use Rattle.nbd_wire.specs.protocol.Splits.{IsPlaceOf}
-use Rattle.nbd_laws.proofs.rows.MarkLemmas.{one_place, prefixes_have_no_place, under_way_agree}
+use Rattle.nbd_wire.specs.protocol.Places.{IsPlaceOf}
+use Rattle.nbd_laws.proofs.runs.PlaceLemmas.{one_place, prefixes_have_no_place, under_way_agree}
 use Rattle.nbd_session.specs.declared.fault.SessionFault.TheVariants as session
 use Rattle.nbd_session.specs.Refusals.{IsOpenEndOf, IsRefusedAtOf}
 use Rattle.nbd_session.proofs.judge.RefusalLemmas.{no_run_of}

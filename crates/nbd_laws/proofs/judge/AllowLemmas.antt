@@ -1,5 +1,6 @@
 -- What the lists of tests say, where none holds: in the words of relations.
 use Rattle.nbd_laws.proofs.requests.LaidLemmas.{AreApart, AreInside}
+use Rattle.nbd_laws.specs.Allowed.{AreClientFlags, FitsLimit, IsChunk, IsContent, IsFreshFor, IsInfo, IsSimpleReply, IsStatus, MayAcknowledge, MayAnswer, MayAsk, MayEnd, MayTell}
 use Rattle.nbd_wire.specs.protocol.Statuses.{tells_all}
 use Rattle.nbd_wire.specs.protocol.JudgeNegotiation.{answer_fault, answer_head_fault, client_flags_fault, greeting_fault}
 use Rattle.nbd_wire.specs.protocol.JudgeTransmission.{cookie_fault, request_fault}
@@ -15,11 +16,10 @@ use Rattle.nbd_wire.specs.declared.payloads.Info.{Info}
 use Rattle.nbd_wire.specs.declared.payloads.Info.TheVariants.{Export, BlockSize, Other}
 use Rattle.nbd_wire.specs.declared.transmission.TheConstants as transmission
 use Rattle.nbd_wire.specs.protocol.Sizes.{are_allowed}
-use Rattle.nbd_wire.specs.protocol.Options.{FitsLimit, IsInfo, MayAcknowledge, MayAnswer, is_error, is_proper_option, takes_contexts, MayTell, IsFreshFor}
+use Rattle.nbd_wire.specs.protocol.Options.{is_error, is_proper_option, takes_contexts}
 use Rattle.nbd_wire.specs.protocol.Payloads.{info_of, is_listed, context_of, content_of, failure_of, status_of}
 use Rattle.nbd_wire.specs.protocol.Operations.{Exporting, Covers, Operation, has_failed, is_proper, pieces, asks_status}
 use Rattle.nbd_wire.specs.protocol.Flags.{has, has_only}
-use Rattle.nbd_wire.specs.protocol.Rules.{MayAsk}
 use Rattle.nbd_wire.specs.protocol.States.{Core, target, with_reply}
 use Rattle.nbd_wire.specs.declared.fault.WireFault.{WireFault}
 use Rattle.nbd_wire.specs.declared.fault.WireFault.TheVariants.{NotFixedNewstyle, BadClientFlags, WrongOption, OutOfProfile, BadReplyPayload, ExportTooLarge, SuccessOfImproper, SimpleForbidden, ChunkForbidden, BadChunk, BadContent, IncompleteRead, IncompleteStatus, CookieInUse, BadDisconnect}
@@ -35,9 +35,7 @@ use Rattle.nbd_wire.specs.declared.command_flags.TheConstants as command_flags
 use Rattle.nbd_wire.specs.declared.commands.TheConstants as commands
 use Rattle.nbd_wire.specs.declared.payloads.Failure.{Failure}
 use Rattle.nbd_wire.specs.declared.payloads.Piece.{Piece}
-use Rattle.nbd_wire.specs.protocol.Replies.{IsChunk, IsContent, IsStatus}
-use Rattle.nbd_wire.specs.protocol.Rules.{AreClientFlags, MayEnd, MayReply}
-use Rattle.nbd_wire.specs.protocol.Replies.{IsSimpleReply}
+use Rattle.nbd_wire.specs.protocol.Rules.{MayReply}
 use Rattle.nbd_wire.specs.protocol.JudgeNegotiation.{answer_last_fault}
 use Rattle.nbd_wire.specs.protocol.Pieces.{is_in, piece_offset, piece_size}
 use Rattle.nbd_wire.specs.protocol.JudgeTransmission.{chunk_fault, content_fault, done_fault, finish_fault, fits_failure, fits_read, is_apart_from, is_inside, is_no_piece, total, lacks_status, fits_status, status_if, fits_range}

@@ -1,5 +1,6 @@
 -- What holds of each request of a core that completed messages lead to.
 use Rattle.std.proofs.Common.{◌≡◌, ℕ, zero, suc, ◌<◌, ◌≤◌, ◌⊎◌, ◌+◌, ◌^◌, ◌==◌, List, [], ◌∷◌, ◌++◌, length, refl, sym, ◌∙◌, ap, subst, inl, inr, Option, Some, None, Bool, true, false, ◌&&◌, if◌then◌else◌, eqb-true, arith, append-nil, nat_le}
+use Rattle.nbd_laws.specs.Allowed.{IsChunk}
 use Rattle.nbd_wire.specs.declared.chunks.TheConstants as chunks
 use Rattle.nbd_wire.specs.declared.commands.TheConstants as commands
 use Rattle.nbd_wire.specs.declared.message.Message.{Message}
@@ -8,7 +9,6 @@ use Rattle.nbd_wire.specs.declared.payloads.Failure.{Failure}
 use Rattle.nbd_wire.specs.declared.payloads.Piece.{Piece}
 use Rattle.nbd_wire.specs.declared.payloads.Piece.TheVariants.{Bytes}
 use Rattle.nbd_wire.specs.protocol.Payloads.{number_at, content_of, failure_of}
-use Rattle.nbd_wire.specs.protocol.Replies.{IsChunk}
 use Rattle.nbd_wire.specs.protocol.Operations.{Operation, Exporting, pieces, pieces_of}
 use Rattle.nbd_wire.specs.protocol.Pieces.{chunk_piece, piece_of}
 use Rattle.nbd_wire.specs.protocol.Rules.{MayComplete, MayReply, complete, core_with_request, reply_to}

@@ -118,7 +118,7 @@ within_middle core rest s m b left i g = (
   subst (λ c. Later s c core) (sym (old-filled core rest i.0.filled)) i.1,
 )
 
-judged_more : (judge : Judge) → IsExact judge → (core : Core) (rest : Rest) (s : Side) (m : Message) (left : List ℕ) → InStep core rest s (Busy m left) → HasEnd s core m → Kept judge s rest.since core rest.bytes → judge rest.since core s rest.bytes ≡ More
+pub judged_more : (judge : Judge) → IsExact judge → (core : Core) (rest : Rest) (s : Side) (m : Message) (left : List ℕ) → InStep core rest s (Busy m left) → HasEnd s core m → Kept judge s rest.since core rest.bytes → judge rest.since core s rest.bytes ≡ More
 judged_more judge exact core rest s m left i end k =
     exact.more rest.since core end.end s m rest.bytes left i.1 end.later i.0.sided i.0.sendable i.0.starts end.completes i.0.encodes i.0.filled i.0.unfinished k
 

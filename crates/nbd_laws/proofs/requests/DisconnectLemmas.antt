@@ -1,13 +1,14 @@
 -- Nothing of the client comes after a DISC.
 use Rattle.std.proofs.Common.{◌≡◌, ℕ, ◌==◌, List, [], ◌∷◌, ◌++◌, refl, sym, ◌∙◌, subst, Option, Some, None, Bool, true, false}
 use Rattle.nbd_laws.proofs.judge.AllowLemmas.{ask_allow}
+use Rattle.nbd_laws.specs.Allowed.{MayAsk}
 use Rattle.nbd_wire.specs.declared.commands.TheConstants as commands
 use Rattle.nbd_wire.specs.declared.message.Side.TheVariants.{Client}
 use Rattle.nbd_wire.specs.declared.message.Message.{Message}
 use Rattle.nbd_wire.specs.declared.message.Message.TheVariants.{Request, Simple, Chunk}
 use Rattle.nbd_wire.specs.protocol.Marks.{Item, Byte, Starts, Completes, Serves}
 use Rattle.nbd_wire.specs.protocol.Operations.{Operation, Exporting}
-use Rattle.nbd_wire.specs.protocol.Rules.{MayAsk, MayComplete, MayStartIn, Obeys, after, request_of_reply, complete, ends_at, reply_to, core_with_request}
+use Rattle.nbd_wire.specs.protocol.Rules.{MayComplete, MayStartIn, Obeys, after, request_of_reply, complete, ends_at, reply_to, core_with_request}
 use Rattle.nbd_wire.specs.protocol.States.{Core, Phase, State, Transmission, start_of}
 use Rattle.nbd_laws.proofs.runs.PrefixLemmas.{InTransmission, asks, gives, phase-complete, replies, transmission_row}
 use Rattle.nbd_laws.proofs.runs.PartLemmas.{obeys_back, obeys_prefix}

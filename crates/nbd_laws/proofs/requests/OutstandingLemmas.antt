@@ -1,6 +1,7 @@
 -- The outstanding requests of a core have distinct cookies.
 use Rattle.std.proofs.Common.{◌≡◌, ℕ, zero, suc, ◌+◌, ◌==◌, ◌&&◌, ◌||◌, not, ◌<◌, ◌≤◌, length, List, [], ◌∷◌, ◌++◌, refl, sym, ◌∙◌, ap, subst, Option, Some, None, Bool, true, false, if◌then◌else◌, arith, eqb-true, eq-eqb, IsTrue, is_some}
 use Rattle.nbd_laws.proofs.judge.AllowLemmas.{ask_allow}
+use Rattle.nbd_laws.specs.Allowed.{MayAsk}
 use Rattle.nbd_wire.specs.declared.entry.Entry.{Entry}
 use Rattle.nbd_wire.specs.protocol.Entries.{IsWhollyServed, MayServe}
 use Rattle.nbd_wire.specs.declared.commands.TheConstants as commands
@@ -11,7 +12,7 @@ use Rattle.nbd_wire.specs.declared.profile.Profile.{Profile}
 use Rattle.nbd_wire.specs.protocol.Reports.{operations_of, report}
 use Rattle.nbd_wire.specs.protocol.Marks.{Item, Byte, Starts, Completes, Serves, service_order}
 use Rattle.nbd_wire.specs.protocol.Operations.{Operation, Exporting, any, ends_reply, is_finished}
-use Rattle.nbd_wire.specs.protocol.Rules.{MayAsk, MayComplete, MayStartIn, Obeys, after, request_of_reply, complete, cookie_of, ends_at, inside_at, reply_to, core_with_request, target_of}
+use Rattle.nbd_wire.specs.protocol.Rules.{MayComplete, MayStartIn, Obeys, after, request_of_reply, complete, cookie_of, ends_at, inside_at, reply_to, core_with_request, target_of}
 use Rattle.nbd_wire.specs.protocol.States.{Core, Phase, State, Greet, Flags, Choosing, Naming, Aborting, Answering, Ended, Transmission, with_reply_at, operation, is_awaiting, start, start_of, target, target_from, with_reply, export_in}
 use Rattle.nbd_laws.proofs.runs.PartLemmas.{obeys_back, obeys_prefix, served_in}
 use Rattle.nbd_laws.proofs.runs.ProfileLemmas.{at_base, phase_at_base}

@@ -1,10 +1,10 @@
 -- The replies to a request are one simple reply, or chunks of which the last and only the last ends the reply.
 use Rattle.std.proofs.Common.{◌≡◌, ℕ, zero, suc, ◌==◌, ◌||◌, List, [], ◌∷◌, ◌++◌, refl, sym, ◌∙◌, ap, subst, inl, inr, Option, Some, None, Bool, true, false, not, eqb-true}
 use Rattle.nbd_laws.proofs.judge.AllowLemmas.{chunk_allow, finish_allow, simple_allow}
+use Rattle.nbd_laws.specs.Allowed.{IsChunk}
 use Rattle.nbd_wire.specs.protocol.Flags.{has}
 use Rattle.nbd_wire.specs.declared.chunks.TheConstants as chunks
 use Rattle.nbd_wire.specs.protocol.JudgeTransmission.{done_fault}
-use Rattle.nbd_wire.specs.protocol.Replies.{IsChunk}
 use Rattle.nbd_wire.specs.declared.commands.TheConstants as commands
 use Rattle.nbd_wire.specs.declared.message.Message.{Message}
 use Rattle.nbd_wire.specs.declared.message.Message.TheVariants.{Greeting, ClientFlags, Choice, Answer, Exported, Request, Simple, Chunk}

@@ -2,6 +2,7 @@
 use Rattle.std.proofs.Common.{◌≡◌, ℕ, ◌<◌, ◌≤◌, ◌+◌, ◌==◌, List, [], ◌∷◌, length, refl, sym, ◌∙◌, ap, subst, inl, inr, Option, Some, None, Bool, true, false, not, ◌&&◌, ◌||◌, if◌then◌else◌, eqb-true, arith, IsTrue, nat_le, ◌⊎◌, ◌++◌, ◌≢◌, append-nil}
 use Rattle.std.proofs.lemmas.Bool.{leb-true}
 use Rattle.nbd_laws.proofs.judge.AllowLemmas.{answer_allow, export_allow}
+use Rattle.nbd_laws.specs.Allowed.{IsInfo, MayAcknowledge, MayAnswer, MayTell}
 use Rattle.nbd_wire.specs.declared.answers.TheConstants as answers
 use Rattle.nbd_wire.specs.declared.commands.TheConstants as commands
 use Rattle.nbd_wire.specs.declared.limits.TheConstants.{EXPORT_SIZE}
@@ -15,7 +16,7 @@ use Rattle.nbd_wire.specs.declared.payloads.Info.TheVariants.{Export, BlockSize,
 use Rattle.nbd_wire.specs.protocol.Marks.{Item, Byte, Starts, Completes, Serves}
 use Rattle.nbd_wire.specs.declared.profile.Profile.{Profile}
 use Rattle.nbd_wire.specs.protocol.Sizes.{sizes_kept}
-use Rattle.nbd_wire.specs.protocol.Options.{IsInfo, MayAcknowledge, MayAnswer, ack_phase, reply_phase, choice_phase, last_info, next_phase, MayTell}
+use Rattle.nbd_wire.specs.protocol.Options.{ack_phase, reply_phase, choice_phase, last_info, next_phase}
 use Rattle.nbd_wire.specs.protocol.Payloads.{info_of}
 use Rattle.nbd_wire.specs.protocol.Reports.{Asked, operations_of, export_of, known_count, known_from, known_if, first_known, report, asked_of, asked_list}
 use Rattle.nbd_wire.specs.protocol.Operations.{Covers, Operation, Exporting, Outcome, Success, Pending, any, ends_reply, has_failed, has_range, is_failing, is_finished, is_proper, outcome, pieces, pieces_of}

@@ -1,6 +1,35 @@
 -- What a session that is held to one profile may do, it may do under the other too, but for answers of success to the options on metadata contexts.
 use Rattle.std.proofs.Common.{◌≡◌, ℕ, ◌==◌, Bool, true, false, List, [], ◌∷◌, length, refl, sym, ◌∙◌, ap, subst, Option, Some, All, not, ◌&&◌}
 use Rattle.std.proofs.lemmas.List.Elements.{All-head, All-tail}
+use Rattle.std.proofs.Common.{Result, Ok, Err, Option, Some, inl, inr, nat_lt, drop, ◌+◌, append_assoc}
+use Rattle.std.proofs.lemmas.Bool.{ltb-false}
+use Rattle.std.proofs.Common.{◌++◌}
+use Rattle.std.proofs.Common.{◌<◌}
+use Rattle.nbd_laws.specs.Profiles.{RunsAgree}
+use Rattle.nbd_wire.specs.protocol.Places.{IsUnderWayOf}
+use Rattle.nbd_wire.specs.protocol.Captures.{ArePairs}
+use Rattle.nbd_wire.specs.protocol.Machine.{Both}
+use Rattle.nbd_wire.specs.protocol.Marks.{pairs}
+use Rattle.nbd_laws.proofs.judge.BlockLemmas.{reads-append}
+use Rattle.nbd_laws.proofs.judge.ExactLemmas.{exact}
+use Rattle.nbd_laws.proofs.judge.SoundLemmas.{sound}
+use Rattle.nbd_laws.proofs.machine.MachineLemmas.{Busy, Open, Walk, ended, final, get-put_same, kept_next, loose, middle, opening, reads_held, serving, with_byte}
+use Rattle.nbd_laws.proofs.machine.MarkLemmas.{AreInStep, InStep, in_step_completed, in_step_sided, in_step_with, judged_more, judged_whole, within_middle, within_opening}
+use Rattle.nbd_laws.proofs.runs.FollowLemmas.{IsSidedOpen, completes_later, each_with, follows}
+use Rattle.nbd_laws.proofs.runs.RunLemmas.{fresh_held, walk_of}
+use Rattle.nbd_wire.specs.protocol.Contexts.{Selection}
+use Rattle.nbd_wire.specs.declared.magics.TheConstants.{ANSWER_MAGIC, CHUNK_MAGIC, SIMPLE_MAGIC}
+use Rattle.nbd_wire.specs.declared.fault.WireFault.{WireFault}
+use Rattle.nbd_wire.specs.declared.fault.WireFault.TheVariants.{BadMagic, SuccessOfImproper}
+use Rattle.nbd_wire.specs.protocol.Captures.{Pair}
+use Rattle.nbd_wire.specs.protocol.Concrete.{concrete, judge_in, last_reading, read_by, reading_by_decision, staged_reading_by}
+use Rattle.nbd_wire.specs.protocol.Decisions.{fault_if}
+use Rattle.nbd_wire.specs.protocol.Judge.{request_unless}
+use Rattle.nbd_wire.specs.protocol.JudgeNegotiation.{ack_fault, answer, answer_fault, answer_of, at_ack, info_fault, is_wide}
+use Rattle.nbd_wire.specs.protocol.JudgeTransmission.{begins, operation_of, reply_by}
+use Rattle.nbd_wire.specs.protocol.Machine.{Bad, Machine, More, Reading, Rest, Whole, fresh_of, get, old_by, on_ok, reads, rest_with, settle, step}
+use Rattle.nbd_wire.specs.protocol.Payloads.{number_at}
+use Rattle.nbd_wire.specs.protocol.States.{Ended}
 use Rattle.nbd_wire.specs.declared.fault.WireFault.TheVariants.{BadReplyKind, BadReplyPayload, OutOfProfile, WrongOption}
 use Rattle.nbd_wire.specs.declared.payloads.Info.{Info}
 use Rattle.nbd_wire.specs.declared.payloads.Info.TheVariants.{BlockSize, Export, Other}
@@ -28,7 +57,7 @@ use Rattle.nbd_wire.specs.protocol.Options.{is_error}
 use Rattle.nbd_wire.specs.protocol.Payloads.{info_of}
 use Rattle.nbd_wire.specs.protocol.Rules.{IsServedFor, MayComplete, MayStartIn, Obeys, complete}
 use Rattle.nbd_wire.specs.protocol.States.{Core, Phase, Greet, Flags, Choosing, Naming, Aborting, Answering, Ended, Transmission, start_of}
-use Rattle.nbd_laws.specs.Profiles.{AnnouncesAllowed, BaseIsWide, with_profile}
+use Rattle.nbd_laws.specs.Profiles.{AnnouncesAllowed, BaseIsWide, IsParting, NothingFrom, NothingParts, PlacesAgree, UnderWayAgrees, with_profile}
 use Rattle.nbd_laws.proofs.runs.ProfileLemmas.{complete_with}
 
 -- an answer that announces block sizes which a server may not announce
@@ -164,4 +193,239 @@ base_is_wide capture order initial ex all = record {
   has_order = ex.has_order;
   fits_image = ex.fits_image;
   reads = ex.reads;
+}
+
+abbrev Quiet : Phase → Side → List ℕ → Type 0
+Quiet phase s bytes = s ≡ Server → IsParting phase bytes → ⊥
+
+staged_end : (fault : Option WireFault) (end other : Reading) → staged_reading_by false fault false end ≡ staged_reading_by false fault false other
+staged_end None end other = refl
+staged_end (Some f) end other = refl
+
+followed_either : (p q : Profile) (option : ℕ) → is_on_contexts option ≡ false → is_followed p option ≡ is_followed q option
+followed_either p q option e = ap (λ x. (option == options.LIST) || ((option == options.INFO) || ((option == options.GO) || ((option == options.STRUCTURED_REPLY) || x)))) (none p (is_on_contexts option) e ∙ sym (none q (is_on_contexts option) e))
+  where
+    none : (p : Profile) (x : Bool) → x ≡ false → (is_wide p && x) ≡ false
+    none Base x e = refl
+    none Wide x e = e
+
+info_either : (p q : Profile) (o : Option Info) → ((sizes : Sizes) → sizes_of o ≡ Some sizes → are_allowed sizes ≡ false → ⊥) → is_good_info p o ≡ is_good_info q o
+info_either p q None fair = refl
+info_either p q (Some (Export size flags)) fair = refl
+info_either p q (Some (Other kind)) fair = refl
+info_either p q (Some (BlockSize a b c)) fair = go (are_allowed (record { least = a; preferred = b; largest = c })) refl
+  where
+    all : (p : Profile) → (not (is_wide p) || true) ≡ true
+    all Base = refl
+    all Wide = refl
+
+    go : (x : Bool) → are_allowed (record { least = a; preferred = b; largest = c }) ≡ x → (not (is_wide p) || x) ≡ (not (is_wide q) || x)
+    go true e = all p ∙ sym (all q)
+    go false e = absurd (fair (record { least = a; preferred = b; largest = c }) refl e)
+
+bad_either : (p q : Profile) (earlier : List Context) (kind : ℕ) (payload : List ℕ) → (kind ≡ answers.INFO → (sizes : Sizes) → sizes_of (info_of payload) ≡ Some sizes → are_allowed sizes ≡ false → ⊥) →
+    is_bad_payload p earlier kind payload ≡ is_bad_payload q earlier kind payload
+bad_either p q earlier kind payload fair = go (kind == answers.INFO) refl
+  where
+    go : (i : Bool) → (kind == answers.INFO) ≡ i →
+        (((kind == answers.SERVER) && not (is_listed payload)) || ((i && not (is_good_info p (info_of payload))) || ((kind == answers.META_CONTEXT) && not (is_good_context earlier (context_of payload)))))
+        ≡ (((kind == answers.SERVER) && not (is_listed payload)) || ((i && not (is_good_info q (info_of payload))) || ((kind == answers.META_CONTEXT) && not (is_good_context earlier (context_of payload)))))
+    go false e = refl
+    go true e = ap (λ g. ((kind == answers.SERVER) && not (is_listed payload)) || (not g || ((kind == answers.META_CONTEXT) && not (is_good_context earlier (context_of payload))))) (info_either p q (info_of payload) (fair (eqb-true kind answers.INFO e)))
+
+module _ (option : ℕ) (given : List ℕ) (proper takes : Bool) (info : Option Exporting) (selection : Selection) (bytes : List ℕ) where
+  abbrev at_head : Profile → Bool → Option WireFault
+  at_head v e = fault_if (not (number_at 0 8 bytes == ANSWER_MAGIC)) BadMagic (answer_fault option (number_at 8 4 bytes) (unless_error e (success_fault v option proper takes info (number_at 12 4 bytes) (number_at 16 4 bytes))))
+
+  abbrev at_last : Profile → Bool → Reading
+  at_last v e = last_reading (unless_error e (payload_fault v (earlier_to option selection) proper (number_at 12 4 bytes) (drop 20 bytes))) (answer_of bytes)
+
+  answer_either : (p q : Profile) → (IsParting (Answering option given info) bytes → ⊥) → read_by (answer p option proper takes info selection bytes) bytes ≡ read_by (answer q option proper takes info selection bytes) bytes
+  answer_either p q none = go (nat_lt (length bytes) 20) refl (is_error (number_at 12 4 bytes)) refl (length bytes == 20 + number_at 16 4 bytes) refl
+    where
+      head_same : nat_lt (length bytes) 20 ≡ false → is_error (number_at 12 4 bytes) ≡ false → at_head p false ≡ at_head q false
+      head_same l e = by (is_on_contexts option) refl
+        where
+          by : (c : Bool) → is_on_contexts option ≡ c → at_head p false ≡ at_head q false
+          by true c = absurd (none (inl (c, ltb-false (length bytes) 20 l, e)))
+          by false c = ap (λ f. fault_if (not (number_at 0 8 bytes == ANSWER_MAGIC)) BadMagic (answer_fault option (number_at 8 4 bytes)
+              (fault_if (f && not (answers_option option takes (number_at 12 4 bytes))) BadReplyKind (fault_if (not f) OutOfProfile
+              (ack_fault (number_at 12 4 bytes) (number_at 16 4 bytes) (at_ack (number_at 12 4 bytes == answers.ACK) (info_fault option proper info))))))) (followed_either p q option c)
+
+      last_same : length bytes ≡ 20 + number_at 16 4 bytes → at_last p false ≡ at_last q false
+      last_same l = ap (λ b. last_reading (fault_if b BadReplyPayload (fault_if (not proper) SuccessOfImproper None)) (answer_of bytes))
+          (bad_either p q (earlier_to option selection) (number_at 12 4 bytes) (drop 20 bytes) (λ k sizes is e. none (inr (l, k, (sizes, is, e)))))
+
+      go : (low : Bool) → nat_lt (length bytes) 20 ≡ low → (e : Bool) → is_error (number_at 12 4 bytes) ≡ e → (whole : Bool) → (length bytes == 20 + number_at 16 4 bytes) ≡ whole →
+          staged_reading_by low (at_head p e) whole (at_last p e) ≡ staged_reading_by low (at_head q e) whole (at_last q e)
+      go true l e x w y = refl
+      go false l true x w y = refl
+      go false l false x true y = λ i. staged_reading_by false (head_same l x i) true (last_same (eqb-true _ _ y) i)
+      go false l false x false y = ap (λ f. staged_reading_by false f false (at_last p false)) (head_same l x) ∙ staged_end (at_head q false) (at_last p false) (at_last q false)
+
+reading_in : (q : Profile) (phase : Phase) (since now : Core) (s : Side) (bytes : List ℕ) → Quiet phase s bytes → judge_in phase (with_profile q since) (with_profile q now) s bytes ≡ judge_in phase since now s bytes
+reading_in q (Answering option given info) since now Server bytes none = answer_either option given (is_proper_option option given) (takes_contexts option given) info now.selection bytes q now.profile (none refl)
+reading_in q (Answering option given info) since now Client bytes none = refl
+reading_in q Greet since now Client bytes none = refl
+reading_in q Greet since now Server bytes none = refl
+reading_in q Flags since now Client bytes none = refl
+reading_in q Flags since now Server bytes none = refl
+reading_in q Choosing since now Client bytes none = refl
+reading_in q Choosing since now Server bytes none = refl
+reading_in q Naming since now Client bytes none = refl
+reading_in q Naming since now Server bytes none = refl
+reading_in q Aborting since now Client bytes none = refl
+reading_in q Aborting since now Server bytes none = refl
+reading_in q Ended since now Client bytes none = refl
+reading_in q Ended since now Server bytes none = refl
+reading_in q (Transmission export) since now Client bytes none = asked now.disconnected
+  where
+    asked : (d : Bool) → reading_by_decision (request_unless d (with_profile q now) bytes) bytes ≡ reading_by_decision (request_unless d now bytes) bytes
+    asked true = refl
+    asked false = refl
+reading_in q (Transmission export) since now Server bytes none = replied (begins CHUNK_MAGIC bytes) (begins SIMPLE_MAGIC bytes)
+  where
+    replied : (c s : Bool) → read_by (reply_by c s export (with_profile q now) (operation_of since now (number_at 8 8 bytes)) bytes) bytes ≡ read_by (reply_by c s export now (operation_of since now (number_at 8 8 bytes)) bytes) bytes
+    replied true s = refl
+    replied false true = refl
+    replied false false = refl
+
+-- a machine, held to the profile
+abbrev pub rest_in : Profile → Rest → Rest
+rest_in q rest = record { bytes = rest.bytes; since = with_profile q rest.since }
+
+abbrev pub machine_in : Profile → Machine → Machine
+machine_in q machine = record { core = with_profile q machine.core; rests = record { client = rest_in q machine.rests.client; server = rest_in q machine.rests.server }; messages = machine.messages }
+
+abbrev pub result_in : Profile → Result Machine WireFault → Result Machine WireFault
+result_in q (Ok machine) = Ok (machine_in q machine)
+result_in q (Err fault) = Err fault
+
+get_in : (q : Profile) (machine : Machine) (s : Side) → get (machine_in q machine).rests s ≡ rest_in q (get machine.rests s)
+get_in q machine Client = refl
+get_in q machine Server = refl
+
+old_in : (q : Profile) (bytes : List ℕ) (core old : Core) → old_by bytes (with_profile q core) (with_profile q old) ≡ with_profile q (old_by bytes core old)
+old_in q [] core old = refl
+old_in q (x ∷ xs) core old = refl
+
+grown_in : (q : Profile) (core : Core) (rest : Rest) (b : ℕ) → rest_with (with_profile q core) (rest_in q rest) b ≡ rest_in q (rest_with core rest b)
+grown_in q core rest b = λ i. record { bytes = rest.bytes ++ b ∷ []; since = old_in q rest.bytes core rest.since i }
+
+settle_in : (q : Profile) (machine : Machine) (s : Side) (rest : Rest) (r : Reading) → settle (machine_in q machine) s (rest_in q rest) r ≡ result_in q (settle machine s rest r)
+settle_in q machine Client rest More = refl
+settle_in q machine Server rest More = refl
+settle_in q machine Client rest (Whole m) = ap (λ c. Ok (record { core = c; rests = record { client = rest_in q (record rest { bytes = [] }); server = rest_in q machine.rests.server }; messages = machine.messages ++ m ∷ [] })) (complete_with q machine.core m)
+settle_in q machine Server rest (Whole m) = ap (λ c. Ok (record { core = c; rests = record { client = rest_in q machine.rests.client; server = rest_in q (record rest { bytes = [] }) }; messages = machine.messages ++ m ∷ [] })) (complete_with q machine.core m)
+settle_in q machine s rest (Bad f) = refl
+
+abbrev grown : Machine → Side → ℕ → Rest
+grown machine s b = rest_with machine.core (get machine.rests s) b
+
+pub step_in : (q : Profile) (machine : Machine) (s : Side) (b : ℕ) → Quiet machine.core.phase s (grown machine s b).bytes → step concrete (machine_in q machine) s b ≡ result_in q (step concrete machine s b)
+step_in q machine s b none =
+    let same : grown (machine_in q machine) s b ≡ rest_in q (grown machine s b) = ap (λ r. rest_with (with_profile q machine.core) r b) (get_in q machine s) ∙ grown_in q machine.core (get machine.rests s) b in
+    ap (λ (r : Rest). settle (machine_in q machine) s r (concrete r.since (with_profile q machine.core) s r.bytes)) same
+    ∙ ap (settle (machine_in q machine) s (rest_in q (grown machine s b))) (reading_in q machine.core.phase (grown machine s b).since machine.core s (grown machine s b).bytes none)
+    ∙ settle_in q machine s (grown machine s b) (concrete (grown machine s b).since machine.core s (grown machine s b).bytes)
+
+quiet_here : (machine : Machine) (p : Pair) (ps : List Pair) → NothingFrom machine (p ∷ ps) → Quiet machine.core.phase p.from (grown machine p.from p.byte).bytes
+quiet_here machine p ps none e h =
+    none [] ps p.byte machine (λ i. record { from = e i; byte = p.byte } ∷ ps) refl (subst (λ u. IsParting machine.core.phase (grown machine u p.byte).bytes) e h)
+
+nothing_on : (machine next : Machine) (p : Pair) (ps : List Pair) → step concrete machine p.from p.byte ≡ Ok next → NothingFrom machine (p ∷ ps) → NothingFrom next ps
+nothing_on machine next p ps e none before more b mid is read =
+    none (p ∷ before) more b mid (ap (λ l. p ∷ l) is) (ap (λ o. on_ok o (λ next. reads concrete next before)) e ∙ read)
+
+reads_in : (q : Profile) (ps : List Pair) (machine : Machine) → NothingFrom machine ps → reads concrete (machine_in q machine) ps ≡ result_in q (reads concrete machine ps)
+reads_in q [] machine none = refl
+reads_in q (p ∷ ps) machine none = ap (λ o. on_ok o (λ next. reads concrete next ps)) (step_in q machine p.from p.byte (quiet_here machine p ps none))
+    ∙ go (step concrete machine p.from p.byte) (λ next e. reads_in q ps next (nothing_on machine next p ps e none))
+  where
+    go : (r : Result Machine WireFault) → ((next : Machine) → r ≡ Ok next → reads concrete (machine_in q next) ps ≡ result_in q (reads concrete next ps)) →
+        on_ok (result_in q r) (λ next. reads concrete next ps) ≡ result_in q (on_ok r (λ next. reads concrete next ps))
+    go (Err f) h = refl
+    go (Ok next) h = h next refl
+
+pub nothing_before : (machine : Machine) (ps more : List Pair) → NothingFrom machine (ps ++ more) → NothingFrom machine ps
+nothing_before machine ps more none before rest b mid is = none before (rest ++ more) b mid (ap (λ l. l ++ more) is ∙ append_assoc before (record { from = Server; byte = b } ∷ rest) more)
+
+-- with what was read, held to the profile
+pub under_way_in : (p q : Profile) (ps : List Pair) (messages : List Message) → NothingParts p ps → (u : IsUnderWayOf p ps messages) → (v : IsUnderWayOf q ps messages) × (v.end ≡ machine_in q u.end)
+under_way_in p q ps messages none u =
+    (record { are_pairs = u.are_pairs; end = machine_in q u.end; reads_it = reads_in q ps (fresh_of p) none ∙ ap (result_in q) u.reads_it; has_messages = u.has_messages }, refl)
+
+pub under_way_agrees : UnderWayAgrees
+under_way_agrees p q ps messages none u = (under_way_in p q ps messages none u).0
+
+pub places_agree : PlacesAgree
+places_agree p q ps messages fault none place =
+    let nothing : NothingFrom (fresh_of p) (place.prefix ++ place.last ∷ []) = subst (NothingFrom (fresh_of p)) place.parts none in
+    record {
+      are_pairs = place.are_pairs;
+      prefix = place.prefix;
+      last = place.last;
+      parts = place.parts;
+      before = record {
+        are_pairs = place.before.are_pairs;
+        end = machine_in q place.before.end;
+        reads_it = reads_in q place.prefix (fresh_of p) (nothing_before (fresh_of p) place.prefix (place.last ∷ []) nothing) ∙ ap (result_in q) place.before.reads_it;
+        has_messages = place.before.has_messages;
+      };
+      refused = step_in q place.before.end place.last.from place.last.byte
+          (λ e h. nothing place.prefix [] place.last.byte place.before.end (λ i. place.prefix ++ record { from = e i; byte = place.last.byte } ∷ []) place.before.reads_it
+          (subst (λ u. IsParting place.before.end.core.phase (grown place.before.end u place.last.byte).bytes) e h))
+          ∙ ap (result_in q) place.refused;
+    }
+
+-- what completes in a run of the one profile may do so in the other
+module _ (p q : Profile) where
+  -- one more byte, and what the machine makes of it
+  read_more : (done : List Pair) (s : Side) (b : ℕ) (machine next : Machine) → reads concrete (fresh_of p) done ≡ Ok machine → step concrete machine s b ≡ Ok next → reads concrete (fresh_of p) (done ++ record { from = s; byte = b } ∷ []) ≡ Ok next
+  read_more done s b machine next e f = reads-append concrete (fresh_of p) done _ ∙ ap (λ o. on_ok o (λ next. reads concrete next (record { from = s; byte = b } ∷ []))) e ∙ ap (λ o. on_ok o (λ next. Ok next)) f
+
+  are_more : (done : List Pair) (s : Side) (b : ℕ) → ArePairs done → b < 256 → ArePairs (done ++ record { from = s; byte = b } ∷ [])
+  are_more [] s b are l = (l, tt)
+  are_more (x ∷ done) s b are l = (are.0, are_more done s b are.1 l)
+
+  carries : {o : Both Open} {items : List Item} (w : Walk ⊥ o items) (machine : Machine) (js : List Entry) (done : List Pair) → reads concrete (fresh_of p) done ≡ Ok machine → ArePairs done → ArePairs (pairs items) →
+      NothingFrom (fresh_of p) (done ++ pairs items) → Obeys (record { core = machine.core; served = js }) items → AreInStep machine o → Carries q machine.core items
+  carries (ended c d) machine js done e are lt none ob st = tt
+  carries (serving k w) machine js done e are lt none ob st = carries w machine _ done e are lt none ob.1 st
+  carries {o} (opening s m b left {items = items} is f g w) machine js done e are lt none ob st =
+      let i : InStep machine.core (grown machine s b) s (Busy m left) = within_opening machine.core (get machine.rests s) s m b left (subst (InStep machine.core (get machine.rests s) s) is (st s)) f g ob.0.0 ob.0.1 ob.0.2 in
+      let end = completes_later w machine.core (follows items (record { core = machine.core; served = js }) ob.1.1) (each_with IsSidedOpen o s (Busy m left) (in_step_sided machine o st) ob.0.0) s m left (get-put_same o s (Busy m left)) in
+      let j = judged_more concrete exact machine.core (grown machine s b) s m left i end (kept_next concrete machine.core s (get machine.rests s) b lt.0 (reads_held concrete sound done (fresh_of p) machine are (fresh_held concrete) e s)) in
+      carries w (with_byte machine s b) js (done ++ record { from = s; byte = b } ∷ []) (read_more done s b machine (with_byte machine s b) e (ap (settle machine s (grown machine s b)) j)) (are_more done s b are lt.0) lt.1
+      (subst (NothingFrom (fresh_of p)) (sym (append_assoc done (record { from = s; byte = b } ∷ []) (pairs items))) none) ob.1.1 (in_step_with machine o s (grown machine s b) (Busy m left) st i)
+  carries {o} (middle s m b left {items = items} is g w) machine js done e are lt none ob st =
+      let i0 : InStep machine.core (get machine.rests s) s (Busy m (b ∷ left)) = subst (InStep machine.core (get machine.rests s) s) is (st s) in
+      let i : InStep machine.core (grown machine s b) s (Busy m left) = within_middle machine.core (get machine.rests s) s m b left i0 g in
+      let end = completes_later w machine.core (follows items (record { core = machine.core; served = js }) ob.1) (each_with IsSidedOpen o s (Busy m left) (in_step_sided machine o st) i0.0.sided) s m left (get-put_same o s (Busy m left)) in
+      let j = judged_more concrete exact machine.core (grown machine s b) s m left i end (kept_next concrete machine.core s (get machine.rests s) b lt.0 (reads_held concrete sound done (fresh_of p) machine are (fresh_held concrete) e s)) in
+      carries w (with_byte machine s b) js (done ++ record { from = s; byte = b } ∷ []) (read_more done s b machine (with_byte machine s b) e (ap (settle machine s (grown machine s b)) j)) (are_more done s b are lt.0) lt.1
+      (subst (NothingFrom (fresh_of p)) (sym (append_assoc done (record { from = s; byte = b } ∷ []) (pairs items))) none) ob.1 (in_step_with machine o s (grown machine s b) (Busy m left) st i)
+  carries {o} (final s m b {items = items} is w) machine js done e are lt none ob st =
+      let i0 : InStep machine.core (get machine.rests s) s (Busy m (b ∷ [])) = subst (InStep machine.core (get machine.rests s) s) is (st s) in
+      let k = kept_next concrete machine.core s (get machine.rests s) b lt.0 (reads_held concrete sound done (fresh_of p) machine are (fresh_held concrete) e s) in
+      let j = judged_whole concrete exact machine.core (get machine.rests s) s m b i0 ob.1.0 k in
+      let r : Rest = grown (machine_in q machine) s b in
+      let same : r ≡ rest_in q (grown machine s b) = ap (λ x. rest_with (with_profile q machine.core) x b) (get_in q machine s) ∙ grown_in q machine.core (get machine.rests s) b in
+      let quiet : Quiet machine.core.phase s (grown machine s b).bytes =
+      λ t h. none done (pairs items) b machine (λ i. done ++ record { from = t i; byte = b } ∷ pairs items) e (subst (λ u. IsParting machine.core.phase (grown machine u b).bytes) t h) in
+      let jq : concrete r.since (with_profile q machine.core) s r.bytes ≡ Whole m =
+      ap (λ (x : Rest). concrete x.since (with_profile q machine.core) s x.bytes) same ∙ reading_in q machine.core.phase (grown machine s b).since machine.core s (grown machine s b).bytes quiet ∙ j in
+      let before : NothingFrom (fresh_of p) done = nothing_before (fresh_of p) done (record { from = s; byte = b } ∷ pairs items) none in
+      let held = reads_held concrete sound done (fresh_of q) (machine_in q machine) are (fresh_held concrete) (reads_in q done (fresh_of p) before ∙ ap (result_in q) e) in
+      let fit = sound r.since (with_profile q machine.core) s r.bytes m (kept_next concrete (with_profile q machine.core) s (get (machine_in q machine).rests s) b lt.0 (held s)) jq in (
+        fit.completes,
+        carries w _ js (done ++ record { from = s; byte = b } ∷ []) (read_more done s b machine _ e (ap (settle machine s (grown machine s b)) j)) (are_more done s b are lt.0) lt.1
+            (subst (NothingFrom (fresh_of p)) (sym (append_assoc done (record { from = s; byte = b } ∷ []) (pairs items))) none) ob.1.1 (in_step_completed machine o s m _ (machine.messages ++ m ∷ []) st i0.0.sided ob.1.0 refl),
+      )
+  carries (loose s b absent is w) machine js done e are lt none ob st = absurd absent
+
+pub runs_agree : RunsAgree
+runs_agree p q items are none run = record {
+  marked = run.marked;
+  obeys = obeys_with q items (start_of p).core [] run.obeys (carries p q (walk_of run) (fresh_of p) [] [] refl tt are none run.obeys (elim [ Client ↦ refl | Server ↦ refl ]));
 }

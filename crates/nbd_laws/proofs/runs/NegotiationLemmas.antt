@@ -2,6 +2,7 @@
 use Rattle.std.proofs.Common.{◌≡◌, ℕ, zero, suc, ◌⊎◌, ◌≤◌, ◌==◌, List, [], ◌∷◌, ◌++◌, refl, sym, ◌∙◌, ap, subst, inl, inr, Option, Some, None, Bool, true, false, if◌then◌else◌, IsTrue, is_some, bit_and, arith, eqb-true, ◌||◌, ◌≢◌, not}
 use Rattle.std.proofs.lemmas.Nat.{and_le_r}
 use Rattle.nbd_laws.proofs.judge.AllowLemmas.{abort_allow, answer_allow, flags_allow, greeting_allow}
+use Rattle.nbd_laws.specs.Allowed.{AreClientFlags, MayAcknowledge, MayAnswer, MayTell}
 use Rattle.nbd_wire.specs.declared.answers.TheConstants as answers
 use Rattle.nbd_wire.specs.declared.handshake.TheConstants as handshake
 use Rattle.nbd_wire.specs.declared.options.TheConstants as options
@@ -9,11 +10,11 @@ use Rattle.nbd_wire.specs.declared.message.Side.TheVariants.{Server}
 use Rattle.nbd_wire.specs.declared.message.Message.{Message}
 use Rattle.nbd_wire.specs.declared.message.Message.TheVariants.{Greeting, ClientFlags, Choice, Answer, Exported, Request, Simple, Chunk}
 use Rattle.nbd_wire.specs.protocol.Marks.{Item, Byte, Starts, Completes, Serves, completed_messages}
-use Rattle.nbd_wire.specs.protocol.Options.{MayAcknowledge, MayAnswer, MayTell, ack_phase, asks_nothing, reply_phase, selection_after, selection_at, selection_told, takes_contexts, with_context, choice_phase, is_error, is_proper_option, last_info, next_phase}
+use Rattle.nbd_wire.specs.protocol.Options.{ack_phase, asks_nothing, reply_phase, selection_after, selection_at, selection_told, takes_contexts, with_context, choice_phase, is_error, is_proper_option, last_info, next_phase}
 use Rattle.nbd_wire.specs.protocol.Payloads.{info_of, context_of, name_in, queries_of}
 use Rattle.nbd_wire.specs.protocol.Operations.{Exporting}
 use Rattle.nbd_wire.specs.protocol.Flags.{has, has_only}
-use Rattle.nbd_wire.specs.protocol.Rules.{AreClientFlags, MayComplete, complete}
+use Rattle.nbd_wire.specs.protocol.Rules.{MayComplete, complete}
 use Rattle.nbd_wire.specs.protocol.States.{Core, Phase, Greet, Flags, Choosing, Naming, Aborting, Answering, Transmission, start_of}
 use Rattle.nbd_laws.proofs.runs.FollowLemmas.{Follows, follows}
 use Rattle.nbd_laws.proofs.runs.PrefixLemmas.{flags_row, greet_row, phase-complete, transmission_row}

@@ -2,6 +2,7 @@
 use Rattle.std.proofs.Common.{◌≡◌, ℕ, zero, suc, ◌<◌, ◌^◌, ◌==◌, List, [], ◌∷◌, ◌++◌, length, drop, refl, sym, ◌∙◌, ap, subst, Option, Some, None, Bool, true, false, not, if◌then◌else◌, arith, length-append, append-nil, slice_index}
 use Rattle.byteorder.specs.Numbers.{big_number-reads_back}
 use Rattle.nbd_laws.proofs.judge.AllowLemmas.{ask_allow}
+use Rattle.nbd_laws.specs.Allowed.{MayAsk}
 use Rattle.nbd_wire.specs.declared.commands.TheConstants as commands
 use Rattle.nbd_wire.specs.declared.handshake.TheConstants as handshake
 use Rattle.nbd_wire.specs.declared.message.Side.{Side}
@@ -14,7 +15,7 @@ use Rattle.nbd_wire.specs.protocol.Replies.{simple_length}
 use Rattle.nbd_wire.specs.protocol.Rules.{MayReply}
 use Rattle.nbd_wire.specs.protocol.Operations.{Operation, Exporting}
 use Rattle.nbd_wire.specs.protocol.Flags.{has}
-use Rattle.nbd_wire.specs.protocol.Rules.{AnswersOne, MayAsk, MayStartIn, MayComplete, complete, core_with_request, reply_to, request_of_reply}
+use Rattle.nbd_wire.specs.protocol.Rules.{AnswersOne, MayStartIn, MayComplete, complete, core_with_request, reply_to, request_of_reply}
 use Rattle.nbd_wire.specs.protocol.Options.{turn}
 use Rattle.nbd_wire.specs.protocol.Sendable.{IsSendable}
 use Rattle.nbd_wire.specs.protocol.Sides.{side}

@@ -5,6 +5,7 @@ use Rattle.std.specs.Str.{bytes_eq}
 use Rattle.byteorder.specs.Endian.{big_bytes}
 use Rattle.byteorder.specs.Numbers.{big_number-reads_back}
 use Rattle.nbd_laws.proofs.judge.AllowLemmas.{abort_allow, answer_allow}
+use Rattle.nbd_laws.specs.Allowed.{MayAnswer, MayTell}
 use Rattle.nbd_wire.specs.declared.answers.TheConstants as answers
 use Rattle.nbd_wire.specs.declared.commands.TheConstants as commands
 use Rattle.nbd_wire.specs.declared.options.TheConstants as options
@@ -19,7 +20,7 @@ use Rattle.nbd_wire.specs.protocol.Flags.{has}
 use Rattle.nbd_wire.specs.protocol.Forms.{HasContextForm, HasGoForm, HasQueriesForm}
 use Rattle.nbd_wire.specs.protocol.Marks.{Item, Byte, Starts, Completes, Serves, completed_messages}
 use Rattle.nbd_wire.specs.protocol.Operations.{Exporting, Operation}
-use Rattle.nbd_wire.specs.protocol.Options.{MayAnswer, MayTell, ack_phase, agrees, choice_phase, is_error, is_proper_option, last_info, next_phase, reply_phase, selection_after, selection_at, selection_told, with_context}
+use Rattle.nbd_wire.specs.protocol.Options.{ack_phase, agrees, choice_phase, is_error, is_proper_option, last_info, next_phase, reply_phase, selection_after, selection_at, selection_told, with_context}
 use Rattle.nbd_wire.specs.protocol.Payloads.{context_of, info_of, is_go, name_in, queries_of}
 use Rattle.nbd_wire.specs.protocol.Rules.{MayComplete, complete, core_with_request, ends_at, grants_structured, reply_to, request_of_reply}
 use Rattle.nbd_wire.specs.protocol.Sendable.{IsSendable}

@@ -190,14 +190,27 @@ within_all (Starts s m ∷ items) = within_all items
 within_all (Completes s m ∷ items) = ap (λ l. m ∷ l) (within_all items)
 within_all (Serves k ∷ items) = within_all items
 
-some_open : (end : Machine) (client server : List ℕ) → (get end.rests Client).bytes ≡ client → (get end.rests Server).bytes ≡ server → ((client ≡ []) × (server ≡ []) → ⊥) → LeavesOpen end
-some_open end [] [] c s some = absurd (some (refl, refl))
-some_open end (b ∷ client) server c s some = inl (λ e. (let q : b ∷ client ≡ [] = sym c ∙ e in cc))
-some_open end [] (b ∷ server) c s some = inr (λ e. (let q : b ∷ server ≡ [] = sym s ∙ e in cc))
+-- the open bytes where reading stands are those that a run with its bytes and messages leaves
+opens : {profile : Profile} (ps : List Pair) (messages : List Message) (client server : List ℕ) → (u : IsUnderWayOf profile ps messages) → HasRunOf profile ps messages client server → (u.end.rests.client.bytes ≡ client) × (u.end.rests.server.bytes ≡ server)
+opens ps messages client server u has =
+    let r = read_is_run_but ps u.end messages u.end.rests.client.bytes u.end.rests.server.bytes u.are_pairs u.reads_it u.has_messages refl refl in
+    let here : AreBytesOf r.0 u.end.rests.client.bytes u.end.rests.server.bytes = run_bytes r.0 u.end.rests.client.bytes u.end.rests.server.bytes r.1 in
+    let there : AreBytesOf has.items client server = run_bytes has.items client server has.is_run in
+    (same r.0 r.2 r.3 Client u.end.rests.client.bytes client here.of_client there.of_client, same r.0 r.2 r.3 Server u.end.rests.server.bytes server here.of_server there.of_server)
+  where
+    same : (items : List Item) → pairs items ≡ ps → completed_messages items ≡ messages → (s : Side) (a b : List ℕ) → bytes_from s (pairs items) ≡ bytes_of s (completed_messages items) ++ a → bytes_from s (pairs has.items) ≡ bytes_of s (completed_messages has.items) ++ b → a ≡ b
+    same items is are s a b here there =
+        append_cancel_left (bytes_of s messages) a b
+        (ap (λ ms. bytes_of s ms ++ a) (sym are) ∙ sym here ∙ ap (bytes_from s) (is ∙ sym has.has_pairs) ∙ there ∙ ap (λ ms. bytes_of s ms ++ b) has.has_messages)
+
+some_open : {profile : Profile} (ps : List Pair) (messages : List Message) (client server : List ℕ) → (u : IsUnderWayOf profile ps messages) → HasRunOf profile ps messages client server → ((client ≡ []) × (server ≡ []) → ⊥) → LeavesOpen u.end
+some_open ps messages [] [] u has some = absurd (some (refl, refl))
+some_open ps messages (b ∷ client) server u has some = inl (λ e. (let q : b ∷ client ≡ [] = sym (opens ps messages (b ∷ client) server u has).0 ∙ e in cc))
+some_open ps messages [] (b ∷ server) u has some = inr (λ e. (let q : b ∷ server ≡ [] = sym (opens ps messages [] (b ∷ server) u has).1 ∙ e in cc))
 
 -- where bytes that were taken without a fault stand after the messages of a run, no run has exactly the bytes
-pub open_end_of : {profile : Profile} (ps : List Pair) (messages : List Message) (client server : List ℕ) → HasRunOf profile ps messages client server → (accepted : IsAcceptedOf profile ps messages) → LeavesOpen accepted.under_way.end → ((client ≡ []) × (server ≡ []) → ⊥) → IsOpenEndOf profile ps messages
-open_end_of {profile} ps messages client server has accepted leaves some = record { accepted = accepted; leaves_open = leaves; none = none }
+pub open_end_of : {profile : Profile} (ps : List Pair) (messages : List Message) (client server : List ℕ) → HasRunOf profile ps messages client server → IsAcceptedOf profile ps messages → ((client ≡ []) × (server ≡ []) → ⊥) → IsOpenEndOf profile ps messages
+open_end_of {profile} ps messages client server has accepted some = record { accepted = accepted; leaves_open = some_open ps messages client server accepted.under_way has some; none = none }
   where
     none : IsOfNoRunOf profile ps
     none items run is =
@@ -219,7 +232,6 @@ held_run held st =
 
 unfinished_end : (held : Held) → Stands held → (client server : List ℕ) → (bytes_come held.client) ≡ client → (bytes_come held.server) ≡ server → (at : ℕ) (fault : SessionFault) →
     at ≡ length (held_pairs (holding_of held)) → open_end_fault client server at ≡ Some fault → EndsIn (session_view held None) fault
-unfolding stands_accepted stands_under_way
 unfinished_end held st client server c s at Memory n e = absurd (no_memory client server e)
   where
     no_memory : (client server : List ℕ) → open_end_fault client server at ≡ Some Memory → ⊥
@@ -232,7 +244,6 @@ unfinished_end held st client server c s at (Wire place fault) n e =
       sym is.0,
       sym is.1 ∙ n,
       open_end_of (held_pairs (holding_of held)) held.messages.items (bytes_come held.client) (bytes_come held.server) (held_run held st) (stands_accepted held None st)
-          (some_open st.machine client server (st.read_to.rests_are Client ∙ c) (st.read_to.rests_are Server ∙ s) is.2)
           (λ none. is.2 (sym c ∙ none.0, sym s ∙ none.1)),
     )
   where

@@ -7,7 +7,7 @@ use Rattle.nbd_wire.specs.declared.message.Side.TheVariants.{Client, Server}
 use Rattle.nbd_wire.specs.protocol.Options.{is_proper_option, takes_contexts}
 use Rattle.nbd_wire.specs.protocol.Operations.{Operation}
 use Rattle.nbd_wire.specs.protocol.Flags.{has}
-use Rattle.nbd_wire.specs.protocol.States.{Phase, Greet, Flags, Choosing, Naming, Aborting, Answering, Transmission, Core, in_force}
+use Rattle.nbd_wire.specs.protocol.States.{Phase, Greet, Flags, Choosing, Naming, Aborting, Answering, Transmission, Core}
 use Rattle.nbd_wire.specs.protocol.Decisions.{Decision, awaited_length_by}
 use Rattle.nbd_wire.specs.protocol.JudgeNegotiation.{greeting, client_flags, choice, export_answer, abort_answer, answer}
 use Rattle.nbd_wire.specs.protocol.JudgeTransmission.{operation_counted, operation_of, reply_with, request}

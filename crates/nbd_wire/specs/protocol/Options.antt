@@ -1,5 +1,5 @@
 -- The turns of negotiation (proto.md, "Fixed newstyle negotiation", "Option types", "Option reply types").
-use Rattle.std.specs.Prelude.{ℕ, List, [], ◌≡◌, ◌≤◌, ◌⊎◌, ◌∷◌, ◌++◌, ◌==◌, ◌&&◌, ◌||◌, not, Bool, true, false, if◌then◌else◌, Option, Some, None, length, IsTrue, is_some}
+use Rattle.std.specs.Prelude.{ℕ, List, [], ◌∷◌, ◌++◌, ◌==◌, ◌&&◌, ◌||◌, not, Bool, true, false, if◌then◌else◌, Option, Some, None, length, is_some}
 use Rattle.std.specs.Str.{bytes_eq}
 use Rattle.nbd_wire.specs.declared.message.Side.{Side}
 use Rattle.nbd_wire.specs.declared.message.Side.TheVariants.{Client, Server}
@@ -9,15 +9,9 @@ use Rattle.nbd_wire.specs.declared.payloads.Info.{Info}
 use Rattle.nbd_wire.specs.declared.payloads.Info.TheVariants.{Export}
 use Rattle.nbd_wire.specs.declared.answers.TheConstants as answers
 use Rattle.nbd_wire.specs.declared.options.TheConstants as options
-use Rattle.nbd_wire.specs.declared.limits.TheConstants.{EXPORT_SIZE}
-use Rattle.nbd_wire.specs.declared.profile.Profile.{Profile}
-use Rattle.nbd_wire.specs.declared.profile.Profile.TheVariants.{Wide}
-use Rattle.nbd_wire.specs.declared.sizes.Sizes.{Sizes}
-use Rattle.nbd_wire.specs.declared.transmission.TheConstants as transmission
-use Rattle.nbd_wire.specs.protocol.Contexts.{Context, Selection, has_id}
-use Rattle.nbd_wire.specs.protocol.Payloads.{context_of, info_of, is_listed, is_go, name_in, queries_of}
+use Rattle.nbd_wire.specs.protocol.Contexts.{Context, Selection}
+use Rattle.nbd_wire.specs.protocol.Payloads.{context_of, info_of, is_go, name_in, queries_of}
 use Rattle.nbd_wire.specs.protocol.Operations.{Exporting}
-use Rattle.nbd_wire.specs.protocol.Sizes.{are_allowed, sizes_of}
 use Rattle.nbd_wire.specs.protocol.Flags.{has}
 use Rattle.nbd_wire.specs.protocol.States.{Phase, Greet, Flags, Choosing, Naming, Aborting, Answering, Ended, Transmission}
 
@@ -47,39 +41,6 @@ turn (Answering _ _ _) = Some Server
 turn Ended = None
 turn (Transmission _) = None
 
--- the export is not larger than this project takes (this project's choice)
-abbrev pub FitsLimit : Exporting → Type 0
-FitsLimit export = export.size ≤ EXPORT_SIZE
-
--- an empty ACK ends the answer to an option; to INFO and GO it comes after an EXPORT info, and a GO that it answers
--- names an export within the limit (proto.md, "Option types")
-abbrev pub MayAcknowledge : ℕ → Option Exporting → Type 0
-MayAcknowledge option info =
-    (option ≡ options.LIST)
-    ⊎ (option ≡ options.STRUCTURED_REPLY)
-    ⊎ (option ≡ options.INFO) × IsTrue (is_some info)
-    ⊎ (option ≡ options.GO) × ((export : Exporting) × (info ≡ Some export) × FitsLimit export)
-
--- an info has its form, one on the export has HAS_FLAGS, and in Wide block sizes are such as a server may announce
--- (proto.md, "Option reply types", "Transmission flags", "Block size constraints")
-abbrev pub IsInfo : Profile → List ℕ → Type 0
-IsInfo profile payload = (info : Info) × (info_of payload ≡ Some info)
-    × ((size flags : ℕ) → info ≡ Export size flags → IsTrue (has flags transmission.HAS_FLAGS))
-    × (profile ≡ Wide → (sizes : Sizes) → sizes_of (Some info) ≡ Some sizes → IsTrue (are_allowed sizes))
-
--- an option reply to an option with this data, of which this info has come: an error, or where the option is proper one
--- of a kind that the option takes, contexts aside (`MayTell`; proto.md, "Option types"; only errors where it is not
--- proper is this project's choice)
-abbrev pub MayAnswer : Profile → (option : ℕ) (payload : List ℕ) (info : Option Exporting) (kind : ℕ)
-    (answer : List ℕ) → Type 0
-MayAnswer profile option payload info kind answer =
-    IsTrue (is_error kind)
-    ⊎ IsTrue (is_proper_option option payload) × (kind ≡ answers.ACK) × (answer ≡ []) × MayAcknowledge option info
-    ⊎ IsTrue (is_proper_option option payload) × (kind ≡ answers.SERVER) × (option ≡ options.LIST)
-    × IsTrue (is_listed answer)
-    ⊎ IsTrue (is_proper_option option payload) × (kind ≡ answers.INFO)
-    × ((option ≡ options.INFO) ⊎ (option ≡ options.GO)) × IsInfo profile answer
-
 -- so many queries are none
 abbrev pub asks_nothing : Option ℕ → Bool
 asks_nothing (Some count) = count == 0
@@ -91,21 +52,6 @@ abbrev pub takes_contexts : (option : ℕ) (payload : List ℕ) → Bool
 takes_contexts option payload =
     (option == options.LIST_META_CONTEXT)
     || ((option == options.SET_META_CONTEXT) && not (asks_nothing (queries_of payload)))
-
--- a context that answers SET_META_CONTEXT has another id than each that came since it was chosen; the ids of those that
--- answer LIST_META_CONTEXT are not looked at (proto.md, "Option types", "Metadata querying")
-abbrev pub IsFreshFor : ℕ → Selection → Context → Type 0
-IsFreshFor option selection context = option ≡ options.SET_META_CONTEXT → has_id selection.contexts context.id ≡ false
-
--- an option reply of success to a proper LIST_META_CONTEXT or SET_META_CONTEXT, where this was selected before it: an
--- empty ACK, or a context (proto.md, "Option types", "Option reply types")
-abbrev pub MayTell : Selection → (option : ℕ) (payload : List ℕ) (kind : ℕ) (answer : List ℕ) → Type 0
-MayTell selection option payload kind answer =
-    ((option ≡ options.LIST_META_CONTEXT) ⊎ (option ≡ options.SET_META_CONTEXT))
-    × IsTrue (is_proper_option option payload)
-    × ((kind ≡ answers.ACK) × (answer ≡ [])
-    ⊎ (kind ≡ answers.META_CONTEXT) × IsTrue (takes_contexts option payload)
-    × ((context : Context) × (context_of answer ≡ Some context) × IsFreshFor option selection context))
 
 -- what is selected once an option is chosen: SET_META_CONTEXT replaces what an earlier one selected, whatever its
 -- answer (proto.md, "Option types")

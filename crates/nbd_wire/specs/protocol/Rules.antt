@@ -1,5 +1,5 @@
 -- What a run is: a marked capture whose marks obey the rules of the protocol profile.
-use Rattle.std.specs.Prelude.{ℕ, List, [], ◌∷◌, ◌++◌, ◌≡◌, ◌+◌, ◌<◌, ◌≤◌, ◌==◌, ◌&&◌, ◌||◌, not, Bool, true, false, Option, Some, None, length, IsTrue, is_some, ◌⊎◌}
+use Rattle.std.specs.Prelude.{ℕ, List, [], ◌∷◌, ◌++◌, ◌≡◌, ◌<◌, ◌≤◌, ◌==◌, ◌&&◌, ◌||◌, not, Bool, true, false, Option, Some, None, length, IsTrue, is_some}
 use Rattle.nbd_wire.specs.declared.message.Side.{Side}
 use Rattle.nbd_wire.specs.declared.message.Side.TheVariants.{Client, Server}
 use Rattle.nbd_wire.specs.declared.message.Message.{Message}
@@ -8,19 +8,18 @@ use Rattle.nbd_wire.specs.declared.answers.TheConstants as answers
 use Rattle.nbd_wire.specs.declared.commands.TheConstants as commands
 use Rattle.nbd_wire.specs.declared.handshake.TheConstants as handshake
 use Rattle.nbd_wire.specs.declared.options.TheConstants as options
-use Rattle.nbd_wire.specs.declared.transmission.TheConstants as transmission
 use Rattle.nbd_wire.specs.declared.profile.Profile.{Profile}
-use Rattle.nbd_wire.specs.declared.profile.Profile.TheVariants.{Base, Wide}
+use Rattle.nbd_wire.specs.declared.profile.Profile.TheVariants.{Base}
 use Rattle.nbd_wire.specs.protocol.Marks.{Item, Byte, Starts, Completes, Serves, IsMarkedBut}
 use Rattle.nbd_wire.specs.protocol.Entries.{IsWhollyServed, MayServe, inside_of}
 use Rattle.nbd_wire.specs.protocol.Sizes.{sizes_kept, sizing_after, sizing_at}
-use Rattle.nbd_wire.specs.protocol.Options.{FitsLimit, agrees, is_error, is_proper_option, takes_contexts, next_phase, selection_after, selection_at, turn}
+use Rattle.nbd_wire.specs.protocol.Options.{agrees, is_proper_option, takes_contexts, next_phase, selection_after, selection_at, turn}
 use Rattle.nbd_wire.specs.protocol.Replies.{simple_length}
 use Rattle.nbd_wire.specs.protocol.JudgeNegotiation.{abort_fault, answer_fault, answer_head_fault, answer_last_fault, client_flags_fault, export_fault, greeting_fault}
 use Rattle.nbd_wire.specs.protocol.JudgeTransmission.{chunk_fault, chunk_head_fault, cookie_fault, request_fault, simple_fault, simple_last_fault}
 use Rattle.nbd_wire.specs.declared.chunks.TheConstants as chunks
 use Rattle.nbd_wire.specs.protocol.Operations.{Operation, Exporting, proper_on}
-use Rattle.nbd_wire.specs.protocol.Flags.{has, has_only}
+use Rattle.nbd_wire.specs.protocol.Flags.{has}
 use Rattle.nbd_wire.specs.protocol.Sendable.{IsSendable}
 use Rattle.nbd_wire.specs.protocol.Sides.{side}
 use Rattle.nbd_wire.specs.protocol.States.{Core, Phase, State, Greet, Flags, Choosing, Naming, Aborting, Answering, Transmission, export_in, in_force, with_reply, with_reply_at, operation, start_of, target}
@@ -56,32 +55,6 @@ MayStartIn phase core s m = turn phase ≡ Some s
 -- the same, in the phase where the session stands
 abbrev pub MayStart : Core → Side → Message → Type 0
 MayStart core s m = MayStartIn core.phase core s m
-
--- the client speaks fixed newstyle, sets no unknown flag and takes only what was offered (proto.md, "Handshake flags",
--- "Client flags")
-abbrev pub AreClientFlags : ℕ → ℕ → Type 0
-AreClientFlags offered flags =
-    IsTrue (has flags handshake.C_FIXED_NEWSTYLE)
-    × IsTrue (has_only flags (handshake.C_FIXED_NEWSTYLE + handshake.C_NO_ZEROES))
-    × (IsTrue (has flags handshake.C_NO_ZEROES) → IsTrue (has offered handshake.NO_ZEROES))
-
--- the answer to EXPORT_NAME has HAS_FLAGS and a size within the limit, and is padded exactly where the client did not
--- take NO_ZEROES (proto.md, "Newstyle negotiation", "Option types")
-abbrev pub MayExport : Core → Exporting → Bool → Type 0
-MayExport core export padded =
-    IsTrue (has export.flags transmission.HAS_FLAGS) × (padded ≡ not (has core.client_flags handshake.C_NO_ZEROES))
-    × FitsLimit export
-
--- ABORT is answered by an empty ACK or an error, with its own number (proto.md, "Option types"; the error is this
--- project's choice)
-abbrev pub MayEnd : (option kind : ℕ) (payload : List ℕ) → Type 0
-MayEnd option kind payload = (option ≡ options.ABORT) × (IsTrue (is_error kind) ⊎ (kind ≡ answers.ACK) × (payload ≡ []))
-
--- a DISC has offset and length 0, and any other request has a cookie that no outstanding one has (proto.md, "Request
--- types", "Transmission"; that cookies must differ is this project's choice where proto.md says SHOULD)
-abbrev pub MayAsk : (is_disc : Bool) → Core → (cookie offset len : ℕ) → Type 0
-MayAsk true core cookie offset len = (offset ≡ 0) × (len ≡ 0)
-MayAsk false core cookie offset len = target cookie core.entries ≡ None
 
 -- a reply to this request: as many bytes as it asks for, and nothing is refused at its head or its last byte
 unfoldable pub MayReply : Bool → Exporting → Operation → Message → Type 0

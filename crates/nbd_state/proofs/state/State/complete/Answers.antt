@@ -1,6 +1,7 @@
 use Rattle.std.proofs.Common.{ap, refl, subst}
+use Rattle.nbd_laws.specs.Allowed.{MayAsk}
 use Rattle.nbd_wire.specs.declared.message.Message.TheVariants.{Chunk, Request, Simple}
-use Rattle.nbd_wire.specs.protocol.Rules.{MayAsk, MayComplete, complete, cookie_of, core_with_reply}
+use Rattle.nbd_wire.specs.protocol.Rules.{MayComplete, complete, cookie_of, core_with_reply}
 use Rattle.nbd_state.specs.Completions.{MayTake}
 use Rattle.nbd_state.specs.Shows.{Shows}
 use Rattle.nbd_state.proofs.CompletionLemmas.{on}
