@@ -40,7 +40,8 @@ def declarations(text):
     """The declarations of a file: name, marks and kind, text."""
     found, comment = [], False
     for line in text.split("\n"):
-        if not line.strip() or line.startswith("--") or USE.match(line):
+        # (a comment inside of a declaration refers to nothing)
+        if not line.strip() or line.lstrip().startswith("--") or USE.match(line):
             continue
         words = line.split()
         marks = set()

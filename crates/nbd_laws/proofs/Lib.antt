@@ -1,5 +1,5 @@
 pub mod judge
-pub mod machine
+pub mod reading
 pub mod requests
 pub mod runs
 pub mod service

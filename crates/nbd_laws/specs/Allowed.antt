@@ -26,9 +26,8 @@ use Rattle.nbd_wire.specs.declared.transmission.TheConstants as transmission
 use Rattle.nbd_wire.specs.protocol.Sizes.{are_allowed, sizes_of}
 use Rattle.nbd_wire.specs.declared.handshake.TheConstants as handshake
 use Rattle.nbd_wire.specs.protocol.Options.{is_error, is_proper_option, takes_contexts}
-use Rattle.nbd_wire.specs.protocol.Replies.{simple_length}
+use Rattle.nbd_wire.specs.protocol.Transmission.{simple_length}
 use Rattle.nbd_wire.specs.protocol.Options.{is_error, is_proper_option, takes_contexts}
-use Rattle.nbd_wire.specs.protocol.Replies.{simple_length}
 use Rattle.nbd_wire.specs.protocol.States.{Core, target}
 
 -- the export is not larger than this project takes (this project's choice)

@@ -30,10 +30,6 @@ pub record HasCountsOf (profile : Profile) (capture : List Pair)
   pub improper_are : (items : List Item) → IsRunOf profile items → pairs items ≡ capture
       → improper_count profile (report items) ≡ of_improper
 
--- the same, of the profile Base
-abbrev pub HasCounts : List Pair → (of_requests of_answered of_improper : ℕ) → Type 0
-HasCounts capture of_requests of_answered of_improper = HasCountsOf Base capture of_requests of_answered of_improper
-
 -- the answer to a capture is yes with these counts
 pub record IsYesOf (profile : Profile) (capture : List Pair) (order : List Entry) (initial : Start)
     (of_requests of_answered of_improper : ℕ) : Type 0 where

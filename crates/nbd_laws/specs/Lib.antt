@@ -1,5 +1,6 @@
 pub mod Allowed
 pub mod Announcing
+pub mod Awaited
 pub mod Bytes
 pub mod Cuts
 pub mod Explaining

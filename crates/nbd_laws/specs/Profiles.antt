@@ -9,9 +9,8 @@ use Rattle.nbd_wire.specs.declared.fault.WireFault.{WireFault}
 use Rattle.nbd_wire.specs.protocol.Rules.{IsRunOf}
 use Rattle.nbd_wire.specs.protocol.States.{Answering, Phase}
 use Rattle.nbd_wire.specs.protocol.Captures.{ArePairs}
-use Rattle.nbd_wire.specs.protocol.Concrete.{concrete}
-use Rattle.nbd_wire.specs.protocol.JudgeNegotiation.{is_on_contexts}
-use Rattle.nbd_wire.specs.protocol.Machine.{Machine, fresh_of, reads}
+use Rattle.nbd_wire.specs.protocol.Negotiation.{is_on_contexts}
+use Rattle.nbd_wire.specs.protocol.Reading.{by_tests, Reader, fresh_of, reads}
 use Rattle.nbd_wire.specs.protocol.Marks.{pairs}
 use Rattle.nbd_wire.specs.protocol.Options.{is_error}
 use Rattle.nbd_wire.specs.protocol.Payloads.{number_at}
@@ -70,10 +69,10 @@ IsFalseAnnouncement phase bytes = ⊥
 abbrev pub IsParting : Phase → List ℕ → Type 0
 IsParting phase bytes = IsContextHead phase bytes ⊎ IsFalseAnnouncement phase bytes
 
--- from this machine on, no byte of the server makes its bytes such
-abbrev pub NothingFrom : Machine → List Pair → Type 0
-NothingFrom machine ps = (before more : List Pair) (b : ℕ) (mid : Machine)
-    → ps ≡ before ++ record { from = Server; byte = b } ∷ more → reads concrete machine before ≡ Ok mid
+-- from this reader on, no byte of the server makes its bytes such
+abbrev pub NothingFrom : Reader → List Pair → Type 0
+NothingFrom reader ps = (before more : List Pair) (b : ℕ) (mid : Reader)
+    → ps ≡ before ++ record { from = Server; byte = b } ∷ more → reads by_tests reader before ≡ Ok mid
     → IsParting mid.core.phase (mid.rests.server.bytes ++ b ∷ []) → ⊥
 
 -- in these bytes, read in the profile, no such bytes come

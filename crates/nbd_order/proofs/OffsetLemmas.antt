@@ -2,13 +2,13 @@
 use Rattle.std.proofs.Common.{◌≡◌, ℕ, ◌<◌, refl, inl, inr, ◌∙◌, ap, Option, Some, None, Bool, true, false, not, ◌&&◌, ◌||◌, ◌==◌, nat_lt, arith, IsTrue, is_some}
 use Rattle.std.proofs.lemmas.Bool.{and_from, and_parts, eqb-true, ltb-true, or_cases}
 use Rattle.nbd_wire.specs.declared.commands.TheConstants as commands
-use Rattle.nbd_wire.specs.protocol.ExportBytes.{effect, effect_if, is_success}
+use Rattle.nbd_wire.specs.protocol.ExportBytes.{effect, effect_if, is_success, GivesByte}
 use Rattle.nbd_wire.specs.protocol.Operations.{Exporting, has_range}
 use Rattle.nbd_wire.specs.protocol.Pieces.{byte_at, is_in}
 use Rattle.nbd_wire.specs.protocol.Reports.{Asked, Report, asked_at, inside_asked, known_of}
 use Rattle.nbd_judge.specs.Servable.{size_of}
 use Rattle.nbd_order.specs.internal.Offsets.{gives_byte, reads_at}
-use Rattle.nbd_order.specs.internal.Refutations.{GivesByte, IsReadAt}
+use Rattle.nbd_order.specs.internal.Refutations.{IsReadAt}
 
 -- all but a BLOCK_STATUS may have something inside
 pub open_to : (proper : Bool) (command : ℕ) → (command == commands.BLOCK_STATUS) ≡ false → (proper || not (command == commands.BLOCK_STATUS)) ≡ true

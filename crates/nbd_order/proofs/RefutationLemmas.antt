@@ -6,7 +6,7 @@ use Rattle.std.proofs.lemmas.Option.{slice_get_cases}
 use Rattle.nbd_wire.specs.declared.entry.Entry.{Entry}
 use Rattle.nbd_wire.specs.declared.entry.Part.{Part}
 use Rattle.nbd_wire.specs.protocol.Entries.{in_part, is_served}
-use Rattle.nbd_wire.specs.protocol.ExportBytes.{Differs, Effect, IsWrong, IsWrongIn, byte_before, effect_byte, effects, serves, touch_of, touches}
+use Rattle.nbd_wire.specs.protocol.ExportBytes.{Differs, Effect, IsWrong, IsWrongIn, byte_before, effect_byte, effects, serves, touch_of, touches, GivesByte}
 use Rattle.nbd_wire.specs.protocol.Operations.{Exporting, is_change}
 use Rattle.nbd_wire.specs.protocol.Pieces.{is_in}
 use Rattle.nbd_wire.specs.protocol.Reports.{Report, asked_at, known_in}
@@ -14,7 +14,7 @@ use Rattle.nbd_wire.specs.protocol.Verdicts.{IsFaultless}
 use Rattle.nbd_laws.specs.Explaining.{ExplainedPasses}
 use Rattle.nbd_order.specs.declared.refutation.State.{State}
 use Rattle.nbd_order.specs.Unexplained.{IsRefutedBy, RefutedIsUnexplained, has}
-use Rattle.nbd_order.specs.internal.Refutations.{Fits, GivesByte, IsChange, IsHeld, IsRefutation, Leads, is_kept}
+use Rattle.nbd_order.specs.internal.Refutations.{Fits, IsChange, IsHeld, IsRefutation, Leads, is_kept}
 use Rattle.nbd_order.proofs.ServiceLemmas.{in_range, is_inside, is_reached, not_served_before, served_before, served_once}
 use Rattle.nbd_order.proofs.TouchLemmas.{byte_more, served_more}
 
@@ -84,12 +84,7 @@ changes_nothing e x (inr q) = ap is_change q.0
 -- and gives a wrong one where the known byte is another
 given_wrong : (p : Option Part) (e : Effect) (byte : ℕ → Option ℕ) (x : ℕ) → GivesByte e x → e.succeeded ≡ true → IsTrue (serves p e x) → Differs (λ y. byte x) e.read x
     → IsWrongIn p e byte x
-given_wrong p e byte x (inl q) well here d = inl (q, well, here, d)
-given_wrong p e byte x (inr q) well here d = go (e.read x) refl q.1
-  where
-    go : (o : Option ℕ) → e.read x ≡ o → IsTrue (is_some o) → IsWrongIn p e byte x
-    go None r h = absurd (let z : false ≡ true = h in (cc))
-    go (Some c) r h = inr (q.0, well, here, (d.0, c, d.1, r, λ s. d.2 (r ∙ ap Some (sym s))))
+given_wrong p e byte x gives well here d = (gives, well, here, d)
 
 same_effect : (o : Option Effect) (d e : Effect) → o ≡ Some d → o ≡ Some e → d ≡ e
 same_effect o d e p q = cc

@@ -4,7 +4,7 @@ use Rattle.nbd_wire.specs.declared.profile.Profile.{Profile}
 use Rattle.nbd_wire.specs.declared.profile.Profile.TheVariants.{Base}
 use Rattle.nbd_wire.specs.declared.message.Message.{Message}
 use Rattle.nbd_wire.specs.protocol.Captures.{Pair}
-use Rattle.nbd_wire.specs.protocol.Machine.{Machine}
+use Rattle.nbd_wire.specs.protocol.Reading.{Reader}
 use Rattle.nbd_wire.specs.protocol.Places.{IsPlaceOf, IsUnderWayOf}
 use Rattle.nbd_wire.specs.protocol.Within.{BeginsNoRunOf, CompletesExactlyOf, IsOfNoRunOf}
 use Rattle.nbd_wire.specs.declared.fault.WireFault.{WireFault}
@@ -21,18 +21,10 @@ pub record IsRefusalOf (profile : Profile) (ps : List Pair) (messages : List Mes
   pub before : (prefix : List Pair) (last : Pair) → ps ≡ prefix ++ last ∷ []
       → CompletesExactlyOf profile prefix messages
 
--- the same, of the profile Base
-abbrev pub IsRefusal : List Pair → List Message → WireFault → Type 0
-IsRefusal ps messages fault = IsRefusalOf Base ps messages fault
-
 -- no prefix of these bytes has a place
 abbrev pub HasNoPlaceOf : Profile → List Pair → Type 0
 HasNoPlaceOf profile ps = (prefix rest : List Pair) (messages : List Message) (fault : WireFault)
     → prefix ++ rest ≡ ps → IsPlaceOf profile prefix messages fault → ⊥
-
--- the same, of the profile Base
-abbrev pub HasNoPlace : List Pair → Type 0
-HasNoPlace ps = HasNoPlaceOf Base ps
 
 -- bytes taken without a fault, and their messages: the session is under way with these messages, no prefix of the bytes
 -- has a place, and these messages complete in each run that begins with them
@@ -41,12 +33,8 @@ pub record IsAcceptedOf (profile : Profile) (ps : List Pair) (messages : List Me
   pub placeless : HasNoPlaceOf profile ps
   pub all : CompletesExactlyOf profile ps messages
 
--- the same, of the profile Base
-abbrev pub IsAccepted : List Pair → List Message → Type 0
-IsAccepted ps messages = IsAcceptedOf Base ps messages
-
 -- bytes of a side are open where reading stands
-abbrev pub LeavesOpen : Machine → Type 0
+abbrev pub LeavesOpen : Reader → Type 0
 LeavesOpen end = (end.rests.client.bytes ≢ []) ⊎ (end.rests.server.bytes ≢ [])
 
 -- an end within a message: the bytes were taken without a fault, some are open at their end, and no run has exactly
@@ -55,10 +43,6 @@ pub record IsOpenEndOf (profile : Profile) (ps : List Pair) (messages : List Mes
   pub accepted : IsAcceptedOf profile ps messages
   pub leaves_open : LeavesOpen accepted.under_way.end
   pub none : IsOfNoRunOf profile ps
-
--- the same, of the profile Base
-abbrev pub IsOpenEnd : List Pair → List Message → Type 0
-IsOpenEnd ps messages = IsOpenEndOf Base ps messages
 
 -- a capture is refused at the last byte of a prefix of it
 pub record IsRefusedAtOf (profile : Profile) (capture : List Pair) (messages : List Message) (at : ℕ)
@@ -69,20 +53,12 @@ pub record IsRefusedAtOf (profile : Profile) (capture : List Pair) (messages : L
   pub at_is : at ≡ length prefix
   pub refusal : IsRefusalOf profile prefix messages fault
 
--- the same, of the profile Base
-abbrev pub IsRefusedAt : (capture : List Pair) (messages : List Message) (at : ℕ) (fault : WireFault) → Type 0
-IsRefusedAt capture messages at fault = IsRefusedAtOf Base capture messages at fault
-
 -- the fault of a capture, and the messages that completed before it: at a byte, or at the end of all
 abbrev pub IsWireFaultOf : Profile → (capture : List Pair) (messages : List Message) (at : ℕ) (fault : WireFault)
     → Type 0
 IsWireFaultOf profile capture messages at fault =
     IsRefusedAtOf profile capture messages at fault
     ⊎ (fault ≡ Unfinished) × (at ≡ length capture) × IsOpenEndOf profile capture messages
-
--- the same, of the profile Base
-abbrev pub IsWireFault : (capture : List Pair) (messages : List Message) (at : ℕ) (fault : WireFault) → Type 0
-IsWireFault capture messages at fault = IsWireFaultOf Base capture messages at fault
 
 -- a session that answers this fault was refused at the last byte that it took; of out of memory nothing is said
 abbrev pub Refuses : SessionView → SessionFault → Type 0

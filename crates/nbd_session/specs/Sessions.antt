@@ -40,10 +40,6 @@ pub record HasRunOf (profile : Profile) (ps : List Pair) (messages : List Messag
   pub has_pairs : pairs items ≡ ps
   pub has_messages : completed_messages items ≡ messages
 
--- the same, of the profile Base
-abbrev pub HasRun : List Pair → List Message → (client server : List ℕ) → Type 0
-HasRun ps messages client server = HasRunOf Base ps messages client server
-
 -- what was taken belongs to such a run
 abbrev pub IsOfRun : SessionView → Type 0
 IsOfRun r = HasRunOf r.profile (pairs_of r) r.messages r.client r.server

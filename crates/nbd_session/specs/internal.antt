@@ -1,4 +1,5 @@
 pub mod Asking
+pub mod Counted
 pub mod Expecting
 pub mod Holdings
 pub mod Incoming

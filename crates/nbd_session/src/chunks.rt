@@ -15,8 +15,8 @@ ghost use Rattle.nbd_session.specs.internal.Asking.{done_by, finish_by, lacks_by
 ghost use Rattle.nbd_state.specs.Showing.{IsShown};
 ghost use Rattle.nbd_state.specs.Shows.{Shows, TellsThese};
 ghost use Rattle.nbd_state.specs.Spans.{span_of};
-ghost use Rattle.nbd_wire.specs.protocol.Decisions.{fault_if};
-ghost use Rattle.nbd_wire.specs.protocol.JudgeTransmission.{chunk_fault, fits_read, fits_failure, total};
+ghost use Rattle.nbd_wire.specs.protocol.Tests.{fault_if};
+ghost use Rattle.nbd_wire.specs.protocol.Transmission.{chunk_fault, fits_read, fits_failure, total};
 
 use crate::spans::{bytes_in, content_span, is_inside};
 use crate::statuses::status_fault;

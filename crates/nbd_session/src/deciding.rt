@@ -3,9 +3,8 @@
 ghost use Rattle.std.specs.Prelude.{◌≡◌, ◌≤◌, ℕ, List, IfErr, IfOk};
 ghost use Rattle.nbd_wire.specs.declared.message.Side.TheVariants.{Client, Server};
 ghost use Rattle.nbd_wire.specs.protocol.States.{Core};
-ghost use Rattle.nbd_wire.specs.protocol.Judge.{decision_by_count};
-ghost use Rattle.nbd_wire.specs.protocol.Machine.{Bad};
-ghost use Rattle.nbd_wire.specs.protocol.Concrete.{reading_by_decision};
+ghost use Rattle.nbd_session.specs.internal.Counted.{decision_by_count};
+ghost use Rattle.nbd_wire.specs.protocol.Reading.{Bad, reading_by_decision};
 ghost use Rattle.nbd_session.specs.internal.Expecting.{HasHeadLength, HasReplyLength, IsExpectedOf, IsNoReply, IsPlaced, IsRefusedHead, IsWholeHead};
 ghost use Rattle.nbd_state.specs.Shows.{Shows};
 

@@ -117,7 +117,7 @@ impl Held {
     fn missing(&self, side: Side) -> usize
         requires { Stands self.now }
         ensures awaited { (st : Stands self.now) →
-            length (rest_of (holding_of self.now) side) + result ≡ awaited st.machine side }
+            length (rest_of (holding_of self.now) side) + result ≡ awaited st.reader side }
         ensures room { (incoming_of self.now side).expected ≡ None →
             length (incoming_of self.now side).head + result ≤ 28 }
     {

@@ -4,7 +4,8 @@ ghost use Rattle.std.specs.Prelude.{◌≡◌, ◌++◌, ℕ, List, IfErr, IfOk,
 ghost use Rattle.nbd_wire.specs.protocol.Options.{is_error};
 ghost use Rattle.nbd_wire.specs.protocol.Contexts as contexts;
 ghost use Rattle.nbd_wire.specs.protocol.Payloads.{context_of, info_of, number_at};
-ghost use Rattle.nbd_wire.specs.protocol.JudgeNegotiation.{abort_answer, abort_fault, ack_fault, answer, answered_fault, answers_option, choice, info_fault, earlier_to, is_bad_payload, is_followed, is_good_context, is_good_info, payload_fault, success_fault};
+ghost use Rattle.nbd_wire.specs.protocol.Decisions.{abort_answer, answer, answered_fault, choice};
+ghost use Rattle.nbd_wire.specs.protocol.Negotiation.{abort_fault, ack_fault, answers_option, info_fault, earlier_to, is_bad_payload, is_followed, is_good_context, is_good_info, payload_fault, success_fault};
 ghost use Rattle.nbd_session.specs.internal.Leading.{answer_fields_of, unless_fault};
 ghost use Rattle.nbd_session.specs.internal.Expecting.{IsPlaced, expected_decision};
 ghost use Rattle.nbd_wire.specs.protocol.States.{Core};

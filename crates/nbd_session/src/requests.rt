@@ -3,7 +3,7 @@
 ghost use Rattle.std.specs.Prelude.{◌≡◌, ◌==◌, ◌&&◌, ◌++◌, not, ℕ, List, IfErr, IfOk, Some, length};
 ghost use Rattle.nbd_wire.specs.declared.commands.TheConstants as commands;
 ghost use Rattle.nbd_wire.specs.protocol.States.{Core};
-ghost use Rattle.nbd_wire.specs.protocol.JudgeTransmission.{request};
+ghost use Rattle.nbd_wire.specs.protocol.Decisions.{request};
 ghost use Rattle.nbd_session.specs.internal.Expecting.{IsPlaced, expected_decision};
 
 use crate::expected::Expected;

@@ -8,7 +8,7 @@ ghost use Rattle.nbd_wire.specs.protocol.Operations.{Exporting, Operation, is_fi
 ghost use Rattle.nbd_wire.specs.protocol.Payloads.{extents_of};
 ghost use Rattle.nbd_wire.specs.protocol.States.{Core, in_force, with_reply};
 ghost use Rattle.nbd_wire.specs.protocol.Statuses.{but_last};
-ghost use Rattle.nbd_wire.specs.protocol.JudgeTransmission.{chunk_fault, fits_range, fits_status};
+ghost use Rattle.nbd_wire.specs.protocol.Transmission.{chunk_fault, fits_range, fits_status};
 ghost use Rattle.nbd_state.specs.Showing.{IsShown};
 ghost use Rattle.nbd_state.specs.Shows.{Shows};
 

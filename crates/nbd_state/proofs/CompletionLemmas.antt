@@ -13,7 +13,7 @@ use Rattle.nbd_state.specs.declared.state.Export.{Export}
 use Rattle.nbd_state.specs.declared.state.Phase.TheVariants as shown
 use Rattle.nbd_state.specs.declared.state.State.{State}
 use Rattle.nbd_state.specs.internal.Completing.{AddsUnanswered}
-use Rattle.nbd_wire.specs.protocol.Decisions.{is_none_yet}
+use Rattle.nbd_wire.specs.protocol.Transmission.{is_none_yet}
 use Rattle.nbd_state.specs.Showing.{IsShown, exporting}
 use Rattle.nbd_laws.specs.Reached.{IsReached}
 use Rattle.nbd_laws.specs.Selecting.{AreAskedWith}
@@ -62,7 +62,7 @@ place_if_last false n j t e = refl
 -- a message of the negotiation changes the phase and what it says of the handshake
 pub negotiation_is_shown : (old new : State) (core next : Core) → Shows old core → export_in core.phase ≡ None → next.entries ≡ core.entries → new.exchanges ≡ old.exchanges → new.outstanding ≡ old.outstanding →
     new.profile ≡ next.profile → new.phase ≡ phase_shown next.phase → new.offered ≡ next.offered → new.client_flags ≡ next.client_flags → new.structured ≡ next.structured → new.disconnected ≡ next.disconnected →
-    HasSelection new.selection next.selection → new.agreed ≡ next.agreed → new.sizing ≡ next.sizing → Shows new next
+    HasSelection new.selection next.selection → new.brings_contexts ≡ next.brings_contexts → new.sizing ≡ next.sizing → Shows new next
 negotiation_is_shown old new core next s n entries exchanges outstanding profile phase offered client_flags structured disconnected selection agreed sizing = record {
   profile_is = profile;
   phase_is = phase;
@@ -70,7 +70,7 @@ negotiation_is_shown old new core next s n entries exchanges outstanding profile
   client_flags_are = client_flags;
   structured_is = structured;
   selection_is = selection;
-  agreed_is = agreed;
+  brings_contexts_is = agreed;
   sizing_is = sizing;
   disconnected_is = disconnected;
   asked_with = subst (AreAskedWith (in_force next)) (sym entries) (none_asked (export_in core.phase) (in_force next) core.entries old.exchanges.items n s.are_shown);
@@ -91,7 +91,7 @@ requested_shows old new core export e x s p r asked t h items places kept = reco
   client_flags_are = ap (λ (z : State). z.client_flags) kept ∙ s.client_flags_are;
   structured_is = ap (λ (z : State). z.structured) kept ∙ s.structured_is;
   selection_is = subst (λ z. HasSelection z core.selection) (sym (ap (λ (z : State). z.selection) kept)) s.selection_is;
-  agreed_is = ap (λ (z : State). z.agreed) kept ∙ s.agreed_is;
+  brings_contexts_is = ap (λ (z : State). z.brings_contexts) kept ∙ s.brings_contexts_is;
   sizing_is = ap (λ (z : State). z.sizing) kept ∙ s.sizing_is;
   disconnected_is = ap (λ (z : State). z.disconnected) kept ∙ s.disconnected_is;
   are_shown = subst (λ (q : definitions.Phase). AreShown (export_in q) (core.entries ++ e ∷ []) new.exchanges.items) (sym p)
@@ -129,7 +129,7 @@ replied_shows old mid new core export cookie place m x y r s p c g i step kept l
       client_flags_are = ap (λ (z : State). z.client_flags) made ∙ ap (λ (z : State). z.client_flags) kept ∙ s.client_flags_are;
       structured_is = ap (λ (z : State). z.structured) made ∙ ap (λ (z : State). z.structured) kept ∙ s.structured_is;
       selection_is = subst (λ z. HasSelection z core.selection) (sym (ap (λ (z : State). z.selection) made ∙ ap (λ (z : State). z.selection) kept)) s.selection_is;
-      agreed_is = ap (λ (z : State). z.agreed) made ∙ ap (λ (z : State). z.agreed) kept ∙ s.agreed_is;
+      brings_contexts_is = ap (λ (z : State). z.brings_contexts) made ∙ ap (λ (z : State). z.brings_contexts) kept ∙ s.brings_contexts_is;
       sizing_is = ap (λ (z : State). z.sizing) made ∙ ap (λ (z : State). z.sizing) kept ∙ s.sizing_is;
       disconnected_is = ap (λ (z : State). z.disconnected) made ∙ ap (λ (z : State). z.disconnected) kept ∙ s.disconnected_is;
       are_shown = subst (λ (q : definitions.Phase). AreShown (export_in q) (with_reply_at (suc place) m core.entries) new.exchanges.items) (sym p)

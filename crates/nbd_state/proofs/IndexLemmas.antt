@@ -8,7 +8,7 @@ use Rattle.std.specs.Map.{lookup}
 use Rattle.std.specs.Ordering.{nat_cmp}
 use Rattle.nbd_wire.specs.declared.payloads.Piece.{Piece}
 use Rattle.nbd_wire.specs.protocol.Pieces.{piece_offset, piece_size}
-use Rattle.nbd_wire.specs.protocol.JudgeTransmission.{is_apart, is_apart_from}
+use Rattle.nbd_wire.specs.protocol.Transmission.{is_apart, is_apart_from}
 use Rattle.nbd_state.specs.declared.span.Span.{Span}
 use Rattle.nbd_state.specs.Spans.{span_of}
 use Rattle.nbd_state.specs.Indexes.{HasMore, IsApart, IsIndex, size_from}

@@ -166,7 +166,7 @@ module _ (old new : State) (core : Core) (s : Shows old core) where
       (ap (λ (z : State). z.profile) made ∙ s.profile_is)
       (ap (λ (z : State). z.phase) made ∙ r.1) (ap (λ (z : State). z.offered) made) (ap (λ (z : State). z.client_flags) made ∙ s.client_flags_are)
       (ap (λ (z : State). z.structured) made ∙ s.structured_is) (ap (λ (z : State). z.disconnected) made ∙ s.disconnected_is)
-      (subst (λ z. HasSelection z core.selection) (sym (ap (λ (z : State). z.selection) made)) s.selection_is) (ap (λ (z : State). z.agreed) made ∙ s.agreed_is) (ap (λ (z : State). z.sizing) made ∙ s.sizing_is)
+      (subst (λ z. HasSelection z core.selection) (sym (ap (λ (z : State). z.selection) made)) s.selection_is) (ap (λ (z : State). z.brings_contexts) made ∙ s.brings_contexts_is) (ap (λ (z : State). z.sizing) made ∙ s.sizing_is)
 
   pub shows_flags : (flags : ℕ) → MayComplete core core.phase (ClientFlags flags) → new ≡ record old { phase = shown.Choosing; client_flags = flags } → Shows new (complete core (ClientFlags flags))
   unfolding complete
@@ -176,18 +176,18 @@ module _ (old new : State) (core : Core) (s : Shows old core) where
       (ap (λ (z : State). z.profile) made ∙ s.profile_is)
       (ap (λ (z : State). z.phase) made ∙ r.1) (ap (λ (z : State). z.offered) made ∙ s.offered_is) (ap (λ (z : State). z.client_flags) made)
       (ap (λ (z : State). z.structured) made ∙ s.structured_is) (ap (λ (z : State). z.disconnected) made ∙ s.disconnected_is)
-      (subst (λ z. HasSelection z core.selection) (sym (ap (λ (z : State). z.selection) made)) s.selection_is) (ap (λ (z : State). z.agreed) made ∙ s.agreed_is) (ap (λ (z : State). z.sizing) made ∙ s.sizing_is)
+      (subst (λ z. HasSelection z core.selection) (sym (ap (λ (z : State). z.selection) made)) s.selection_is) (ap (λ (z : State). z.brings_contexts) made ∙ s.brings_contexts_is) (ap (λ (z : State). z.sizing) made ∙ s.sizing_is)
 
   pub shows_chosen : (id : ℕ) (payload : List ℕ) (phase : states.Phase) (selection : Selection) (agreed : Bool) (sizing : Sizing) → MayComplete core core.phase (Choice id payload) → phase ≡ phase_shown (choice_phase id payload) →
-      agreed ≡ (core.structured && agrees id payload core.selection) → HasSelection selection (selection_at id payload core.selection) → sizing ≡ sizing_at id payload → new ≡ record old { phase = phase; selection = selection; agreed = agreed; sizing = sizing } → Shows new (complete core (Choice id payload))
+      agreed ≡ (core.structured && agrees id payload core.selection) → HasSelection selection (selection_at id payload core.selection) → sizing ≡ sizing_at id payload → new ≡ record old { phase = phase; selection = selection; brings_contexts = agreed; sizing = sizing } → Shows new (complete core (Choice id payload))
   unfolding complete
-  shows_chosen id payload phase selection agreed sizing ok is agreed_is selected sized made =
+  shows_chosen id payload phase selection agreed sizing ok is brings_contexts_is selected sized made =
       let r = chooses core core.phase id payload ok in
       negotiation_is_shown old new core (complete core (Choice id payload)) s r.0 refl (ap (λ (z : State). z.exchanges) made) (ap (λ (z : State). z.outstanding) made)
       (ap (λ (z : State). z.profile) made ∙ s.profile_is)
       (ap (λ (z : State). z.phase) made ∙ is ∙ r.1) (ap (λ (z : State). z.offered) made ∙ s.offered_is) (ap (λ (z : State). z.client_flags) made ∙ s.client_flags_are)
       (ap (λ (z : State). z.structured) made ∙ s.structured_is) (ap (λ (z : State). z.disconnected) made ∙ s.disconnected_is)
-      (subst (λ z. HasSelection z (selection_at id payload core.selection)) (sym (ap (λ (z : State). z.selection) made)) selected) (ap (λ (z : State). z.agreed) made ∙ agreed_is) (ap (λ (z : State). z.sizing) made ∙ sized)
+      (subst (λ z. HasSelection z (selection_at id payload core.selection)) (sym (ap (λ (z : State). z.selection) made)) selected) (ap (λ (z : State). z.brings_contexts) made ∙ brings_contexts_is) (ap (λ (z : State). z.sizing) made ∙ sized)
 
   pub shows_answered : (option kind : ℕ) (payload : List ℕ) (phase : states.Phase) (grants : Bool) (selection : Selection) (sizing : Sizing) → MayComplete core core.phase (Answer option kind payload) →
       phase ≡ phase_shown (next_phase core.phase (Answer option kind payload)) → grants ≡ grants_structured option kind → HasSelection selection (selection_after core.phase kind payload core.selection) → sizing ≡ sizing_after kind payload core.sizing →
@@ -198,7 +198,7 @@ module _ (old new : State) (core : Core) (s : Shows old core) where
       (ap (λ (z : State). z.profile) made ∙ s.profile_is)
       (ap (λ (z : State). z.phase) made ∙ is) (ap (λ (z : State). z.offered) made ∙ s.offered_is) (ap (λ (z : State). z.client_flags) made ∙ s.client_flags_are)
       (ap (λ (z : State). z.structured) made ∙ ap (λ b. b || grants) s.structured_is ∙ ap (λ b. core.structured || b) granted) (ap (λ (z : State). z.disconnected) made ∙ s.disconnected_is)
-      (subst (λ z. HasSelection z (selection_after core.phase kind payload core.selection)) (sym (ap (λ (z : State). z.selection) made)) selected) (ap (λ (z : State). z.agreed) made ∙ s.agreed_is) (ap (λ (z : State). z.sizing) made ∙ sized)
+      (subst (λ z. HasSelection z (selection_after core.phase kind payload core.selection)) (sym (ap (λ (z : State). z.selection) made)) selected) (ap (λ (z : State). z.brings_contexts) made ∙ s.brings_contexts_is) (ap (λ (z : State). z.sizing) made ∙ sized)
 
   pub shows_exported : (size flags : ℕ) (padded : Bool) (phase : states.Phase) → MayComplete core core.phase (Exported size flags padded) → phase ≡ shown.Transmission (record { size = size; flags = flags }) → new ≡ record old { phase = phase } → Shows new (complete core (Exported size flags padded))
   unfolding complete
@@ -208,7 +208,7 @@ module _ (old new : State) (core : Core) (s : Shows old core) where
       (ap (λ (z : State). z.profile) made ∙ s.profile_is)
       (ap (λ (z : State). z.phase) made ∙ is ∙ r.1) (ap (λ (z : State). z.offered) made ∙ s.offered_is) (ap (λ (z : State). z.client_flags) made ∙ s.client_flags_are)
       (ap (λ (z : State). z.structured) made ∙ s.structured_is) (ap (λ (z : State). z.disconnected) made ∙ s.disconnected_is)
-      (subst (λ z. HasSelection z core.selection) (sym (ap (λ (z : State). z.selection) made)) s.selection_is) (ap (λ (z : State). z.agreed) made ∙ s.agreed_is) (ap (λ (z : State). z.sizing) made ∙ s.sizing_is)
+      (subst (λ z. HasSelection z core.selection) (sym (ap (λ (z : State). z.selection) made)) s.selection_is) (ap (λ (z : State). z.brings_contexts) made ∙ s.brings_contexts_is) (ap (λ (z : State). z.sizing) made ∙ s.sizing_is)
 
 -- what is said of the message that was matched
 pub shows_same : {new : State} (core : Core) (m n : Message) → m ≡ n → Shows new (complete core n) → Shows new (complete core m)

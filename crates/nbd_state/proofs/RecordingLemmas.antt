@@ -1,5 +1,5 @@
 -- An exchange after one more reply message.
-use Rattle.std.proofs.Common.{◌≡◌, ℕ, List, [], ◌∷◌, ◌++◌, ◌==◌, append_assoc, append-nil, refl, sym, ◌∙◌, ap, Bool, true, false, not, ◌&&◌, ◌||◌, if◌then◌else◌, Option, Some, None, is_some, Result, Ok, Err, IfOk, nat_lt, Equal, eqb-true, Less, ltb-true, Greater, ltb-false, arith}
+use Rattle.std.proofs.Common.{◌≡◌, ℕ, List, [], ◌∷◌, ◌++◌, ◌==◌, append_assoc, append-nil, refl, sym, ◌∙◌, ap, Bool, true, false, not, ◌&&◌, ◌||◌, if◌then◌else◌, Option, Some, None, is_some, Result, Ok, Err, IfOk, nat_lt, Equal, eqb-true, Less, ltb-true, Greater, ltb-false, arith, take}
 use Rattle.nbd_wire.specs.declared.message.Message.{Message}
 use Rattle.nbd_wire.specs.protocol.Operations.{Operation, Exporting, ends_reply, has_failed, is_failing, is_finished, is_proper, outcome, pieces, pieces_of}
 use Rattle.nbd_wire.specs.declared.commands.TheConstants as commands
@@ -11,13 +11,13 @@ use Rattle.std.specs.Ordering.{is_eq, nat_cmp}
 use Rattle.std.proofs.lemmas.Bool.{eqb-false}
 use Rattle.nbd_wire.specs.protocol.Contexts.{Status}
 use Rattle.nbd_wire.specs.protocol.Pieces.{piece_of}
-use Rattle.nbd_wire.specs.protocol.Statuses.{is_allocation, status_in, statuses, statuses_of, tells, zeroes, zeroes_first, zeroes_in, zeroes_told}
+use Rattle.nbd_wire.specs.protocol.Statuses.{is_allocation, status_in, statuses, statuses_of, tells, zeroes, zeroes_in, zeroes_told}
 use Rattle.nbd_wire.specs.protocol.Operations as definitions
 use Rattle.nbd_wire.specs.protocol.States.{with_reply}
 use Rattle.nbd_state.specs.declared.asked.Exchange.{Exchange}
 use Rattle.nbd_state.specs.declared.asked.Outcome.{Outcome}
 use Rattle.nbd_state.specs.declared.asked.Outcome.TheVariants.{Success, Failure}
-use Rattle.nbd_wire.specs.protocol.Decisions.{is_none_yet}
+use Rattle.nbd_wire.specs.protocol.Transmission.{is_none_yet}
 use Rattle.nbd_state.specs.Showing.{IsShown, outcome_of}
 use Rattle.nbd_state.specs.Shows.{TellsThese}
 use Rattle.nbd_state.proofs.ReplyLemmas.{any-snoc, proper-same}
@@ -137,15 +137,15 @@ module _ (export : Exporting) (e : Operation) (m : Message) (x : Exchange) (ends
 
 -- the zeroes of a request look at the first message of its reply alone
 module _ (export : Exporting) (e : Operation) (m : Message) where
-  by_first : (z : List Piece) → zeroes_first e (e.replies ++ m ∷ []) ≡ z → zeroes export (with_reply e m) ≡ (if (e.command == commands.BLOCK_STATUS) && is_proper export e then z else [])
+  by_first : (z : List Piece) → zeroes_told e (statuses_of (take 1 (e.replies ++ m ∷ []))) ≡ z → zeroes export (with_reply e m) ≡ (if (e.command == commands.BLOCK_STATUS) && is_proper export e then z else [])
   by_first z q = (λ i. if (e.command == commands.BLOCK_STATUS) && proper-same export e m i then q i else [])
 
-  first_stays : (ms : List Message) → (ms ≡ [] → status_in m ≡ []) → zeroes_first e (ms ++ m ∷ []) ≡ zeroes_first e ms
-  first_stays [] n = ap (zeroes_told e) (n refl)
+  first_stays : (ms : List Message) → (ms ≡ [] → status_in m ≡ []) → zeroes_told e (statuses_of (take 1 (ms ++ m ∷ []))) ≡ zeroes_told e (statuses_of (take 1 ms))
+  first_stays [] n = ap (λ ss. zeroes_told e (ss ++ [])) (n refl)
   first_stays (k ∷ ms) n = refl
 
   stay : (e.replies ≡ [] → status_in m ≡ []) → zeroes export (with_reply e m) ≡ zeroes export e
-  stay n = by_first (zeroes_first e e.replies) (first_stays e.replies n)
+  stay n = by_first (zeroes_told e (statuses_of (take 1 e.replies))) (first_stays e.replies n)
 
   -- a message that is no first status
   pub pieces_kept : (x y : List Piece) → x ≡ zeroes export e ++ pieces e → (e.replies ≡ [] → status_in m ≡ []) → y ≡ x ++ piece_of e.offset m → y ≡ zeroes export (with_reply e m) ++ pieces (with_reply e m)
@@ -167,7 +167,7 @@ module _ (export : Exporting) (e : Operation) (m : Message) where
       pick false false = refl
 
       told : zeroes export (with_reply e m) ≡ (if (e.command == commands.BLOCK_STATUS) && is_proper export e then (if is_allocation e.contexts s.id then zeroes_in e.offset e.length s.extents else []) else [])
-      told = by_first _ (ap (λ ms. zeroes_first e (ms ++ m ∷ [])) none ∙ ap (zeroes_told e) is)
+      told = by_first _ (ap (λ ms. zeroes_told e (statuses_of (take 1 (ms ++ m ∷ [])))) none ∙ ap (λ ss. zeroes_told e (ss ++ [])) is)
 
       empty : pieces (with_reply e m) ≡ []
       empty = pieces-snoc e.offset e.replies m ∙ (λ i. pieces_of e.offset (none i) ++ p i)

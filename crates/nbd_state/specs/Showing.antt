@@ -2,7 +2,7 @@
 use Rattle.std.specs.Prelude.{◌≡◌, ℕ, false, not, Option, Some, None, ◌++◌, is_some}
 use Rattle.std.specs.BTreeSet.{contains}
 use Rattle.std.specs.Ordering.{nat_cmp}
-use Rattle.nbd_wire.specs.protocol.Decisions.{is_none_yet}
+use Rattle.nbd_wire.specs.protocol.Transmission.{is_none_yet}
 use Rattle.nbd_wire.specs.protocol.Operations.{Operation, Exporting, is_finished, is_outside, is_proper, has_failed, outcome, pieces}
 use Rattle.nbd_wire.specs.protocol.Statuses.{statuses, tells, zeroes}
 use Rattle.nbd_wire.specs.protocol.Operations as definitions

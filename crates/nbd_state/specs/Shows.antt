@@ -81,7 +81,7 @@ pub record Shows (state : State) (core : Core) : Type 0 where
   pub client_flags_are : state.client_flags ≡ core.client_flags
   pub structured_is : state.structured ≡ core.structured
   pub selection_is : HasSelection state.selection core.selection
-  pub agreed_is : state.agreed ≡ core.agreed
+  pub brings_contexts_is : state.brings_contexts ≡ core.brings_contexts
   pub sizing_is : state.sizing ≡ core.sizing
   pub disconnected_is : state.disconnected ≡ core.disconnected
   pub asked_with : AreAskedWith (in_force core) core.entries

@@ -2,7 +2,7 @@
 
 ghost use Rattle.std.specs.Prelude.{◌≡◌};
 ghost use Rattle.nbd_wire.specs.declared.payloads.Piece.{Piece};
-ghost use Rattle.nbd_wire.specs.protocol.JudgeTransmission.{is_apart_from};
+ghost use Rattle.nbd_wire.specs.protocol.Transmission.{is_apart_from};
 ghost use Rattle.nbd_state.specs.Spans.{span_of};
 
 use crate::asked::Exchange;

@@ -125,7 +125,7 @@ impl State {
             Shows self.new (complete core (Choice id payload.now))) }
     {
         let with = payload.as_slice();
-        self.agreed = self.may_agree(id, with);
+        self.brings_contexts = self.may_agree(id, with);
         self.phase = chosen(id, with);
         self.sizing = Sizing::at(id, with);
         self.selection.choose(id, with)

@@ -61,7 +61,7 @@ pub struct State {
     pub selection: Selection,
     /// In transmission: the contexts of the selection are in force. Before it: they are if the option that was chosen
     /// last leads there.
-    pub agreed: bool,
+    pub brings_contexts: bool,
     /// What the option that was chosen last asked of block sizes and was told: in transmission the client has to keep these.
     pub sizing: Sizing,
     /// The client has sent DISC.
@@ -100,7 +100,7 @@ impl State {
             client_flags: 0,
             structured: false,
             selection: Selection::none(alloc),
-            agreed: false,
+            brings_contexts: false,
             sizing: Sizing::none(),
             disconnected: false,
             exchanges: Vec::new(alloc),
@@ -112,21 +112,21 @@ impl State {
     pub fn has_contexts(&self) -> bool
         ensures { (core : Core) → Shows self.now core → result ≡ not (length (in_force core) == 0) }
     {
-        self.agreed && !self.selection.is_empty()
+        self.brings_contexts && !self.selection.is_empty()
     }
 
     /// Whether the metadata context with this id is in force (proto.md, "Metadata querying").
     pub fn is_in_force(&self, id: u32) -> bool
         ensures { (core : Core) → Shows self.now core → result ≡ has_id (in_force core) id }
     {
-        self.agreed && self.selection.has_id(id)
+        self.brings_contexts && self.selection.has_id(id)
     }
 
     /// Whether the context with this id is in force and is `base:allocation`.
     pub fn is_allocation(&self, id: u32) -> bool
         ensures { (core : Core) → Shows self.now core → result ≡ is_allocation (in_force core) id }
     {
-        self.agreed && self.selection.is_allocation(id)
+        self.brings_contexts && self.selection.is_allocation(id)
     }
 
     /// Whether each metadata context in force has one of these ids, or this one. The cost is the number of contexts
@@ -135,7 +135,7 @@ impl State {
         ensures { (core : Core) (statuses : List Status) → Shows self.now core → TellsThese statuses told.now id →
             result ≡ tells_all statuses (in_force core) }
     {
-        !self.agreed || self.selection.are_told(told, id)
+        !self.brings_contexts || self.selection.are_told(told, id)
     }
 
     /// What a session that ends here states: its export, if it reached transmission, and its numbered

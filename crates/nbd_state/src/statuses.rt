@@ -1,13 +1,16 @@
 //! What status chunks tell: of which contexts, and which bytes read as zeroes.
 
-ghost use Rattle.std.specs.Prelude.{◌≡◌, ◌<◌, ◌+◌, ◌^◌, ◌==◌, ◌&&◌, true, ◌++◌, ◌∷◌, ℕ, false, IfErr, IfOk, MatchOption, [], if◌then◌else◌};
+ghost use Rattle.std.specs.Prelude.{◌≡◌, ◌<◌, ◌+◌, ◌^◌, ◌==◌, ◌&&◌, not, true, ◌++◌, ◌∷◌, ℕ, false, IfErr, IfOk, MatchOption, [], if◌then◌else◌};
 ghost use Rattle.std.specs.BTreeSet.{contains};
 ghost use Rattle.std.specs.Ordering.{nat_cmp};
 ghost use Rattle.nbd_wire.specs.declared.message.Message.TheVariants.{Chunk};
 ghost use Rattle.nbd_wire.specs.declared.chunks.TheConstants as chunks;
 ghost use Rattle.nbd_wire.specs.declared.commands.TheConstants as commands;
 ghost use Rattle.nbd_wire.specs.protocol.Payloads.{extents_of};
-ghost use Rattle.nbd_wire.specs.protocol.Statuses.{status_in, zero_part, zeroes_in};
+ghost use Rattle.nbd_wire.specs.protocol.Statuses.{status_in, zeroes_in};
+ghost use Rattle.nbd_wire.specs.protocol.Flags.{has};
+ghost use Rattle.nbd_wire.specs.declared.payloads.Piece.TheVariants.{Hole};
+ghost use Rattle.nbd_wire.specs.declared.states.TheConstants as states;
 
 use crate::asked::Asked;
 use nbd_wire::flags::has_wide;
@@ -49,7 +52,8 @@ pub(crate) fn zeroes_told(
 
 // The bytes of an extent behind the pieces, if there are some and it calls them zero.
 fn push_zero(pieces: &mut Vec<Piece>, offset: u64, size: u32, flags: u32) -> Result<(), AllocError>
-    ensures { IfOk result (λ _. pieces.new.items ≡ pieces.old.items ++ zero_part offset size flags) }
+    ensures { IfOk result (λ _. pieces.new.items ≡ pieces.old.items
+        ++ (if has flags states.ZERO && not (size == 0) then Hole offset size ∷ [] else [])) }
 {
     if has_wide(flags, states::ZERO) && size > 0 {
         pieces.push(Piece::Hole { offset, size })?;

@@ -8,7 +8,7 @@ use Rattle.nbd_wire.specs.protocol.Entries.{in_part}
 use Rattle.nbd_wire.specs.declared.commands.TheConstants as commands
 use Rattle.nbd_wire.specs.declared.payloads.Piece.{Piece}
 use Rattle.nbd_wire.specs.declared.payloads.Piece.TheVariants.{Bytes, Hole}
-use Rattle.nbd_wire.specs.protocol.ExportBytes.{IsWrongIn, effect, is_success, Effect, serves}
+use Rattle.nbd_wire.specs.protocol.ExportBytes.{IsWrongIn, effect, is_success, Effect, serves, GivesByte}
 use Rattle.nbd_wire.specs.protocol.Reports.{Asked}
 use Rattle.nbd_wire.specs.protocol.Pieces.{byte_at, holds, is_in, piece_byte, piece_offset, piece_size}
 use Rattle.nbd_export.specs.Ranges.{DiffersIn, IsLeast, bytes_from, zeroes}
@@ -122,13 +122,12 @@ pieces_inside size a laid within i p e =
 -- what is said of a wrong byte, whatever the type of its request
 pub wrong_of : (p : Option Part) (e : Effect) (byte : ℕ → Option ℕ) (x : ℕ) → IsWrongIn p e byte x →
     ((e.command ≡ commands.READ) ⊎ (e.command ≡ commands.BLOCK_STATUS)) × (e.succeeded ≡ true) × IsTrue (serves p e x)
-wrong_of p e byte x (inl w) = (inl w.0, w.1, w.2)
-wrong_of p e byte x (inr w) = (inr w.0, w.1, w.2)
+wrong_of p e byte x (inl c, well, here, d) = (inl c, well, here)
+wrong_of p e byte x (inr c, well, here, d) = (inr c.0, well, here)
 
 -- only the byte there counts
 pub wrong_there : (p : Option Part) (e : Effect) (byte other : ℕ → Option ℕ) (x : ℕ) → IsWrongIn p e byte x → other x ≡ byte x → IsWrongIn p e other x
-wrong_there p e byte other x (inl w) q = inl (w.0, w.1, w.2, (w.3.0, q ∙ w.3.1, w.3.2))
-wrong_there p e byte other x (inr w) q = inr (w.0, w.1, w.2, (w.3.0, w.3.1, q ∙ w.3.2, w.3.3, w.3.4))
+wrong_there p e byte other x w q = (w.0, w.1, w.2, (w.3.0, q ∙ w.3.1, w.3.2))
 
 -- the types whose replies are compared
 pub compared_of : (command : ℕ) → ((command == commands.READ) || (command == commands.BLOCK_STATUS)) ≡ true → (command ≡ commands.READ) ⊎ (command ≡ commands.BLOCK_STATUS)
@@ -158,22 +157,15 @@ module _ (size : ℕ) (a : Asked) (byte : ℕ → Option ℕ) (reads : (a.comman
         let end : piece_offset d.1 + piece_size d.1 ≤ a.offset + a.length = inside.1 in
         let same : byte_at a.pieces x ≡ Some (piece_byte d.1 x) = same_byte d.0 d.1 x d.3 d.4.0 in
         let served = both_in (is_in a.offset a.length x) (in_part p x) (in_from a.offset a.length x (omega arith) (omega arith)) h.1 in
-        elim reads [
-          | inl c ↦ inl (c, well, served, (d.4.1.0, d.4.1.1, λ e. d.4.1.2 (sym same ∙ e)))
-          | inr k ↦ inr (k, well, served, (d.4.1.0, piece_byte d.1 x, d.4.1.1, same, λ e. d.4.1.2 (ap Some (sym e))))
-        ]
+        let gives : GivesByte (effect a) x = elim reads [ inl c ↦ inl c | inr k ↦ inr (k, ap is_some same) ] in
+        (gives, well, served, (d.4.1.0, d.4.1.1, λ e. d.4.1.2 (sym same ∙ e)))
 
     from_wrong : (x : ℕ) → IsWrongIn p (effect a) byte x → DiffersHere x
-    from_wrong x (inl w) =
+    from_wrong x w =
         let s = both (is_in a.offset a.length x) (in_part p x) w.2 in
-        let c : (i : ℕ) × (q : Piece) × (slice_get a.pieces i ≡ Some q) × IsTrue (holds q x) = holding a.pieces x (sound.covered w.0 well x s.0) in
+        let given : IsTrue (is_some (byte_at a.pieces x)) = elim w.0 [ inl c ↦ sound.covered c well x s.0 | inr k ↦ k.1 ] in
+        let c : (i : ℕ) × (q : Piece) × (slice_get a.pieces i ≡ Some q) × IsTrue (holds q x) = holding a.pieces x given in
         ((c.0, c.1, slice_get_within a.pieces c.0 c.1 c.2, c.2, (c.3, (w.3.0, w.3.1, λ e. w.3.2 (same_byte c.0 c.1 x c.2 c.3 ∙ e)))), s.1)
-    from_wrong x (inr w) =
-        let s = both (is_in a.offset a.length x) (in_part p x) w.2 in
-        let told : byte_at a.pieces x ≡ Some w.3.1 = w.3.3 in
-        let c : (i : ℕ) × (q : Piece) × (slice_get a.pieces i ≡ Some q) × IsTrue (holds q x) = holding a.pieces x (ap is_some told) in
-        let same : Some (piece_byte c.1 x) ≡ Some w.3.1 = sym (same_byte c.0 c.1 x c.2 c.3) ∙ told in
-        ((c.0, c.1, slice_get_within a.pieces c.0 c.1 c.2, c.2, (c.3, (w.3.0, w.3.2, λ e. w.3.4 (let q : Some w.3.0 ≡ Some w.3.1 = sym e ∙ same in cc)))), s.1)
 
     pub wrong_part : (o : Option ℕ) → IsLeast DiffersHere o → IsLeast (IsWrongIn p (effect a) byte) o
     wrong_part o h = least_as DiffersHere (IsWrongIn p (effect a) byte) o to_wrong from_wrong h

@@ -7,7 +7,7 @@ use Rattle.nbd_wire.specs.declared.payloads.Piece.{Piece}
 use Rattle.nbd_wire.specs.declared.payloads.Piece.TheVariants.{Hole}
 use Rattle.nbd_wire.specs.protocol.Entries.{HasBadPart, IsWhollyServed, MayServe, Names, NamesWhole, in_part, is_served}
 use Rattle.nbd_wire.specs.protocol.Pieces.{SharesNone, byte_at, holds, is_in, piece_byte, piece_offset, piece_size}
-use Rattle.nbd_wire.specs.protocol.JudgeTransmission.{is_apart, is_apart_from, total}
+use Rattle.nbd_wire.specs.protocol.Transmission.{is_apart, is_apart_from, total}
 use Rattle.nbd_laws.proofs.judge.CoverLemmas.{apart_from-shares, covered_total, full_total_covers, no_overlap, total_within}
 use Rattle.nbd_laws.proofs.requests.LaidLemmas.{AreApart, AreInside}
 use Rattle.nbd_laws.proofs.service.EntryLemmas.{whole_names}

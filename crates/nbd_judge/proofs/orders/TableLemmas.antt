@@ -11,7 +11,7 @@ use Rattle.nbd_wire.specs.protocol.Orders.{HasReplyStarted, IsBad, IsLate, IsUns
 use Rattle.nbd_wire.specs.protocol.Pieces.{is_in}
 use Rattle.nbd_wire.specs.protocol.Reports.{Asked, Report, asked_at, inside_asked, inside_in, known_in, known_of}
 use Rattle.nbd_laws.proofs.service.EntryLemmas.{Names-left, Names-push_cases, NamesWhole-left}
-use Rattle.nbd_wire.specs.protocol.JudgeTransmission.{total}
+use Rattle.nbd_wire.specs.protocol.Transmission.{total}
 use Rattle.nbd_state.specs.declared.span.Span.{Span}
 use Rattle.nbd_state.specs.Indexes.{IsIndex}
 use Rattle.nbd_state.specs.Sizes.{sizes_of}

@@ -21,11 +21,10 @@ use Rattle.nbd_wire.specs.protocol.Sendable.{IsSendable}
 use Rattle.nbd_wire.specs.protocol.Places.{IsPlaceOf, IsUnderWayOf}
 use Rattle.nbd_wire.specs.protocol.States.{State, start_of}
 use Rattle.nbd_laws.specs.Profiles.{NothingParts}
-use Rattle.nbd_wire.specs.protocol.Concrete.{concrete}
-use Rattle.nbd_wire.specs.protocol.Machine.{Both, fresh_of, get, reads}
+use Rattle.nbd_wire.specs.protocol.Reading.{by_tests, Both, fresh_of, get, reads}
 use Rattle.nbd_laws.proofs.judge.ExactLemmas.{exact}
 use Rattle.nbd_laws.proofs.judge.SoundLemmas.{sound}
-use Rattle.nbd_laws.proofs.machine.MachineLemmas.{Busy, Idle, Loose, Open, Walk, ended, final, loose, middle, opening, serving}
+use Rattle.nbd_laws.proofs.reading.ReaderLemmas.{Busy, Idle, Loose, Open, Walk, ended, final, loose, middle, opening, serving}
 use Rattle.nbd_laws.proofs.runs.AgreeLemmas.{nothing_before, places_agree, runs_agree, under_way_in}
 use Rattle.nbd_laws.proofs.runs.FollowLemmas.{each_with}
 use Rattle.nbd_laws.proofs.runs.PlaceLemmas.{but_last, places_begin_no_run, read_no_place}
@@ -155,7 +154,7 @@ module _ (p q : Profile) (capture : List Pair) (tells : NothingPartsIn capture) 
       record {
         accepted = record {
           under_way = v.0;
-          placeless = λ prefix rest more fault parts place. read_no_place prefix rest v.0.end (ap (reads concrete (fresh_of q)) parts ∙ v.0.reads_it) more fault place;
+          placeless = λ prefix rest more fault parts place. read_no_place prefix rest v.0.end (ap (reads by_tests (fresh_of q)) parts ∙ v.0.reads_it) more fault place;
           all = completes_exactly capture v.0.end messages v.0.are_pairs v.0.reads_it v.0.has_messages;
         };
         leaves_open = subst LeavesOpen (sym v.1) e.leaves_open;

@@ -11,7 +11,7 @@ use Rattle.nbd_wire.specs.protocol.Operations.{Exporting, has_range}
 use Rattle.nbd_wire.specs.protocol.Orders.{IsBad, IsMissing, IsNotCovered, IsUnserved, HasReplyStarted, NamesNone, NamesAgain, IsBadPart}
 use Rattle.nbd_wire.specs.protocol.Pieces.{SharesNone, is_in, piece_offset, piece_size}
 use Rattle.nbd_wire.specs.protocol.Reports.{Asked, Report, inside_in, known_in}
-use Rattle.nbd_wire.specs.protocol.JudgeTransmission.{total}
+use Rattle.nbd_wire.specs.protocol.Transmission.{total}
 use Rattle.nbd_state.specs.declared.span.Span.{Span}
 use Rattle.nbd_state.specs.Indexes.{IsIndex}
 use Rattle.nbd_state.specs.Sizes.{sizes_of}

@@ -2,8 +2,10 @@
 use Rattle.nbd_laws.proofs.requests.LaidLemmas.{AreApart, AreInside}
 use Rattle.nbd_laws.specs.Allowed.{AreClientFlags, FitsLimit, IsChunk, IsContent, IsFreshFor, IsInfo, IsSimpleReply, IsStatus, MayAcknowledge, MayAnswer, MayAsk, MayEnd, MayTell}
 use Rattle.nbd_wire.specs.protocol.Statuses.{tells_all}
-use Rattle.nbd_wire.specs.protocol.JudgeNegotiation.{answer_fault, answer_head_fault, client_flags_fault, greeting_fault}
-use Rattle.nbd_wire.specs.protocol.JudgeTransmission.{cookie_fault, request_fault}
+use Rattle.nbd_wire.specs.protocol.Decisions.{answer}
+use Rattle.nbd_wire.specs.protocol.Negotiation.{answer_fault, answer_head_fault, client_flags_fault, greeting_fault, sets_more, export_fault, ack_fault, abort_fault, answers_option, is_followed, info_fault, success_fault, is_good_info, is_bad_payload, payload_fault, is_on_contexts, earlier_to, is_good_context, is_wide, answer_last_fault}
+use Rattle.nbd_wire.specs.protocol.Tests.{fault_if}
+use Rattle.nbd_wire.specs.protocol.Transmission.{cookie_fault, request_fault, is_none_yet, chunk_fault, content_fault, done_fault, finish_fault, fits_failure, fits_read, is_apart_from, is_inside, is_no_piece, total, lacks_status, fits_status, status_if, fits_range}
 use Rattle.nbd_wire.specs.declared.message.Message.TheVariants.{Chunk, Simple}
 use Rattle.std.proofs.Common.{◌≡◌, ◌≢◌, ℕ, ◌<◌, ◌≤◌, ◌⊎◌, ◌+◌, ◌==◌, List, [], ◌∷◌, length, refl, sym, ◌∙◌, ap, subst, inl, inr, Option, Some, None, Bool, true, false, not, ◌&&◌, ◌||◌, nat_le, nat_lt, eqb-true, is_some, arith, IsTrue, if◌then◌else◌}
 use Rattle.std.proofs.lemmas.Bool.{ltb-false, eq-eqb, leb-true, leb-false, ltb-true, ne_eqb}
@@ -22,9 +24,7 @@ use Rattle.nbd_wire.specs.protocol.Operations.{Exporting, Covers, Operation, has
 use Rattle.nbd_wire.specs.protocol.Flags.{has, has_only}
 use Rattle.nbd_wire.specs.protocol.States.{Core, target, with_reply}
 use Rattle.nbd_wire.specs.declared.fault.WireFault.{WireFault}
-use Rattle.nbd_wire.specs.declared.fault.WireFault.TheVariants.{NotFixedNewstyle, BadClientFlags, WrongOption, OutOfProfile, BadReplyPayload, ExportTooLarge, SuccessOfImproper, SimpleForbidden, ChunkForbidden, BadChunk, BadContent, IncompleteRead, IncompleteStatus, CookieInUse, BadDisconnect}
-use Rattle.nbd_wire.specs.protocol.Decisions.{fault_if, is_none_yet}
-use Rattle.nbd_wire.specs.protocol.JudgeNegotiation.{sets_more, export_fault, ack_fault, abort_fault, answers_option, is_followed, info_fault, at_ack, unless_error, success_fault, is_good_info, is_bad_payload, payload_fault, answer, is_on_contexts, earlier_to, is_good_context, is_wide}
+use Rattle.nbd_wire.specs.declared.fault.WireFault.TheVariants.{NotFixedNewstyle, BadClientFlags, WrongOption, BadReplyKind, BadReplyPayload, ExportTooLarge, SuccessOfImproper, SimpleForbidden, ChunkForbidden, BadChunk, BadContent, IncompleteRead, IncompleteStatus, CookieInUse, BadDisconnect}
 use Rattle.nbd_laws.proofs.judge.BoolLemmas.{not_false, or_false, or_true, and_true, and_false, fault_none, not_true}
 use Rattle.nbd_wire.specs.declared.profile.Profile.{Profile}
 use Rattle.nbd_wire.specs.protocol.Contexts.{Selection, Context, has_id, Status, reach}
@@ -36,9 +36,7 @@ use Rattle.nbd_wire.specs.declared.commands.TheConstants as commands
 use Rattle.nbd_wire.specs.declared.payloads.Failure.{Failure}
 use Rattle.nbd_wire.specs.declared.payloads.Piece.{Piece}
 use Rattle.nbd_wire.specs.protocol.Rules.{MayReply}
-use Rattle.nbd_wire.specs.protocol.JudgeNegotiation.{answer_last_fault}
 use Rattle.nbd_wire.specs.protocol.Pieces.{is_in, piece_offset, piece_size}
-use Rattle.nbd_wire.specs.protocol.JudgeTransmission.{chunk_fault, content_fault, done_fault, finish_fault, fits_failure, fits_read, is_apart_from, is_inside, is_no_piece, total, lacks_status, fits_status, status_if, fits_range}
 use Rattle.nbd_laws.proofs.judge.CoverLemmas.{full_total_covers, apart_from-shares}
 
 pub no_length : (xs : List ℕ) → length xs ≡ 0 → xs ≡ []
@@ -93,17 +91,17 @@ success_of : (profile : Profile) (option : ℕ) (proper takes : Bool) (info : Op
 success_of profile option proper takes info earlier kind payload e f =
     let len : ℕ = length payload in
     let on : Bool = is_followed profile option in
-    let a : ((on && not (answers_option option takes kind)) ≡ false) × (fault_if (not on) OutOfProfile (ack_fault kind len (at_ack (kind == answers.ACK) (info_fault option proper info))) ≡ None) = fault_none _ _ _ e in
-    let b : (not on ≡ false) × (ack_fault kind len (at_ack (kind == answers.ACK) (info_fault option proper info)) ≡ None) = fault_none _ _ _ a.1 in
+    let a : (not on ≡ false) × (fault_if (not (answers_option option takes kind)) BadReplyKind (ack_fault kind len (if kind == answers.ACK then info_fault option proper info else None)) ≡ None) = fault_none _ _ _ e in
+    let b : (not (answers_option option takes kind) ≡ false) × (ack_fault kind len (if kind == answers.ACK then info_fault option proper info else None) ≡ None) = fault_none _ _ _ a.1 in
     let c : (is_bad_payload profile earlier kind payload ≡ false) × (fault_if (not proper) SuccessOfImproper None ≡ None) = fault_none _ _ _ f in
     let d : (not proper ≡ false) × (None ≡ None) = fault_none _ SuccessOfImproper None c.1 in
     let g : (((kind == answers.SERVER) && not (is_listed payload)) ≡ false) × ((((kind == answers.INFO) && not (is_good_info profile (info_of payload))) || ((kind == answers.META_CONTEXT) && not (is_good_context earlier (context_of payload)))) ≡ false) =
     or_false _ _ c.0 in
     let h : (((kind == answers.INFO) && not (is_good_info profile (info_of payload))) ≡ false) × (((kind == answers.META_CONTEXT) && not (is_good_context earlier (context_of payload))) ≡ false) = or_false _ _ g.1 in
     record {
-      followed = not_false _ b.0;
-      listed = not_false _ (and_false _ _ a.0 (not_false _ b.0));
-      acked = λ one. (let q : (payload ≡ []) × (at_ack (kind == answers.ACK) (info_fault option proper info) ≡ None) = ack_empty kind payload _ one b.1 in (q.0, ap (λ x. at_ack x (info_fault option proper info)) (sym one) ∙ q.1));
+      followed = not_false _ a.0;
+      listed = not_false _ b.0;
+      acked = λ one. (let q : (payload ≡ []) × ((if kind == answers.ACK then info_fault option proper info else None) ≡ None) = ack_empty kind payload _ one b.1 in (q.0, ap (λ x. if x then info_fault option proper info else None) (sym one) ∙ q.1));
       is_proper = not_false _ d.0;
       servers = λ two. not_false _ (and_false _ _ g.0 two);
       infos = λ three. not_false _ (and_false _ _ h.0 three);
@@ -243,8 +241,8 @@ answer_allow profile asked given info selection option kind payload e f =
     (eqb-true _ _ (not_false _ o.0), by_kind (is_error kind) refl o.1 f)
   where
     by_kind : (b : Bool) → is_error kind ≡ b →
-        unless_error b (success_fault profile asked (is_proper_option asked given) (takes_contexts asked given) info kind (length payload)) ≡ None →
-        unless_error b (payload_fault profile (earlier_to asked selection) (is_proper_option asked given) kind payload) ≡ None → MayFollow profile asked given info selection kind payload
+        (if b then None else (success_fault profile asked (is_proper_option asked given) (takes_contexts asked given) info kind (length payload))) ≡ None →
+        (if b then None else (payload_fault profile (earlier_to asked selection) (is_proper_option asked given) kind payload)) ≡ None → MayFollow profile asked given info selection kind payload
     by_kind true is h f = inl (inl is)
     by_kind false is h f =
         success_may profile asked given info selection kind payload (success_of profile asked (is_proper_option asked given) (takes_contexts asked given) info (earlier_to asked selection) kind payload h f)

@@ -7,12 +7,11 @@ use Rattle.nbd_wire.specs.declared.message.Message.{Message}
 use Rattle.nbd_wire.specs.protocol.Captures.{side_pairs}
 use Rattle.nbd_wire.specs.protocol.States.{Core}
 use Rattle.nbd_wire.specs.declared.fault.WireFault.{WireFault}
-use Rattle.nbd_wire.specs.protocol.Decisions.{Decision, awaited_length_by}
-use Rattle.nbd_wire.specs.protocol.Judge.{awaited_length, decision}
+use Rattle.nbd_laws.specs.Awaited.{awaited_length_by, awaited_length}
+use Rattle.nbd_wire.specs.protocol.Decisions.{Decision}
+use Rattle.nbd_wire.specs.protocol.Reading.{decision, by_tests, last_reading, reading_by_decision, read_by, staged_reading_by, IsFilled, Reader, More, Rest, get, old_of, reads}
 use Rattle.nbd_laws.proofs.judge.BlockLemmas.{Awaits, GoesOn, extended, judged_at_once, reads_at_once, reads_short, with_rest}
-use Rattle.nbd_wire.specs.protocol.Concrete.{concrete, last_reading, reading_by_decision, read_by, staged_reading_by}
-use Rattle.nbd_laws.proofs.machine.MachineLemmas.{AreHeld, Held, Kept, Later, Later-trans, at_once, begun, kept, none_held, old-filled, some_held}
-use Rattle.nbd_wire.specs.protocol.Machine.{IsFilled, Machine, More, Rest, get, old_of, reads}
+use Rattle.nbd_laws.proofs.reading.ReaderLemmas.{AreHeld, Held, Kept, Later, Later-trans, at_once, begun, kept, none_held, old-filled, some_held}
 use Rattle.nbd_laws.proofs.judge.SoundLemmas.{kept_later}
 use Rattle.nbd_laws.proofs.judge.SteadyLemmas.{IsDeciding, IsSameHead, IsSteady, deciding}
 
@@ -104,7 +103,7 @@ module _ (s : Side) (now : Core) (F : Core → List ℕ → Decision) (st : IsSt
 -- bytes that were judged to go on: what is decided next of them, and that nothing is before
 pub record IsAwaiting (old : Core) (s : Side) (now : Core) (bytes : List ℕ) : Type 0 where
   pub short : length bytes < awaited_length old now s bytes
-  pub awaits : Awaits concrete old s now bytes (awaited_length old now s bytes)
+  pub awaits : Awaits by_tests old s now bytes (awaited_length old now s bytes)
   pub stays : (next : Core) → Later s now next → awaited_length old next s bytes ≡ awaited_length old now s bytes
 
 pub some_decided : (o : Option Decision) (bytes : List ℕ) → reading_by_decision o bytes ≡ More → (d : Decision) × (o ≡ Some d)
@@ -112,21 +111,21 @@ some_decided (Some d) bytes e = (d, refl)
 some_decided None bytes e = absurd (cc)
 
 -- the first byte was judged to go on
-pub first_more : {s : Side} {old now : Core} {bytes : List ℕ} → Kept concrete s old now bytes → concrete old now s bytes ≡ More → (b : ℕ) × (concrete old old s (b ∷ []) ≡ More)
+pub first_more : {s : Side} {old now : Core} {bytes : List ℕ} → Kept by_tests s old now bytes → by_tests old now s bytes ≡ More → (b : ℕ) × (by_tests old old s (b ∷ []) ≡ More)
 first_more (begun b lt r) m = (b, m)
 first_more (kept {now = now} {bytes = bytes} b lt k m l r) m' = first_more k m
 
-pub decision_of : {s : Side} {old now : Core} {bytes : List ℕ} → Kept concrete s old now bytes → concrete old now s bytes ≡ More → IsDeciding s old
+pub decision_of : {s : Side} {old now : Core} {bytes : List ℕ} → Kept by_tests s old now bytes → by_tests old now s bytes ≡ More → IsDeciding s old
 decision_of {s} {old} k m =
-    let f : (b : ℕ) × (concrete old old s (b ∷ []) ≡ More) = first_more k m in
+    let f : (b : ℕ) × (by_tests old old s (b ∷ []) ≡ More) = first_more k m in
     let d : (d : Decision) × (decision old.phase old old s (f.0 ∷ []) ≡ Some d) = some_decided (decision old.phase old old s (f.0 ∷ [])) (f.0 ∷ []) f.1 in
     deciding old.phase s old (f.0 ∷ []) d.0 refl d.1
 
 module _ (s : Side) (old : Core) (d : IsDeciding s old) where
-  goes_by_d : (now : Core) → Later s old now → (bytes : List ℕ) → concrete old now s bytes ≡ More → GoesBy (d.F now bytes) bytes
+  goes_by_d : (now : Core) → Later s old now → (bytes : List ℕ) → by_tests old now s bytes ≡ More → GoesBy (d.F now bytes) bytes
   goes_by_d now l bytes m = goes_by (d.F now bytes) bytes (sym (ap (λ o. reading_by_decision o bytes) (d.decides now l bytes)) ∙ m)
 
-  kept_short : {now : Core} {bytes : List ℕ} → Kept concrete s old now bytes → concrete old now s bytes ≡ More → length bytes < awaited_length_by (Some (d.F now bytes)) bytes
+  kept_short : {now : Core} {bytes : List ℕ} → Kept by_tests s old now bytes → by_tests old now s bytes ≡ More → length bytes < awaited_length_by (Some (d.F now bytes)) bytes
   kept_short (begun b lt r) m = short_first s old d.F (d.steady old at_once) b (goes_by_d old at_once (b ∷ []) m)
   kept_short {now = next} (kept {now = now} {bytes = bytes} b lt k m l r) m' =
       short_next s now d.F (d.steady now (kept_later k)) bytes (goes_by_d now (kept_later k) bytes m) (kept_short k m) next l b (goes_by_d next (Later-trans (kept_later k) l) (bytes ++ b ∷ []) m')
@@ -134,7 +133,7 @@ module _ (s : Side) (old : Core) (d : IsDeciding s old) where
   awaited_is : (now : Core) → Later s old now → (bytes : List ℕ) → awaited_length old now s bytes ≡ awaited_length_by (Some (d.F now bytes)) bytes
   awaited_is now l bytes = ap (λ o. awaited_length_by o bytes) (d.decides now l bytes)
 
-  awaiting_by : {now : Core} {bytes : List ℕ} → Kept concrete s old now bytes → concrete old now s bytes ≡ More → IsAwaiting old s now bytes
+  awaiting_by : {now : Core} {bytes : List ℕ} → Kept by_tests s old now bytes → by_tests old now s bytes ≡ More → IsAwaiting old s now bytes
   awaiting_by {now} {bytes} k m =
       let l : Later s old now = kept_later k in
       let n : awaited_length old now s bytes ≡ awaited_length_by (Some (d.F now bytes)) bytes = awaited_is now l bytes in
@@ -149,13 +148,13 @@ module _ (s : Side) (old : Core) (d : IsDeciding s old) where
         stays = λ next later. awaited_is next (Later-trans l later) bytes ∙ awaited_stays s now d.F (d.steady now l) bytes g next later ∙ sym n;
       }
 
-pub awaiting : {s : Side} {old now : Core} {bytes : List ℕ} → Kept concrete s old now bytes → concrete old now s bytes ≡ More → IsAwaiting old s now bytes
+pub awaiting : {s : Side} {old now : Core} {bytes : List ℕ} → Kept by_tests s old now bytes → by_tests old now s bytes ≡ More → IsAwaiting old s now bytes
 awaiting {s} {old} k m = awaiting_by s old (decision_of k m) k m
 
 -- before a side's first byte
 pub record IsWaiting (core : Core) (s : Side) : Type 0 where
   pub some : 0 < awaited_length core core s []
-  pub goes : GoesOn concrete core core s [] (awaited_length core core s [])
+  pub goes : GoesOn by_tests core core s [] (awaited_length core core s [])
 
 no_bytes : (more : List ℕ) → IsFilled more → length more < 1 → ⊥
 no_bytes [] f l = f
@@ -164,10 +163,10 @@ no_bytes (b ∷ more) f l = omega arith
 pub waiting : (core : Core) (s : Side) → IsWaiting core s
 waiting core s = go (decision core.phase core core s []) refl
   where
-    none_goes : awaited_length core core s [] ≡ 1 → GoesOn concrete core core s [] (awaited_length core core s [])
+    none_goes : awaited_length core core s [] ≡ 1 → GoesOn by_tests core core s [] (awaited_length core core s [])
     none_goes one more f low = absurd (no_bytes more f (subst (λ n. length more < n) one low))
 
-    some_goes : (d : IsDeciding s core) → 0 < (d.F core []).head_length → GoesOn concrete core core s [] (awaited_length core core s [])
+    some_goes : (d : IsDeciding s core) → 0 < (d.F core []).head_length → GoesOn by_tests core core s [] (awaited_length core core s [])
     some_goes d low more f short =
         ap (λ o. reading_by_decision o more) (d.decides core at_once more)
         ∙ goes_further s core d.F (d.steady core at_once) [] (inl low) core at_once more (subst (λ n. length more < n) (awaited_is s core d core at_once []) short)
@@ -184,12 +183,12 @@ waiting core s = go (decision core.phase core core s []) refl
         let n : awaited_length core core s [] ≡ (d.F core []).head_length = awaited_is s core d core at_once [] ∙ awaited_head (d.F core []) [] low in
         record { some = omega (arith, n, two); goes = some_goes d low }
 
--- of a machine's rest: fewer bytes than are awaited, and nothing is judged before
+-- of a reader's rest: fewer bytes than are awaited, and nothing is judged before
 pub record IsShort (core : Core) (s : Side) (rest : Rest) : Type 0 where
   pub short : length rest.bytes < awaited_length (old_of core rest) core s rest.bytes
-  pub goes : GoesOn concrete (old_of core rest) core s rest.bytes (awaited_length (old_of core rest) core s rest.bytes)
+  pub goes : GoesOn by_tests (old_of core rest) core s rest.bytes (awaited_length (old_of core rest) core s rest.bytes)
 
-pub held_short : {core : Core} {s : Side} {rest : Rest} → Held concrete core s rest → IsShort core s rest
+pub held_short : {core : Core} {s : Side} {rest : Rest} → Held by_tests core s rest → IsShort core s rest
 held_short {core} {s} {rest} (none_held r e) =
     let w : IsWaiting core s = waiting core s in
     let at : IsShort core s (record { bytes = []; since = rest.since }) = record { short = w.some; goes = w.goes } in
@@ -199,22 +198,22 @@ held_short {core} {s} {rest} (some_held r now f k m l) =
     let n : awaited_length rest.since core s rest.bytes ≡ awaited_length rest.since now s rest.bytes = a.stays core l in
     let old : rest.since ≡ old_of core rest = sym (old-filled core rest f) in
     let short : length rest.bytes < awaited_length rest.since core s rest.bytes = subst (λ x. length rest.bytes < x) (sym n) a.short in
-    let goes : GoesOn concrete rest.since core s rest.bytes (awaited_length rest.since core s rest.bytes) = subst (λ x. GoesOn concrete rest.since core s rest.bytes x) (sym n) (a.awaits core l) in
+    let goes : GoesOn by_tests rest.since core s rest.bytes (awaited_length rest.since core s rest.bytes) = subst (λ x. GoesOn by_tests rest.since core s rest.bytes x) (sym n) (a.awaits core l) in
     record {
       short = subst (λ c. length rest.bytes < awaited_length c core s rest.bytes) old short;
-      goes = subst (λ c. GoesOn concrete c core s rest.bytes (awaited_length c core s rest.bytes)) old goes;
+      goes = subst (λ c. GoesOn by_tests c core s rest.bytes (awaited_length c core s rest.bytes)) old goes;
     }
 
 -- bytes of one side up to the awaited length are judged once
-pub reads_up_to : (machine : Machine) (s : Side) (more : List ℕ) → AreHeld concrete machine → IsFilled more →
-    length ((get machine.rests s).bytes ++ more) ≤ awaited_length (old_of machine.core (get machine.rests s)) machine.core s (get machine.rests s).bytes →
-    reads concrete machine (side_pairs s more) ≡ judged_at_once concrete machine s more
-reads_up_to machine s more held f l =
-    reads_at_once concrete machine s (awaited_length (old_of machine.core (get machine.rests s)) machine.core s (get machine.rests s).bytes) more f l (held_short (held s)).goes
+pub reads_up_to : (reader : Reader) (s : Side) (more : List ℕ) → AreHeld by_tests reader → IsFilled more →
+    length ((get reader.rests s).bytes ++ more) ≤ awaited_length (old_of reader.core (get reader.rests s)) reader.core s (get reader.rests s).bytes →
+    reads by_tests reader (side_pairs s more) ≡ judged_at_once by_tests reader s more
+reads_up_to reader s more held f l =
+    reads_at_once by_tests reader s (awaited_length (old_of reader.core (get reader.rests s)) reader.core s (get reader.rests s).bytes) more f l (held_short (held s)).goes
 
 -- below it they are kept
-pub reads_below : (machine : Machine) (s : Side) (more : List ℕ) → AreHeld concrete machine → IsFilled more →
-    length ((get machine.rests s).bytes ++ more) < awaited_length (old_of machine.core (get machine.rests s)) machine.core s (get machine.rests s).bytes →
-    reads concrete machine (side_pairs s more) ≡ Ok (with_rest machine s (extended machine.core (get machine.rests s) more))
-reads_below machine s more held f l =
-    reads_short concrete machine s (awaited_length (old_of machine.core (get machine.rests s)) machine.core s (get machine.rests s).bytes) more f l (held_short (held s)).goes
+pub reads_below : (reader : Reader) (s : Side) (more : List ℕ) → AreHeld by_tests reader → IsFilled more →
+    length ((get reader.rests s).bytes ++ more) < awaited_length (old_of reader.core (get reader.rests s)) reader.core s (get reader.rests s).bytes →
+    reads by_tests reader (side_pairs s more) ≡ Ok (with_rest reader s (extended reader.core (get reader.rests s) more))
+reads_below reader s more held f l =
+    reads_short by_tests reader s (awaited_length (old_of reader.core (get reader.rests s)) reader.core s (get reader.rests s).bytes) more f l (held_short (held s)).goes

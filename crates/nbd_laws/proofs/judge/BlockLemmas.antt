@@ -1,4 +1,4 @@
--- Bytes of one side, taken at once: over any judge, what a machine reads of them is one append and one judgement.
+-- Bytes of one side, taken at once: over any judge, what a reader reads of them is one append and one judgement.
 use Rattle.std.proofs.Common.{◌≡◌, ℕ, ◌<◌, ◌≤◌, List, [], ◌∷◌, ◌++◌, length, refl, sym, ◌∙◌, ap, subst, Result, Ok, Err, append_assoc, length-append, arith}
 use Rattle.nbd_wire.specs.declared.message.Side.{Side}
 use Rattle.nbd_wire.specs.declared.message.Side.TheVariants.{Client, Server}
@@ -6,8 +6,8 @@ use Rattle.nbd_wire.specs.protocol.Captures.{Pair, side_pairs}
 use Rattle.nbd_wire.specs.protocol.Rules.{complete}
 use Rattle.nbd_wire.specs.protocol.States.{Core}
 use Rattle.nbd_wire.specs.declared.fault.WireFault.{WireFault}
-use Rattle.nbd_wire.specs.protocol.Machine.{Both, get, put, Rest, Machine, Reading, More, Whole, Bad, old_of, IsFilled, settle, Judge, rest_with, step, reads, on_ok}
-use Rattle.nbd_laws.proofs.machine.MachineLemmas.{get-put_same, old-filled, IsFilled-snoc, Later}
+use Rattle.nbd_wire.specs.protocol.Reading.{Both, get, put, Rest, Reader, Reading, More, Whole, Bad, old_of, IsFilled, settle, Judge, rest_with, step, reads, on_ok}
+use Rattle.nbd_laws.proofs.reading.ReaderLemmas.{get-put_same, old-filled, IsFilled-snoc, Later}
 
 -- no longer list of these bytes and more is judged before it has n of them
 abbrev pub GoesOn : Judge → (old now : Core) → Side → List ℕ → ℕ → Type 0
@@ -22,13 +22,13 @@ abbrev pub extended : Core → Rest → List ℕ → Rest
 extended core rest more = record { bytes = rest.bytes ++ more; since = old_of core rest }
 
 -- the bytes of a side and these, judged once
-abbrev pub judged_at_once : Judge → Machine → Side → List ℕ → Result Machine WireFault
-judged_at_once judge machine s more =
-    settle machine s (extended machine.core (get machine.rests s) more)
-    (judge (old_of machine.core (get machine.rests s)) machine.core s ((get machine.rests s).bytes ++ more))
+abbrev pub judged_at_once : Judge → Reader → Side → List ℕ → Result Reader WireFault
+judged_at_once judge reader s more =
+    settle reader s (extended reader.core (get reader.rests s) more)
+    (judge (old_of reader.core (get reader.rests s)) reader.core s ((get reader.rests s).bytes ++ more))
 
-abbrev pub with_rest : Machine → Side → Rest → Machine
-with_rest machine s rest = record machine { rests = put machine.rests s rest }
+abbrev pub with_rest : Reader → Side → Rest → Reader
+with_rest reader s rest = record reader { rests = put reader.rests s rest }
 
 put-twice : {A : Type 0} (p : Both A) (s : Side) (a b : A) → put (put p s a) s b ≡ put p s b
 put-twice p Client a b = refl
@@ -38,69 +38,69 @@ put-get : {A : Type 0} (p : Both A) (s : Side) → put p s (get p s) ≡ p
 put-get p Client = refl
 put-get p Server = refl
 
-settle_with : (machine : Machine) (s : Side) (rest next : Rest) (r : Reading) → settle (with_rest machine s rest) s next r ≡ settle machine s next r
-settle_with machine s rest next More = ap (λ rests. Ok (record machine { rests = rests })) (put-twice machine.rests s rest next)
-settle_with machine s rest next (Whole m) =
-    ap (λ rests. Ok (record { core = complete machine.core m; rests = rests; messages = machine.messages ++ m ∷ [] })) (put-twice machine.rests s rest (record next { bytes = [] }))
-settle_with machine s rest next (Bad f) = refl
+settle_with : (reader : Reader) (s : Side) (rest next : Rest) (r : Reading) → settle (with_rest reader s rest) s next r ≡ settle reader s next r
+settle_with reader s rest next More = ap (λ rests. Ok (record reader { rests = rests })) (put-twice reader.rests s rest next)
+settle_with reader s rest next (Whole m) =
+    ap (λ rests. Ok (record { core = complete reader.core m; rests = rests; messages = reader.messages ++ m ∷ [] })) (put-twice reader.rests s rest (record next { bytes = [] }))
+settle_with reader s rest next (Bad f) = refl
 
-on_ok-Ok : (r : Result Machine WireFault) → on_ok r (λ next. Ok next) ≡ r
+on_ok-Ok : (r : Result Reader WireFault) → on_ok r (λ next. Ok next) ≡ r
 on_ok-Ok (Ok m) = refl
 on_ok-Ok (Err f) = refl
 
-pub reads-append : (judge : Judge) (machine : Machine) (ps qs : List Pair) → reads judge machine (ps ++ qs) ≡ on_ok (reads judge machine ps) (λ next. reads judge next qs)
-reads-append judge machine [] qs = refl
-reads-append judge machine (p ∷ ps) qs = go (step judge machine p.from p.byte) (λ next. reads-append judge next ps qs)
+pub reads-append : (judge : Judge) (reader : Reader) (ps qs : List Pair) → reads judge reader (ps ++ qs) ≡ on_ok (reads judge reader ps) (λ next. reads judge next qs)
+reads-append judge reader [] qs = refl
+reads-append judge reader (p ∷ ps) qs = go (step judge reader p.from p.byte) (λ next. reads-append judge next ps qs)
   where
-    go : (r : Result Machine WireFault) → ((next : Machine) → reads judge next (ps ++ qs) ≡ on_ok (reads judge next ps) (λ last. reads judge last qs)) →
+    go : (r : Result Reader WireFault) → ((next : Reader) → reads judge next (ps ++ qs) ≡ on_ok (reads judge next ps) (λ last. reads judge last qs)) →
         on_ok r (λ next. reads judge next (ps ++ qs)) ≡ on_ok (on_ok r (λ next. reads judge next ps)) (λ last. reads judge last qs)
     go (Ok next) ih = ih next
     go (Err f) ih = refl
 
-module _ (judge : Judge) (machine : Machine) (s : Side) (old : Core) (n : ℕ) where
+module _ (judge : Judge) (reader : Reader) (s : Side) (old : Core) (n : ℕ) where
   abbrev next_rest : Rest → List ℕ → Rest
   next_rest rest more = record { bytes = rest.bytes ++ more; since = old }
 
-  one_step : (rest : Rest) (b : ℕ) → old_of machine.core rest ≡ old →
-      step judge (with_rest machine s rest) s b ≡ settle machine s (next_rest rest (b ∷ [])) (judge old machine.core s (rest.bytes ++ b ∷ []))
+  one_step : (rest : Rest) (b : ℕ) → old_of reader.core rest ≡ old →
+      step judge (with_rest reader s rest) s b ≡ settle reader s (next_rest rest (b ∷ [])) (judge old reader.core s (rest.bytes ++ b ∷ []))
   one_step rest b o =
-      ap (λ r. settle (with_rest machine s rest) s (rest_with machine.core r b) (judge (rest_with machine.core r b).since machine.core s (rest_with machine.core r b).bytes)) (get-put_same machine.rests s rest)
-      ∙ settle_with machine s rest (rest_with machine.core rest b) (judge (rest_with machine.core rest b).since machine.core s (rest_with machine.core rest b).bytes)
-      ∙ ap (λ c. settle machine s (record { bytes = rest.bytes ++ b ∷ []; since = c }) (judge c machine.core s (rest.bytes ++ b ∷ []))) o
+      ap (λ r. settle (with_rest reader s rest) s (rest_with reader.core r b) (judge (rest_with reader.core r b).since reader.core s (rest_with reader.core r b).bytes)) (get-put_same reader.rests s rest)
+      ∙ settle_with reader s rest (rest_with reader.core rest b) (judge (rest_with reader.core rest b).since reader.core s (rest_with reader.core rest b).bytes)
+      ∙ ap (λ c. settle reader s (record { bytes = rest.bytes ++ b ∷ []; since = c }) (judge c reader.core s (rest.bytes ++ b ∷ []))) o
 
-  in_one : (rest : Rest) (b : ℕ) (more : List ℕ) → old_of machine.core rest ≡ old → length (rest.bytes ++ b ∷ more) ≤ n → GoesOn judge old machine.core s rest.bytes n →
-      reads judge (with_rest machine s rest) (side_pairs s (b ∷ more)) ≡ settle machine s (next_rest rest (b ∷ more)) (judge old machine.core s (rest.bytes ++ b ∷ more))
-  in_one rest b [] o l g = on_ok-Ok (step judge (with_rest machine s rest) s b) ∙ one_step rest b o
+  in_one : (rest : Rest) (b : ℕ) (more : List ℕ) → old_of reader.core rest ≡ old → length (rest.bytes ++ b ∷ more) ≤ n → GoesOn judge old reader.core s rest.bytes n →
+      reads judge (with_rest reader s rest) (side_pairs s (b ∷ more)) ≡ settle reader s (next_rest rest (b ∷ more)) (judge old reader.core s (rest.bytes ++ b ∷ more))
+  in_one rest b [] o l g = on_ok-Ok (step judge (with_rest reader s rest) s b) ∙ one_step rest b o
   in_one rest b (c ∷ more) o l g =
       let next : Rest = next_rest rest (b ∷ []) in
       let f : IsFilled next.bytes = IsFilled-snoc rest.bytes b in
       let short : length (rest.bytes ++ b ∷ []) < n = omega (arith, l, length-append rest.bytes (b ∷ c ∷ more), length-append rest.bytes (b ∷ [])) in
-      let first : step judge (with_rest machine s rest) s b ≡ Ok (with_rest machine s next) = one_step rest b o ∙ ap (settle machine s next) (g (b ∷ []) f short) in
+      let first : step judge (with_rest reader s rest) s b ≡ Ok (with_rest reader s next) = one_step rest b o ∙ ap (settle reader s next) (g (b ∷ []) f short) in
       let assoc : (tail : List ℕ) → next.bytes ++ tail ≡ rest.bytes ++ b ∷ tail = λ tail. append_assoc rest.bytes (b ∷ []) tail in
       let rest_is : length (next.bytes ++ c ∷ more) ≤ n = subst (λ bs. length bs ≤ n) (sym (assoc (c ∷ more))) l in
-      let goes : GoesOn judge old machine.core s next.bytes n = λ tail filled low.
-      subst (λ bs. judge old machine.core s bs ≡ More) (sym (assoc tail)) (g (b ∷ tail) (subst IsFilled (assoc tail) filled) (subst (λ bs. length bs < n) (assoc tail) low)) in
+      let goes : GoesOn judge old reader.core s next.bytes n = λ tail filled low.
+      subst (λ bs. judge old reader.core s bs ≡ More) (sym (assoc tail)) (g (b ∷ tail) (subst IsFilled (assoc tail) filled) (subst (λ bs. length bs < n) (assoc tail) low)) in
       ap (λ r. on_ok r (λ m. reads judge m (side_pairs s (c ∷ more)))) first
-      ∙ in_one next c more (old-filled machine.core next f) rest_is goes
-      ∙ ap (λ bs. settle machine s (record { bytes = bs; since = old }) (judge old machine.core s bs)) (assoc (c ∷ more))
+      ∙ in_one next c more (old-filled reader.core next f) rest_is goes
+      ∙ ap (λ bs. settle reader s (record { bytes = bs; since = old }) (judge old reader.core s bs)) (assoc (c ∷ more))
 
 -- bytes of one side, up to the next length at which something is decided, are judged once
-pub reads_at_once : (judge : Judge) (machine : Machine) (s : Side) (n : ℕ) (more : List ℕ) → IsFilled more → length ((get machine.rests s).bytes ++ more) ≤ n →
-    GoesOn judge (old_of machine.core (get machine.rests s)) machine.core s (get machine.rests s).bytes n →
-    reads judge machine (side_pairs s more) ≡ judged_at_once judge machine s more
-reads_at_once judge machine s n [] f l g = absurd f
-reads_at_once judge machine s n (b ∷ more) f l g =
-    ap (λ rests. reads judge (record machine { rests = rests }) (side_pairs s (b ∷ more))) (sym (put-get machine.rests s))
-    ∙ in_one judge machine s (old_of machine.core (get machine.rests s)) n (get machine.rests s) b more refl l g
+pub reads_at_once : (judge : Judge) (reader : Reader) (s : Side) (n : ℕ) (more : List ℕ) → IsFilled more → length ((get reader.rests s).bytes ++ more) ≤ n →
+    GoesOn judge (old_of reader.core (get reader.rests s)) reader.core s (get reader.rests s).bytes n →
+    reads judge reader (side_pairs s more) ≡ judged_at_once judge reader s more
+reads_at_once judge reader s n [] f l g = absurd f
+reads_at_once judge reader s n (b ∷ more) f l g =
+    ap (λ rests. reads judge (record reader { rests = rests }) (side_pairs s (b ∷ more))) (sym (put-get reader.rests s))
+    ∙ in_one judge reader s (old_of reader.core (get reader.rests s)) n (get reader.rests s) b more refl l g
 
 filled_right : (xs ys : List ℕ) → IsFilled ys → IsFilled (xs ++ ys)
 filled_right [] ys f = f
 filled_right (x ∷ xs) ys f = tt
 
 -- below that length they are only kept
-pub reads_short : (judge : Judge) (machine : Machine) (s : Side) (n : ℕ) (more : List ℕ) → IsFilled more → length ((get machine.rests s).bytes ++ more) < n →
-    GoesOn judge (old_of machine.core (get machine.rests s)) machine.core s (get machine.rests s).bytes n →
-    reads judge machine (side_pairs s more) ≡ Ok (with_rest machine s (extended machine.core (get machine.rests s) more))
-reads_short judge machine s n more f l g =
-    reads_at_once judge machine s n more f (omega (arith, l)) g
-    ∙ ap (settle machine s (extended machine.core (get machine.rests s) more)) (g more (filled_right (get machine.rests s).bytes more f) l)
+pub reads_short : (judge : Judge) (reader : Reader) (s : Side) (n : ℕ) (more : List ℕ) → IsFilled more → length ((get reader.rests s).bytes ++ more) < n →
+    GoesOn judge (old_of reader.core (get reader.rests s)) reader.core s (get reader.rests s).bytes n →
+    reads judge reader (side_pairs s more) ≡ Ok (with_rest reader s (extended reader.core (get reader.rests s) more))
+reads_short judge reader s n more f l g =
+    reads_at_once judge reader s n more f (omega (arith, l)) g
+    ∙ ap (settle reader s (extended reader.core (get reader.rests s) more)) (g more (filled_right (get reader.rests s).bytes more f) l)

@@ -1,11 +1,10 @@
 -- Tests, and what their answers say.
-use Rattle.std.proofs.Common.{◌≡◌, ℕ, zero, suc, ◌⊎◌, ◌+◌, ◌==◌, List, [], ◌∷◌, length, replicate, refl, ◌∙◌, ap, inl, inr, Option, Some, None, Bool, true, false, not, ◌&&◌, ◌||◌, nat_lt, eqb-true, arith}
+use Rattle.std.proofs.Common.{◌≡◌, ℕ, zero, suc, ◌⊎◌, ◌+◌, ◌==◌, List, [], ◌∷◌, length, replicate, refl, ◌∙◌, ap, inl, inr, Option, Some, None, Bool, true, false, not, ◌&&◌, ◌||◌, nat_lt, eqb-true, arith, if◌then◌else◌}
 use Rattle.nbd_wire.specs.declared.message.Message.{Message}
 use Rattle.nbd_wire.specs.declared.fault.WireFault.{WireFault}
-use Rattle.nbd_wire.specs.protocol.Decisions.{fault_if}
-use Rattle.nbd_wire.specs.protocol.JudgeNegotiation.{are_zeroes, unless_error}
-use Rattle.nbd_wire.specs.protocol.Concrete.{staged_reading_by, staged_reading, last_reading}
-use Rattle.nbd_wire.specs.protocol.Machine.{Reading, Whole}
+use Rattle.nbd_wire.specs.protocol.Negotiation.{are_zeroes}
+use Rattle.nbd_wire.specs.protocol.Reading.{staged_reading_by, staged_reading, last_reading, Reading, Whole}
+use Rattle.nbd_wire.specs.protocol.Tests.{fault_if}
 
 pub not_false : (c : Bool) → not c ≡ false → c ≡ true
 not_false true e = refl
@@ -50,7 +49,7 @@ pub ended_whole : (f : Option WireFault) (m n : Message) → last_reading f m �
 ended_whole (Some f) m n e = absurd (cc)
 ended_whole None m n e = (refl, (cc))
 
-pub no_error : (f : Option WireFault) (b : Bool) → b ≡ false → unless_error b f ≡ None → f ≡ None
+pub no_error : (f : Option WireFault) (b : Bool) → b ≡ false → (if b then None else f) ≡ None → f ≡ None
 no_error f true q e = absurd (cc)
 no_error f false q e = e
 

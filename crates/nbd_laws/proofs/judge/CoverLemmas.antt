@@ -3,7 +3,7 @@ use Rattle.std.proofs.Common.{◌≡◌, ℕ, zero, suc, ◌<◌, ◌≤◌, ◌
 use Rattle.std.proofs.lemmas.Bool.{lt-ltb, eqb-true, eqb-false, le-ltb, ltb-false, leb-false, leb-true, ltb-true, le-leb, lt-leb}
 use Rattle.nbd_wire.specs.declared.payloads.Piece.{Piece}
 use Rattle.nbd_wire.specs.protocol.Pieces.{piece_offset, piece_size, piece_byte, byte_at, holds, is_in, SharesNone}
-use Rattle.nbd_wire.specs.protocol.JudgeTransmission.{total, is_apart, is_apart_from}
+use Rattle.nbd_wire.specs.protocol.Transmission.{total, is_apart, is_apart_from}
 use Rattle.nbd_laws.proofs.requests.LaidLemmas.{AreApart, AreInside}
 use Rattle.nbd_laws.proofs.judge.BoolLemmas.{or_true, or_false, and_true}
 

@@ -19,16 +19,12 @@ use Rattle.nbd_wire.specs.protocol.Sendable.{IsSendable}
 use Rattle.nbd_wire.specs.protocol.Sides.{side}
 use Rattle.nbd_wire.specs.protocol.States.{Core, Phase, Greet, Flags, Choosing, Naming, Aborting, Answering, Transmission, operation, target}
 use Rattle.nbd_wire.specs.declared.fault.WireFault.{WireFault}
-use Rattle.nbd_wire.specs.protocol.Decisions.{Decision}
-use Rattle.nbd_wire.specs.protocol.Judge.{decision, request_unless}
-use Rattle.nbd_wire.specs.protocol.JudgeNegotiation.{abort_answer, answer, choice, client_flags, export_answer, greeting}
-use Rattle.nbd_wire.specs.protocol.JudgeTransmission.{chunk_to, operation_if, operation_of, request, simple_to}
+use Rattle.nbd_wire.specs.protocol.Decisions.{Decision, abort_answer, answer, choice, client_flags, export_answer, greeting, chunk_to, operation_if, operation_of, request, simple_to}
+use Rattle.nbd_wire.specs.protocol.Reading.{decision, request_unless, by_tests, last_reading, reading_by_decision, read_by, staged_reading_by, IsFilled, More, Whole, reads, fresh_of}
 use Rattle.nbd_laws.proofs.judge.AwaitedLemmas.{in_head, in_payload}
-use Rattle.nbd_wire.specs.protocol.Concrete.{concrete, last_reading, reading_by_decision, read_by, staged_reading_by}
 use Rattle.nbd_laws.proofs.judge.ExactNegotiationLemmas.{Accepts, HasHead, HasLast, abort_accepts, answer_accepts, choice_accepts, exported_accepts, flags_accepts, greeting_accepts}
 use Rattle.nbd_laws.proofs.judge.ExactTransmissionLemmas.{chunk_accepts, chunk_begins, cookie_of_chunk, cookie_of_simple, request_accepts, simple_accepts, simple_begins}
-use Rattle.nbd_laws.proofs.machine.MachineLemmas.{IsExact, Later, Later-trans}
-use Rattle.nbd_wire.specs.protocol.Machine.{IsFilled, More, Whole, reads, fresh_of}
+use Rattle.nbd_laws.proofs.reading.ReaderLemmas.{IsExact, Later, Later-trans}
 use Rattle.nbd_laws.proofs.judge.PhaseLemmas.{IsAppended, Later-appended, Later-disconnected, Later-transmission, Later-turn, target-append}
 use Rattle.nbd_laws.proofs.runs.RunLemmas.{no_run}
 use Rattle.nbd_laws.proofs.judge.SteadyLemmas.{IsDeciding, IsSameHead, IsSteady, deciding, is_chunk_reply, is_simple_reply, no_chunk}
@@ -185,7 +181,7 @@ taken_by old now s m d l sd sn st ok =
     record { at_head = subst (λ x. HasHead x m) same t.at_head; at_last = subst (λ x. HasLast x m) same t.at_last }
 
 exact_more : (old now later : Core) (s : Side) (m : Message) (bytes left : List ℕ) → Later s old now → Later s now later →
-    side m ≡ s → IsSendable m → MayStart old s m → MayComplete later later.phase m → enc m ≡ bytes ++ left → IsFilled left → concrete old now s bytes ≡ More
+    side m ≡ s → IsSendable m → MayStart old s m → MayComplete later later.phase m → enc m ≡ bytes ++ left → IsFilled left → by_tests old now s bytes ≡ More
 exact_more old now later s m bytes left l l' sd sn st ok e f =
     let d : IsDeciding s old = deciding_of old.phase s old m refl st in
     let t : IsTakenBy d.F later m = taken_by old later s m d (Later-trans l l') sd sn st ok in
@@ -194,18 +190,18 @@ exact_more old now later s m bytes left l l' sd sn st ok e f =
     let clean : (d.F later (bytes ++ left)).head_fault ≡ None = subst (λ bs. (d.F later bs).head_fault ≡ None) e t.at_head.clean in
     ap (λ o. reading_by_decision o bytes) (d.decides now l bytes) ∙ part_goes_on s now later d.F (d.steady now l) l' bytes left f long clean
 
-exact_whole : (old now : Core) (s : Side) (m : Message) → Later s old now → side m ≡ s → IsSendable m → MayStart old s m → MayComplete now now.phase m → concrete old now s (enc m) ≡ Whole m
+exact_whole : (old now : Core) (s : Side) (m : Message) → Later s old now → side m ≡ s → IsSendable m → MayStart old s m → MayComplete now now.phase m → by_tests old now s (enc m) ≡ Whole m
 exact_whole old now s m l sd sn st ok =
     let d : IsDeciding s old = deciding_of old.phase s old m refl st in
     let t : IsTakenBy d.F now m = taken_by old now s m d l sd sn st ok in
     ap (λ o. reading_by_decision o (enc m)) (d.decides now l (enc m)) ∙ read_whole (d.F now (enc m)) m t.at_head t.at_last
 
-pub exact : IsExact concrete
+pub exact : IsExact by_tests
 exact = record {
   more = λ old now later s m bytes left l l' sd sn st ok e fb fl k. exact_more old now later s m bytes left l l' sd sn st ok e fl;
   whole = λ old now s m l sd sn st ok k. exact_whole old now s m l sd sn st ok;
 }
 
--- no run's bytes begin with a list that the machine refuses
-pub none_refused : {profile : Profile} (items : List Item) → IsRunOf profile items → (ps more : List Pair) → ArePairs ps → pairs items ≡ ps ++ more → (fault : WireFault) → reads concrete (fresh_of profile) ps ≡ Err fault → ⊥
-none_refused items run ps more lt e fault refused = no_run concrete exact items run ps more lt e fault refused
+-- no run's bytes begin with a list that the reader refuses
+pub none_refused : {profile : Profile} (items : List Item) → IsRunOf profile items → (ps more : List Pair) → ArePairs ps → pairs items ≡ ps ++ more → (fault : WireFault) → reads by_tests (fresh_of profile) ps ≡ Err fault → ⊥
+none_refused items run ps more lt e fault refused = no_run by_tests exact items run ps more lt e fault refused

@@ -10,8 +10,9 @@ use Rattle.nbd_wire.specs.protocol.Payloads.{number_at}
 use Rattle.nbd_wire.specs.protocol.Operations.{Exporting}
 use Rattle.nbd_wire.specs.declared.fault.WireFault.{WireFault}
 use Rattle.nbd_wire.specs.declared.fault.WireFault.TheVariants.{BadMagic, BadExport}
-use Rattle.nbd_wire.specs.protocol.Decisions.{Decision, fault_if}
-use Rattle.nbd_wire.specs.protocol.JudgeNegotiation.{answer_head_fault, answer_last_fault, abort_answer, abort_fault, answer, answer_fault, are_zeroes, choice, client_flags, client_flags_fault, export_fault, export_answer, greeting, greeting_fault, padding_fault}
+use Rattle.nbd_wire.specs.protocol.Decisions.{Decision, abort_answer, answer, choice, client_flags, export_answer, greeting}
+use Rattle.nbd_wire.specs.protocol.Negotiation.{answer_head_fault, answer_last_fault, abort_fault, answer_fault, are_zeroes, client_flags_fault, export_fault, greeting_fault, padding_fault}
+use Rattle.nbd_wire.specs.protocol.Tests.{fault_if}
 use Rattle.nbd_wire.specs.declared.profile.Profile.{Profile}
 use Rattle.nbd_wire.specs.protocol.Contexts.{Selection}
 

@@ -11,15 +11,15 @@ use Rattle.nbd_wire.specs.declared.payloads.Piece.TheVariants.{Bytes, Hole}
 use Rattle.nbd_wire.specs.protocol.Encoding.{enc, head, tail}
 use Rattle.nbd_wire.proofs.FieldLemmas.{chunk-cookie, chunk-flags, chunk-kind, chunk-length, chunk-magic, drop-chunk, length-chunk, length-request, request-command, request-cookie, request-length, request-magic, simple-cookie, simple-magic}
 use Rattle.nbd_wire.specs.protocol.Payloads.{number_at, content_of}
-use Rattle.nbd_wire.specs.protocol.Replies.{simple_length}
+use Rattle.nbd_wire.specs.protocol.Decisions.{begins, chunk_of, chunk_to, request, simple_to}
+use Rattle.nbd_wire.specs.protocol.Tests.{fault_if}
+use Rattle.nbd_wire.specs.protocol.Transmission.{simple_length, chunk_fault, cookie_fault, request_fault, request_payload_length, simple_fault, simple_last_fault}
 use Rattle.nbd_wire.specs.protocol.Rules.{MayReply}
 use Rattle.nbd_wire.specs.protocol.Operations.{Operation, Exporting, pieces_of}
 use Rattle.nbd_wire.specs.protocol.Pieces.{chunk_piece, piece_of, piece_size}
 use Rattle.nbd_wire.specs.protocol.Sendable.{IsSendable}
 use Rattle.nbd_wire.specs.protocol.States.{Core, target, with_reply}
 use Rattle.nbd_wire.specs.declared.fault.WireFault.TheVariants.{BadMagic}
-use Rattle.nbd_wire.specs.protocol.Decisions.{fault_if}
-use Rattle.nbd_wire.specs.protocol.JudgeTransmission.{begins, chunk_fault, chunk_of, chunk_to, cookie_fault, request, request_fault, request_payload_length, simple_fault, simple_last_fault, simple_to}
 use Rattle.nbd_laws.proofs.judge.CoverLemmas.{ArePositive}
 use Rattle.nbd_laws.proofs.judge.ExactNegotiationLemmas.{Accepts}
 

@@ -10,7 +10,7 @@ use Rattle.nbd_wire.specs.protocol.Operations.{Operation, Exporting, is_finished
 use Rattle.nbd_wire.specs.protocol.Rules.{MayComplete, complete, core_with_request, reply_to, request_of_reply}
 use Rattle.nbd_wire.specs.protocol.Sides.{side}
 use Rattle.nbd_wire.specs.protocol.States.{Phase, Greet, Flags, Choosing, Naming, Aborting, Answering, Transmission, Core, in_force, operation, is_awaiting, target, target_from}
-use Rattle.nbd_laws.proofs.machine.MachineLemmas.{Later, at_once, behind}
+use Rattle.nbd_laws.proofs.reading.ReaderLemmas.{Later, at_once, behind}
 
 abbrev pub IsTransmitting : Phase → Type 0
 IsTransmitting phase = (export : Exporting) × (phase ≡ Transmission export)

@@ -10,10 +10,9 @@ use Rattle.nbd_wire.specs.protocol.Operations.{Exporting}
 use Rattle.nbd_wire.specs.protocol.Rules.{MayComplete}
 use Rattle.nbd_wire.specs.protocol.Sendable.{IsSendable}
 use Rattle.nbd_wire.specs.protocol.States.{Transmission, Core}
-use Rattle.nbd_wire.specs.protocol.Judge.{request_unless}
-use Rattle.nbd_wire.specs.protocol.JudgeTransmission.{request, request_payload_length, request_of}
-use Rattle.nbd_wire.specs.protocol.Concrete.{reading_by_decision}
-use Rattle.nbd_wire.specs.protocol.Machine.{Whole}
+use Rattle.nbd_wire.specs.protocol.Decisions.{request, request_of}
+use Rattle.nbd_wire.specs.protocol.Reading.{request_unless, reading_by_decision, Whole}
+use Rattle.nbd_wire.specs.protocol.Transmission.{request_payload_length}
 use Rattle.nbd_laws.proofs.judge.SoundNegotiationLemmas.{IsFit, IsWhole, whole, magic_there}
 
 request_is : (bytes : List ℕ) → AreBytes bytes → 28 ≤ length bytes → number_at 0 4 bytes ≡ REQUEST_MAGIC → bytes ≡ enc (request_of bytes)

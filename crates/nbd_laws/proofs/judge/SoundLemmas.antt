@@ -10,10 +10,9 @@ use Rattle.nbd_wire.specs.protocol.Operations.{Exporting}
 use Rattle.nbd_wire.specs.protocol.Rules.{MayStartIn, MayComplete, request_of_reply}
 use Rattle.nbd_wire.specs.protocol.States.{Phase, Greet, Flags, Choosing, Naming, Aborting, Answering, Transmission, Core}
 use Rattle.nbd_wire.specs.declared.fault.WireFault.TheVariants.{OutOfTurn}
-use Rattle.nbd_wire.specs.protocol.JudgeTransmission.{request_of}
-use Rattle.nbd_wire.specs.protocol.Concrete.{judge_in, concrete}
-use Rattle.nbd_laws.proofs.machine.MachineLemmas.{Kept, begun, kept, Later, at_once, Later-trans, IsSoundAt, IsSound}
-use Rattle.nbd_wire.specs.protocol.Machine.{Reading, More, Whole, Bad, Judge}
+use Rattle.nbd_wire.specs.protocol.Decisions.{request_of}
+use Rattle.nbd_wire.specs.protocol.Reading.{judge_in, by_tests, Reading, More, Whole, Bad, Judge}
+use Rattle.nbd_laws.proofs.reading.ReaderLemmas.{Kept, begun, kept, Later, at_once, Later-trans, IsSoundAt, IsSound}
 use Rattle.nbd_laws.specs.Reached.{IsReached}
 use Rattle.nbd_laws.proofs.judge.PhaseLemmas.{IsTransmitting, Later-disconnected, Later-transmission, Later-turn}
 use Rattle.nbd_laws.proofs.judge.SoundClientLemmas.{IsAsked, request_sound}
@@ -55,13 +54,13 @@ in_turn (Answering option given info) old now Server bytes = inr (inl refl)
 in_turn (Transmission export) old now s bytes = inr (inr (export, refl))
 in_turn phase old now s bytes = inl refl
 
-pub opened_by : (old now : Core) (s : Side) (bytes : List ℕ) (r : Reading) → concrete old now s bytes ≡ r → (r ≡ Bad OutOfTurn → ⊥) → (turn now.phase ≡ Some s) ⊎ IsTransmitting now.phase
+pub opened_by : (old now : Core) (s : Side) (bytes : List ℕ) (r : Reading) → by_tests old now s bytes ≡ r → (r ≡ Bad OutOfTurn → ⊥) → (turn now.phase ≡ Some s) ⊎ IsTransmitting now.phase
 opened_by old now s bytes r e n = elim (in_turn now.phase old now s bytes) [ inl q ↦ absurd (n (sym e ∙ q)) | inr o ↦ o ]
 
 -- a side's bytes that were not refused began in its turn, or in transmission
-pub turn_of_reading : {s : Side} {old now : Core} {bytes : List ℕ} (r : Reading) → Kept concrete s old now bytes → concrete old now s bytes ≡ r → (r ≡ Bad OutOfTurn → ⊥) → (turn old.phase ≡ Some s) ⊎ IsTransmitting old.phase
+pub turn_of_reading : {s : Side} {old now : Core} {bytes : List ℕ} (r : Reading) → Kept by_tests s old now bytes → by_tests old now s bytes ≡ r → (r ≡ Bad OutOfTurn → ⊥) → (turn old.phase ≡ Some s) ⊎ IsTransmitting old.phase
 turn_of_reading {s} {old} {now} {bytes} r k e n = elim (kept_first k) [
-  | inl (same, (c, is)) ↦ opened_by old old s bytes r (ap (λ x. concrete old x s bytes) same ∙ e) n
+  | inl (same, (c, is)) ↦ opened_by old old s bytes r (ap (λ x. by_tests old x s bytes) same ∙ e) n
   | inr (c, m) ↦ opened_by old old s (c ∷ []) More m (λ q. (cc))
 ]
 
@@ -70,7 +69,7 @@ unfolding MayStartIn
 starts_by_turn (Transmission export) core s m t = absurd (cc)
 starts_by_turn phase core s m t = t
 
-sound_in_turn : (now : Core) (s : Side) (bytes : List ℕ) (m : Message) → AreBytes bytes → turn now.phase ≡ Some s → concrete now now s bytes ≡ Whole m → IsSoundAt now now s bytes m
+sound_in_turn : (now : Core) (s : Side) (bytes : List ℕ) (m : Message) → AreBytes bytes → turn now.phase ≡ Some s → by_tests now now s bytes ≡ Whole m → IsSoundAt now now s bytes m
 sound_in_turn now s bytes m a t e =
     let f : IsFit now now.phase s bytes m = negotiation_sound now.phase now s bytes m a t e in
     record { encodes = f.encodes; sided = f.sided; sendable = f.sendable; starts = starts_by_turn now.phase now s m t; completes = f.completes }
@@ -104,10 +103,10 @@ sound_in_transmission old now Server bytes m export l r a t0 t1 e =
       completes = subst (λ p. MayComplete now p m) (sym t1) q.fit.completes;
     }
 
-pub sound : IsSound concrete
+pub sound : IsSound by_tests
 sound old now s bytes m k e = elim (turn_of_reading (Whole m) k e (λ q. (cc))) [
   | inl t ↦ (let same : old ≡ now = Later-turn (kept_later k) t in
-      subst (λ c. IsSoundAt c now s bytes m) (sym same) (sound_in_turn now s bytes m (kept_bytes k) (subst (λ (c : Core). turn c.phase ≡ Some s) same t) (subst (λ c. concrete c now s bytes ≡ Whole m) same e)))
+      subst (λ c. IsSoundAt c now s bytes m) (sym same) (sound_in_turn now s bytes m (kept_bytes k) (subst (λ (c : Core). turn c.phase ≡ Some s) same t) (subst (λ c. by_tests c now s bytes ≡ Whole m) same e)))
   | inr (export, t0) ↦ (let t1 : now.phase ≡ Transmission export = Later-transmission (kept_later k) export t0 in
       sound_in_transmission old now s bytes m export (kept_later k) (kept_reached k) (kept_bytes k) t0 t1 (subst (λ p. judge_in p old now s bytes ≡ Whole m) t1 e))
 ]

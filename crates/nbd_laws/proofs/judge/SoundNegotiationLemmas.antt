@@ -19,12 +19,12 @@ use Rattle.nbd_wire.specs.protocol.Sides.{side}
 use Rattle.nbd_wire.specs.protocol.States.{Phase, Greet, Flags, Choosing, Naming, Aborting, Answering, Transmission, Core}
 use Rattle.nbd_wire.specs.declared.fault.WireFault.{WireFault}
 use Rattle.nbd_wire.specs.declared.fault.WireFault.TheVariants.{BadMagic, BadExport}
-use Rattle.nbd_wire.specs.protocol.Decisions.{Decision, fault_if}
+use Rattle.nbd_wire.specs.protocol.Decisions.{Decision, greeting, client_flags, choice, export_answer, answer_of, abort_answer, answer}
+use Rattle.nbd_wire.specs.protocol.Negotiation.{answer_fault, answer_head_fault, greeting_fault, are_zeroes, abort_fault}
+use Rattle.nbd_wire.specs.protocol.Reading.{read_by, last_reading, judge_in, Whole}
+use Rattle.nbd_wire.specs.protocol.Tests.{fault_if}
 use Rattle.nbd_laws.proofs.judge.AllowLemmas.{no_length}
-use Rattle.nbd_wire.specs.protocol.JudgeNegotiation.{answer_fault, answer_head_fault, greeting_fault, greeting, client_flags, choice, are_zeroes, export_answer, answer_of, abort_fault, abort_answer, answer}
 use Rattle.nbd_laws.proofs.judge.BoolLemmas.{not_false, and_true, whole_at, fault_none, ended_whole, are_zeroes-replicate}
-use Rattle.nbd_wire.specs.protocol.Concrete.{read_by, last_reading, judge_in}
-use Rattle.nbd_wire.specs.protocol.Machine.{Whole}
 
 pub record IsFit (now : Core) (phase : Phase) (s : Side) (bytes : List ℕ) (m : Message) : Type 0 where
   pub encodes : bytes ≡ enc m

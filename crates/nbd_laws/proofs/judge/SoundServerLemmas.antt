@@ -8,18 +8,17 @@ use Rattle.nbd_wire.specs.declared.message.Message.{Message}
 use Rattle.nbd_wire.specs.protocol.Encoding.{enc, head, tail, AreBytes}
 use Rattle.nbd_wire.proofs.NumberLemmas.{with_number, number_at-lt, AreBytes-drop}
 use Rattle.nbd_wire.specs.protocol.Payloads.{number_at}
-use Rattle.nbd_wire.specs.protocol.Replies.{simple_length}
+use Rattle.nbd_wire.specs.protocol.Decisions.{chunk_last_fault, begins, chunk_of, chunk_to, operation_if, operation_of, no_reply, reply, reply_by, simple_of, simple_to}
+use Rattle.nbd_wire.specs.protocol.Reading.{read_by, Whole}
+use Rattle.nbd_wire.specs.protocol.Transmission.{simple_length, chunk_head_fault, simple_fault, simple_last_fault}
 use Rattle.nbd_wire.specs.protocol.Rules.{MayReply}
 use Rattle.nbd_wire.specs.protocol.Operations.{Operation, Exporting}
 use Rattle.nbd_wire.specs.protocol.Rules.{MayComplete, request_of_reply}
 use Rattle.nbd_wire.specs.protocol.Sendable.{IsSendable}
 use Rattle.nbd_wire.specs.protocol.States.{Transmission, Core, target, operation}
 use Rattle.nbd_wire.specs.declared.fault.WireFault.TheVariants.{BadMagic, UnknownCookie}
-use Rattle.nbd_wire.specs.protocol.JudgeTransmission.{chunk_head_fault, chunk_last_fault, simple_fault, simple_last_fault, begins, chunk_of, chunk_to, operation_if, operation_of, no_reply, reply, reply_by, simple_of, simple_to}
 use Rattle.nbd_laws.proofs.judge.BoolLemmas.{and_true}
-use Rattle.nbd_wire.specs.protocol.Concrete.{read_by}
-use Rattle.nbd_wire.specs.protocol.Machine.{Whole}
-use Rattle.nbd_laws.proofs.machine.MachineLemmas.{Later}
+use Rattle.nbd_laws.proofs.reading.ReaderLemmas.{Later}
 use Rattle.nbd_laws.proofs.judge.PhaseLemmas.{IsAppended, Later-appended, target-append}
 use Rattle.nbd_laws.proofs.judge.SoundNegotiationLemmas.{IsFit, IsWhole, whole}
 use Rattle.nbd_laws.proofs.judge.TidyLemmas.{IsTidy, AreTidy, tidy_entry}

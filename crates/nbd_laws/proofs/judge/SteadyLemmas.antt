@@ -13,14 +13,14 @@ use Rattle.nbd_wire.specs.protocol.Operations.{Operation, Exporting}
 use Rattle.nbd_wire.specs.protocol.Flags.{has}
 use Rattle.nbd_wire.specs.protocol.States.{Phase, Greet, Flags, Choosing, Naming, Aborting, Answering, Transmission, Core, operation, target}
 use Rattle.nbd_wire.specs.declared.fault.WireFault.TheVariants.{BadMagic, UnknownCookie}
-use Rattle.nbd_wire.specs.protocol.Decisions.{Decision}
-use Rattle.nbd_wire.specs.protocol.Judge.{decision, request_unless}
+use Rattle.nbd_wire.specs.protocol.Decisions.{Decision, abort_answer, answer, choice, client_flags, export_answer, greeting, begins, chunk_to, operation_if, operation_of, no_reply, reply, reply_by, request, simple_to}
+use Rattle.nbd_wire.specs.protocol.Negotiation.{answer_head_fault, abort_fault, answer_fault, client_flags_fault, export_fault, greeting_fault}
+use Rattle.nbd_wire.specs.protocol.Reading.{decision, request_unless}
+use Rattle.nbd_wire.specs.protocol.Tests.{fault_if}
+use Rattle.nbd_wire.specs.protocol.Transmission.{request_fault, request_payload_length, simple_payload_length, simple_fault, chunk_head_fault}
 use Rattle.nbd_wire.specs.declared.magics.TheConstants.{GREETING_MAGIC, OPTION_MAGIC, ANSWER_MAGIC, REQUEST_MAGIC}
 use Rattle.nbd_wire.specs.declared.fault.WireFault.TheVariants.{BadMagic}
-use Rattle.nbd_wire.specs.protocol.Decisions.{fault_if}
-use Rattle.nbd_wire.specs.protocol.JudgeNegotiation.{answer_head_fault, abort_answer, abort_fault, answer, answer_fault, choice, client_flags, client_flags_fault, export_fault, export_answer, greeting, greeting_fault}
-use Rattle.nbd_wire.specs.protocol.JudgeTransmission.{begins, chunk_to, operation_if, operation_of, no_reply, reply, reply_by, request, request_fault, request_payload_length, simple_payload_length, simple_to, simple_fault, chunk_head_fault}
-use Rattle.nbd_laws.proofs.machine.MachineLemmas.{Later}
+use Rattle.nbd_laws.proofs.reading.ReaderLemmas.{Later}
 use Rattle.nbd_laws.proofs.judge.SoundServerLemmas.{magic_of}
 use Rattle.nbd_laws.proofs.judge.PhaseLemmas.{IsAppended, Later-appended, Later-disconnected, Later-transmission, Later-turn, target_entry}
 use Rattle.nbd_wire.specs.protocol.Contexts.{Selection}

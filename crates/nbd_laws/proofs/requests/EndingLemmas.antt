@@ -14,8 +14,8 @@ use Rattle.nbd_laws.specs.Service.{RepliesEndAsTheyStart}
 use Rattle.nbd_laws.proofs.runs.FollowLemmas.{Follows, IsSidedOpen, each_with, follows}
 use Rattle.nbd_laws.proofs.runs.PrefixLemmas.{IsTarget, target_later}
 use Rattle.nbd_laws.proofs.service.InsideLemmas.{core_end}
-use Rattle.nbd_wire.specs.protocol.Machine.{Both, get, put}
-use Rattle.nbd_laws.proofs.machine.MachineLemmas.{get-put_same, get-put_other, same_or_not, Open, Idle, Busy, Walk, ended, serving, opening, middle, final, loose, Later, at_once, behind}
+use Rattle.nbd_wire.specs.protocol.Reading.{Both, get, put}
+use Rattle.nbd_laws.proofs.reading.ReaderLemmas.{get-put_same, get-put_other, same_or_not, Open, Idle, Busy, Walk, ended, serving, opening, middle, final, loose, Later, at_once, behind}
 use Rattle.nbd_laws.proofs.requests.OutstandingLemmas.{IsFound, find, in_transmission}
 use Rattle.nbd_laws.proofs.runs.PartLemmas.{obeys_back}
 use Rattle.nbd_laws.proofs.runs.ProfileLemmas.{phase_at_base, reply_at_base}

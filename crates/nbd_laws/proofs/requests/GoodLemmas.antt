@@ -3,7 +3,7 @@ use Rattle.std.proofs.Common.{◌≡◌, Option, ℕ, zero, suc, ◌<◌, ◌≤
 use Rattle.std.proofs.lemmas.Bool.{leb-true, ltb-true}
 use Rattle.nbd_laws.proofs.judge.AllowLemmas.{chunk_allow, finish_allow, simple_allow, total_covers}
 use Rattle.nbd_laws.specs.Allowed.{IsChunk}
-use Rattle.nbd_wire.specs.protocol.JudgeTransmission.{done_fault}
+use Rattle.nbd_wire.specs.protocol.Transmission.{done_fault, simple_length}
 use Rattle.nbd_wire.specs.declared.chunks.TheConstants as chunks
 use Rattle.nbd_wire.specs.declared.command_flags.TheConstants as command_flags
 use Rattle.nbd_wire.specs.declared.commands.TheConstants as commands
@@ -15,7 +15,6 @@ use Rattle.nbd_wire.specs.declared.payloads.Piece.TheVariants.{Bytes}
 use Rattle.nbd_wire.specs.declared.sizes.Sizes.{Sizes}
 use Rattle.nbd_wire.specs.protocol.Contexts.{Context}
 use Rattle.nbd_wire.specs.protocol.Payloads.{content_of, failure_of, number_at}
-use Rattle.nbd_wire.specs.protocol.Replies.{simple_length}
 use Rattle.nbd_wire.specs.protocol.Rules.{MayReply}
 use Rattle.nbd_wire.specs.protocol.Operations.{Covers, Operation, Exporting, Outcome, Success, Pending, any, ends_reply, has_failed, has_range, is_failing, is_finished, is_proper, outcome, pieces, pieces_of}
 use Rattle.nbd_wire.specs.protocol.Pieces.{byte_at, chunk_piece, holds, is_in, piece_of, piece_offset, piece_size, simple_piece}

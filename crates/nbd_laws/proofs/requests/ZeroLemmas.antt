@@ -1,9 +1,10 @@
 -- What a status calls zero: pieces in its request's range, which share no offset.
-use Rattle.std.proofs.Common.{◌≡◌, ℕ, ◌+◌, ◌-◌, ◌<◌, ◌≤◌, ◌==◌, ◌&&◌, List, [], ◌∷◌, ◌++◌, min, refl, sym, ◌∙◌, ap, subst, Some, None, Bool, true, false, not, if◌then◌else◌, nat_le, nat_lt, arith, IsTrue, leb-true, leb-false, ltb-true, eqb-true, eq-eqb, ◌||◌}
+use Rattle.std.proofs.Common.{◌≡◌, ℕ, ◌+◌, ◌-◌, ◌<◌, ◌≤◌, ◌==◌, ◌&&◌, List, [], ◌∷◌, ◌++◌, min, refl, sym, ◌∙◌, ap, subst, Some, None, Bool, true, false, not, if◌then◌else◌, nat_le, nat_lt, arith, IsTrue, leb-true, leb-false, ltb-true, eqb-true, eq-eqb, ◌||◌, take}
 use Rattle.std.proofs.lemmas.Nat.{and_assoc}
 use Rattle.std.specs.Int.Bits.{and_zero_r, bit_and}
 use Rattle.nbd_wire.specs.declared.command_flags.TheConstants as command_flags
 use Rattle.nbd_wire.specs.declared.commands.TheConstants as commands
+use Rattle.nbd_wire.specs.declared.states.TheConstants as states
 use Rattle.nbd_wire.specs.declared.transmission.TheConstants as transmission
 use Rattle.nbd_wire.specs.declared.message.Message.{Message}
 use Rattle.nbd_wire.specs.declared.payloads.Piece.{Piece}
@@ -12,9 +13,13 @@ use Rattle.nbd_wire.specs.protocol.Contexts.{Extent, Status}
 use Rattle.nbd_wire.specs.protocol.Operations.{Exporting, Operation, allowed_flags, is_proper, mask_if}
 use Rattle.nbd_wire.specs.protocol.Flags.{has, has_only}
 use Rattle.nbd_wire.specs.protocol.Pieces.{byte_at, holds, piece_byte, piece_offset, piece_size}
-use Rattle.nbd_wire.specs.protocol.Statuses.{is_allocation, status_in, zero_part, zeroes, zeroes_first, zeroes_in, zeroes_told}
+use Rattle.nbd_wire.specs.protocol.Statuses.{is_allocation, status_in, statuses_of, zeroes, zeroes_in, zeroes_told}
 use Rattle.nbd_laws.proofs.requests.LaidLemmas.{AreApart, AreInside}
 use Rattle.nbd_laws.proofs.requests.OutstandingLemmas.{both_true}
+
+-- the bytes of an extent, if there are some and it calls them zero
+abbrev pub zero_part : (offset size flags : ℕ) → List Piece
+zero_part offset size flags = if has flags states.ZERO && not (size == 0) then Hole offset size ∷ [] else []
 
 -- a shorter range further on lies in the range
 wider : (offset len at size : ℕ) (ps : List Piece) → offset ≤ at → at + size ≤ offset + len → AreInside at size ps → AreInside offset len ps
@@ -98,9 +103,9 @@ pub data Told (export : Exporting) (e : Operation) : Type 0 where
 pub told_of : (export : Exporting) (e : Operation) → Told export e
 told_of export e = go (e.command == commands.BLOCK_STATUS) refl (is_proper export e) refl
   where
-    first : (ms : List Message) → AreInside e.offset e.length (zeroes_first e ms) × AreApart (zeroes_first e ms)
+    first : (ms : List Message) → AreInside e.offset e.length (zeroes_told e (statuses_of (take 1 ms))) × AreApart (zeroes_told e (statuses_of (take 1 ms)))
     first [] = (tt, tt)
-    first (m ∷ ms) = by (status_in m)
+    first (m ∷ ms) = by (status_in m ++ [])
       where
         by : (ss : List Status) → AreInside e.offset e.length (zeroes_told e ss) × AreApart (zeroes_told e ss)
         by [] = (tt, tt)
@@ -110,15 +115,15 @@ told_of export e = go (e.command == commands.BLOCK_STATUS) refl (is_proper expor
             pick true = (zeroes_inside e.offset e.length s.extents, zeroes_apart e.offset e.length s.extents)
             pick false = (tt, tt)
 
-    all : (a b : Bool) → AreInside e.offset e.length (if a && b then zeroes_first e e.replies else []) × AreApart (if a && b then zeroes_first e e.replies else [])
+    all : (a b : Bool) → AreInside e.offset e.length (if a && b then zeroes_told e (statuses_of (take 1 e.replies)) else []) × AreApart (if a && b then zeroes_told e (statuses_of (take 1 e.replies)) else [])
     all true true = first e.replies
     all true false = (tt, tt)
     all false b = (tt, tt)
 
     go : (a : Bool) → (e.command == commands.BLOCK_STATUS) ≡ a → (b : Bool) → is_proper export e ≡ b → Told export e
     go true q true r = let w = all (e.command == commands.BLOCK_STATUS) (is_proper export e) in told (eqb-true e.command commands.BLOCK_STATUS q) r w.0 w.1
-    go true q false r = content (λ i. if q i && r i then zeroes_first e e.replies else [])
-    go false q b r = content (λ i. if q i && r i then zeroes_first e e.replies else [])
+    go true q false r = content (λ i. if q i && r i then zeroes_told e (statuses_of (take 1 e.replies)) else [])
+    go false q b r = content (λ i. if q i && r i then zeroes_told e (statuses_of (take 1 e.replies)) else [])
 
 -- a proper BLOCK_STATUS does not carry DF
 pub no_df : (export : Exporting) (e : Operation) → e.command ≡ commands.BLOCK_STATUS → IsTrue (is_proper export e) → IsTrue (has e.flags command_flags.DF) → ⊥

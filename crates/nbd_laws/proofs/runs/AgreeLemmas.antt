@@ -1,5 +1,5 @@
 -- What a session that is held to one profile may do, it may do under the other too, but for answers of success to the options on metadata contexts.
-use Rattle.std.proofs.Common.{◌≡◌, ℕ, ◌==◌, Bool, true, false, List, [], ◌∷◌, length, refl, sym, ◌∙◌, ap, subst, Option, Some, All, not, ◌&&◌}
+use Rattle.std.proofs.Common.{◌≡◌, ℕ, ◌==◌, Bool, true, false, List, [], ◌∷◌, length, refl, sym, ◌∙◌, ap, subst, Option, Some, All, not, ◌&&◌, if◌then◌else◌}
 use Rattle.std.proofs.lemmas.List.Elements.{All-head, All-tail}
 use Rattle.std.proofs.Common.{Result, Ok, Err, Option, Some, inl, inr, nat_lt, drop, ◌+◌, append_assoc}
 use Rattle.std.proofs.lemmas.Bool.{ltb-false}
@@ -8,13 +8,16 @@ use Rattle.std.proofs.Common.{◌<◌}
 use Rattle.nbd_laws.specs.Profiles.{RunsAgree}
 use Rattle.nbd_wire.specs.protocol.Places.{IsUnderWayOf}
 use Rattle.nbd_wire.specs.protocol.Captures.{ArePairs}
-use Rattle.nbd_wire.specs.protocol.Machine.{Both}
+use Rattle.nbd_wire.specs.protocol.Decisions.{answer, answer_of, begins, operation_of, reply_by}
+use Rattle.nbd_wire.specs.protocol.Negotiation.{ack_fault, answer_fault, info_fault, is_wide, answers_option, earlier_to, is_bad_payload, is_followed, is_good_context, is_good_info, is_on_contexts, payload_fault, success_fault}
+use Rattle.nbd_wire.specs.protocol.Reading.{Both, by_tests, judge_in, last_reading, read_by, reading_by_decision, staged_reading_by, request_unless, Bad, Reader, More, Reading, Rest, Whole, fresh_of, get, old_by, on_ok, reads, rest_with, settle, step}
+use Rattle.nbd_wire.specs.protocol.Tests.{fault_if}
 use Rattle.nbd_wire.specs.protocol.Marks.{pairs}
 use Rattle.nbd_laws.proofs.judge.BlockLemmas.{reads-append}
 use Rattle.nbd_laws.proofs.judge.ExactLemmas.{exact}
 use Rattle.nbd_laws.proofs.judge.SoundLemmas.{sound}
-use Rattle.nbd_laws.proofs.machine.MachineLemmas.{Busy, Open, Walk, ended, final, get-put_same, kept_next, loose, middle, opening, reads_held, serving, with_byte}
-use Rattle.nbd_laws.proofs.machine.MarkLemmas.{AreInStep, InStep, in_step_completed, in_step_sided, in_step_with, judged_more, judged_whole, within_middle, within_opening}
+use Rattle.nbd_laws.proofs.reading.ReaderLemmas.{Busy, Open, Walk, ended, final, get-put_same, kept_next, loose, middle, opening, reads_held, serving, with_byte}
+use Rattle.nbd_laws.proofs.reading.MarkLemmas.{AreInStep, InStep, in_step_completed, in_step_sided, in_step_with, judged_more, judged_whole, within_middle, within_opening}
 use Rattle.nbd_laws.proofs.runs.FollowLemmas.{IsSidedOpen, completes_later, each_with, follows}
 use Rattle.nbd_laws.proofs.runs.RunLemmas.{fresh_held, walk_of}
 use Rattle.nbd_wire.specs.protocol.Contexts.{Selection}
@@ -22,19 +25,12 @@ use Rattle.nbd_wire.specs.declared.magics.TheConstants.{ANSWER_MAGIC, CHUNK_MAGI
 use Rattle.nbd_wire.specs.declared.fault.WireFault.{WireFault}
 use Rattle.nbd_wire.specs.declared.fault.WireFault.TheVariants.{BadMagic, SuccessOfImproper}
 use Rattle.nbd_wire.specs.protocol.Captures.{Pair}
-use Rattle.nbd_wire.specs.protocol.Concrete.{concrete, judge_in, last_reading, read_by, reading_by_decision, staged_reading_by}
-use Rattle.nbd_wire.specs.protocol.Decisions.{fault_if}
-use Rattle.nbd_wire.specs.protocol.Judge.{request_unless}
-use Rattle.nbd_wire.specs.protocol.JudgeNegotiation.{ack_fault, answer, answer_fault, answer_of, at_ack, info_fault, is_wide}
-use Rattle.nbd_wire.specs.protocol.JudgeTransmission.{begins, operation_of, reply_by}
-use Rattle.nbd_wire.specs.protocol.Machine.{Bad, Machine, More, Reading, Rest, Whole, fresh_of, get, old_by, on_ok, reads, rest_with, settle, step}
 use Rattle.nbd_wire.specs.protocol.Payloads.{number_at}
 use Rattle.nbd_wire.specs.protocol.States.{Ended}
 use Rattle.nbd_wire.specs.declared.fault.WireFault.TheVariants.{BadReplyKind, BadReplyPayload, OutOfProfile, WrongOption}
 use Rattle.nbd_wire.specs.declared.payloads.Info.{Info}
 use Rattle.nbd_wire.specs.declared.payloads.Info.TheVariants.{BlockSize, Export, Other}
 use Rattle.nbd_wire.specs.protocol.Contexts.{Context}
-use Rattle.nbd_wire.specs.protocol.JudgeNegotiation.{answers_option, earlier_to, is_bad_payload, is_followed, is_good_context, is_good_info, is_on_contexts, payload_fault, success_fault, unless_error}
 use Rattle.nbd_wire.specs.protocol.Options.{is_proper_option, takes_contexts}
 use Rattle.nbd_wire.specs.protocol.Payloads.{context_of, is_listed}
 use Rattle.std.proofs.Common.{None, ◌||◌, eqb-true}
@@ -79,11 +75,8 @@ follows_wide Base option e = go (option == options.LIST) (option == options.INFO
 
 head_wide : (profile : Profile) (option : ℕ) (proper takes : Bool) (info : Option Exporting) (kind len : ℕ) → success_fault profile option proper takes info kind len ≡ None → success_fault Wide option proper takes info kind len ≡ None
 head_wide profile option proper takes info kind len e =
-    let a : ((is_followed profile option && not (answers_option option takes kind)) ≡ false) × (_ ≡ None) = fault_none _ BadReplyKind _ e in
-    let b : (not (is_followed profile option) ≡ false) × (_ ≡ None) = fault_none _ OutOfProfile _ a.1 in
-    let f : is_followed profile option ≡ true = not_false _ b.0 in
-    let w : is_followed Wide option ≡ true = follows_wide profile option f in
-    no_fault_if _ BadReplyKind _ (ap (λ c. c && not (answers_option option takes kind)) w ∙ and_false _ _ a.0 f) (no_fault_if _ OutOfProfile _ (ap not w) b.1)
+    let a : (not (is_followed profile option) ≡ false) × (_ ≡ None) = fault_none _ OutOfProfile _ e in
+    no_fault_if _ OutOfProfile _ (ap not (follows_wide profile option (not_false _ a.0))) a.1
 
 info_wide : (profile : Profile) (o : Option Info) → ((sizes : Sizes) → sizes_of o ≡ Some sizes → are_allowed sizes ≡ false → ⊥) → is_good_info profile o ≡ true → is_good_info Wide o ≡ true
 info_wide profile None fair e = e
@@ -126,11 +119,11 @@ may_wide core (Answering asked given info) (Answer option kind payload) fair (at
   last (is_error kind) at_last,
 )
   where
-    head : (b : Bool) → unless_error b (success_fault core.profile asked (is_proper_option asked given) (takes_contexts asked given) info kind (length payload)) ≡ None → unless_error b (success_fault Wide asked (is_proper_option asked given) (takes_contexts asked given) info kind (length payload)) ≡ None
+    head : (b : Bool) → (if b then None else (success_fault core.profile asked (is_proper_option asked given) (takes_contexts asked given) info kind (length payload))) ≡ None → (if b then None else (success_fault Wide asked (is_proper_option asked given) (takes_contexts asked given) info kind (length payload))) ≡ None
     head true e = refl
     head false e = head_wide core.profile asked _ _ info kind (length payload) e
 
-    last : (b : Bool) → unless_error b (payload_fault core.profile (earlier_to asked core.selection) (is_proper_option asked given) kind payload) ≡ None → unless_error b (payload_fault Wide (earlier_to asked core.selection) (is_proper_option asked given) kind payload) ≡ None
+    last : (b : Bool) → (if b then None else (payload_fault core.profile (earlier_to asked core.selection) (is_proper_option asked given) kind payload)) ≡ None → (if b then None else (payload_fault Wide (earlier_to asked core.selection) (is_proper_option asked given) kind payload)) ≡ None
     last true e = refl
     last false e = last_wide core.profile _ _ kind payload (λ k sizes h e. fair (k, (sizes, h, e))) e
 may_wide core (Transmission export) (Request flags command cookie offset len payload) fair ok = ok
@@ -235,10 +228,10 @@ bad_either p q earlier kind payload fair = go (kind == answers.INFO) refl
 
 module _ (option : ℕ) (given : List ℕ) (proper takes : Bool) (info : Option Exporting) (selection : Selection) (bytes : List ℕ) where
   abbrev at_head : Profile → Bool → Option WireFault
-  at_head v e = fault_if (not (number_at 0 8 bytes == ANSWER_MAGIC)) BadMagic (answer_fault option (number_at 8 4 bytes) (unless_error e (success_fault v option proper takes info (number_at 12 4 bytes) (number_at 16 4 bytes))))
+  at_head v e = fault_if (not (number_at 0 8 bytes == ANSWER_MAGIC)) BadMagic (answer_fault option (number_at 8 4 bytes) (if e then None else (success_fault v option proper takes info (number_at 12 4 bytes) (number_at 16 4 bytes))))
 
   abbrev at_last : Profile → Bool → Reading
-  at_last v e = last_reading (unless_error e (payload_fault v (earlier_to option selection) proper (number_at 12 4 bytes) (drop 20 bytes))) (answer_of bytes)
+  at_last v e = last_reading (if e then None else (payload_fault v (earlier_to option selection) proper (number_at 12 4 bytes) (drop 20 bytes))) (answer_of bytes)
 
   answer_either : (p q : Profile) → (IsParting (Answering option given info) bytes → ⊥) → read_by (answer p option proper takes info selection bytes) bytes ≡ read_by (answer q option proper takes info selection bytes) bytes
   answer_either p q none = go (nat_lt (length bytes) 20) refl (is_error (number_at 12 4 bytes)) refl (length bytes == 20 + number_at 16 4 bytes) refl
@@ -249,8 +242,8 @@ module _ (option : ℕ) (given : List ℕ) (proper takes : Bool) (info : Option 
           by : (c : Bool) → is_on_contexts option ≡ c → at_head p false ≡ at_head q false
           by true c = absurd (none (inl (c, ltb-false (length bytes) 20 l, e)))
           by false c = ap (λ f. fault_if (not (number_at 0 8 bytes == ANSWER_MAGIC)) BadMagic (answer_fault option (number_at 8 4 bytes)
-              (fault_if (f && not (answers_option option takes (number_at 12 4 bytes))) BadReplyKind (fault_if (not f) OutOfProfile
-              (ack_fault (number_at 12 4 bytes) (number_at 16 4 bytes) (at_ack (number_at 12 4 bytes == answers.ACK) (info_fault option proper info))))))) (followed_either p q option c)
+              (fault_if (not f) OutOfProfile (fault_if (not (answers_option option takes (number_at 12 4 bytes))) BadReplyKind
+              (ack_fault (number_at 12 4 bytes) (number_at 16 4 bytes) (if number_at 12 4 bytes == answers.ACK then info_fault option proper info else None)))))) (followed_either p q option c)
 
       last_same : length bytes ≡ 20 + number_at 16 4 bytes → at_last p false ≡ at_last q false
       last_same l = ap (λ b. last_reading (fault_if b BadReplyPayload (fault_if (not proper) SuccessOfImproper None)) (answer_of bytes))
@@ -290,20 +283,20 @@ reading_in q (Transmission export) since now Server bytes none = replied (begins
     replied false true = refl
     replied false false = refl
 
--- a machine, held to the profile
+-- a reader, held to the profile
 abbrev pub rest_in : Profile → Rest → Rest
 rest_in q rest = record { bytes = rest.bytes; since = with_profile q rest.since }
 
-abbrev pub machine_in : Profile → Machine → Machine
-machine_in q machine = record { core = with_profile q machine.core; rests = record { client = rest_in q machine.rests.client; server = rest_in q machine.rests.server }; messages = machine.messages }
+abbrev pub reader_in : Profile → Reader → Reader
+reader_in q reader = record { core = with_profile q reader.core; rests = record { client = rest_in q reader.rests.client; server = rest_in q reader.rests.server }; messages = reader.messages }
 
-abbrev pub result_in : Profile → Result Machine WireFault → Result Machine WireFault
-result_in q (Ok machine) = Ok (machine_in q machine)
+abbrev pub result_in : Profile → Result Reader WireFault → Result Reader WireFault
+result_in q (Ok reader) = Ok (reader_in q reader)
 result_in q (Err fault) = Err fault
 
-get_in : (q : Profile) (machine : Machine) (s : Side) → get (machine_in q machine).rests s ≡ rest_in q (get machine.rests s)
-get_in q machine Client = refl
-get_in q machine Server = refl
+get_in : (q : Profile) (reader : Reader) (s : Side) → get (reader_in q reader).rests s ≡ rest_in q (get reader.rests s)
+get_in q reader Client = refl
+get_in q reader Server = refl
 
 old_in : (q : Profile) (bytes : List ℕ) (core old : Core) → old_by bytes (with_profile q core) (with_profile q old) ≡ with_profile q (old_by bytes core old)
 old_in q [] core old = refl
@@ -312,48 +305,48 @@ old_in q (x ∷ xs) core old = refl
 grown_in : (q : Profile) (core : Core) (rest : Rest) (b : ℕ) → rest_with (with_profile q core) (rest_in q rest) b ≡ rest_in q (rest_with core rest b)
 grown_in q core rest b = λ i. record { bytes = rest.bytes ++ b ∷ []; since = old_in q rest.bytes core rest.since i }
 
-settle_in : (q : Profile) (machine : Machine) (s : Side) (rest : Rest) (r : Reading) → settle (machine_in q machine) s (rest_in q rest) r ≡ result_in q (settle machine s rest r)
-settle_in q machine Client rest More = refl
-settle_in q machine Server rest More = refl
-settle_in q machine Client rest (Whole m) = ap (λ c. Ok (record { core = c; rests = record { client = rest_in q (record rest { bytes = [] }); server = rest_in q machine.rests.server }; messages = machine.messages ++ m ∷ [] })) (complete_with q machine.core m)
-settle_in q machine Server rest (Whole m) = ap (λ c. Ok (record { core = c; rests = record { client = rest_in q machine.rests.client; server = rest_in q (record rest { bytes = [] }) }; messages = machine.messages ++ m ∷ [] })) (complete_with q machine.core m)
-settle_in q machine s rest (Bad f) = refl
+settle_in : (q : Profile) (reader : Reader) (s : Side) (rest : Rest) (r : Reading) → settle (reader_in q reader) s (rest_in q rest) r ≡ result_in q (settle reader s rest r)
+settle_in q reader Client rest More = refl
+settle_in q reader Server rest More = refl
+settle_in q reader Client rest (Whole m) = ap (λ c. Ok (record { core = c; rests = record { client = rest_in q (record rest { bytes = [] }); server = rest_in q reader.rests.server }; messages = reader.messages ++ m ∷ [] })) (complete_with q reader.core m)
+settle_in q reader Server rest (Whole m) = ap (λ c. Ok (record { core = c; rests = record { client = rest_in q reader.rests.client; server = rest_in q (record rest { bytes = [] }) }; messages = reader.messages ++ m ∷ [] })) (complete_with q reader.core m)
+settle_in q reader s rest (Bad f) = refl
 
-abbrev grown : Machine → Side → ℕ → Rest
-grown machine s b = rest_with machine.core (get machine.rests s) b
+abbrev grown : Reader → Side → ℕ → Rest
+grown reader s b = rest_with reader.core (get reader.rests s) b
 
-pub step_in : (q : Profile) (machine : Machine) (s : Side) (b : ℕ) → Quiet machine.core.phase s (grown machine s b).bytes → step concrete (machine_in q machine) s b ≡ result_in q (step concrete machine s b)
-step_in q machine s b none =
-    let same : grown (machine_in q machine) s b ≡ rest_in q (grown machine s b) = ap (λ r. rest_with (with_profile q machine.core) r b) (get_in q machine s) ∙ grown_in q machine.core (get machine.rests s) b in
-    ap (λ (r : Rest). settle (machine_in q machine) s r (concrete r.since (with_profile q machine.core) s r.bytes)) same
-    ∙ ap (settle (machine_in q machine) s (rest_in q (grown machine s b))) (reading_in q machine.core.phase (grown machine s b).since machine.core s (grown machine s b).bytes none)
-    ∙ settle_in q machine s (grown machine s b) (concrete (grown machine s b).since machine.core s (grown machine s b).bytes)
+pub step_in : (q : Profile) (reader : Reader) (s : Side) (b : ℕ) → Quiet reader.core.phase s (grown reader s b).bytes → step by_tests (reader_in q reader) s b ≡ result_in q (step by_tests reader s b)
+step_in q reader s b none =
+    let same : grown (reader_in q reader) s b ≡ rest_in q (grown reader s b) = ap (λ r. rest_with (with_profile q reader.core) r b) (get_in q reader s) ∙ grown_in q reader.core (get reader.rests s) b in
+    ap (λ (r : Rest). settle (reader_in q reader) s r (by_tests r.since (with_profile q reader.core) s r.bytes)) same
+    ∙ ap (settle (reader_in q reader) s (rest_in q (grown reader s b))) (reading_in q reader.core.phase (grown reader s b).since reader.core s (grown reader s b).bytes none)
+    ∙ settle_in q reader s (grown reader s b) (by_tests (grown reader s b).since reader.core s (grown reader s b).bytes)
 
-quiet_here : (machine : Machine) (p : Pair) (ps : List Pair) → NothingFrom machine (p ∷ ps) → Quiet machine.core.phase p.from (grown machine p.from p.byte).bytes
-quiet_here machine p ps none e h =
-    none [] ps p.byte machine (λ i. record { from = e i; byte = p.byte } ∷ ps) refl (subst (λ u. IsParting machine.core.phase (grown machine u p.byte).bytes) e h)
+quiet_here : (reader : Reader) (p : Pair) (ps : List Pair) → NothingFrom reader (p ∷ ps) → Quiet reader.core.phase p.from (grown reader p.from p.byte).bytes
+quiet_here reader p ps none e h =
+    none [] ps p.byte reader (λ i. record { from = e i; byte = p.byte } ∷ ps) refl (subst (λ u. IsParting reader.core.phase (grown reader u p.byte).bytes) e h)
 
-nothing_on : (machine next : Machine) (p : Pair) (ps : List Pair) → step concrete machine p.from p.byte ≡ Ok next → NothingFrom machine (p ∷ ps) → NothingFrom next ps
-nothing_on machine next p ps e none before more b mid is read =
-    none (p ∷ before) more b mid (ap (λ l. p ∷ l) is) (ap (λ o. on_ok o (λ next. reads concrete next before)) e ∙ read)
+nothing_on : (reader next : Reader) (p : Pair) (ps : List Pair) → step by_tests reader p.from p.byte ≡ Ok next → NothingFrom reader (p ∷ ps) → NothingFrom next ps
+nothing_on reader next p ps e none before more b mid is read =
+    none (p ∷ before) more b mid (ap (λ l. p ∷ l) is) (ap (λ o. on_ok o (λ next. reads by_tests next before)) e ∙ read)
 
-reads_in : (q : Profile) (ps : List Pair) (machine : Machine) → NothingFrom machine ps → reads concrete (machine_in q machine) ps ≡ result_in q (reads concrete machine ps)
-reads_in q [] machine none = refl
-reads_in q (p ∷ ps) machine none = ap (λ o. on_ok o (λ next. reads concrete next ps)) (step_in q machine p.from p.byte (quiet_here machine p ps none))
-    ∙ go (step concrete machine p.from p.byte) (λ next e. reads_in q ps next (nothing_on machine next p ps e none))
+reads_in : (q : Profile) (ps : List Pair) (reader : Reader) → NothingFrom reader ps → reads by_tests (reader_in q reader) ps ≡ result_in q (reads by_tests reader ps)
+reads_in q [] reader none = refl
+reads_in q (p ∷ ps) reader none = ap (λ o. on_ok o (λ next. reads by_tests next ps)) (step_in q reader p.from p.byte (quiet_here reader p ps none))
+    ∙ go (step by_tests reader p.from p.byte) (λ next e. reads_in q ps next (nothing_on reader next p ps e none))
   where
-    go : (r : Result Machine WireFault) → ((next : Machine) → r ≡ Ok next → reads concrete (machine_in q next) ps ≡ result_in q (reads concrete next ps)) →
-        on_ok (result_in q r) (λ next. reads concrete next ps) ≡ result_in q (on_ok r (λ next. reads concrete next ps))
+    go : (r : Result Reader WireFault) → ((next : Reader) → r ≡ Ok next → reads by_tests (reader_in q next) ps ≡ result_in q (reads by_tests next ps)) →
+        on_ok (result_in q r) (λ next. reads by_tests next ps) ≡ result_in q (on_ok r (λ next. reads by_tests next ps))
     go (Err f) h = refl
     go (Ok next) h = h next refl
 
-pub nothing_before : (machine : Machine) (ps more : List Pair) → NothingFrom machine (ps ++ more) → NothingFrom machine ps
-nothing_before machine ps more none before rest b mid is = none before (rest ++ more) b mid (ap (λ l. l ++ more) is ∙ append_assoc before (record { from = Server; byte = b } ∷ rest) more)
+pub nothing_before : (reader : Reader) (ps more : List Pair) → NothingFrom reader (ps ++ more) → NothingFrom reader ps
+nothing_before reader ps more none before rest b mid is = none before (rest ++ more) b mid (ap (λ l. l ++ more) is ∙ append_assoc before (record { from = Server; byte = b } ∷ rest) more)
 
 -- with what was read, held to the profile
-pub under_way_in : (p q : Profile) (ps : List Pair) (messages : List Message) → NothingParts p ps → (u : IsUnderWayOf p ps messages) → (v : IsUnderWayOf q ps messages) × (v.end ≡ machine_in q u.end)
+pub under_way_in : (p q : Profile) (ps : List Pair) (messages : List Message) → NothingParts p ps → (u : IsUnderWayOf p ps messages) → (v : IsUnderWayOf q ps messages) × (v.end ≡ reader_in q u.end)
 under_way_in p q ps messages none u =
-    (record { are_pairs = u.are_pairs; end = machine_in q u.end; reads_it = reads_in q ps (fresh_of p) none ∙ ap (result_in q) u.reads_it; has_messages = u.has_messages }, refl)
+    (record { are_pairs = u.are_pairs; end = reader_in q u.end; reads_it = reads_in q ps (fresh_of p) none ∙ ap (result_in q) u.reads_it; has_messages = u.has_messages }, refl)
 
 pub under_way_agrees : UnderWayAgrees
 under_way_agrees p q ps messages none u = (under_way_in p q ps messages none u).0
@@ -368,7 +361,7 @@ places_agree p q ps messages fault none place =
       parts = place.parts;
       before = record {
         are_pairs = place.before.are_pairs;
-        end = machine_in q place.before.end;
+        end = reader_in q place.before.end;
         reads_it = reads_in q place.prefix (fresh_of p) (nothing_before (fresh_of p) place.prefix (place.last ∷ []) nothing) ∙ ap (result_in q) place.before.reads_it;
         has_messages = place.before.has_messages;
       };
@@ -380,49 +373,49 @@ places_agree p q ps messages fault none place =
 
 -- what completes in a run of the one profile may do so in the other
 module _ (p q : Profile) where
-  -- one more byte, and what the machine makes of it
-  read_more : (done : List Pair) (s : Side) (b : ℕ) (machine next : Machine) → reads concrete (fresh_of p) done ≡ Ok machine → step concrete machine s b ≡ Ok next → reads concrete (fresh_of p) (done ++ record { from = s; byte = b } ∷ []) ≡ Ok next
-  read_more done s b machine next e f = reads-append concrete (fresh_of p) done _ ∙ ap (λ o. on_ok o (λ next. reads concrete next (record { from = s; byte = b } ∷ []))) e ∙ ap (λ o. on_ok o (λ next. Ok next)) f
+  -- one more byte, and what the reader makes of it
+  read_more : (done : List Pair) (s : Side) (b : ℕ) (reader next : Reader) → reads by_tests (fresh_of p) done ≡ Ok reader → step by_tests reader s b ≡ Ok next → reads by_tests (fresh_of p) (done ++ record { from = s; byte = b } ∷ []) ≡ Ok next
+  read_more done s b reader next e f = reads-append by_tests (fresh_of p) done _ ∙ ap (λ o. on_ok o (λ next. reads by_tests next (record { from = s; byte = b } ∷ []))) e ∙ ap (λ o. on_ok o (λ next. Ok next)) f
 
   are_more : (done : List Pair) (s : Side) (b : ℕ) → ArePairs done → b < 256 → ArePairs (done ++ record { from = s; byte = b } ∷ [])
   are_more [] s b are l = (l, tt)
   are_more (x ∷ done) s b are l = (are.0, are_more done s b are.1 l)
 
-  carries : {o : Both Open} {items : List Item} (w : Walk ⊥ o items) (machine : Machine) (js : List Entry) (done : List Pair) → reads concrete (fresh_of p) done ≡ Ok machine → ArePairs done → ArePairs (pairs items) →
-      NothingFrom (fresh_of p) (done ++ pairs items) → Obeys (record { core = machine.core; served = js }) items → AreInStep machine o → Carries q machine.core items
-  carries (ended c d) machine js done e are lt none ob st = tt
-  carries (serving k w) machine js done e are lt none ob st = carries w machine _ done e are lt none ob.1 st
-  carries {o} (opening s m b left {items = items} is f g w) machine js done e are lt none ob st =
-      let i : InStep machine.core (grown machine s b) s (Busy m left) = within_opening machine.core (get machine.rests s) s m b left (subst (InStep machine.core (get machine.rests s) s) is (st s)) f g ob.0.0 ob.0.1 ob.0.2 in
-      let end = completes_later w machine.core (follows items (record { core = machine.core; served = js }) ob.1.1) (each_with IsSidedOpen o s (Busy m left) (in_step_sided machine o st) ob.0.0) s m left (get-put_same o s (Busy m left)) in
-      let j = judged_more concrete exact machine.core (grown machine s b) s m left i end (kept_next concrete machine.core s (get machine.rests s) b lt.0 (reads_held concrete sound done (fresh_of p) machine are (fresh_held concrete) e s)) in
-      carries w (with_byte machine s b) js (done ++ record { from = s; byte = b } ∷ []) (read_more done s b machine (with_byte machine s b) e (ap (settle machine s (grown machine s b)) j)) (are_more done s b are lt.0) lt.1
-      (subst (NothingFrom (fresh_of p)) (sym (append_assoc done (record { from = s; byte = b } ∷ []) (pairs items))) none) ob.1.1 (in_step_with machine o s (grown machine s b) (Busy m left) st i)
-  carries {o} (middle s m b left {items = items} is g w) machine js done e are lt none ob st =
-      let i0 : InStep machine.core (get machine.rests s) s (Busy m (b ∷ left)) = subst (InStep machine.core (get machine.rests s) s) is (st s) in
-      let i : InStep machine.core (grown machine s b) s (Busy m left) = within_middle machine.core (get machine.rests s) s m b left i0 g in
-      let end = completes_later w machine.core (follows items (record { core = machine.core; served = js }) ob.1) (each_with IsSidedOpen o s (Busy m left) (in_step_sided machine o st) i0.0.sided) s m left (get-put_same o s (Busy m left)) in
-      let j = judged_more concrete exact machine.core (grown machine s b) s m left i end (kept_next concrete machine.core s (get machine.rests s) b lt.0 (reads_held concrete sound done (fresh_of p) machine are (fresh_held concrete) e s)) in
-      carries w (with_byte machine s b) js (done ++ record { from = s; byte = b } ∷ []) (read_more done s b machine (with_byte machine s b) e (ap (settle machine s (grown machine s b)) j)) (are_more done s b are lt.0) lt.1
-      (subst (NothingFrom (fresh_of p)) (sym (append_assoc done (record { from = s; byte = b } ∷ []) (pairs items))) none) ob.1 (in_step_with machine o s (grown machine s b) (Busy m left) st i)
-  carries {o} (final s m b {items = items} is w) machine js done e are lt none ob st =
-      let i0 : InStep machine.core (get machine.rests s) s (Busy m (b ∷ [])) = subst (InStep machine.core (get machine.rests s) s) is (st s) in
-      let k = kept_next concrete machine.core s (get machine.rests s) b lt.0 (reads_held concrete sound done (fresh_of p) machine are (fresh_held concrete) e s) in
-      let j = judged_whole concrete exact machine.core (get machine.rests s) s m b i0 ob.1.0 k in
-      let r : Rest = grown (machine_in q machine) s b in
-      let same : r ≡ rest_in q (grown machine s b) = ap (λ x. rest_with (with_profile q machine.core) x b) (get_in q machine s) ∙ grown_in q machine.core (get machine.rests s) b in
-      let quiet : Quiet machine.core.phase s (grown machine s b).bytes =
-      λ t h. none done (pairs items) b machine (λ i. done ++ record { from = t i; byte = b } ∷ pairs items) e (subst (λ u. IsParting machine.core.phase (grown machine u b).bytes) t h) in
-      let jq : concrete r.since (with_profile q machine.core) s r.bytes ≡ Whole m =
-      ap (λ (x : Rest). concrete x.since (with_profile q machine.core) s x.bytes) same ∙ reading_in q machine.core.phase (grown machine s b).since machine.core s (grown machine s b).bytes quiet ∙ j in
+  carries : {o : Both Open} {items : List Item} (w : Walk ⊥ o items) (reader : Reader) (js : List Entry) (done : List Pair) → reads by_tests (fresh_of p) done ≡ Ok reader → ArePairs done → ArePairs (pairs items) →
+      NothingFrom (fresh_of p) (done ++ pairs items) → Obeys (record { core = reader.core; served = js }) items → AreInStep reader o → Carries q reader.core items
+  carries (ended c d) reader js done e are lt none ob st = tt
+  carries (serving k w) reader js done e are lt none ob st = carries w reader _ done e are lt none ob.1 st
+  carries {o} (opening s m b left {items = items} is f g w) reader js done e are lt none ob st =
+      let i : InStep reader.core (grown reader s b) s (Busy m left) = within_opening reader.core (get reader.rests s) s m b left (subst (InStep reader.core (get reader.rests s) s) is (st s)) f g ob.0.0 ob.0.1 ob.0.2 in
+      let end = completes_later w reader.core (follows items (record { core = reader.core; served = js }) ob.1.1) (each_with IsSidedOpen o s (Busy m left) (in_step_sided reader o st) ob.0.0) s m left (get-put_same o s (Busy m left)) in
+      let j = judged_more by_tests exact reader.core (grown reader s b) s m left i end (kept_next by_tests reader.core s (get reader.rests s) b lt.0 (reads_held by_tests sound done (fresh_of p) reader are (fresh_held by_tests) e s)) in
+      carries w (with_byte reader s b) js (done ++ record { from = s; byte = b } ∷ []) (read_more done s b reader (with_byte reader s b) e (ap (settle reader s (grown reader s b)) j)) (are_more done s b are lt.0) lt.1
+      (subst (NothingFrom (fresh_of p)) (sym (append_assoc done (record { from = s; byte = b } ∷ []) (pairs items))) none) ob.1.1 (in_step_with reader o s (grown reader s b) (Busy m left) st i)
+  carries {o} (middle s m b left {items = items} is g w) reader js done e are lt none ob st =
+      let i0 : InStep reader.core (get reader.rests s) s (Busy m (b ∷ left)) = subst (InStep reader.core (get reader.rests s) s) is (st s) in
+      let i : InStep reader.core (grown reader s b) s (Busy m left) = within_middle reader.core (get reader.rests s) s m b left i0 g in
+      let end = completes_later w reader.core (follows items (record { core = reader.core; served = js }) ob.1) (each_with IsSidedOpen o s (Busy m left) (in_step_sided reader o st) i0.0.sided) s m left (get-put_same o s (Busy m left)) in
+      let j = judged_more by_tests exact reader.core (grown reader s b) s m left i end (kept_next by_tests reader.core s (get reader.rests s) b lt.0 (reads_held by_tests sound done (fresh_of p) reader are (fresh_held by_tests) e s)) in
+      carries w (with_byte reader s b) js (done ++ record { from = s; byte = b } ∷ []) (read_more done s b reader (with_byte reader s b) e (ap (settle reader s (grown reader s b)) j)) (are_more done s b are lt.0) lt.1
+      (subst (NothingFrom (fresh_of p)) (sym (append_assoc done (record { from = s; byte = b } ∷ []) (pairs items))) none) ob.1 (in_step_with reader o s (grown reader s b) (Busy m left) st i)
+  carries {o} (final s m b {items = items} is w) reader js done e are lt none ob st =
+      let i0 : InStep reader.core (get reader.rests s) s (Busy m (b ∷ [])) = subst (InStep reader.core (get reader.rests s) s) is (st s) in
+      let k = kept_next by_tests reader.core s (get reader.rests s) b lt.0 (reads_held by_tests sound done (fresh_of p) reader are (fresh_held by_tests) e s) in
+      let j = judged_whole by_tests exact reader.core (get reader.rests s) s m b i0 ob.1.0 k in
+      let r : Rest = grown (reader_in q reader) s b in
+      let same : r ≡ rest_in q (grown reader s b) = ap (λ x. rest_with (with_profile q reader.core) x b) (get_in q reader s) ∙ grown_in q reader.core (get reader.rests s) b in
+      let quiet : Quiet reader.core.phase s (grown reader s b).bytes =
+      λ t h. none done (pairs items) b reader (λ i. done ++ record { from = t i; byte = b } ∷ pairs items) e (subst (λ u. IsParting reader.core.phase (grown reader u b).bytes) t h) in
+      let jq : by_tests r.since (with_profile q reader.core) s r.bytes ≡ Whole m =
+      ap (λ (x : Rest). by_tests x.since (with_profile q reader.core) s x.bytes) same ∙ reading_in q reader.core.phase (grown reader s b).since reader.core s (grown reader s b).bytes quiet ∙ j in
       let before : NothingFrom (fresh_of p) done = nothing_before (fresh_of p) done (record { from = s; byte = b } ∷ pairs items) none in
-      let held = reads_held concrete sound done (fresh_of q) (machine_in q machine) are (fresh_held concrete) (reads_in q done (fresh_of p) before ∙ ap (result_in q) e) in
-      let fit = sound r.since (with_profile q machine.core) s r.bytes m (kept_next concrete (with_profile q machine.core) s (get (machine_in q machine).rests s) b lt.0 (held s)) jq in (
+      let held = reads_held by_tests sound done (fresh_of q) (reader_in q reader) are (fresh_held by_tests) (reads_in q done (fresh_of p) before ∙ ap (result_in q) e) in
+      let fit = sound r.since (with_profile q reader.core) s r.bytes m (kept_next by_tests (with_profile q reader.core) s (get (reader_in q reader).rests s) b lt.0 (held s)) jq in (
         fit.completes,
-        carries w _ js (done ++ record { from = s; byte = b } ∷ []) (read_more done s b machine _ e (ap (settle machine s (grown machine s b)) j)) (are_more done s b are lt.0) lt.1
-            (subst (NothingFrom (fresh_of p)) (sym (append_assoc done (record { from = s; byte = b } ∷ []) (pairs items))) none) ob.1.1 (in_step_completed machine o s m _ (machine.messages ++ m ∷ []) st i0.0.sided ob.1.0 refl),
+        carries w _ js (done ++ record { from = s; byte = b } ∷ []) (read_more done s b reader _ e (ap (settle reader s (grown reader s b)) j)) (are_more done s b are lt.0) lt.1
+            (subst (NothingFrom (fresh_of p)) (sym (append_assoc done (record { from = s; byte = b } ∷ []) (pairs items))) none) ob.1.1 (in_step_completed reader o s m _ (reader.messages ++ m ∷ []) st i0.0.sided ob.1.0 refl),
       )
-  carries (loose s b absent is w) machine js done e are lt none ob st = absurd absent
+  carries (loose s b absent is w) reader js done e are lt none ob st = absurd absent
 
 pub runs_agree : RunsAgree
 runs_agree p q items are none run = record {

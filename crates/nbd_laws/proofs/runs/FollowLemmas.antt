@@ -8,8 +8,8 @@ use Rattle.nbd_wire.specs.protocol.Rules.{MayStart, MayComplete, Obeys, complete
 use Rattle.nbd_wire.specs.protocol.Sendable.{IsSendable}
 use Rattle.nbd_wire.specs.protocol.Sides.{side}
 use Rattle.nbd_wire.specs.protocol.States.{Core, State}
-use Rattle.nbd_wire.specs.protocol.Machine.{Both, get, put}
-use Rattle.nbd_laws.proofs.machine.MachineLemmas.{get-put_same, get-put_other, same_or_not, Open, Idle, Busy, Loose, IsNotBusy, Walk, ended, serving, opening, middle, final, loose, Later, at_once, behind}
+use Rattle.nbd_wire.specs.protocol.Reading.{Both, get, put}
+use Rattle.nbd_laws.proofs.reading.ReaderLemmas.{get-put_same, get-put_other, same_or_not, Open, Idle, Busy, Loose, IsNotBusy, Walk, ended, serving, opening, middle, final, loose, Later, at_once, behind}
 
 -- what a side needs to begin a message
 pub record IsBegun (old : Core) (s : Side) (m : Message) : Type 0 where

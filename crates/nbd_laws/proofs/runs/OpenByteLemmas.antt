@@ -10,8 +10,8 @@ use Rattle.nbd_wire.specs.protocol.Rules.{IsRunOf, Obeys}
 use Rattle.nbd_wire.specs.protocol.States.{State, start_of}
 use Rattle.nbd_laws.specs.Bytes.{OpenBytesEndRuns, first_bytes}
 use Rattle.nbd_laws.specs.Bytes.{bytes_from}
-use Rattle.nbd_wire.specs.protocol.Machine.{Both, get, put}
-use Rattle.nbd_laws.proofs.machine.MachineLemmas.{Busy, Idle, IsNotBusy, Loose, Open, Walk, ended, final, get-put_same, loose, middle, opening, serving}
+use Rattle.nbd_wire.specs.protocol.Reading.{Both, get, put}
+use Rattle.nbd_laws.proofs.reading.ReaderLemmas.{Busy, Idle, IsNotBusy, Loose, Open, Walk, ended, final, get-put_same, loose, middle, opening, serving}
 use Rattle.nbd_laws.proofs.runs.BlockLemmas.{Idles, marked_is_walk}
 use Rattle.nbd_laws.proofs.runs.RunLemmas.{run_of}
 use Rattle.nbd_laws.proofs.runs.RunByteLemmas.{AreBytesOf, run_bytes}

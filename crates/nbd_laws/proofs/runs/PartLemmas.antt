@@ -7,8 +7,8 @@ use Rattle.nbd_wire.specs.protocol.Encoding.{enc}
 use Rattle.nbd_wire.specs.protocol.Marks.{Item, Byte, Starts, Completes, Serves, service_order}
 use Rattle.nbd_wire.specs.protocol.Rules.{Obeys, after, ends_at}
 use Rattle.nbd_wire.specs.protocol.States.{State, start_of}
-use Rattle.nbd_wire.specs.protocol.Machine.{Both, get, put}
-use Rattle.nbd_laws.proofs.machine.MachineLemmas.{get-put_same, get-put_other, same_or_not, Open, Idle, Busy, Loose, IsNotBusy, Walk, ended, serving, opening, middle, final, loose}
+use Rattle.nbd_wire.specs.protocol.Reading.{Both, get, put}
+use Rattle.nbd_laws.proofs.reading.ReaderLemmas.{get-put_same, get-put_other, same_or_not, Open, Idle, Busy, Loose, IsNotBusy, Walk, ended, serving, opening, middle, final, loose}
 use Rattle.nbd_laws.proofs.runs.BlockLemmas.{Idles}
 use Rattle.nbd_laws.proofs.runs.RunLemmas.{run_of, walk_of}
 use Rattle.nbd_laws.specs.Prefixes.{CompletionsStandAfterBytes, PrefixesAreRuns, HasNoneOpen, StartsStandBeforeBytes, started_messages}

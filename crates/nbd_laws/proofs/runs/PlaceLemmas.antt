@@ -4,14 +4,13 @@ use Rattle.nbd_wire.specs.declared.fault.WireFault.{WireFault}
 use Rattle.nbd_wire.specs.declared.message.Message.{Message}
 use Rattle.nbd_wire.specs.declared.profile.Profile.{Profile}
 use Rattle.nbd_wire.specs.protocol.Captures.{Pair}
-use Rattle.nbd_wire.specs.protocol.Concrete.{concrete}
-use Rattle.nbd_wire.specs.protocol.Machine.{Machine, fresh_of, on_ok, reads}
+use Rattle.nbd_wire.specs.protocol.Reading.{by_tests, Reader, fresh_of, on_ok, reads}
 use Rattle.nbd_wire.specs.protocol.Places.{IsPlaceOf, IsUnderWayOf}
 use Rattle.nbd_wire.specs.protocol.Within.{within}
 use Rattle.nbd_laws.specs.Marking.{BeginningsAreUnderWay, HaveOnePlace, PlacesBeginNoRun, PrefixesHaveNoPlace, UnderWayAgree}
 use Rattle.nbd_laws.proofs.judge.BlockLemmas.{reads-append}
 use Rattle.nbd_laws.proofs.judge.ExactLemmas.{exact, none_refused}
-use Rattle.nbd_laws.proofs.machine.MarkLemmas.{IsRead}
+use Rattle.nbd_laws.proofs.reading.MarkLemmas.{IsRead}
 use Rattle.nbd_laws.proofs.runs.RunLemmas.{marks_law}
 
 pub but_last : (ps qs : List Pair) (p q : Pair) → ps ++ p ∷ [] ≡ qs ++ q ∷ [] → (ps ≡ qs) × (p ≡ q)
@@ -27,24 +26,24 @@ but_last (x ∷ ps) (y ∷ qs) p q e =
     (ap (λ z. z ∷ ps) same ∙ ap (λ l. y ∷ l) h.0, h.1)
 
 -- a place is refused
-pub place_refused : {profile : Profile} (ps : List Pair) (messages : List Message) (fault : WireFault) → IsPlaceOf profile ps messages fault → reads concrete (fresh_of profile) ps ≡ Err fault
+pub place_refused : {profile : Profile} (ps : List Pair) (messages : List Message) (fault : WireFault) → IsPlaceOf profile ps messages fault → reads by_tests (fresh_of profile) ps ≡ Err fault
 place_refused {profile} ps messages fault place =
-    ap (reads concrete (fresh_of profile)) place.parts
-    ∙ reads-append concrete (fresh_of profile) place.prefix (place.last ∷ [])
-    ∙ ap (λ o. on_ok o (λ next. reads concrete next (place.last ∷ []))) place.before.reads_it
+    ap (reads by_tests (fresh_of profile)) place.parts
+    ∙ reads-append by_tests (fresh_of profile) place.prefix (place.last ∷ [])
+    ∙ ap (λ o. on_ok o (λ next. reads by_tests next (place.last ∷ []))) place.before.reads_it
     ∙ ap (λ o. on_ok o (λ next. Ok next)) place.refused
 
 -- what was read has no place, nor has a prefix of it
-pub read_no_place : {profile : Profile} (ps more : List Pair) (end : Machine) → reads concrete (fresh_of profile) (ps ++ more) ≡ Ok end → (messages : List Message) (fault : WireFault) → IsPlaceOf profile ps messages fault → ⊥
+pub read_no_place : {profile : Profile} (ps more : List Pair) (end : Reader) → reads by_tests (fresh_of profile) (ps ++ more) ≡ Ok end → (messages : List Message) (fault : WireFault) → IsPlaceOf profile ps messages fault → ⊥
 read_no_place {profile} ps more end e messages fault place =
-    let q : Err fault ≡ Ok end = sym (ap (λ o. on_ok o (λ next. reads concrete next more)) (place_refused ps messages fault place)) ∙ sym (reads-append concrete (fresh_of profile) ps more) ∙ e in
+    let q : Err fault ≡ Ok end = sym (ap (λ o. on_ok o (λ next. reads by_tests next more)) (place_refused ps messages fault place)) ∙ sym (reads-append by_tests (fresh_of profile) ps more) ∙ e in
     cc
 
 pub under_way_agree : UnderWayAgree
 under_way_agree profile ps messages more u v =
     let ends : Ok u.end ≡ Ok v.end = sym u.reads_it ∙ v.reads_it in
     let same : u.end ≡ v.end = cc in
-    sym u.has_messages ∙ ap (λ (x : Machine). x.messages) same ∙ v.has_messages
+    sym u.has_messages ∙ ap (λ (x : Reader). x.messages) same ∙ v.has_messages
 
 pub one_place : HaveOnePlace
 one_place profile ps m n f g a b =
@@ -62,7 +61,7 @@ prefixes_have_no_place profile prefix (p ∷ rest) messages more fault other pla
     let l = last_of p rest in
     let parts : place.prefix ++ place.last ∷ [] ≡ (prefix ++ l.0) ++ l.1 ∷ [] = sym place.parts ∙ ap (λ qs. prefix ++ qs) l.2 ∙ sym (append_assoc prefix l.0 (l.1 ∷ [])) in
     let same = but_last place.prefix (prefix ++ l.0) place.last l.1 parts in
-    absurd (read_no_place prefix l.0 place.before.end (ap (reads concrete (fresh_of profile)) (sym same.0) ∙ place.before.reads_it) more other first)
+    absurd (read_no_place prefix l.0 place.before.end (ap (reads by_tests (fresh_of profile)) (sym same.0) ∙ place.before.reads_it) more other first)
   where
     last_of : (p : Pair) (ps : List Pair) → (init : List Pair) × (last : Pair) × (p ∷ ps ≡ init ++ last ∷ [])
     last_of p [] = ([], p, refl)
@@ -70,5 +69,5 @@ prefixes_have_no_place profile prefix (p ∷ rest) messages more fault other pla
 
 pub beginnings_are_under_way : BeginningsAreUnderWay
 beginnings_are_under_way profile items ps run are begins =
-    let r : IsRead concrete (fresh_of profile) ps (within (length ps) items) = marks_law concrete exact items run ps begins.0 are begins.1 in
+    let r : IsRead by_tests (fresh_of profile) ps (within (length ps) items) = marks_law by_tests exact items run ps begins.0 are begins.1 in
     record { are_pairs = are; end = r.end; reads_it = r.reads_it; has_messages = r.messages_are }

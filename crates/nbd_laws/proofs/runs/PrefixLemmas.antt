@@ -11,7 +11,7 @@ use Rattle.nbd_wire.specs.declared.message.Message.{Message}
 use Rattle.nbd_wire.specs.declared.message.Message.TheVariants.{Greeting, ClientFlags, Choice, Answer, Exported, Request, Simple, Chunk}
 use Rattle.nbd_wire.specs.protocol.Encoding.{enc, head, tail}
 use Rattle.nbd_wire.specs.protocol.Payloads.{number_at}
-use Rattle.nbd_wire.specs.protocol.Replies.{simple_length}
+use Rattle.nbd_wire.specs.protocol.Transmission.{simple_length}
 use Rattle.nbd_wire.specs.protocol.Rules.{MayReply}
 use Rattle.nbd_wire.specs.protocol.Operations.{Operation, Exporting}
 use Rattle.nbd_wire.specs.protocol.Flags.{has}
@@ -22,7 +22,7 @@ use Rattle.nbd_wire.specs.protocol.Sides.{side}
 use Rattle.nbd_wire.specs.protocol.States.{Core, Phase, Greet, Flags, Choosing, Naming, Aborting, Answering, Ended, Transmission, is_awaiting, target, target_from, operation}
 use Rattle.nbd_laws.specs.Prefixes.{NoProperPrefix}
 use Rattle.nbd_laws.proofs.runs.FollowLemmas.{IsBegun}
-use Rattle.nbd_laws.proofs.machine.MachineLemmas.{Later, at_once, behind}
+use Rattle.nbd_laws.proofs.reading.ReaderLemmas.{Later, at_once, behind}
 
 -- the same message, and nothing after it
 abbrev pub IsSame : Message → Message → List ℕ → Type 0

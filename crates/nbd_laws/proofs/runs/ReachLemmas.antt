@@ -9,9 +9,9 @@ use Rattle.nbd_wire.specs.protocol.Sendable.{IsSendable}
 use Rattle.nbd_wire.specs.protocol.States.{Core, start_of}
 use Rattle.nbd_laws.proofs.runs.FollowLemmas.{Follows, each_with, follows}
 use Rattle.nbd_laws.proofs.service.InsideLemmas.{core_end}
-use Rattle.nbd_wire.specs.protocol.Machine.{Both, get}
+use Rattle.nbd_wire.specs.protocol.Reading.{Both, get}
 use Rattle.nbd_laws.specs.Reached.{IsReached, at_start, after_message}
-use Rattle.nbd_laws.proofs.machine.MachineLemmas.{Open, Idle, Busy, Loose, Walk, ended, serving, opening, middle, final, loose}
+use Rattle.nbd_laws.proofs.reading.ReaderLemmas.{Open, Idle, Busy, Loose, Walk, ended, serving, opening, middle, final, loose}
 use Rattle.nbd_laws.proofs.runs.RunLemmas.{core_end-ends_at, walk_of}
 
 -- an open message has an encoding

@@ -13,8 +13,8 @@ use Rattle.nbd_wire.specs.protocol.Sides.{side, same_side}
 use Rattle.nbd_wire.specs.protocol.States.{Core, start_of}
 use Rattle.nbd_laws.specs.Bytes.{RunsHoldEachSide}
 use Rattle.nbd_laws.specs.Bytes.{bytes_from}
-use Rattle.nbd_wire.specs.protocol.Machine.{Both, get}
-use Rattle.nbd_laws.proofs.machine.MachineLemmas.{Busy, Idle, Loose, Open, Walk, ended, final, loose, middle, opening, serving}
+use Rattle.nbd_wire.specs.protocol.Reading.{Both, get}
+use Rattle.nbd_laws.proofs.reading.ReaderLemmas.{Busy, Idle, Loose, Open, Walk, ended, final, loose, middle, opening, serving}
 use Rattle.nbd_laws.proofs.runs.BlockLemmas.{marked_is_walk}
 use Rattle.nbd_laws.proofs.runs.FollowLemmas.{Follows, IsSidedOpen, each_with, follows}
 

@@ -11,11 +11,11 @@ use Rattle.nbd_wire.specs.protocol.Rules.{IsRunOf, IsRunBut, Obeys, complete, en
 use Rattle.nbd_wire.specs.protocol.Reports.{operations_of, known_count}
 use Rattle.nbd_laws.proofs.service.EntryLemmas.{HasNoFault}
 use Rattle.nbd_wire.specs.declared.fault.WireFault.{WireFault}
-use Rattle.nbd_wire.specs.protocol.Machine.{fresh_of, Both, get, IsFilled, Rest, Machine, Judge, reads}
+use Rattle.nbd_wire.specs.protocol.Reading.{fresh_of, Both, get, IsFilled, Rest, Reader, Judge, reads}
 use Rattle.nbd_laws.specs.Reached.{at_start}
-use Rattle.nbd_laws.proofs.machine.MachineLemmas.{AreHeld, none_held, Walk, Open, Idle, Busy, Loose, IsSound, IsExact}
+use Rattle.nbd_laws.proofs.reading.ReaderLemmas.{AreHeld, none_held, Walk, Open, Idle, Busy, Loose, IsSound, IsExact}
 use Rattle.nbd_laws.proofs.runs.TraceLemmas.{trace, IsTrace, IsCanonical, IsStray, Guess, not_empty}
-use Rattle.nbd_laws.proofs.machine.MarkLemmas.{marks, IsRead}
+use Rattle.nbd_laws.proofs.reading.MarkLemmas.{marks, IsRead}
 use Rattle.nbd_wire.specs.protocol.Within.{within}
 use Rattle.nbd_laws.proofs.runs.ProfileLemmas.{at_base, known_at_base}
 use Rattle.nbd_laws.proofs.runs.BlockLemmas.{walk_is_marked, marked_is_walk, Idles}
@@ -67,7 +67,7 @@ latest {profile} items order run at_base_fit =
 pub fresh_held : {profile : Profile} (judge : Judge) → AreHeld judge (fresh_of profile)
 fresh_held judge = elim [ Client ↦ none_held at_start refl | Server ↦ none_held at_start refl ]
 
--- the run's messages within a list that its pairs begin with are those that the machine reads
+-- the run's messages within a list that its pairs begin with are those that the reader reads
 pub marks_law : {profile : Profile} (judge : Judge) → IsExact judge → (items : List Item) → IsRunOf profile items → (ps more : List Pair) → ArePairs ps → pairs items ≡ ps ++ more → IsRead judge (fresh_of profile) ps (within (length ps) items)
 marks_law {profile} judge exact items run ps more lt e =
     marks judge exact (walk_of run) (fresh_of profile) [] run.obeys (elim [ Client ↦ refl | Server ↦ refl ]) (fresh_held judge) ps more lt e
@@ -83,17 +83,17 @@ both_idle o c s = λ i. record { client = c i; server = s i }
 pub fresh_canonical : {profile : Profile} → IsCanonical (start_of profile)
 fresh_canonical = record { all = λ k p h. absurd (omega arith); only = λ k h. absurd h }
 
--- what the machine reads to its end is a run with exactly these pairs and messages
-pub run_law : {profile : Profile} (judge : Judge) → IsSound judge → (ps : List Pair) (end : Machine) → ArePairs ps → reads judge (fresh_of profile) ps ≡ Ok end → ((s : Side) → (get end.rests s).bytes ≡ []) →
+-- what the reader reads to its end is a run with exactly these pairs and messages
+pub run_law : {profile : Profile} (judge : Judge) → IsSound judge → (ps : List Pair) (end : Reader) → ArePairs ps → reads judge (fresh_of profile) ps ≡ Ok end → ((s : Side) → (get end.rests s).bytes ≡ []) →
     (items : List Item) × IsRunOf profile items × (pairs items ≡ ps) × (completed_messages items ≡ end.messages)
 run_law {profile} judge sound ps end lt e none =
     let t : IsTrace judge (fresh_of profile) end (start_of profile) ps = trace judge sound ps (fresh_of profile) end [] lt (fresh_held judge) fresh_canonical e in
     let idle : t.open_ ≡ Idles = both_idle t.open_ (idle_at profile Client (get end.rests Client) (get t.open_ Client) (t.guess Client)) (idle_at profile Server (get end.rests Server) (get t.open_ Server) (t.guess Server)) in
     (t.items, run_of (λ p. not_empty (get end.rests p.0).bytes p.1 (none p.0)) (subst (λ o. Walk (IsStray end) o t.items) idle t.walk) t.obeys, t.has_pairs, t.messages)
 
--- what the machine reads without a fault is a run with exactly these pairs and messages, but for loose bytes of a side
+-- what the reader reads without a fault is a run with exactly these pairs and messages, but for loose bytes of a side
 -- that is within a message
-pub run_but_law : {profile : Profile} (judge : Judge) → IsSound judge → (ps : List Pair) (end : Machine) → ArePairs ps → reads judge (fresh_of profile) ps ≡ Ok end →
+pub run_but_law : {profile : Profile} (judge : Judge) → IsSound judge → (ps : List Pair) (end : Reader) → ArePairs ps → reads judge (fresh_of profile) ps ≡ Ok end →
     (items : List Item) × (client : List ℕ) × (server : List ℕ) × IsRunBut profile items client server × (pairs items ≡ ps) × (completed_messages items ≡ end.messages)
     × (IsFilled client → IsStray end) × (IsFilled server → IsStray end)
 run_but_law {profile} judge sound ps end lt e =
@@ -103,7 +103,7 @@ run_but_law {profile} judge sound ps end lt e =
     walk_is_marked (subst (λ o. Walk (IsStray end) o t.items) idle t.walk) in
     (t.items, m.0, m.1, record { marked = m.2; obeys = t.obeys }, t.has_pairs, t.messages, m.3, m.4)
 
--- no run's pairs begin with a list that the machine refuses
+-- no run's pairs begin with a list that the reader refuses
 pub no_run : {profile : Profile} (judge : Judge) → IsExact judge → (items : List Item) → IsRunOf profile items → (ps more : List Pair) → ArePairs ps → pairs items ≡ ps ++ more → (fault : WireFault) → reads judge (fresh_of profile) ps ≡ Err fault → ⊥
 no_run {profile} judge exact items run ps more lt e fault refused =
     let r : IsRead judge (fresh_of profile) ps (within (length ps) items) = marks_law judge exact items run ps more lt e in
@@ -118,4 +118,4 @@ same_messages {profile} judge exact items items' run run' ps more more' lt e e' 
     let r' : IsRead judge (fresh_of profile) ps (within (length ps) items') = marks_law judge exact items' run' ps more' lt e' in
     let q : Ok r.end ≡ Ok r'.end = sym r.reads_it ∙ r'.reads_it in
     let m : r.end ≡ r'.end = cc in
-    sym r.messages_are ∙ ap (λ (x : Machine). x.messages) m ∙ r'.messages_are
+    sym r.messages_are ∙ ap (λ (x : Reader). x.messages) m ∙ r'.messages_are

@@ -28,9 +28,9 @@ use Rattle.nbd_wire.specs.protocol.States.{Core, Phase, Greet, Flags, Choosing, 
 use Rattle.nbd_wire.proofs.ListedFormLemmas.{go-only, is_go-exact}
 use Rattle.nbd_wire.proofs.QueryLemmas.{context-long, context-reads, name_is, queries_of-form, queries_of-found}
 use Rattle.nbd_laws.specs.Selecting.{AreSelected, ChooseNone, ChooseNoOther, ContextsAreSelected, Names, telling}
-use Rattle.nbd_wire.specs.protocol.Machine.{Both, get}
+use Rattle.nbd_wire.specs.protocol.Reading.{Both, get}
 use Rattle.nbd_laws.proofs.judge.BoolLemmas.{and_true}
-use Rattle.nbd_laws.proofs.machine.MachineLemmas.{Open, Idle, Busy, Walk, ended, serving, opening, middle, final, loose}
+use Rattle.nbd_laws.proofs.reading.ReaderLemmas.{Open, Idle, Busy, Walk, ended, serving, opening, middle, final, loose}
 use Rattle.nbd_laws.proofs.runs.FollowLemmas.{Follows, each_with, follows}
 use Rattle.nbd_laws.proofs.runs.PrefixLemmas.{InTransmission, asks, gives, phase-complete, replies, transmission_row}
 use Rattle.nbd_laws.proofs.runs.ReachLemmas.{IsSendableOpen}
@@ -89,7 +89,7 @@ choice-selection : (core : Core) (id : ℕ) (p : List ℕ) → (complete core (C
 unfolding complete
 choice-selection core id p = refl
 
-choice-agreed : (core : Core) (id : ℕ) (p : List ℕ) → (complete core (Choice id p)).agreed ≡ (core.structured && agrees id p core.selection)
+choice-agreed : (core : Core) (id : ℕ) (p : List ℕ) → (complete core (Choice id p)).brings_contexts ≡ (core.structured && agrees id p core.selection)
 unfolding complete
 choice-agreed core id p = refl
 
@@ -174,7 +174,7 @@ NoSet phase = (asked : List ℕ) (info : Option Exporting) → phase ≢ Answeri
 -- a message that chooses nothing
 record Goes (core : Core) (m : Message) : Type 0 where
   no_choice : (id : ℕ) (payload : List ℕ) → m ≢ Choice id payload
-  agreed_is : (complete core m).agreed ≡ core.agreed
+  agreed_is : (complete core m).brings_contexts ≡ core.brings_contexts
   structured_is : ((complete core m).structured ≡ core.structured) ⊎ (m ≡ structuring)
   leads : (id : ℕ) (payload : List ℕ) → Leads core.phase id payload → Leads (complete core m).phase id payload
 
@@ -241,7 +241,7 @@ answer-structured core option kind answer none = go (grants_structured option ki
     go true e = let r = grants_both option kind e in inr (ap (λ o. Answer o kind answer) r.0 ∙ ap (λ k. Answer options.STRUCTURED_REPLY k answer) r.1 ∙ ap (Answer options.STRUCTURED_REPLY answers.ACK) (none r.1))
     go false e = inl (or_no core.structured (grants_structured option kind) e)
 
-answer-agreed : (core : Core) (option kind : ℕ) (answer : List ℕ) → (complete core (Answer option kind answer)).agreed ≡ core.agreed
+answer-agreed : (core : Core) (option kind : ℕ) (answer : List ℕ) → (complete core (Answer option kind answer)).brings_contexts ≡ core.brings_contexts
 unfolding complete
 answer-agreed core option kind answer = refl
 
@@ -358,7 +358,7 @@ module _ (core : Core) (asked : ℕ) (p : List ℕ) (info : Option Exporting) (o
 -- what stays in transmission
 record IsSteady (old now : Core) : Type 0 where
   selection_is : now.selection ≡ old.selection
-  agreed_is : now.agreed ≡ old.agreed
+  agreed_is : now.brings_contexts ≡ old.brings_contexts
   structured_is : now.structured ≡ old.structured
 
 steady_reply : (o : Option ℕ) (core : Core) (m : Message) → IsSteady core (reply_to o core m)
@@ -515,7 +515,7 @@ record Looked (core : Core) (messages : List Message) : Type 0 where
   asked : (with : List ℕ) (info : Option Exporting) → core.phase ≡ Answering options.SET_META_CONTEXT with info → Asked messages core.selection with
   granted : core.selection.granted ≡ true → Granted messages core.selection
   structured : core.structured ≡ true → Splits messages structuring
-  agreed : core.agreed ≡ true → Agreed messages core.phase core.selection
+  agreed : core.brings_contexts ≡ true → Agreed messages core.phase core.selection
 
 granted_more : (messages : List Message) (selection : Selection) (m : Message) → ((payload : List ℕ) → m ≢ Choice options.SET_META_CONTEXT payload) → Granted messages selection → Granted (messages ++ m ∷ []) selection
 granted_more messages selection m other g = record {
@@ -627,7 +627,7 @@ module _ (core : Core) (messages : List Message) (l : Looked core messages) (id 
       let s : (id ≡ options.SET_META_CONTEXT) × (p ≡ with) = choice_set id p with info (sym phase_is ∙ q) in
       subst (λ w. Asked now (selection_at id p core.selection) w) s.1 (asked_now messages core.selection id p b s.0)
 
-  agreed_so : next.agreed ≡ true → Agreed now next.phase (selection_at id p core.selection)
+  agreed_so : next.brings_contexts ≡ true → Agreed now next.phase (selection_at id p core.selection)
   agreed_so a =
       let r : (core.structured ≡ true) × (agrees id p core.selection ≡ true) = and_true core.structured (agrees id p core.selection) (sym (choice-agreed core id p) ∙ a) in
       let n : (core.selection.granted ≡ true) × NamesSame id p core.selection.export_name = agrees_on id p core.selection r.1 in
@@ -694,7 +694,7 @@ module _ (core : Core) (messages : List Message) (l : Looked core messages) (m :
     | inr e ↦ splits_behind messages (m ∷ []) structuring (record { before = []; after = []; at = ap (λ x. x ∷ []) e })
   ]
 
-  no_agreed : (asked : List ℕ) (info : Option Exporting) → core.phase ≡ Answering options.SET_META_CONTEXT asked info → gone.agreed ≡ true → ⊥
+  no_agreed : (asked : List ℕ) (info : Option Exporting) → core.phase ≡ Answering options.SET_META_CONTEXT asked info → gone.brings_contexts ≡ true → ⊥
   no_agreed asked info at a = agreed_no_set messages core.phase core.selection (l.agreed (sym g.agreed_is ∙ a)) asked info at
 
   gone_looked : Selects core m → Looked gone grown
@@ -790,14 +790,14 @@ module _ (messages : List Message) (export : Exporting) (selection : Selection) 
       }
 
 -- in force are the contexts of a selection that agreed
-some_in_force : (core : Core) → in_force core ≢ [] → (core.agreed ≡ true) × (in_force core ≡ core.selection.contexts)
-some_in_force core h = go core.agreed h
+some_in_force : (core : Core) → in_force core ≢ [] → (core.brings_contexts ≡ true) × (in_force core ≡ core.selection.contexts)
+some_in_force core h = go core.brings_contexts h
   where
     go : (b : Bool) → (if b then core.selection.contexts else []) ≢ [] → (b ≡ true) × ((if b then core.selection.contexts else []) ≡ core.selection.contexts)
     go true n = (refl, refl)
     go false n = absurd (n refl)
 
-agreed_in_force : (core : Core) → core.agreed ≡ true → in_force core ≡ core.selection.contexts
+agreed_in_force : (core : Core) → core.brings_contexts ≡ true → in_force core ≡ core.selection.contexts
 agreed_in_force core e = ap (λ b. if b then core.selection.contexts else []) e
 
 -- structured replies stay in force
@@ -852,11 +852,11 @@ left (m ∷ ms) core p other none =
     let all : IsLeft (complete core m) (led (complete core m) ms) = left ms (complete core m) p.2 (All-tail IsOther m ms other) one.no_set in
     record { selection_is = all.selection_is ∙ one.selection_is; no_set = all.no_set }
 
-agreed_one : (core : Core) (m : Message) → Happens core m → IsNoChoice m → (complete core m).agreed ≡ core.agreed
+agreed_one : (core : Core) (m : Message) → Happens core m → IsNoChoice m → (complete core m).brings_contexts ≡ core.brings_contexts
 agreed_one core m (chooses id p at) none = absurd (none id p refl)
 agreed_one core m (goes n g s) none = g.agreed_is
 
-agreed_led : (ms : List Message) (core : Core) → Passes core ms → ChooseNone ms → (led core ms).agreed ≡ core.agreed
+agreed_led : (ms : List Message) (core : Core) → Passes core ms → ChooseNone ms → (led core ms).brings_contexts ≡ core.brings_contexts
 agreed_led [] core p none = refl
 agreed_led (m ∷ ms) core p none =
     agreed_led ms (complete core m) p.2 (All-tail IsNoChoice m ms none) ∙ agreed_one core m (happens core core.phase m refl p.0 p.1) (All-head IsNoChoice m ms none)
@@ -971,7 +971,7 @@ module _ (core : Core) (messages : List Message) (contexts : List Context) (a : 
     | inr s ↦ structured_by a.between at_grant s
   ]
 
-  agreed_at_end : at_end.agreed ≡ true
+  agreed_at_end : at_end.brings_contexts ≡ true
   agreed_at_end =
       agreed_led a.late (complete at_choice chosen) from_grant.1.2 a.last_choice
       ∙ choice-agreed at_choice a.id a.payload

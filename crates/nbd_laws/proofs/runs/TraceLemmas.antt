@@ -1,4 +1,4 @@
--- What a machine read is a run with exactly the pairs that it read.
+-- What a reader read is a run with exactly the pairs that it read.
 use Rattle.std.proofs.Common.{◌≡◌, ℕ, suc, zero, ◌+◌, ◌<◌, ◌≤◌, ◌⊎◌, List, [], ◌∷◌, ◌++◌, length, refl, sym, ◌∙◌, ap, subst, inl, inr, Ok, Option, Some, None, append_assoc, append-nil, arith, true, false, Bool, not, ◌==◌, ◌&&◌, if◌then◌else◌, length-append, add-one, le_refl, eq-or-lt_of_le}
 use Rattle.nbd_wire.specs.protocol.Entries.{Names, NamesWhole, whole}
 use Rattle.nbd_wire.specs.declared.entry.Entry.{Entry}
@@ -15,8 +15,8 @@ use Rattle.nbd_wire.specs.protocol.States.{Core, State, target, target_from, wit
 use Rattle.nbd_wire.specs.protocol.Sendable.{IsSendable}
 use Rattle.nbd_wire.specs.protocol.Rules.{MayStart, complete, reply_to, core_with_request, Obeys, request_of_reply, IsServedFor}
 use Rattle.nbd_laws.proofs.service.EntryLemmas.{Names-push_cases, NamesWhole-left, NamesWhole-push, served_atomically}
-use Rattle.nbd_laws.proofs.machine.MachineLemmas.{old-empty, old-filled, IsFilled-snoc, IsMoreAt, AreHeld, kept_next, held_more, held_whole, led, ended_by, with_byte, IsMore, Tracks, get-put_same, get-put_other, put-put, same_or_not, Open, Idle, Busy, Loose, IsNotBusy, Walk, ended, serving, opening, middle, final, loose, IsSoundAt, IsSound}
-use Rattle.nbd_wire.specs.protocol.Machine.{Both, get, put, IsFilled, Rest, Machine, Reading, More, Whole, Bad, settle, Judge, rest_with, reads, on_ok}
+use Rattle.nbd_laws.proofs.reading.ReaderLemmas.{old-empty, old-filled, IsFilled-snoc, IsMoreAt, AreHeld, kept_next, held_more, held_whole, led, ended_by, with_byte, IsMore, Tracks, get-put_same, get-put_other, put-put, same_or_not, Open, Idle, Busy, Loose, IsNotBusy, Walk, ended, serving, opening, middle, final, loose, IsSoundAt, IsSound}
+use Rattle.nbd_wire.specs.protocol.Reading.{Both, get, put, IsFilled, Rest, Reader, Reading, More, Whole, Bad, settle, Judge, rest_with, reads, on_ok}
 
 -- each request that has completed was served atomically, and no other
 pub record IsCanonical (state : State) : Type 0 where
@@ -133,20 +133,20 @@ Guess rest end s (Busy m left) = IsWithin rest s m left
 Guess rest end s Loose = IsFilled rest.bytes × IsFilled end.bytes
 
 -- a byte stands after the last completed message of its side
-abbrev pub IsStray : Machine → Type 0
+abbrev pub IsStray : Reader → Type 0
 IsStray end = (s : Side) × IsFilled (get end.rests s).bytes
 
--- a marked continuation from a machine to a machine
-pub record IsTrace (judge : Judge) (machine end : Machine) (state : State) (ps : List Pair) : Type 0 where
+-- a marked continuation from a reader to a reader
+pub record IsTrace (judge : Judge) (reader end : Reader) (state : State) (ps : List Pair) : Type 0 where
   pub items : List Item
   pub open_ : Both Open
   pub walk : Walk (IsStray end) open_ items
-  pub guess : (s : Side) → Guess (get machine.rests s) (get end.rests s) s (get open_ s)
+  pub guess : (s : Side) → Guess (get reader.rests s) (get end.rests s) s (get open_ s)
   pub has_pairs : pairs items ≡ ps
   pub obeys : Obeys state items
-  pub messages : machine.messages ++ completed_messages items ≡ end.messages
-  pub tracks : Tracks judge machine items
-  pub leads : led machine items ≡ end
+  pub messages : reader.messages ++ completed_messages items ≡ end.messages
+  pub tracks : Tracks judge reader items
+  pub leads : led reader items ≡ end
 
 pub guess_at_end : (rest : Rest) (s : Side) → (o : Open) × Guess rest rest s o × IsNotBusy o
 guess_at_end rest s = go rest.bytes refl
@@ -155,10 +155,10 @@ guess_at_end rest s = go rest.bytes refl
     go [] e = (Idle, e, tt)
     go (b ∷ bs) e = (Loose, (subst IsFilled (sym e) tt, subst IsFilled (sym e) tt), tt)
 
-abbrev pub at_end : (judge : Judge) (machine : Machine) (state : State) → IsTrace judge machine machine state []
-at_end judge machine state =
-    let c = guess_at_end machine.rests.client Client in
-    let s = guess_at_end machine.rests.server Server in
+abbrev pub at_end : (judge : Judge) (reader : Reader) (state : State) → IsTrace judge reader reader state []
+at_end judge reader state =
+    let c = guess_at_end reader.rests.client Client in
+    let s = guess_at_end reader.rests.server Server in
     record {
       items = [];
       open_ = record { client = c.0; server = s.0 };
@@ -166,7 +166,7 @@ at_end judge machine state =
       guess = elim [ Client ↦ c.1 | Server ↦ s.1 ];
       has_pairs = refl;
       obeys = tt;
-      messages = append-nil machine.messages;
+      messages = append-nil reader.messages;
       tracks = tt;
       leads = refl;
     }
@@ -201,52 +201,52 @@ put-again : {A : Type 0} (p : Both A) (s : Side) (a c : A) → put (put p s a) s
 put-again p Client a c = refl
 put-again p Server a c = refl
 
-pub led_whole : (machine : Machine) (s : Side) (b : ℕ) (m : Message) → led machine (Byte s b ∷ Completes s m ∷ [])
-    ≡ record { core = complete machine.core m; rests = put machine.rests s (record (rest_with machine.core (get machine.rests s) b) { bytes = [] }); messages = machine.messages ++ m ∷ [] }
-led_whole machine s b m =
-    ap (λ (r : Both Rest). let x : Machine = record { core = complete machine.core m; rests = r; messages = machine.messages ++ m ∷ [] } in x)
-    (ap (λ (r : Rest). put (put machine.rests s (rest_with machine.core (get machine.rests s) b)) s (ended_by r)) (get-put_same machine.rests s (rest_with machine.core (get machine.rests s) b))
-    ∙ put-again machine.rests s _ _)
+pub led_whole : (reader : Reader) (s : Side) (b : ℕ) (m : Message) → led reader (Byte s b ∷ Completes s m ∷ [])
+    ≡ record { core = complete reader.core m; rests = put reader.rests s (record (rest_with reader.core (get reader.rests s) b) { bytes = [] }); messages = reader.messages ++ m ∷ [] }
+led_whole reader s b m =
+    ap (λ (r : Both Rest). let x : Reader = record { core = complete reader.core m; rests = r; messages = reader.messages ++ m ∷ [] } in x)
+    (ap (λ (r : Rest). put (put reader.rests s (rest_with reader.core (get reader.rests s) b)) s (ended_by r)) (get-put_same reader.rests s (rest_with reader.core (get reader.rests s) b))
+    ∙ put-again reader.rests s _ _)
 
-led_service : (old new : Core) (g : IsGrown old new) (machine : Machine) (items : List Item) → led machine (service old new g ++ items) ≡ led machine items
-led_service old new (inl e) machine items = refl
-led_service old new (inr e) machine items = refl
+led_service : (old new : Core) (g : IsGrown old new) (reader : Reader) (items : List Item) → led reader (service old new g ++ items) ≡ led reader items
+led_service old new (inl e) reader items = refl
+led_service old new (inr e) reader items = refl
 
-tracks_service : (judge : Judge) (old new : Core) (g : IsGrown old new) (machine : Machine) (items : List Item) → Tracks judge machine items → Tracks judge machine (service old new g ++ items)
-tracks_service judge old new (inl e) machine items h = h
-tracks_service judge old new (inr e) machine items h = h
+tracks_service : (judge : Judge) (old new : Core) (g : IsGrown old new) (reader : Reader) (items : List Item) → Tracks judge reader items → Tracks judge reader (service old new g ++ items)
+tracks_service judge old new (inl e) reader items h = h
+tracks_service judge old new (inr e) reader items h = h
 
-pub tracks_more : (judge : Judge) (machine : Machine) (s : Side) (b : ℕ) (items : List Item) → Tracks judge (with_byte machine s b) items → ((x : Item) (xs : List Item) → items ≡ x ∷ xs → IsMore judge (with_byte machine s b) s) → Tracks judge machine (Byte s b ∷ items)
-tracks_more judge machine s b [] h more = tt
-tracks_more judge machine s b (Byte t c ∷ items) h more = (more (Byte t c) items refl, h)
-tracks_more judge machine s b (Starts t m ∷ items) h more = (more (Starts t m) items refl, h)
-tracks_more judge machine s b (Serves k ∷ items) h more = (more (Serves k) items refl, h)
-tracks_more judge machine s b (Completes t m ∷ items) h more = absurd h
+pub tracks_more : (judge : Judge) (reader : Reader) (s : Side) (b : ℕ) (items : List Item) → Tracks judge (with_byte reader s b) items → ((x : Item) (xs : List Item) → items ≡ x ∷ xs → IsMore judge (with_byte reader s b) s) → Tracks judge reader (Byte s b ∷ items)
+tracks_more judge reader s b [] h more = tt
+tracks_more judge reader s b (Byte t c ∷ items) h more = (more (Byte t c) items refl, h)
+tracks_more judge reader s b (Starts t m ∷ items) h more = (more (Starts t m) items refl, h)
+tracks_more judge reader s b (Serves k ∷ items) h more = (more (Serves k) items refl, h)
+tracks_more judge reader s b (Completes t m ∷ items) h more = absurd h
 
-module _ (judge : Judge) (machine end : Machine) (js : List Entry) (canonical : IsCanonical (record { core = machine.core; served = js })) (s : Side) (b : ℕ) (ps : List Pair) where
+module _ (judge : Judge) (reader end : Reader) (js : List Entry) (canonical : IsCanonical (record { core = reader.core; served = js })) (s : Side) (b : ℕ) (ps : List Pair) where
   abbrev rest_of : Rest
-  rest_of = get machine.rests s
+  rest_of = get reader.rests s
 
   abbrev more_of : Rest
-  more_of = rest_with machine.core rest_of b
+  more_of = rest_with reader.core rest_of b
 
   abbrev Goal : Type 0
-  Goal = IsTrace judge machine end (record { core = machine.core; served = js }) (record { from = s; byte = b } ∷ ps)
+  Goal = IsTrace judge reader end (record { core = reader.core; served = js }) (record { from = s; byte = b } ∷ ps)
 
   -- the byte goes on with its message, or with bytes of none
-  pub more_step : (t : IsTrace judge (record machine { rests = put machine.rests s more_of }) end (record { core = machine.core; served = js }) ps) →
-      ((x : Item) (xs : List Item) → t.items ≡ x ∷ xs → IsMoreAt judge machine.core s more_of) → Goal
-  more_step t judged = go (get t.open_ s) refl (subst (λ r. Guess r (get end.rests s) s (get t.open_ s)) (get-put_same machine.rests s more_of) (t.guess s))
+  pub more_step : (t : IsTrace judge (record reader { rests = put reader.rests s more_of }) end (record { core = reader.core; served = js }) ps) →
+      ((x : Item) (xs : List Item) → t.items ≡ x ∷ xs → IsMoreAt judge reader.core s more_of) → Goal
+  more_step t judged = go (get t.open_ s) refl (subst (λ r. Guess r (get end.rests s) s (get t.open_ s)) (get-put_same reader.rests s more_of) (t.guess s))
     where
-      others : (o : Open) → Guess rest_of (get end.rests s) s o → (u : Side) → Guess (get machine.rests u) (get end.rests u) u (get (put t.open_ s o) u)
-      others o g = guess_with machine.rests end.rests t.open_ s more_of o t.guess g
+      others : (o : Open) → Guess rest_of (get end.rests s) s o → (u : Side) → Guess (get reader.rests u) (get end.rests u) u (get (put t.open_ s o) u)
+      others o g = guess_with reader.rests end.rests t.open_ s more_of o t.guess g
 
       walk_on : (o p : Open) → get t.open_ s ≡ p → Walk (IsStray end) (put (put t.open_ s o) s p) t.items
       walk_on o p is = subst (λ w. Walk (IsStray end) w t.items) (sym (put-put t.open_ s o p is)) t.walk
 
-      tracks_on : Tracks judge machine (Byte s b ∷ t.items)
-      tracks_on = tracks_more judge machine s b t.items t.tracks
-          (λ x xs e. subst (λ (r : Rest). IsMoreAt judge machine.core s r) (sym (get-put_same machine.rests s more_of)) (judged x xs e))
+      tracks_on : Tracks judge reader (Byte s b ∷ t.items)
+      tracks_on = tracks_more judge reader s b t.items t.tracks
+          (λ x xs e. subst (λ (r : Rest). IsMoreAt judge reader.core s r) (sym (get-put_same reader.rests s more_of)) (judged x xs e))
 
       busy : (m : Message) (left : List ℕ) (bs : List ℕ) → rest_of.bytes ≡ bs → get t.open_ s ≡ Busy m left → IsWithin more_of s m left → Goal
       busy m left [] e is g = record {
@@ -255,7 +255,7 @@ module _ (judge : Judge) (machine end : Machine) (js : List Entry) (canonical : 
         walk = opening s m b left (get-put_same t.open_ s Idle) (g.encodes ∙ ap (λ bs. (bs ++ b ∷ []) ++ left) e) g.unfinished (walk_on Idle (Busy m left) is);
         guess = others Idle e;
         has_pairs = ap (λ q. record { from = s; byte = b } ∷ q) t.has_pairs;
-        obeys = ((g.sided, g.sendable, subst (λ c. MayStart c s m) (old-empty machine.core rest_of e) g.starts, canonical_serves _ canonical s m), (tt, t.obeys));
+        obeys = ((g.sided, g.sendable, subst (λ c. MayStart c s m) (old-empty reader.core rest_of e) g.starts, canonical_serves _ canonical s m), (tt, t.obeys));
         messages = t.messages;
         tracks = tracks_on;
         leads = t.leads;
@@ -272,7 +272,7 @@ module _ (judge : Judge) (machine end : Machine) (js : List Entry) (canonical : 
               encodes = g.encodes ∙ append_assoc rest_of.bytes (b ∷ []) left;
               sided = g.sided;
               sendable = g.sendable;
-              starts = subst (λ c. MayStart c s m) (old-filled machine.core rest_of f) g.starts;
+              starts = subst (λ c. MayStart c s m) (old-filled reader.core rest_of f) g.starts;
             });
             has_pairs = ap (λ q. record { from = s; byte = b } ∷ q) t.has_pairs;
             obeys = (tt, t.obeys);
@@ -304,10 +304,10 @@ module _ (judge : Judge) (machine end : Machine) (js : List Entry) (canonical : 
       go Loose is g = loosened rest_of.bytes refl g.1 is
 
   -- the byte completes its message
-  whole_step : (m : Message) (grow : IsGrown machine.core (complete machine.core m)) → IsSoundAt more_of.since machine.core s more_of.bytes m →
-      IsTrace judge (record { core = complete machine.core m; rests = put machine.rests s (record more_of { bytes = [] }); messages = machine.messages ++ m ∷ [] }) end
-      (record { core = complete machine.core m; served = serviced machine.core (complete machine.core m) grow js }) ps → Goal
-  whole_step m grow sound t = go (get t.open_ s) refl (subst (λ r. Guess r (get end.rests s) s (get t.open_ s)) (get-put_same machine.rests s (record more_of { bytes = [] })) (t.guess s))
+  whole_step : (m : Message) (grow : IsGrown reader.core (complete reader.core m)) → IsSoundAt more_of.since reader.core s more_of.bytes m →
+      IsTrace judge (record { core = complete reader.core m; rests = put reader.rests s (record more_of { bytes = [] }); messages = reader.messages ++ m ∷ [] }) end
+      (record { core = complete reader.core m; served = serviced reader.core (complete reader.core m) grow js }) ps → Goal
+  whole_step m grow sound t = go (get t.open_ s) refl (subst (λ r. Guess r (get end.rests s) s (get t.open_ s)) (get-put_same reader.rests s (record more_of { bytes = [] })) (t.guess s))
     where
       filled : (bs : List ℕ) → rest_of.bytes ≡ bs → IsFilled bs
       filled [] e = absurd (enc-long m b (sym sound.encodes ∙ ap (λ bs. bs ++ b ∷ []) e))
@@ -317,55 +317,55 @@ module _ (judge : Judge) (machine end : Machine) (js : List Entry) (canonical : 
       go Idle is g =
           let f : IsFilled rest_of.bytes = filled rest_of.bytes refl in
           record {
-            items = Byte s b ∷ Completes s m ∷ (service machine.core (complete machine.core m) grow ++ t.items);
+            items = Byte s b ∷ Completes s m ∷ (service reader.core (complete reader.core m) grow ++ t.items);
             open_ = put t.open_ s (Busy m (b ∷ []));
             walk = final s m b (get-put_same t.open_ s (Busy m (b ∷ [])))
-                (walk_service machine.core (complete machine.core m) grow _ t.items (subst (λ w. Walk (IsStray end) w t.items) (sym (put-put t.open_ s (Busy m (b ∷ [])) Idle is)) t.walk));
-            guess = guess_with machine.rests end.rests t.open_ s (record more_of { bytes = [] }) (Busy m (b ∷ [])) t.guess (record {
+                (walk_service reader.core (complete reader.core m) grow _ t.items (subst (λ w. Walk (IsStray end) w t.items) (sym (put-put t.open_ s (Busy m (b ∷ [])) Idle is)) t.walk));
+            guess = guess_with reader.rests end.rests t.open_ s (record more_of { bytes = [] }) (Busy m (b ∷ [])) t.guess (record {
               filled = f;
               unfinished = tt;
               encodes = sym sound.encodes;
               sided = sound.sided;
               sendable = sound.sendable;
-              starts = subst (λ c. MayStart c s m) (old-filled machine.core rest_of f) sound.starts;
+              starts = subst (λ c. MayStart c s m) (old-filled reader.core rest_of f) sound.starts;
             });
-            has_pairs = ap (λ q. record { from = s; byte = b } ∷ q) (pairs_service machine.core (complete machine.core m) grow t.items ∙ t.has_pairs);
-            obeys = (tt, (sound.completes, obeys_service machine.core (complete machine.core m) grow js t.items canonical t.obeys));
-            messages = ap (λ ms. machine.messages ++ m ∷ ms) (completed_service machine.core (complete machine.core m) grow t.items)
-                ∙ sym (append_assoc machine.messages (m ∷ []) (completed_messages t.items)) ∙ t.messages;
-            tracks = (refl, subst (λ x. Tracks judge x (service machine.core (complete machine.core m) grow ++ t.items)) (sym (led_whole machine s b m)) (tracks_service judge machine.core (complete machine.core m) grow _ t.items t.tracks));
-            leads = ap (λ x. led x (service machine.core (complete machine.core m) grow ++ t.items)) (led_whole machine s b m) ∙ led_service machine.core (complete machine.core m) grow _ t.items ∙ t.leads;
+            has_pairs = ap (λ q. record { from = s; byte = b } ∷ q) (pairs_service reader.core (complete reader.core m) grow t.items ∙ t.has_pairs);
+            obeys = (tt, (sound.completes, obeys_service reader.core (complete reader.core m) grow js t.items canonical t.obeys));
+            messages = ap (λ ms. reader.messages ++ m ∷ ms) (completed_service reader.core (complete reader.core m) grow t.items)
+                ∙ sym (append_assoc reader.messages (m ∷ []) (completed_messages t.items)) ∙ t.messages;
+            tracks = (refl, subst (λ x. Tracks judge x (service reader.core (complete reader.core m) grow ++ t.items)) (sym (led_whole reader s b m)) (tracks_service judge reader.core (complete reader.core m) grow _ t.items t.tracks));
+            leads = ap (λ x. led x (service reader.core (complete reader.core m) grow ++ t.items)) (led_whole reader s b m) ∙ led_service reader.core (complete reader.core m) grow _ t.items ∙ t.leads;
           }
       go (Busy n left) is g = absurd g.filled
       go Loose is g = absurd g.0
 
-trace_by : (judge : Judge) → IsSound judge → (machine mid end : Machine) (js : List Entry) → AreHeld judge machine → IsCanonical (record { core = machine.core; served = js }) → (p : Pair) (ps qs : List Pair) → p.byte < 256 →
-    ((next : Machine) (js' : List Entry) → AreHeld judge next → IsCanonical (record { core = next.core; served = js' }) → reads judge next ps ≡ Ok mid → IsTrace judge next end (record { core = next.core; served = js' }) (ps ++ qs)) →
-    (r : Reading) → judge (rest_with machine.core (get machine.rests p.from) p.byte).since machine.core p.from (rest_with machine.core (get machine.rests p.from) p.byte).bytes ≡ r →
-    on_ok (settle machine p.from (rest_with machine.core (get machine.rests p.from) p.byte) r) (λ next. reads judge next ps) ≡ Ok mid →
-    IsTrace judge machine end (record { core = machine.core; served = js }) (p ∷ ps ++ qs)
-trace_by judge sound machine mid end js held canonical p ps qs lt ih More is h = more_step judge machine end js canonical p.from p.byte (ps ++ qs) (ih _ js (held_more judge machine p.from p.byte lt held is) canonical h) (λ x xs e. (is, kept_next judge machine.core p.from (get machine.rests p.from) p.byte lt (held p.from)))
-trace_by judge sound machine mid end js held canonical p ps qs lt ih (Whole m) is h =
-    let grow : IsGrown machine.core (complete machine.core m) = length-complete machine.core m in
-    let ok : IsSoundAt (rest_with machine.core (get machine.rests p.from) p.byte).since machine.core p.from (rest_with machine.core (get machine.rests p.from) p.byte).bytes m =
-    sound _ _ _ _ m (kept_next judge machine.core p.from (get machine.rests p.from) p.byte lt (held p.from)) is in
-    whole_step judge machine end js canonical p.from p.byte (ps ++ qs) m grow ok
-    (ih _ _ (held_whole judge machine p.from m (record (rest_with machine.core (get machine.rests p.from) p.byte) { bytes = [] }) refl held ok.sided ok.sendable ok.completes) (canonical_serviced machine.core (complete machine.core m) grow js canonical) h)
-trace_by judge sound machine mid end js held canonical p ps qs lt ih (Bad f) is h = absurd (cc)
+trace_by : (judge : Judge) → IsSound judge → (reader mid end : Reader) (js : List Entry) → AreHeld judge reader → IsCanonical (record { core = reader.core; served = js }) → (p : Pair) (ps qs : List Pair) → p.byte < 256 →
+    ((next : Reader) (js' : List Entry) → AreHeld judge next → IsCanonical (record { core = next.core; served = js' }) → reads judge next ps ≡ Ok mid → IsTrace judge next end (record { core = next.core; served = js' }) (ps ++ qs)) →
+    (r : Reading) → judge (rest_with reader.core (get reader.rests p.from) p.byte).since reader.core p.from (rest_with reader.core (get reader.rests p.from) p.byte).bytes ≡ r →
+    on_ok (settle reader p.from (rest_with reader.core (get reader.rests p.from) p.byte) r) (λ next. reads judge next ps) ≡ Ok mid →
+    IsTrace judge reader end (record { core = reader.core; served = js }) (p ∷ ps ++ qs)
+trace_by judge sound reader mid end js held canonical p ps qs lt ih More is h = more_step judge reader end js canonical p.from p.byte (ps ++ qs) (ih _ js (held_more judge reader p.from p.byte lt held is) canonical h) (λ x xs e. (is, kept_next judge reader.core p.from (get reader.rests p.from) p.byte lt (held p.from)))
+trace_by judge sound reader mid end js held canonical p ps qs lt ih (Whole m) is h =
+    let grow : IsGrown reader.core (complete reader.core m) = length-complete reader.core m in
+    let ok : IsSoundAt (rest_with reader.core (get reader.rests p.from) p.byte).since reader.core p.from (rest_with reader.core (get reader.rests p.from) p.byte).bytes m =
+    sound _ _ _ _ m (kept_next judge reader.core p.from (get reader.rests p.from) p.byte lt (held p.from)) is in
+    whole_step judge reader end js canonical p.from p.byte (ps ++ qs) m grow ok
+    (ih _ _ (held_whole judge reader p.from m (record (rest_with reader.core (get reader.rests p.from) p.byte) { bytes = [] }) refl held ok.sided ok.sendable ok.completes) (canonical_serviced reader.core (complete reader.core m) grow js canonical) h)
+trace_by judge sound reader mid end js held canonical p ps qs lt ih (Bad f) is h = absurd (cc)
 
 -- what was read without a fault is a run, but for the rests, and what comes then
-pub trace_then : (judge : Judge) → IsSound judge → (ps qs : List Pair) (machine mid end : Machine) (js : List Entry) → ArePairs ps → AreHeld judge machine → IsCanonical (record { core = machine.core; served = js }) →
-    reads judge machine ps ≡ Ok mid →
+pub trace_then : (judge : Judge) → IsSound judge → (ps qs : List Pair) (reader mid end : Reader) (js : List Entry) → ArePairs ps → AreHeld judge reader → IsCanonical (record { core = reader.core; served = js }) →
+    reads judge reader ps ≡ Ok mid →
     ((js' : List Entry) → AreHeld judge mid → IsCanonical (record { core = mid.core; served = js' }) → IsTrace judge mid end (record { core = mid.core; served = js' }) qs) →
-    IsTrace judge machine end (record { core = machine.core; served = js }) (ps ++ qs)
-trace_then judge sound [] qs machine mid end js lt held canonical e go_on =
-    let q : mid ≡ machine = cc in
-    subst (λ (x : Machine). (js' : List Entry) → AreHeld judge x → IsCanonical (record { core = x.core; served = js' }) → IsTrace judge x end (record { core = x.core; served = js' }) qs) q go_on js held canonical
-trace_then judge sound (p ∷ ps) qs machine mid end js lt held canonical e go_on =
-    trace_by judge sound machine mid end js held canonical p ps qs lt.0 (λ next js' hd c h. trace_then judge sound ps qs next mid end js' lt.1 hd c h go_on) _ refl e
+    IsTrace judge reader end (record { core = reader.core; served = js }) (ps ++ qs)
+trace_then judge sound [] qs reader mid end js lt held canonical e go_on =
+    let q : mid ≡ reader = cc in
+    subst (λ (x : Reader). (js' : List Entry) → AreHeld judge x → IsCanonical (record { core = x.core; served = js' }) → IsTrace judge x end (record { core = x.core; served = js' }) qs) q go_on js held canonical
+trace_then judge sound (p ∷ ps) qs reader mid end js lt held canonical e go_on =
+    trace_by judge sound reader mid end js held canonical p ps qs lt.0 (λ next js' hd c h. trace_then judge sound ps qs next mid end js' lt.1 hd c h go_on) _ refl e
 
-pub trace : (judge : Judge) → IsSound judge → (ps : List Pair) (machine end : Machine) (js : List Entry) → ArePairs ps → AreHeld judge machine → IsCanonical (record { core = machine.core; served = js }) →
-    reads judge machine ps ≡ Ok end → IsTrace judge machine end (record { core = machine.core; served = js }) ps
-trace judge sound ps machine end js lt held canonical e =
-    subst (λ l. IsTrace judge machine end (record { core = machine.core; served = js }) l) (append-nil ps)
-    (trace_then judge sound ps [] machine end end js lt held canonical e (λ js' hd c. at_end judge end (record { core = end.core; served = js' })))
+pub trace : (judge : Judge) → IsSound judge → (ps : List Pair) (reader end : Reader) (js : List Entry) → ArePairs ps → AreHeld judge reader → IsCanonical (record { core = reader.core; served = js }) →
+    reads judge reader ps ≡ Ok end → IsTrace judge reader end (record { core = reader.core; served = js }) ps
+trace judge sound ps reader end js lt held canonical e =
+    subst (λ l. IsTrace judge reader end (record { core = reader.core; served = js }) l) (append-nil ps)
+    (trace_then judge sound ps [] reader end end js lt held canonical e (λ js' hd c. at_end judge end (record { core = end.core; served = js' })))

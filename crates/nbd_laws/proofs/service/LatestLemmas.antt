@@ -10,8 +10,8 @@ use Rattle.nbd_wire.specs.protocol.Rules.{complete, inside_at, Obeys, request_of
 use Rattle.nbd_wire.specs.protocol.Reports.{known_from, first_known, known_if}
 use Rattle.nbd_laws.proofs.service.EntryLemmas.{AreFine, AreFine-as, AreFine-left, AreFine-right, IsInTime, IsInTime-right, Names-push_cases, Names-right, in_time_before, same_number, wholly-without}
 use Rattle.nbd_laws.proofs.service.InsideLemmas.{IsSettled, core_end, entries_grow, inside_end, settled_complete}
-use Rattle.nbd_wire.specs.protocol.Machine.{Both}
-use Rattle.nbd_laws.proofs.machine.MachineLemmas.{Open, Walk, ended, serving, opening, middle, final, loose}
+use Rattle.nbd_wire.specs.protocol.Reading.{Both}
+use Rattle.nbd_laws.proofs.reading.ReaderLemmas.{Open, Walk, ended, serving, opening, middle, final, loose}
 use Rattle.nbd_laws.proofs.runs.TraceLemmas.{answered_by-within}
 
 -- the entries, cut after the last one that names k

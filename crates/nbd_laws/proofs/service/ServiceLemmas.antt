@@ -8,7 +8,7 @@ use Rattle.nbd_wire.specs.protocol.States.{Core, start, start_of, export_in}
 use Rattle.nbd_laws.proofs.runs.FollowLemmas.{bare, follows, follows_unserved, pairs_unserved, walk_unserved}
 use Rattle.nbd_laws.proofs.service.InsideLemmas.{core_end}
 use Rattle.nbd_laws.proofs.runs.RunLemmas.{core_end-ends_at, walk_of}
-use Rattle.nbd_laws.proofs.machine.TwinLemmas.{AreEqual, twins}
+use Rattle.nbd_laws.proofs.reading.TwinLemmas.{AreEqual, twins}
 use Rattle.nbd_laws.proofs.runs.BlockLemmas.{Idles}
 use Rattle.nbd_laws.specs.Sameness.{SameMarks, SameReports, ReportsIgnoreService}
 

@@ -1,11 +1,11 @@
 -- Tests that decide by computing whether a byte is wrong.
-use Rattle.std.proofs.Common.{◌≡◌, ℕ, ◌==◌, ◌&&◌, ◌||◌, not, List, [], ◌∷◌, refl, sym, ◌∙◌, ap, subst, Option, Some, None, Bool, true, false, IsTrue, eqb-true, eq-eqb, zero, suc, ◌++◌, take, slice_get, append_assoc, append-nil, ◌≢◌, inl, inr}
+use Rattle.std.proofs.Common.{◌≡◌, ℕ, ◌==◌, ◌&&◌, ◌||◌, not, List, [], ◌∷◌, refl, sym, ◌∙◌, ap, subst, Option, Some, None, Bool, true, false, IsTrue, eqb-true, eq-eqb, zero, suc, ◌++◌, take, slice_get, append_assoc, append-nil, ◌≢◌, inl, inr, is_some}
 use Rattle.std.proofs.lemmas.Bool.{eqb-false}
 use Rattle.nbd_wire.specs.declared.entry.Entry.{Entry}
 use Rattle.nbd_wire.specs.declared.entry.Part.{Part}
 use Rattle.nbd_wire.specs.protocol.Entries.{in_part}
 use Rattle.nbd_wire.specs.declared.commands.TheConstants as commands
-use Rattle.nbd_wire.specs.protocol.ExportBytes.{IsFalseZero, IsMisread, Differs, Effect, IsWrong, IsWrongIn, IsWrongOf, byte_before, byte_or_start, last_touch, serves}
+use Rattle.nbd_wire.specs.protocol.ExportBytes.{Differs, GivesByte, Effect, IsWrong, IsWrongIn, IsWrongOf, byte_before, byte_or_start, last_touch, serves}
 use Rattle.nbd_wire.specs.protocol.Pieces.{is_in}
 use Rattle.nbd_laws.proofs.worked.DecidingLemmas.{all_at, all_in, both, in_range, then_too, was_false}
 
@@ -47,31 +47,25 @@ all_right requests initial before [] = true
 all_right requests initial before (e ∷ order) =
     reads_right e.part (byte_after requests initial before) (requests e.request) && all_right requests initial (before ++ e ∷ []) order
 
-right_read : (p : Option Part) (byte : ℕ → Option ℕ) (o : Option Effect) (e : Effect) (x : ℕ) → IsTrue (reads_right p byte o) → o ≡ Some e → IsMisread p e byte x → ⊥
-right_read p byte (Some d) e x h q w =
-    let s : d ≡ e = cc in
-    let w' : IsMisread p d byte x = subst (λ y. IsMisread p y byte x) (sym s) w in
-    let all = then_too ((d.command == commands.READ) && d.succeeded) _ (both _ _ h).0 (ap (λ b. b && d.succeeded) (eq-eqb d.command commands.READ w'.0) ∙ w'.1) in
-    let at = both (is_in d.offset d.length x) (in_part p x) w'.2 in
-    let r = in_range d.offset d.length x at.0 in
-    let here = then_too (in_part p x) (agrees (byte x) (d.read x)) (all_at d.offset d.length (λ x. not (in_part p x) || agrees (byte x) (d.read x)) all x r.0 r.1) at.1 in
-    true_agrees (byte x) (d.read x) w'.3.0 here w'.3.1 w'.3.2
-right_read p byte None e x h q w = absurd (cc)
-
-right_status : (p : Option Part) (byte : ℕ → Option ℕ) (o : Option Effect) (e : Effect) (x : ℕ) → IsTrue (reads_right p byte o) → o ≡ Some e → IsFalseZero p e byte x → ⊥
-right_status p byte (Some d) e x h q w =
-    let s : d ≡ e = cc in
-    let w' : IsFalseZero p d byte x = subst (λ y. IsFalseZero p y byte x) (sym s) w in
-    let all = then_too ((d.command == commands.BLOCK_STATUS) && d.succeeded) _ (both _ _ h).1 (ap (λ b. b && d.succeeded) (eq-eqb d.command commands.BLOCK_STATUS w'.0) ∙ w'.1) in
-    let at = both (is_in d.offset d.length x) (in_part p x) w'.2 in
-    let r = in_range d.offset d.length x at.0 in
-    let here = then_too (in_part p x) (tells_true (byte x) (d.read x)) (all_at d.offset d.length (λ x. not (in_part p x) || tells_true (byte x) (d.read x)) all x r.0 r.1) at.1 in
-    not_belied (byte x) (d.read x) w'.3.0 w'.3.1 here w'.3.2 w'.3.3 w'.3.4
-right_status p byte None e x h q w = absurd (cc)
-
 pub right : (p : Option Part) (byte : ℕ → Option ℕ) (o : Option Effect) (e : Effect) (x : ℕ) → IsTrue (reads_right p byte o) → o ≡ Some e → IsWrongIn p e byte x → ⊥
-right p byte o e x h q (inl w) = right_read p byte o e x h q w
-right p byte o e x h q (inr w) = right_status p byte o e x h q w
+right p byte None e x h q w = absurd (cc)
+right p byte (Some d) e x h q w = let s : d ≡ e = cc in let w' : IsWrongIn p d byte x = subst (λ y. IsWrongIn p y byte x) (sym s) w in go w'.0 w'.1 (both (is_in d.offset d.length x) (in_part p x) w'.2) w'.3
+  where
+    go : GivesByte d x → d.succeeded ≡ true → IsTrue (is_in d.offset d.length x) × IsTrue (in_part p x) → Differs byte d.read x → ⊥
+    go (inl c) well at w =
+        let all = then_too ((d.command == commands.READ) && d.succeeded) _ (both _ _ h).0 (ap (λ b. b && d.succeeded) (eq-eqb d.command commands.READ c) ∙ well) in
+        let r = in_range d.offset d.length x at.0 in
+        let here = then_too (in_part p x) (agrees (byte x) (d.read x)) (all_at d.offset d.length (λ x. not (in_part p x) || agrees (byte x) (d.read x)) all x r.0 r.1) at.1 in
+        true_agrees (byte x) (d.read x) w.0 here w.1 w.2
+    go (inr c) well at w =
+        let all = then_too ((d.command == commands.BLOCK_STATUS) && d.succeeded) _ (both _ _ h).1 (ap (λ b. b && d.succeeded) (eq-eqb d.command commands.BLOCK_STATUS c.0) ∙ well) in
+        let r = in_range d.offset d.length x at.0 in
+        let here = then_too (in_part p x) (tells_true (byte x) (d.read x)) (all_at d.offset d.length (λ x. not (in_part p x) || tells_true (byte x) (d.read x)) all x r.0 r.1) at.1 in
+        told (d.read x) refl c.1 here
+      where
+        told : (o : Option ℕ) → d.read x ≡ o → IsTrue (is_some o) → IsTrue (tells_true (byte x) (d.read x)) → ⊥
+        told None e some here = absurd (let z : false ≡ true = some in (cc))
+        told (Some c) e some here = not_belied (byte x) (d.read x) w.0 c here w.1 e (λ s. w.2 (e ∙ ap Some (sym s)))
 
 none_wrong_after : (requests : ℕ → Option Effect) (initial : ℕ → Option ℕ) (before order : List Entry) → IsTrue (all_right requests initial before order) → (i x : ℕ) (entry : Entry) →
     slice_get order i ≡ Some entry → IsWrongOf requests entry (byte_after requests initial (before ++ take i order)) x → ⊥
@@ -120,7 +114,7 @@ wrong requests order initial i x h = at (slice_get order i) refl h
         let a = both (e.command == commands.READ) _ h in
         let b = both e.succeeded _ a.1 in
         let c = both (serves entry.part e x) _ b.1 in
-        (e, q, inl (eqb-true e.command commands.READ a.0, b.0, c.0, differs (byte_before requests order initial i) e.read x _ _ refl refl c.1))
+        (e, q, (inl (eqb-true e.command commands.READ a.0), b.0, c.0, differs (byte_before requests order initial i) e.read x _ _ refl refl c.1))
 
     at : (o : Option Entry) → slice_get order i ≡ o → IsTrue (is_wrong_at requests (byte_before requests order initial i) x o) → IsWrong requests order initial i x
     at None q h = absurd (cc)

@@ -3,13 +3,12 @@ use Rattle.std.proofs.Common.{◌≡◌, ℕ, ◌==◌, ◌&&◌, length, refl, 
 use Rattle.nbd_wire.specs.declared.chunks.TheConstants as chunks
 use Rattle.nbd_wire.specs.declared.message.Message.{Message}
 use Rattle.nbd_wire.specs.declared.message.Message.TheVariants.{Simple, Chunk}
-use Rattle.nbd_wire.specs.protocol.Replies.{simple_length}
+use Rattle.nbd_wire.specs.protocol.Transmission.{simple_length, chunk_fault, chunk_head_fault, simple_fault, simple_last_fault}
 use Rattle.nbd_wire.specs.protocol.Rules.{MayReply}
 use Rattle.nbd_wire.specs.protocol.Operations.{Operation, Exporting}
 use Rattle.nbd_wire.specs.protocol.Rules.{AnswersOne}
 use Rattle.nbd_wire.specs.protocol.States.{Core, operation, target, with_reply}
 use Rattle.nbd_laws.proofs.worked.DecidingLemmas.{both}
-use Rattle.nbd_wire.specs.protocol.JudgeTransmission.{chunk_fault, chunk_head_fault, simple_fault, simple_last_fault}
 use Rattle.nbd_laws.proofs.worked.DecidingLemmas.{clean_is, is_clean}
 
 abbrev pub may_reply : Bool → Exporting → Operation → Message → Bool

@@ -9,7 +9,7 @@ use Rattle.nbd_wire.specs.declared.message.Message.{Message}
 use Rattle.nbd_wire.specs.declared.message.Message.TheVariants.{Greeting, ClientFlags, Choice, Answer, Exported, Request, Simple, Chunk}
 use Rattle.nbd_wire.specs.protocol.Marks.{Item, Byte, Starts, Completes, Serves, IsTight, MayFollow, block, of_side}
 use Rattle.nbd_wire.specs.protocol.Flags.{has}
-use Rattle.nbd_wire.specs.protocol.Rules.{Allows, IsRun, IsRunOf, MayComplete, Obeys, after, inside_at}
+use Rattle.nbd_wire.specs.protocol.Rules.{Allows, IsRunOf, MayComplete, Obeys, after, inside_at}
 use Rattle.nbd_wire.specs.protocol.Sides.{same_side, side}
 use Rattle.nbd_wire.specs.declared.profile.Profile.{Profile}
 use Rattle.nbd_wire.specs.declared.profile.Profile.TheVariants.{Base}
@@ -17,8 +17,8 @@ use Rattle.nbd_laws.specs.Prefixes.{ended_messages}
 use Rattle.nbd_wire.specs.protocol.States.{Core, Phase, State, Greet, Flags, Choosing, Naming, Aborting, Answering, Transmission, start, start_of, target}
 use Rattle.nbd_laws.proofs.worked.DecidingLemmas.{are_equal, both, clean_is, equal_bools, is_clean, is_fresh, is_sendable, is_served_for, may_start_in, same_sides, sendable, serves, starts_in, true_is_fresh}
 use Rattle.nbd_wire.specs.protocol.Options.{is_proper_option, takes_contexts}
-use Rattle.nbd_wire.specs.protocol.JudgeNegotiation.{abort_fault, answer_fault, answer_head_fault, answer_last_fault, client_flags_fault, export_fault, greeting_fault}
-use Rattle.nbd_wire.specs.protocol.JudgeTransmission.{cookie_fault, request_fault}
+use Rattle.nbd_wire.specs.protocol.Negotiation.{abort_fault, answer_fault, answer_head_fault, answer_last_fault, client_flags_fault, export_fault, greeting_fault}
+use Rattle.nbd_wire.specs.protocol.Transmission.{cookie_fault, request_fault}
 use Rattle.nbd_laws.proofs.worked.DecidingReplyLemmas.{answers_one, answers_target}
 
 abbrev pub may_complete : Core → Phase → Message → Bool
@@ -126,5 +126,5 @@ is_run_of profile items c s t o = record {
 }
 
 pub is_run : (items : List Item) → of_side Client items ≡ flat_map (block Client) (ended_messages Client items) ++ [] → of_side Server items ≡ flat_map (block Server) (ended_messages Server items) ++ [] →
-    IsTrue (is_tight items) → IsTrue (obeys start items) → IsRun items
+    IsTrue (is_tight items) → IsTrue (obeys start items) → IsRunOf Base items
 is_run items c s t o = is_run_of Base items c s t o

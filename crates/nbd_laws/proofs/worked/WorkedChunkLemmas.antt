@@ -12,7 +12,8 @@ use Rattle.nbd_wire.specs.protocol.Reports.{report}
 use Rattle.nbd_wire.specs.protocol.Operations.{ends_reply, is_failing, is_proper}
 use Rattle.nbd_wire.specs.protocol.Flags.{has, has_only}
 use Rattle.nbd_wire.specs.protocol.Pieces.{piece_of}
-use Rattle.nbd_wire.specs.protocol.Rules.{IsRun, complete}
+use Rattle.nbd_wire.specs.declared.profile.Profile.TheVariants.{Base}
+use Rattle.nbd_wire.specs.protocol.Rules.{IsRunOf, complete}
 use Rattle.nbd_wire.specs.protocol.States.{target}
 use Rattle.nbd_laws.specs.captures.Chunks as captures
 use Rattle.nbd_laws.specs.Explaining.{IsNo, IsYes}
@@ -24,7 +25,7 @@ use Rattle.nbd_laws.proofs.worked.SessionLemmas.{broken, content, done, gone, gr
 structured_read_items : List Item
 structured_read_items = sends (greeted ++ structured ++ gone ++ write 1 4 (10 ∷ 11 ∷ 12 ∷ 13 ∷ []) ∷ []) ++ Serves (whole 1) ∷ sends (done 1 ∷ read 2 0 8 ∷ []) ++ Serves (whole 2) ∷ sends (content 2 4 (10 ∷ 11 ∷ 12 ∷ 13 ∷ []) ∷ hole 2 0 4 ∷ done 2 ∷ [])
 
-structured_read_run : IsRun structured_read_items
+structured_read_run : IsRunOf Base structured_read_items
 unfolding structured_read_items enc head tail complete next_phase target has has_only is_proper is_proper_option info_of is_listed is_go content_of failure_of ends_reply is_failing piece_of report
 structured_read_run = is_run structured_read_items refl refl refl refl
 
@@ -45,7 +46,7 @@ structured_read = record {
 later_piece_items : List Item
 later_piece_items = sends (greeted ++ structured ++ gone ++ write 1 4 (10 ∷ 11 ∷ 12 ∷ 13 ∷ []) ∷ []) ++ Serves (whole 1) ∷ sends (done 1 ∷ read 2 0 8 ∷ []) ++ Serves (whole 2) ∷ sends (content 2 4 (10 ∷ 11 ∷ 12 ∷ 13 ∷ []) ∷ content 2 0 (0 ∷ 0 ∷ 0 ∷ 1 ∷ []) ∷ done 2 ∷ [])
 
-later_piece_run : IsRun later_piece_items
+later_piece_run : IsRunOf Base later_piece_items
 unfolding later_piece_items enc head tail complete next_phase target has has_only is_proper is_proper_option info_of is_listed is_go content_of failure_of ends_reply is_failing piece_of report
 later_piece_run = is_run later_piece_items refl refl refl refl
 
@@ -56,7 +57,7 @@ later_piece = failing_is_no later_piece_items (flat captures.later_piece) (whole
 empty_read_items : List Item
 empty_read_items = sends (greeted ++ structured ++ gone ++ read 1 0 0 ∷ []) ++ Serves (whole 1) ∷ sends (done 1 ∷ [])
 
-empty_read_run : IsRun empty_read_items
+empty_read_run : IsRunOf Base empty_read_items
 unfolding empty_read_items enc head tail complete next_phase target has has_only is_proper is_proper_option info_of is_listed is_go content_of failure_of ends_reply is_failing piece_of report
 empty_read_run = is_run empty_read_items refl refl refl refl
 
@@ -77,7 +78,7 @@ empty_read = record {
 failed_read_items : List Item
 failed_read_items = sends (greeted ++ structured ++ gone ++ read 1 0 2 ∷ []) ++ Serves (whole 1) ∷ sends (broken 1 5 1 ∷ [])
 
-failed_read_run : IsRun failed_read_items
+failed_read_run : IsRunOf Base failed_read_items
 unfolding failed_read_items enc head tail complete next_phase target has has_only is_proper is_proper_option info_of is_listed is_go content_of failure_of ends_reply is_failing piece_of report
 failed_read_run = is_run failed_read_items refl refl refl refl
 
@@ -98,7 +99,7 @@ failed_read = record {
 failed_content_items : List Item
 failed_content_items = sends (greeted ++ structured ++ gone ++ read 1 0 2 ∷ []) ++ Serves (whole 1) ∷ sends (content 1 0 (255 ∷ []) ∷ broken 1 5 1 ∷ [])
 
-failed_content_run : IsRun failed_content_items
+failed_content_run : IsRunOf Base failed_content_items
 unfolding failed_content_items enc head tail complete next_phase target has has_only is_proper is_proper_option info_of is_listed is_go content_of failure_of ends_reply is_failing piece_of report
 failed_content_run = is_run failed_content_items refl refl refl refl
 

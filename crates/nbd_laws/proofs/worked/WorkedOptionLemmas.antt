@@ -17,7 +17,8 @@ use Rattle.nbd_wire.specs.protocol.Reports.{report}
 use Rattle.nbd_wire.specs.protocol.Operations.{ends_reply, is_failing, is_proper}
 use Rattle.nbd_wire.specs.protocol.Flags.{has, has_only}
 use Rattle.nbd_wire.specs.protocol.Pieces.{piece_of}
-use Rattle.nbd_wire.specs.protocol.Rules.{IsRun, IsRunOf, complete}
+use Rattle.nbd_wire.specs.declared.profile.Profile.TheVariants.{Base}
+use Rattle.nbd_wire.specs.protocol.Rules.{IsRunOf, complete}
 use Rattle.nbd_wire.specs.protocol.States.{target}
 use Rattle.nbd_laws.specs.captures.Options as captures
 use Rattle.nbd_laws.specs.Explaining.{IsYes, IsYesOf}
@@ -29,7 +30,7 @@ use Rattle.nbd_laws.proofs.worked.SessionLemmas.{gives, gone, greeted, read, sen
 padded_export_items : List Item
 padded_export_items = sends (Greeting 3 ∷ ClientFlags 1 ∷ Choice options.EXPORT_NAME (100 ∷ 105 ∷ 115 ∷ 107 ∷ []) ∷ Exported 8 109 true ∷ read 1 0 1 ∷ []) ++ Serves (whole 1) ∷ sends (gives 1 (0 ∷ []) ∷ [])
 
-padded_export_run : IsRun padded_export_items
+padded_export_run : IsRunOf Base padded_export_items
 unfolding padded_export_items enc head tail complete next_phase target has has_only is_proper is_proper_option info_of is_listed is_go content_of failure_of ends_reply is_failing piece_of report
 padded_export_run = is_run padded_export_items refl refl refl refl
 
@@ -50,7 +51,7 @@ padded_export = record {
 bare_export_items : List Item
 bare_export_items = sends (Greeting 3 ∷ ClientFlags 3 ∷ Choice options.EXPORT_NAME (100 ∷ 105 ∷ 115 ∷ 107 ∷ []) ∷ Exported 8 109 false ∷ read 1 0 1 ∷ []) ++ Serves (whole 1) ∷ sends (gives 1 (0 ∷ []) ∷ [])
 
-bare_export_run : IsRun bare_export_items
+bare_export_run : IsRunOf Base bare_export_items
 unfolding bare_export_items enc head tail complete next_phase target has has_only is_proper is_proper_option info_of is_listed is_go content_of failure_of ends_reply is_failing piece_of report
 bare_export_run = is_run bare_export_items refl refl refl refl
 
@@ -71,7 +72,7 @@ bare_export = record {
 refused_tls_items : List Item
 refused_tls_items = sends (greeted ++ Choice options.STARTTLS [] ∷ Answer options.STARTTLS (answers.ERROR + 1) [] ∷ [] ++ gone)
 
-refused_tls_run : IsRun refused_tls_items
+refused_tls_run : IsRunOf Base refused_tls_items
 unfolding refused_tls_items enc head tail complete next_phase target has has_only is_proper is_proper_option info_of is_listed is_go content_of failure_of ends_reply is_failing piece_of report
 refused_tls_run = is_run refused_tls_items refl refl refl refl
 
@@ -92,7 +93,7 @@ refused_tls = record {
 aborted_items : List Item
 aborted_items = sends (greeted ++ Choice options.ABORT [] ∷ Answer options.ABORT answers.ACK [] ∷ [])
 
-aborted_run : IsRun aborted_items
+aborted_run : IsRunOf Base aborted_items
 unfolding aborted_items enc head tail complete next_phase target has has_only is_proper is_proper_option info_of is_listed is_go content_of failure_of ends_reply is_failing piece_of report
 aborted_run = is_run aborted_items refl refl refl refl
 
@@ -113,7 +114,7 @@ abort_acknowledged = record {
 listed_items : List Item
 listed_items = sends (greeted ++ Choice options.LIST [] ∷ Answer options.LIST answers.SERVER (big_bytes 4 1 ++ 97 ∷ []) ∷ Answer options.LIST answers.ACK [] ∷ [])
 
-listed_run : IsRun listed_items
+listed_run : IsRunOf Base listed_items
 unfolding listed_items enc head tail complete next_phase target has has_only is_proper is_proper_option info_of is_listed is_go content_of failure_of ends_reply is_failing piece_of report
 listed_run = is_run listed_items refl refl refl refl
 
@@ -134,7 +135,7 @@ export_list = record {
 unnamed_items : List Item
 unnamed_items = sends (greeted ++ Choice options.EXPORT_NAME (100 ∷ 105 ∷ 115 ∷ 107 ∷ []) ∷ [])
 
-unnamed_run : IsRun unnamed_items
+unnamed_run : IsRunOf Base unnamed_items
 unfolding unnamed_items enc head tail complete next_phase target has has_only is_proper is_proper_option info_of is_listed is_go content_of failure_of ends_reply is_failing piece_of report
 unnamed_run = is_run unnamed_items refl refl refl refl
 

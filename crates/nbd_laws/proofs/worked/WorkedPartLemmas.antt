@@ -12,7 +12,8 @@ use Rattle.nbd_wire.specs.protocol.Reports.{report}
 use Rattle.nbd_wire.specs.protocol.Operations.{ends_reply, is_failing, is_proper}
 use Rattle.nbd_wire.specs.protocol.Flags.{has, has_only}
 use Rattle.nbd_wire.specs.protocol.Pieces.{piece_of}
-use Rattle.nbd_wire.specs.protocol.Rules.{IsRun, complete}
+use Rattle.nbd_wire.specs.declared.profile.Profile.TheVariants.{Base}
+use Rattle.nbd_wire.specs.protocol.Rules.{IsRunOf, complete}
 use Rattle.nbd_wire.specs.protocol.States.{target}
 use Rattle.nbd_laws.specs.captures.Reads as captures
 use Rattle.nbd_laws.specs.Explaining.{IsNo, IsYes}
@@ -24,7 +25,7 @@ use Rattle.nbd_laws.proofs.worked.SessionLemmas.{fails, gives, gone, greeted, re
 half_written_items : List Item
 half_written_items = sends (greeted ++ gone ++ write 1 0 (171 ∷ 205 ∷ []) ∷ read 2 0 2 ∷ []) ++ Serves (part 1 0 1) ∷ Serves (whole 2) ∷ Serves (part 1 1 1) ∷ sends (gives 2 (171 ∷ 0 ∷ []) ∷ succeeds 1 ∷ [])
 
-half_written_run : IsRun half_written_items
+half_written_run : IsRunOf Base half_written_items
 unfolding half_written_items enc head tail complete next_phase target has has_only is_proper is_proper_option info_of is_listed is_go content_of failure_of ends_reply is_failing piece_of report
 half_written_run = is_run half_written_items refl refl refl refl
 
@@ -61,7 +62,7 @@ half_written_repeated = failing_is_no half_written_items (flat captures.half_wri
 half_read_items : List Item
 half_read_items = sends (greeted ++ gone ++ write 1 0 (171 ∷ 205 ∷ []) ∷ read 2 0 2 ∷ []) ++ Serves (part 2 0 1) ∷ Serves (whole 1) ∷ Serves (part 2 1 1) ∷ sends (gives 2 (0 ∷ 205 ∷ []) ∷ succeeds 1 ∷ [])
 
-half_read_run : IsRun half_read_items
+half_read_run : IsRunOf Base half_read_items
 unfolding half_read_items enc head tail complete next_phase target has has_only is_proper is_proper_option info_of is_listed is_go content_of failure_of ends_reply is_failing piece_of report
 half_read_run = is_run half_read_items refl refl refl refl
 
@@ -82,7 +83,7 @@ half_read = record {
 improper_write_items : List Item
 improper_write_items = sends (greeted ++ gone ++ write 1 6 (170 ∷ 187 ∷ 204 ∷ 221 ∷ []) ∷ []) ++ Serves (part 1 6 2) ∷ sends (fails 1 22 ∷ [])
 
-improper_write_run : IsRun improper_write_items
+improper_write_run : IsRunOf Base improper_write_items
 unfolding improper_write_items enc head tail complete next_phase target has has_only is_proper is_proper_option info_of is_listed is_go content_of failure_of ends_reply is_failing piece_of report
 improper_write_run = is_run improper_write_items refl refl refl refl
 

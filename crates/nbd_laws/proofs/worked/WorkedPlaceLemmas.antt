@@ -1,4 +1,4 @@
--- Captures whose bytes the machine reads up to the last one, which it refuses.
+-- Captures whose bytes the reader reads up to the last one, which it refuses.
 use Rattle.std.proofs.Common.{◌≡◌, ℕ, List, [], ◌∷◌, ◌++◌, take, refl, sym, ◌∙◌, ap, subst, Option, Some, None, Result, Ok, Err, Bool, true, ◌&&◌, nat_lt}
 use Rattle.std.proofs.lemmas.Bool.{ltb-true}
 use Rattle.nbd_wire.specs.declared.fault.WireFault.{WireFault}
@@ -18,8 +18,7 @@ use Rattle.nbd_wire.specs.protocol.Rules.{complete}
 use Rattle.nbd_wire.specs.protocol.Places.{IsPlace, IsPlaceOf}
 use Rattle.nbd_wire.specs.protocol.States.{target}
 use Rattle.nbd_laws.specs.captures.Openings.{hasty_client}
-use Rattle.nbd_wire.specs.protocol.Machine.{Machine, fresh, fresh_of, on_ok, reads, step}
-use Rattle.nbd_wire.specs.protocol.Concrete.{concrete}
+use Rattle.nbd_wire.specs.protocol.Reading.{Reader, fresh_of, on_ok, reads, step, by_tests}
 use Rattle.nbd_laws.specs.captures.Refused as refused
 use Rattle.nbd_laws.specs.captures.Messages.{context_messages, opening_messages, status_asked_messages}
 use Rattle.nbd_laws.proofs.judge.BlockLemmas.{reads-append}
@@ -34,19 +33,19 @@ are_pairs [] e = tt
 are_pairs (p ∷ ps) e = let h = and_true (nat_lt p.byte 256) (are_bytes ps) e in (ltb-true p.byte 256 h.0, are_pairs ps h.1)
 
 -- the messages of what was read
-abbrev messages_in : Result Machine WireFault → Option (List Message)
-messages_in (Ok machine) = Some machine.messages
+abbrev messages_in : Result Reader WireFault → Option (List Message)
+messages_in (Ok reader) = Some reader.messages
 messages_in (Err fault) = None
 
-worked : (profile : Profile) (prefix : List Pair) (p : Pair) (messages : List Message) (fault : WireFault) → are_bytes prefix ≡ true → are_bytes (prefix ++ p ∷ []) ≡ true → messages_in (reads concrete (fresh_of profile) prefix) ≡ Some messages →
-    reads concrete (fresh_of profile) (prefix ++ p ∷ []) ≡ Err fault → IsPlaceOf profile (prefix ++ p ∷ []) messages fault
-worked profile prefix p messages fault some bytes read refused = go (reads concrete (fresh_of profile) prefix) refl read (sym (reads-append concrete (fresh_of profile) prefix (p ∷ [])) ∙ refused)
+worked : (profile : Profile) (prefix : List Pair) (p : Pair) (messages : List Message) (fault : WireFault) → are_bytes prefix ≡ true → are_bytes (prefix ++ p ∷ []) ≡ true → messages_in (reads by_tests (fresh_of profile) prefix) ≡ Some messages →
+    reads by_tests (fresh_of profile) (prefix ++ p ∷ []) ≡ Err fault → IsPlaceOf profile (prefix ++ p ∷ []) messages fault
+worked profile prefix p messages fault some bytes read refused = go (reads by_tests (fresh_of profile) prefix) refl read (sym (reads-append by_tests (fresh_of profile) prefix (p ∷ [])) ∙ refused)
   where
-    err : (r : Result Machine WireFault) → on_ok r (λ next. Ok next) ≡ Err fault → r ≡ Err fault
+    err : (r : Result Reader WireFault) → on_ok r (λ next. Ok next) ≡ Err fault → r ≡ Err fault
     err (Ok next) e = absurd (cc)
     err (Err f) e = e
 
-    go : (o : Result Machine WireFault) → reads concrete (fresh_of profile) prefix ≡ o → messages_in o ≡ Some messages → on_ok o (λ next. reads concrete next (p ∷ [])) ≡ Err fault → IsPlaceOf profile (prefix ++ p ∷ []) messages fault
+    go : (o : Result Reader WireFault) → reads by_tests (fresh_of profile) prefix ≡ o → messages_in o ≡ Some messages → on_ok o (λ next. reads by_tests next (p ∷ [])) ≡ Err fault → IsPlaceOf profile (prefix ++ p ∷ []) messages fault
     go (Err f) e m r = absurd (cc)
     go (Ok mid) e m r = record {
       are_pairs = are_pairs (prefix ++ p ∷ []) bytes;
@@ -54,15 +53,15 @@ worked profile prefix p messages fault some bytes read refused = go (reads concr
       last = p;
       parts = refl;
       before = record { are_pairs = are_pairs prefix some; end = mid; reads_it = e; has_messages = (cc) };
-      refused = err (step concrete mid p.from p.byte) r;
+      refused = err (step by_tests mid p.from p.byte) r;
     }
 
-at_of : (profile : Profile) (ps : List Pair) (n : ℕ) (p : Pair) (messages : List Message) (fault : WireFault) → take n ps ++ p ∷ [] ≡ ps → are_bytes (take n ps) ≡ true → are_bytes ps ≡ true → messages_in (reads concrete (fresh_of profile) (take n ps)) ≡ Some messages →
-    reads concrete (fresh_of profile) ps ≡ Err fault → IsPlaceOf profile ps messages fault
+at_of : (profile : Profile) (ps : List Pair) (n : ℕ) (p : Pair) (messages : List Message) (fault : WireFault) → take n ps ++ p ∷ [] ≡ ps → are_bytes (take n ps) ≡ true → are_bytes ps ≡ true → messages_in (reads by_tests (fresh_of profile) (take n ps)) ≡ Some messages →
+    reads by_tests (fresh_of profile) ps ≡ Err fault → IsPlaceOf profile ps messages fault
 at_of profile ps n p messages fault parts some bytes read refused = subst (λ qs. IsPlaceOf profile qs messages fault) parts
-    (worked profile (take n ps) p messages fault some (ap are_bytes parts ∙ bytes) read (ap (reads concrete (fresh_of profile)) parts ∙ refused))
+    (worked profile (take n ps) p messages fault some (ap are_bytes parts ∙ bytes) read (ap (reads by_tests (fresh_of profile)) parts ∙ refused))
 
-at : (ps : List Pair) (n : ℕ) (p : Pair) (messages : List Message) (fault : WireFault) → take n ps ++ p ∷ [] ≡ ps → are_bytes (take n ps) ≡ true → are_bytes ps ≡ true → messages_in (reads concrete fresh (take n ps)) ≡ Some messages → reads concrete fresh ps ≡ Err fault →
+at : (ps : List Pair) (n : ℕ) (p : Pair) (messages : List Message) (fault : WireFault) → take n ps ++ p ∷ [] ≡ ps → are_bytes (take n ps) ≡ true → are_bytes ps ≡ true → messages_in (reads by_tests (fresh_of Base) (take n ps)) ≡ Some messages → reads by_tests (fresh_of Base) ps ≡ Err fault →
     IsPlace ps messages fault
 at ps n p messages fault parts some bytes read refused = at_of Base ps n p messages fault parts some bytes read refused
 

@@ -12,7 +12,8 @@ use Rattle.nbd_wire.specs.protocol.Reports.{report}
 use Rattle.nbd_wire.specs.protocol.Operations.{ends_reply, is_failing, is_proper}
 use Rattle.nbd_wire.specs.protocol.Flags.{has, has_only}
 use Rattle.nbd_wire.specs.protocol.Pieces.{piece_of}
-use Rattle.nbd_wire.specs.protocol.Rules.{IsRun, complete}
+use Rattle.nbd_wire.specs.declared.profile.Profile.TheVariants.{Base}
+use Rattle.nbd_wire.specs.protocol.Rules.{IsRunOf, complete}
 use Rattle.nbd_wire.specs.protocol.States.{target}
 use Rattle.nbd_laws.specs.captures.Reads as captures
 use Rattle.nbd_laws.specs.Explaining.{IsNo, IsYes}
@@ -28,7 +29,7 @@ one_entry n = elim n [ inl e ↦ absurd (omega arith) | inr h ↦ h ]
 first_run_items : List Item
 first_run_items = sends (greeted ++ gone ++ read 1 0 4 ∷ []) ++ Serves (whole 1) ∷ sends (gives 1 (0 ∷ 0 ∷ 0 ∷ 0 ∷ []) ∷ [])
 
-first_run_run : IsRun first_run_items
+first_run_run : IsRunOf Base first_run_items
 unfolding first_run_items enc head tail complete next_phase target has has_only is_proper is_proper_option info_of is_listed is_go content_of failure_of ends_reply is_failing piece_of report
 first_run_run = is_run first_run_items refl refl refl refl
 
@@ -49,7 +50,7 @@ first_run = record {
 write_and_read_items : List Item
 write_and_read_items = sends (greeted ++ gone ++ write 1 0 (171 ∷ 205 ∷ []) ∷ []) ++ Serves (whole 1) ∷ sends (succeeds 1 ∷ read 2 0 4 ∷ []) ++ Serves (whole 2) ∷ sends (gives 2 (171 ∷ 205 ∷ 0 ∷ 0 ∷ []) ∷ [])
 
-write_and_read_run : IsRun write_and_read_items
+write_and_read_run : IsRunOf Base write_and_read_items
 unfolding write_and_read_items enc head tail complete next_phase target has has_only is_proper is_proper_option info_of is_listed is_go content_of failure_of ends_reply is_failing piece_of report
 write_and_read_run = is_run write_and_read_items refl refl refl refl
 
@@ -74,7 +75,7 @@ write_and_read_missing = failing_is_no write_and_read_items (flat captures.write
 write_and_misread_items : List Item
 write_and_misread_items = sends (greeted ++ gone ++ write 1 0 (171 ∷ 205 ∷ []) ∷ []) ++ Serves (whole 1) ∷ sends (succeeds 1 ∷ read 2 0 4 ∷ []) ++ Serves (whole 2) ∷ sends (gives 2 (171 ∷ 206 ∷ 0 ∷ 0 ∷ []) ∷ [])
 
-write_and_misread_run : IsRun write_and_misread_items
+write_and_misread_run : IsRunOf Base write_and_misread_items
 unfolding write_and_misread_items enc head tail complete next_phase target has has_only is_proper is_proper_option info_of is_listed is_go content_of failure_of ends_reply is_failing piece_of report
 write_and_misread_run = is_run write_and_misread_items refl refl refl refl
 
@@ -85,7 +86,7 @@ write_and_misread = failing_is_no write_and_misread_items (flat captures.write_a
 read_before_reply_items : List Item
 read_before_reply_items = sends (greeted ++ gone ++ write 1 0 (171 ∷ 205 ∷ []) ∷ read 2 0 2 ∷ []) ++ Serves (whole 1) ∷ Serves (whole 2) ∷ sends (gives 2 (171 ∷ 205 ∷ []) ∷ succeeds 1 ∷ [])
 
-read_before_reply_run : IsRun read_before_reply_items
+read_before_reply_run : IsRunOf Base read_before_reply_items
 unfolding read_before_reply_items enc head tail complete next_phase target has has_only is_proper is_proper_option info_of is_listed is_go content_of failure_of ends_reply is_failing piece_of report
 read_before_reply_run = is_run read_before_reply_items refl refl refl refl
 
@@ -106,7 +107,7 @@ read_before_reply = record {
 failed_write_items : List Item
 failed_write_items = sends (greeted ++ gone ++ write 1 0 (171 ∷ 205 ∷ []) ∷ read 2 0 2 ∷ []) ++ Serves (whole 1) ∷ Serves (whole 2) ∷ sends (gives 2 (238 ∷ 255 ∷ []) ∷ fails 1 5 ∷ [])
 
-failed_write_run : IsRun failed_write_items
+failed_write_run : IsRunOf Base failed_write_items
 unfolding failed_write_items enc head tail complete next_phase target has has_only is_proper is_proper_option info_of is_listed is_go content_of failure_of ends_reply is_failing piece_of report
 failed_write_run = is_run failed_write_items refl refl refl refl
 
@@ -127,7 +128,7 @@ failed_write = record {
 ignored_write_items : List Item
 ignored_write_items = sends (greeted ++ gone ++ write 1 0 (171 ∷ 205 ∷ []) ∷ read 2 0 2 ∷ []) ++ Serves (whole 1) ∷ Serves (whole 2) ∷ sends (gives 2 (238 ∷ 255 ∷ []) ∷ succeeds 1 ∷ [])
 
-ignored_write_run : IsRun ignored_write_items
+ignored_write_run : IsRunOf Base ignored_write_items
 unfolding ignored_write_items enc head tail complete next_phase target has has_only is_proper is_proper_option info_of is_listed is_go content_of failure_of ends_reply is_failing piece_of report
 ignored_write_run = is_run ignored_write_items refl refl refl refl
 
@@ -138,7 +139,7 @@ ignored_write = failing_is_no ignored_write_items (flat captures.ignored_write) 
 overwritten_items : List Item
 overwritten_items = sends (greeted ++ gone ++ write 1 0 (170 ∷ []) ∷ []) ++ Serves (whole 1) ∷ sends (succeeds 1 ∷ write 2 0 (187 ∷ []) ∷ []) ++ Serves (whole 2) ∷ sends (succeeds 2 ∷ read 3 0 1 ∷ []) ++ Serves (whole 3) ∷ sends (gives 3 (187 ∷ []) ∷ [])
 
-overwritten_run : IsRun overwritten_items
+overwritten_run : IsRunOf Base overwritten_items
 unfolding overwritten_items enc head tail complete next_phase target has has_only is_proper is_proper_option info_of is_listed is_go content_of failure_of ends_reply is_failing piece_of report
 overwritten_run = is_run overwritten_items refl refl refl refl
 
@@ -159,7 +160,7 @@ overwritten = record {
 read_first_items : List Item
 read_first_items = sends (greeted ++ gone ++ read 1 0 1 ∷ []) ++ Serves (whole 1) ∷ sends (gives 1 (0 ∷ []) ∷ write 2 0 (171 ∷ []) ∷ []) ++ Serves (whole 2) ∷ sends (succeeds 2 ∷ [])
 
-read_first_run : IsRun read_first_items
+read_first_run : IsRunOf Base read_first_items
 unfolding read_first_items enc head tail complete next_phase target has has_only is_proper is_proper_option info_of is_listed is_go content_of failure_of ends_reply is_failing piece_of report
 read_first_run = is_run read_first_items refl refl refl refl
 
@@ -180,7 +181,7 @@ read_first = record {
 two_reads_items : List Item
 two_reads_items = sends (greeted ++ gone ++ read 1 0 1 ∷ []) ++ Serves (whole 1) ∷ sends (gives 1 (0 ∷ []) ∷ read 2 0 1 ∷ []) ++ Serves (whole 2) ∷ sends (gives 2 (0 ∷ []) ∷ [])
 
-two_reads_run : IsRun two_reads_items
+two_reads_run : IsRunOf Base two_reads_items
 unfolding two_reads_items enc head tail complete next_phase target has has_only is_proper is_proper_option info_of is_listed is_go content_of failure_of ends_reply is_failing piece_of report
 two_reads_run = is_run two_reads_items refl refl refl refl
 
@@ -205,7 +206,7 @@ two_reads_late = failing_is_no two_reads_items (flat captures.two_reads) (whole 
 odd_byte_items : List Item
 odd_byte_items = sends (greeted ++ gone ++ read 1 0 1 ∷ []) ++ Serves (whole 1) ∷ sends (gives 1 (255 ∷ []) ∷ [])
 
-odd_byte_run : IsRun odd_byte_items
+odd_byte_run : IsRunOf Base odd_byte_items
 unfolding odd_byte_items enc head tail complete next_phase target has has_only is_proper is_proper_option info_of is_listed is_go content_of failure_of ends_reply is_failing piece_of report
 odd_byte_run = is_run odd_byte_items refl refl refl refl
 
@@ -244,7 +245,7 @@ odd_byte_image = record {
 pending_write_items : List Item
 pending_write_items = sends (greeted ++ gone ++ write 1 0 (171 ∷ []) ∷ read 2 0 1 ∷ []) ++ Serves (whole 1) ∷ Serves (whole 2) ∷ sends (gives 2 (255 ∷ []) ∷ [])
 
-pending_write_run : IsRun pending_write_items
+pending_write_run : IsRunOf Base pending_write_items
 unfolding pending_write_items enc head tail complete next_phase target has has_only is_proper is_proper_option info_of is_listed is_go content_of failure_of ends_reply is_failing piece_of report
 pending_write_run = is_run pending_write_items refl refl refl refl
 
@@ -269,7 +270,7 @@ pending_write_unserved = failing_is_no pending_write_items (flat captures.pendin
 trimmed_read_items : List Item
 trimmed_read_items = sends (greeted ++ gone ++ trim 1 0 8 ∷ []) ++ Serves (whole 1) ∷ sends (succeeds 1 ∷ read 2 0 8 ∷ []) ++ Serves (whole 2) ∷ sends (gives 2 (1 ∷ 2 ∷ 3 ∷ 4 ∷ 5 ∷ 6 ∷ 7 ∷ 8 ∷ []) ∷ [])
 
-trimmed_read_run : IsRun trimmed_read_items
+trimmed_read_run : IsRunOf Base trimmed_read_items
 unfolding trimmed_read_items enc head tail complete next_phase target has has_only is_proper is_proper_option info_of is_listed is_go content_of failure_of ends_reply is_failing piece_of report
 trimmed_read_run = is_run trimmed_read_items refl refl refl refl
 
@@ -290,7 +291,7 @@ trimmed_read = record {
 zeroed_read_items : List Item
 zeroed_read_items = sends (greeted ++ gone ++ zero_out 1 0 8 ∷ []) ++ Serves (whole 1) ∷ sends (succeeds 1 ∷ read 2 0 8 ∷ []) ++ Serves (whole 2) ∷ sends (gives 2 (1 ∷ 2 ∷ 3 ∷ 4 ∷ 5 ∷ 6 ∷ 7 ∷ 8 ∷ []) ∷ [])
 
-zeroed_read_run : IsRun zeroed_read_items
+zeroed_read_run : IsRunOf Base zeroed_read_items
 unfolding zeroed_read_items enc head tail complete next_phase target has has_only is_proper is_proper_option info_of is_listed is_go content_of failure_of ends_reply is_failing piece_of report
 zeroed_read_run = is_run zeroed_read_items refl refl refl refl
 
@@ -301,7 +302,7 @@ zeroed_read = failing_is_no zeroed_read_items (flat captures.zeroed_read) (whole
 shared_cookie_items : List Item
 shared_cookie_items = sends (greeted ++ gone ++ read 1 0 1 ∷ []) ++ Serves (whole 1) ∷ within (write 1 4 (171 ∷ [])) (sends (gives 1 (0 ∷ []) ∷ [])) ++ Serves (whole 2) ∷ sends (succeeds 1 ∷ [])
 
-shared_cookie_run : IsRun shared_cookie_items
+shared_cookie_run : IsRunOf Base shared_cookie_items
 unfolding shared_cookie_items enc head tail complete next_phase target has has_only is_proper is_proper_option info_of is_listed is_go content_of failure_of ends_reply is_failing piece_of report
 shared_cookie_run = is_run shared_cookie_items refl refl refl refl
 
@@ -322,7 +323,7 @@ shared_cookie = record {
 disconnected_items : List Item
 disconnected_items = sends (greeted ++ gone ++ write 1 0 (171 ∷ []) ∷ read 2 4 1 ∷ disconnect ∷ []) ++ Serves (whole 1) ∷ Serves (whole 2) ∷ sends (gives 2 (0 ∷ []) ∷ succeeds 1 ∷ [])
 
-disconnected_run : IsRun disconnected_items
+disconnected_run : IsRunOf Base disconnected_items
 unfolding disconnected_items enc head tail complete next_phase target has has_only is_proper is_proper_option info_of is_listed is_go content_of failure_of ends_reply is_failing piece_of report
 disconnected_run = is_run disconnected_items refl refl refl refl
 

@@ -14,7 +14,7 @@ use Rattle.nbd_wire.specs.protocol.Reports.{report}
 use Rattle.nbd_wire.specs.protocol.Operations.{ends_reply, is_failing, is_proper}
 use Rattle.nbd_wire.specs.protocol.Flags.{has, has_only}
 use Rattle.nbd_wire.specs.protocol.Pieces.{piece_of}
-use Rattle.nbd_wire.specs.protocol.Rules.{IsRun, MayStartIn, complete}
+use Rattle.nbd_wire.specs.protocol.Rules.{IsRunOf, MayStartIn, complete}
 use Rattle.nbd_wire.specs.protocol.States.{start, target}
 use Rattle.nbd_wire.specs.protocol.Verdicts.{IsFaultless}
 use Rattle.nbd_laws.specs.captures.Openings as captures
@@ -26,12 +26,12 @@ use Rattle.nbd_laws.proofs.runs.FollowLemmas.{Follows, IsBegun, bare, follows, f
 use Rattle.nbd_laws.proofs.service.MomentLemmas.{orders_are_faultless}
 use Rattle.nbd_laws.proofs.runs.RunLemmas.{walk_of}
 use Rattle.nbd_laws.proofs.worked.SessionLemmas.{gone, greeted, sends}
-use Rattle.nbd_laws.proofs.machine.TwinLemmas.{Next, opens, goes_on, ends, next}
+use Rattle.nbd_laws.proofs.reading.TwinLemmas.{Next, opens, goes_on, ends, next}
 
 opening_items : List Item
 opening_items = sends (greeted ++ gone)
 
-opening_run : IsRun opening_items
+opening_run : IsRunOf Base opening_items
 unfolding opening_items enc head tail complete next_phase target has has_only is_proper is_proper_option info_of is_listed is_go content_of failure_of ends_reply is_failing piece_of report
 opening_run = is_run opening_items refl refl refl refl
 

@@ -13,7 +13,8 @@ use Rattle.nbd_wire.specs.protocol.Reports.{report}
 use Rattle.nbd_wire.specs.protocol.Operations.{ends_reply, is_failing, is_proper}
 use Rattle.nbd_wire.specs.protocol.Flags.{has, has_only}
 use Rattle.nbd_wire.specs.protocol.Pieces.{piece_of}
-use Rattle.nbd_wire.specs.protocol.Rules.{IsRun, complete}
+use Rattle.nbd_wire.specs.declared.profile.Profile.TheVariants.{Base}
+use Rattle.nbd_wire.specs.protocol.Rules.{IsRunOf, complete}
 use Rattle.nbd_wire.specs.protocol.States.{target}
 use Rattle.nbd_laws.specs.captures.Requests as captures
 use Rattle.nbd_laws.specs.Explaining.{IsYes}
@@ -25,7 +26,7 @@ use Rattle.nbd_laws.proofs.worked.SessionLemmas.{fails, flagged, gives, gone, go
 proper_requests_items : List Item
 proper_requests_items = sends (greeted ++ gone_with 2285 ++ flagged 1 commands.FLUSH 1 0 0 [] ∷ []) ++ Serves (whole 1) ∷ sends (succeeds 1 ∷ flagged 1 commands.WRITE 2 0 1 (171 ∷ []) ∷ []) ++ Serves (whole 2) ∷ sends (succeeds 2 ∷ flagged 19 commands.WRITE_ZEROES 3 1 1 [] ∷ []) ++ Serves (whole 3) ∷ sends (succeeds 3 ∷ flagged 5 commands.READ 4 0 1 [] ∷ []) ++ Serves (whole 4) ∷ sends (gives 4 (171 ∷ []) ∷ flagged 1 commands.CACHE 5 0 8 [] ∷ []) ++ Serves (whole 5) ∷ sends (succeeds 5 ∷ flagged 1 commands.TRIM 6 7 1 [] ∷ []) ++ Serves (whole 6) ∷ sends (succeeds 6 ∷ [])
 
-proper_requests_run : IsRun proper_requests_items
+proper_requests_run : IsRunOf Base proper_requests_items
 unfolding proper_requests_items enc head tail complete next_phase target has has_only is_proper is_proper_option info_of is_listed is_go content_of failure_of ends_reply is_failing piece_of report
 proper_requests_run = is_run proper_requests_items refl refl refl refl
 
@@ -46,7 +47,7 @@ proper_requests = record {
 changes_of_read_only_items : List Item
 changes_of_read_only_items = sends (greeted ++ gone_with 111 ++ write 1 0 (171 ∷ []) ∷ []) ++ Serves (whole 1) ∷ sends (fails 1 1 ∷ trim 2 0 1 ∷ []) ++ Serves (whole 2) ∷ sends (fails 2 1 ∷ zero_out 3 0 1 ∷ []) ++ Serves (whole 3) ∷ sends (fails 3 1 ∷ [])
 
-changes_of_read_only_run : IsRun changes_of_read_only_items
+changes_of_read_only_run : IsRunOf Base changes_of_read_only_items
 unfolding changes_of_read_only_items enc head tail complete next_phase target has has_only is_proper is_proper_option info_of is_listed is_go content_of failure_of ends_reply is_failing piece_of report
 changes_of_read_only_run = is_run changes_of_read_only_items refl refl refl refl
 
@@ -67,7 +68,7 @@ changes_of_read_only = record {
 requests_not_offered_items : List Item
 requests_not_offered_items = sends (greeted ++ gone_with 1 ++ flagged 0 commands.FLUSH 1 0 0 [] ∷ []) ++ Serves (whole 1) ∷ sends (fails 1 22 ∷ trim 2 0 1 ∷ []) ++ Serves (whole 2) ∷ sends (fails 2 22 ∷ zero_out 3 0 1 ∷ []) ++ Serves (whole 3) ∷ sends (fails 3 22 ∷ flagged 1 commands.WRITE 4 0 1 (171 ∷ []) ∷ []) ++ Serves (whole 4) ∷ sends (fails 4 22 ∷ [])
 
-requests_not_offered_run : IsRun requests_not_offered_items
+requests_not_offered_run : IsRunOf Base requests_not_offered_items
 unfolding requests_not_offered_items enc head tail complete next_phase target has has_only is_proper is_proper_option info_of is_listed is_go content_of failure_of ends_reply is_failing piece_of report
 requests_not_offered_run = is_run requests_not_offered_items refl refl refl refl
 
@@ -88,7 +89,7 @@ requests_not_offered = record {
 flags_not_allowed_items : List Item
 flags_not_allowed_items = sends (greeted ++ gone ++ flagged 4 commands.READ 1 0 1 [] ∷ []) ++ Serves (whole 1) ∷ sends (fails 1 22 ∷ flagged 16 commands.WRITE_ZEROES 2 0 1 [] ∷ []) ++ Serves (whole 2) ∷ sends (fails 2 22 ∷ flagged 2 commands.READ 3 0 1 [] ∷ []) ++ Serves (whole 3) ∷ sends (fails 3 22 ∷ flagged 8 commands.READ 4 0 1 [] ∷ []) ++ Serves (whole 4) ∷ sends (fails 4 22 ∷ [])
 
-flags_not_allowed_run : IsRun flags_not_allowed_items
+flags_not_allowed_run : IsRunOf Base flags_not_allowed_items
 unfolding flags_not_allowed_items enc head tail complete next_phase target has has_only is_proper is_proper_option info_of is_listed is_go content_of failure_of ends_reply is_failing piece_of report
 flags_not_allowed_run = is_run flags_not_allowed_items refl refl refl refl
 
@@ -109,7 +110,7 @@ flags_not_allowed = record {
 odd_requests_items : List Item
 odd_requests_items = sends (greeted ++ gone ++ flagged 0 7 1 0 0 [] ∷ []) ++ Serves (whole 1) ∷ sends (fails 1 22 ∷ flagged 0 commands.FLUSH 2 1 0 [] ∷ []) ++ Serves (whole 2) ∷ sends (fails 2 22 ∷ flagged 0 commands.FLUSH 3 0 1 [] ∷ []) ++ Serves (whole 3) ∷ sends (fails 3 22 ∷ write 4 7 (171 ∷ 205 ∷ []) ∷ []) ++ Serves (whole 4) ∷ sends (fails 4 28 ∷ [])
 
-odd_requests_run : IsRun odd_requests_items
+odd_requests_run : IsRunOf Base odd_requests_items
 unfolding odd_requests_items enc head tail complete next_phase target has has_only is_proper is_proper_option info_of is_listed is_go content_of failure_of ends_reply is_failing piece_of report
 odd_requests_run = is_run odd_requests_items refl refl refl refl
 
@@ -130,7 +131,7 @@ odd_requests = record {
 improper_read_items : List Item
 improper_read_items = sends (greeted ++ gone ++ read 1 8 1 ∷ []) ++ Serves (whole 1) ∷ sends (fails 1 22 ∷ [])
 
-improper_read_run : IsRun improper_read_items
+improper_read_run : IsRunOf Base improper_read_items
 unfolding improper_read_items enc head tail complete next_phase target has has_only is_proper is_proper_option info_of is_listed is_go content_of failure_of ends_reply is_failing piece_of report
 improper_read_run = is_run improper_read_items refl refl refl refl
 
@@ -151,7 +152,7 @@ improper_read = record {
 read_of_nothing_items : List Item
 read_of_nothing_items = sends (greeted ++ gone ++ read 1 8 0 ∷ []) ++ Serves (whole 1) ∷ sends (succeeds 1 ∷ [])
 
-read_of_nothing_run : IsRun read_of_nothing_items
+read_of_nothing_run : IsRunOf Base read_of_nothing_items
 unfolding read_of_nothing_items enc head tail complete next_phase target has has_only is_proper is_proper_option info_of is_listed is_go content_of failure_of ends_reply is_failing piece_of report
 read_of_nothing_run = is_run read_of_nothing_items refl refl refl refl
 

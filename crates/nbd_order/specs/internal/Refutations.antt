@@ -3,7 +3,7 @@
 use Rattle.std.specs.Prelude.{ℕ, List, ◌≡◌, ◌<◌, ◌⊎◌, ◌==◌, ◌||◌, Bool, true, false, Option, Some, None, IsTrue, is_some, slice_get}
 use Rattle.nbd_order.specs.declared.refutation.State.{State}
 use Rattle.nbd_wire.specs.declared.commands.TheConstants as commands
-use Rattle.nbd_wire.specs.protocol.ExportBytes.{Differs, Effect, effect_byte, effects, touches}
+use Rattle.nbd_wire.specs.protocol.ExportBytes.{Differs, Effect, effect_byte, effects, touches, GivesByte}
 use Rattle.nbd_wire.specs.protocol.Reports.{Report, inside_in, known_in}
 use Rattle.nbd_order.specs.Unexplained.{has}
 
@@ -15,10 +15,6 @@ IsBefore r j k = (n : ℕ) × (known_in r j ≡ Some n) × (n < k)
 -- request w is a WRITE, TRIM or WRITE_ZEROES with x in its range
 abbrev pub IsChange : Report → (w x : ℕ) → Effect → Type 0
 IsChange r w x e = (effects r w ≡ Some e) × IsTrue (touches None e x)
-
--- the reply gives a byte at x: a READ's, or a BLOCK_STATUS's that calls x zero
-abbrev pub GivesByte : Effect → (x : ℕ) → Type 0
-GivesByte e x = (e.command ≡ commands.READ) ⊎ ((e.command ≡ commands.BLOCK_STATUS) × IsTrue (is_some (e.read x)))
 
 -- request k gives a byte at x: it succeeded, x lies inside it, and a reply to it began
 pub record IsReadAt (r : Report) (x k : ℕ) : Type 0 where

@@ -15,7 +15,7 @@ use Rattle.nbd_state.specs.Shows.{AreShown, Shows}
 use Rattle.nbd_wire.specs.declared.fault.WireFault.{WireFault}
 use Rattle.nbd_wire.specs.declared.heads.transmission.ChunkHead.{ChunkHead}
 use Rattle.nbd_wire.specs.declared.heads.transmission.SimpleHead.{SimpleHead}
-use Rattle.nbd_wire.specs.protocol.JudgeTransmission.{simple_last_fault}
+use Rattle.nbd_wire.specs.protocol.Transmission.{simple_last_fault}
 use Rattle.nbd_session.specs.declared.expected.Expected.TheVariants.{Chunk, Simple}
 use Rattle.nbd_session.specs.internal.Expecting.{chunk_fault_to, last_fault_by}
 

@@ -3,10 +3,10 @@ use Rattle.std.proofs.Common.{◌≡◌, ℕ, ◌+◌, ◌<◌, ◌==◌, List, 
 use Rattle.std.proofs.lemmas.Bool.{le-ltb, eq-eqb}
 use Rattle.nbd_wire.specs.declared.fault.WireFault.{WireFault}
 use Rattle.nbd_wire.specs.protocol.States.{Core}
-use Rattle.nbd_wire.specs.protocol.Concrete.{last_reading, read_by, reading_by_decision, staged_reading_by}
-use Rattle.nbd_wire.specs.protocol.Decisions.{Decision, awaited_length_by}
+use Rattle.nbd_laws.specs.Awaited.{awaited_length_by}
+use Rattle.nbd_wire.specs.protocol.Decisions.{Decision}
+use Rattle.nbd_wire.specs.protocol.Reading.{last_reading, read_by, reading_by_decision, staged_reading_by, Bad, More, Whole}
 use Rattle.nbd_laws.proofs.judge.AwaitedLemmas.{in_head, in_payload}
-use Rattle.nbd_wire.specs.protocol.Machine.{Bad, More, Whole}
 use Rattle.nbd_session.specs.declared.expected.Expected.{Expected}
 use Rattle.nbd_session.specs.internal.Expecting.{expected_decision, last_fault_by, message_of, payload_length_of}
 use Rattle.nbd_session.specs.internal.Known.{IsExpected}

@@ -10,8 +10,9 @@ use Rattle.nbd_wire.specs.declared.transmission.TheConstants as transmission
 use Rattle.nbd_wire.specs.protocol.Flags.{has}
 use Rattle.nbd_wire.specs.protocol.Payloads.{number_at}
 use Rattle.nbd_wire.specs.protocol.States.{Core}
-use Rattle.nbd_wire.specs.protocol.Decisions.{fault_if}
-use Rattle.nbd_wire.specs.protocol.JudgeNegotiation.{client_flags, client_flags_fault, export_answer, export_fault, greeting, padding_fault, sets_more}
+use Rattle.nbd_wire.specs.protocol.Decisions.{client_flags, export_answer, greeting}
+use Rattle.nbd_wire.specs.protocol.Negotiation.{client_flags_fault, export_fault, padding_fault, sets_more}
+use Rattle.nbd_wire.specs.protocol.Tests.{fault_if}
 use Rattle.nbd_session.specs.declared.expected.Expected.TheVariants.{Greeting, ClientFlags, Exported}
 use Rattle.nbd_session.specs.internal.Expecting.{expected_decision}
 use Rattle.nbd_session.specs.internal.Leading.{greeting_flags_of}

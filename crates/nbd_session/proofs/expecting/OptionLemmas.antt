@@ -1,5 +1,5 @@
 -- An option, or an option reply, whose head has come.
-use Rattle.std.proofs.Common.{◌≡◌, ℕ, ◌==◌, not, List, ◌++◌, length, drop, refl, sym, ◌∙◌, ap, Option, Some, None, Ok, Err, Bool, true, false, eq-eqb, eqb-true, arith}
+use Rattle.std.proofs.Common.{◌≡◌, ℕ, ◌==◌, not, List, ◌++◌, length, drop, refl, sym, ◌∙◌, ap, Option, Some, None, Ok, Err, Bool, true, false, eq-eqb, eqb-true, arith, if◌then◌else◌}
 use Rattle.std.proofs.lemmas.Bool.{ne_eqb}
 use Rattle.nbd_wire.specs.declared.fault.WireFault.{WireFault}
 use Rattle.nbd_wire.specs.declared.fault.WireFault.TheVariants.{BadMagic, WrongOption}
@@ -14,8 +14,9 @@ use Rattle.nbd_wire.specs.protocol.Operations.{Exporting}
 use Rattle.nbd_wire.specs.protocol.Options.{is_error}
 use Rattle.nbd_wire.specs.protocol.Payloads.{number_at}
 use Rattle.nbd_wire.specs.protocol.States.{Core}
-use Rattle.nbd_wire.specs.protocol.Decisions.{fault_if}
-use Rattle.nbd_wire.specs.protocol.JudgeNegotiation.{abort_answer, abort_fault, answer, answered_fault, choice, earlier_to, payload_fault, success_fault, unless_error}
+use Rattle.nbd_wire.specs.protocol.Decisions.{abort_answer, answer, answered_fault, choice}
+use Rattle.nbd_wire.specs.protocol.Negotiation.{abort_fault, earlier_to, payload_fault, success_fault}
+use Rattle.nbd_wire.specs.protocol.Tests.{fault_if}
 use Rattle.nbd_session.specs.declared.expected.Expected.TheVariants.{Answer, Choice}
 use Rattle.nbd_session.specs.internal.Expecting.{expected_decision}
 use Rattle.nbd_session.specs.internal.Leading.{answer_fields_of, answer_head_of, choice_head_of, unless_fault}
@@ -86,12 +87,12 @@ good_error profile asked proper takes info head payload h now len none is error 
     let kind : is_error (number_at 12 4 (head ++ payload)) ≡ true = ap (λ f. is_error f.kind) same ∙ error in
     let success = success_fault profile asked proper takes info (number_at 12 4 (head ++ payload)) (number_at 16 4 (head ++ payload)) in
     let fault : (answer profile asked proper takes info now.selection (head ++ payload)).head_fault ≡ None =
-    right_answer asked (head ++ payload) (unless_error (is_error (number_at 12 4 (head ++ payload))) success) (fault_same asked head payload len ∙ none) ∙ ap (λ b. unless_error b success) kind in
+    right_answer asked (head ++ payload) (if is_error (number_at 12 4 (head ++ payload)) then None else success) (fault_same asked head payload len ∙ none) ∙ ap (λ b. (if b then None else success)) kind in
     (λ i. record {
       head_length = 20;
       head_fault = fault i;
       payload_length = (same i).length;
-      last_fault = ap (λ b. unless_error b (payload_fault profile (earlier_to asked now.selection) proper (number_at 12 4 (head ++ payload)) (drop 20 (head ++ payload)))) kind i;
+      last_fault = ap (λ b. (if b then None else (payload_fault profile (earlier_to asked now.selection) proper (number_at 12 4 (head ++ payload)) (drop 20 (head ++ payload))))) kind i;
       message = messages.Answer (same i).option (same i).kind (after_head 20 head payload len i);
     })
 
@@ -112,10 +113,10 @@ good_success profile asked proper takes info head payload h now held len option 
     let kind : is_error (number_at 12 4 (head ++ payload)) ≡ false = ap (λ f. is_error f.kind) same ∙ error in
     let success = success_fault profile asked proper takes info (number_at 12 4 (head ++ payload)) (number_at 16 4 (head ++ payload)) in
     let fault : (answer profile asked proper takes info now.selection (head ++ payload)).head_fault ≡ None =
-    right_answer asked (head ++ payload) (unless_error (is_error (number_at 12 4 (head ++ payload))) success) (fault_same asked head payload len ∙ none)
-    ∙ ap (λ b. unless_error b success) kind ∙ (λ i. success_fault profile asked proper takes info (same i).kind (same i).length) ∙ fits in
+    right_answer asked (head ++ payload) (if is_error (number_at 12 4 (head ++ payload)) then None else success) (fault_same asked head payload len ∙ none)
+    ∙ ap (λ b. (if b then None else success)) kind ∙ (λ i. success_fault profile asked proper takes info (same i).kind (same i).length) ∙ fits in
     let last : (answer profile asked proper takes info now.selection (head ++ payload)).last_fault ≡ payload_fault now.profile (earlier_to h.option now.selection) proper h.kind payload =
-    ap (λ b. unless_error b (payload_fault profile (earlier_to asked now.selection) proper (number_at 12 4 (head ++ payload)) (drop 20 (head ++ payload)))) kind ∙ (λ i. payload_fault (sym held i) (earlier_to (sym option i) now.selection) proper (same i).kind (after_head 20 head payload len i)) in
+    ap (λ b. (if b then None else (payload_fault profile (earlier_to asked now.selection) proper (number_at 12 4 (head ++ payload)) (drop 20 (head ++ payload))))) kind ∙ (λ i. payload_fault (sym held i) (earlier_to (sym option i) now.selection) proper (same i).kind (after_head 20 head payload len i)) in
     (λ i. record { head_length = 20; head_fault = fault i; payload_length = (same i).length; last_fault = last i; message = messages.Answer (same i).option (same i).kind (after_head 20 head payload len i) })
 
 module _ (asked : ℕ) (head : List ℕ) where
@@ -138,7 +139,7 @@ pub bad_success : (profile : Profile) (asked : ℕ) (proper takes : Bool) (info 
     is_error h.kind ≡ false → success_fault profile asked proper takes info h.kind h.length ≡ Some f → (answer profile asked proper takes info selection head).head_fault ≡ Some f
 bad_success profile asked proper takes info selection head h f none is error bad =
     let success = success_fault profile asked proper takes info (number_at 12 4 head) (number_at 16 4 head) in
-    right_answer asked head (unless_error (is_error (number_at 12 4 head)) success) none
-    ∙ ap (λ b. unless_error b success) (sym (ap (λ (f : AnswerHead). is_error f.kind) is) ∙ error)
+    right_answer asked head (if is_error (number_at 12 4 head) then None else success) none
+    ∙ ap (λ b. (if b then None else success)) (sym (ap (λ (f : AnswerHead). is_error f.kind) is) ∙ error)
     ∙ sym (ap (λ (f : AnswerHead). success_fault profile asked proper takes info f.kind f.length) is)
     ∙ bad

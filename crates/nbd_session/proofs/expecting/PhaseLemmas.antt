@@ -4,12 +4,11 @@ use Rattle.nbd_wire.specs.declared.fault.WireFault.{WireFault}
 use Rattle.nbd_wire.specs.declared.message.Side.{Side}
 use Rattle.nbd_wire.specs.protocol.Operations.{Exporting}
 use Rattle.nbd_wire.specs.protocol.States.{Core, Phase, Greet, Flags, Choosing, Naming, Aborting, Answering, Ended, Transmission}
-use Rattle.nbd_wire.specs.protocol.Decisions.{Decision}
-use Rattle.nbd_wire.specs.protocol.Judge.{decision_by_count, decision_with}
-use Rattle.nbd_wire.specs.protocol.JudgeTransmission.{operation_counted}
+use Rattle.nbd_session.specs.internal.Counted.{decision_by_count, operation_counted}
+use Rattle.nbd_wire.specs.protocol.Decisions.{Decision, export_answer}
+use Rattle.nbd_wire.specs.protocol.Reading.{decision_with}
 use Rattle.nbd_wire.specs.protocol.Options.{is_proper_option, takes_contexts}
 use Rattle.nbd_state.specs.Showing.{exporting_if}
-use Rattle.nbd_wire.specs.protocol.JudgeNegotiation.{export_answer}
 use Rattle.nbd_state.specs.Shows.{Shows, export_shown_if, phase_shown}
 use Rattle.nbd_state.specs.declared.state.State.{State}
 use Rattle.nbd_state.specs.declared.state.Phase as program_phase

@@ -11,8 +11,10 @@ use Rattle.nbd_wire.specs.declared.heads.transmission.SimpleHead.{SimpleHead}
 use Rattle.nbd_wire.specs.protocol.Operations.{Exporting, Operation, asks_status}
 use Rattle.nbd_wire.specs.protocol.States.{Core, Transmission, in_force, operation, target}
 use Rattle.nbd_laws.proofs.requests.OutstandingLemmas.{find}
-use Rattle.nbd_wire.specs.protocol.Decisions.{Decision, fault_if, is_none_yet}
-use Rattle.nbd_wire.specs.protocol.JudgeTransmission.{begins, chunk_head_fault, chunk_last_fault, chunk_to, operation_counted, reply_by, reply_with, simple_fault, simple_last_fault, simple_payload_length, simple_to}
+use Rattle.nbd_session.specs.internal.Counted.{operation_counted}
+use Rattle.nbd_wire.specs.protocol.Decisions.{Decision, begins, chunk_last_fault, chunk_to, reply_by, reply_with, simple_to}
+use Rattle.nbd_wire.specs.protocol.Tests.{fault_if}
+use Rattle.nbd_wire.specs.protocol.Transmission.{is_none_yet, chunk_head_fault, simple_fault, simple_last_fault, simple_payload_length}
 use Rattle.nbd_laws.proofs.judge.SteadyLemmas.{begun_true, no_chunk}
 use Rattle.nbd_state.specs.Showing.{IsShown}
 use Rattle.nbd_laws.specs.Selecting.{AreAskedWith}

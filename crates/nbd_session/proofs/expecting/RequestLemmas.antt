@@ -7,8 +7,9 @@ use Rattle.nbd_wire.specs.declared.magics.TheConstants.{REQUEST_MAGIC}
 use Rattle.nbd_wire.specs.declared.message.Message.TheVariants as messages
 use Rattle.nbd_wire.specs.protocol.Payloads.{number_at}
 use Rattle.nbd_wire.specs.protocol.States.{Core, target}
-use Rattle.nbd_wire.specs.protocol.Decisions.{fault_if}
-use Rattle.nbd_wire.specs.protocol.JudgeTransmission.{cookie_fault, request, request_payload_length}
+use Rattle.nbd_wire.specs.protocol.Decisions.{request}
+use Rattle.nbd_wire.specs.protocol.Tests.{fault_if}
+use Rattle.nbd_wire.specs.protocol.Transmission.{cookie_fault, request_payload_length}
 use Rattle.nbd_session.specs.declared.expected.Expected.TheVariants.{Request}
 use Rattle.nbd_session.specs.internal.Expecting.{expected_decision}
 use Rattle.nbd_session.specs.internal.Leading.{request_head_of}

@@ -7,13 +7,12 @@ use Rattle.nbd_wire.specs.protocol.States.{start_of}
 use Rattle.nbd_state.specs.declared.asked.Exchange.{Exchange}
 use Rattle.nbd_session.specs.declared.fault.SessionFault.{SessionFault}
 use Rattle.nbd_session.specs.declared.held.Held.{Held}
-use Rattle.nbd_wire.specs.protocol.Concrete.{concrete}
+use Rattle.nbd_wire.specs.protocol.Reading.{by_tests, fresh_of, get}
 use Rattle.nbd_session.specs.internal.Holdings.{holding_of, incoming_of}
 use Rattle.nbd_session.specs.Incoming.{bytes_come, nothing_come}
 use Rattle.nbd_session.specs.internal.Known.{IsKnown, decided}
 use Rattle.nbd_session.proofs.steps.KnownLemmas.{nothing_known}
 use Rattle.nbd_session.specs.internal.Logging.{log_of_pairs}
-use Rattle.nbd_wire.specs.protocol.Machine.{fresh_of, get}
 use Rattle.nbd_session.specs.Sessions.{AddsPrefix, IsOfRun, SessionView, pairs_of}
 use Rattle.nbd_state.specs.Shows.{AreKnown, Shows}
 use Rattle.nbd_session.specs.internal.Standing.{Holding, IsReadTo, held_pairs, rest_of}
@@ -31,7 +30,7 @@ rest_empty profile Server = refl
 read_empty : (profile : Profile) → IsReadTo (empty profile) (fresh_of profile)
 read_empty profile = record { are_pairs = tt; reads_it = refl; messages_are = refl; rests_are = rest_empty profile; count_is = λ f. absurd f; are_stretches = record { of_client = refl; of_server = refl } }
 
-none_known : (profile : Profile) (xs : List Exchange) → xs ≡ [] → AreKnown (log_of_pairs concrete (fresh_of profile) []) xs
+none_known : (profile : Profile) (xs : List Exchange) → xs ≡ [] → AreKnown (log_of_pairs by_tests (fresh_of profile) []) xs
 none_known profile [] e place x at = absurd (cc)
 none_known profile (y ∷ xs) e place x at = absurd (cc)
 
@@ -40,10 +39,10 @@ pub begins : (profile : Profile) (held : Held) → Shows held.state (start_of pr
 begins profile held shows none client server nothing =
     let holds : holding_of held ≡ empty profile = (λ i. record { profile = shows.profile_is i; messages = nothing.0 i; client = bytes_come (client i); server = bytes_come (server i); counted = nothing.2 i; stretches = stretches_of (nothing.1 i) }) in
     record {
-      machine = fresh_of profile;
+      reader = fresh_of profile;
       read_to = subst (λ h. IsReadTo h (fresh_of profile)) (sym holds) (read_empty profile);
       shows = shows;
-      known = subst (λ h. AreKnown (log_of_pairs concrete (fresh_of h.profile) (held_pairs h)) held.state.exchanges.items) (sym holds) (none_known profile held.state.exchanges.items none);
+      known = subst (λ h. AreKnown (log_of_pairs by_tests (fresh_of h.profile) (held_pairs h)) held.state.exchanges.items) (sym holds) (none_known profile held.state.exchanges.items none);
       taken_is = nothing.3 ∙ sym (ap (λ h. length (held_pairs h)) holds);
       knows = known;
     }

@@ -16,8 +16,8 @@ use Rattle.std.specs.Prelude.{option_to_list}
 use Rattle.nbd_wire.specs.protocol.Contexts.{Status}
 use Rattle.nbd_wire.specs.protocol.Statuses.{status_in, statuses}
 use Rattle.nbd_session.specs.internal.Asking.{done_by, finish_by, lacks_by}
-use Rattle.nbd_wire.specs.protocol.Decisions.{fault_if}
-use Rattle.nbd_wire.specs.protocol.JudgeTransmission.{chunk_fault, content_fault, done_fault, finish_fault, fits_failure, fits_read, fits_status, status_if, total}
+use Rattle.nbd_wire.specs.protocol.Tests.{fault_if}
+use Rattle.nbd_wire.specs.protocol.Transmission.{chunk_fault, content_fault, done_fault, finish_fault, fits_failure, fits_read, fits_status, status_if, total}
 use Rattle.nbd_state.proofs.ReplyLemmas.{any-snoc, or-false, proper-same}
 use Rattle.nbd_laws.proofs.judge.BoolLemmas.{and_true}
 use Rattle.nbd_laws.proofs.requests.LaidLemmas.{pieces-snoc}

@@ -17,9 +17,8 @@ use Rattle.nbd_session.specs.internal.Known.{IsCome, IsKnown, awaited, decided}
 use Rattle.nbd_session.proofs.steps.KnownLemmas.{come_with}
 use Rattle.nbd_session.proofs.steps.HoldingLemmas.{rest_is}
 use Rattle.nbd_session.specs.Views.{stretches_of}
-use Rattle.nbd_wire.specs.protocol.Machine.{IsFilled, Machine, fresh_of, get}
+use Rattle.nbd_wire.specs.protocol.Reading.{IsFilled, Reader, fresh_of, get, by_tests}
 use Rattle.nbd_session.specs.Sessions.{Adds}
-use Rattle.nbd_wire.specs.protocol.Concrete.{concrete}
 use Rattle.nbd_session.specs.internal.Logging.{log_of_pairs}
 use Rattle.nbd_state.specs.Shows.{AreKnown, Shows}
 use Rattle.nbd_session.specs.internal.Standing.{AreStretchesOf, Holding, IsReadTo, held_pairs, rest_of, stretch_total, with_bytes}
@@ -60,10 +59,10 @@ total_fits held s st =
     omega (arith, one, all, st.taken_is)
 
 -- something is missing until the next length at which something is decided
-pub awaits_some : (held : Held) (s : Side) (n : ℕ) (st : Stands held) → length (rest_of (holding_of held) s) + n ≡ awaited st.machine s → 0 < n
+pub awaits_some : (held : Held) (s : Side) (n : ℕ) (st : Stands held) → length (rest_of (holding_of held) s) + n ≡ awaited st.reader s → 0 < n
 awaits_some held s n st is =
-    let short = (held_short (held_of (holding_of held) st.machine st.read_to s)).short in
-    let same : length (get st.machine.rests s).bytes ≡ length (rest_of (holding_of held) s) = ap length (st.read_to.rests_are s) in
+    let short = (held_short (held_of (holding_of held) st.reader st.read_to s)).short in
+    let same : length (get st.reader.rests s).bytes ≡ length (rest_of (holding_of held) s) = ap length (st.read_to.rests_are s) in
     omega (arith, short, same, is)
 
 are_bytes : (bytes : List ℕ) → ((i : ℕ) → Fits w8 (slice_index_or bytes i 0)) → AreBytes bytes
@@ -86,11 +85,11 @@ length-sent s bytes = length-map bytes (λ b. record { from = s; byte = b })
 -- the prefix of a piece was taken
 module _ (held taken : Held) (s : Side) (left : List ℕ) (count : ℕ) (st : Stands held) (some : 0 < count) (within : count ≤ length left)
     (holding_is : holding_of taken ≡ with_bytes (holding_of held) s (take count left) (length held.state.exchanges.items)) where
-  counts : holding_of taken ≡ with_bytes (holding_of held) s (take count left) (length st.machine.core.entries)
-  counts = holding_is ∙ ap (with_bytes (holding_of held) s (take count left)) (sym (shown_length _ st.machine.core.entries held.state.exchanges.items st.shows.are_shown))
+  counts : holding_of taken ≡ with_bytes (holding_of held) s (take count left) (length st.reader.core.entries)
+  counts = holding_is ∙ ap (with_bytes (holding_of held) s (take count left)) (sym (shown_length _ st.reader.core.entries held.state.exchanges.items st.shows.are_shown))
 
   pub pairs_added : held_pairs (holding_of taken) ≡ held_pairs (holding_of held) ++ side_pairs s (take count left)
-  pairs_added = ap held_pairs counts ∙ pairs-taken (holding_of held) s (take count left) (length st.machine.core.entries) st.read_to.are_stretches
+  pairs_added = ap held_pairs counts ∙ pairs-taken (holding_of held) s (take count left) (length st.reader.core.entries) st.read_to.are_stretches
 
   pub taken_counts : taken.taken ≡ held.taken + length (take count left) → taken.taken ≡ length (held_pairs (holding_of taken))
   taken_counts e =
@@ -99,27 +98,27 @@ module _ (held taken : Held) (s : Side) (left : List ℕ) (count : ℕ) (st : St
       omega (arith, e, n, st.taken_is)
 
   pub is_taken : taken.state ≡ held.state → taken.taken ≡ held.taken + length (take count left) → ((i : ℕ) → Fits w8 (slice_index_or left i 0)) →
-      (n : ℕ) → length (rest_of (holding_of held) s) + n ≡ awaited st.machine s → count ≤ n →
+      (n : ℕ) → length (rest_of (holding_of held) s) + n ≡ awaited st.reader s → count ≤ n →
       incoming_of taken s ≡ incoming_with (incoming_of held s) (take count left) → ((u : Side) → (s ≡ u → ⊥) → incoming_of taken u ≡ incoming_of held u) → IsTaken taken s
   is_taken state_is e fits n is up here others =
-      let same : length (get st.machine.rests s).bytes ≡ length (rest_of (holding_of held) s) = ap length (st.read_to.rests_are s) in
+      let same : length (get st.reader.rests s).bytes ≡ length (rest_of (holding_of held) s) = ap length (st.read_to.rests_are s) in
       let len : length (take count left) ≡ count = length-take-le count left within in
-      let up_to : length ((get st.machine.rests s).bytes ++ take count left) ≤ awaited st.machine s = omega (arith, up, is, same, len, length-append (get st.machine.rests s).bytes (take count left)) in
+      let up_to : length ((get st.reader.rests s).bytes ++ take count left) ≤ awaited st.reader s = omega (arith, up, is, same, len, length-append (get st.reader.rests s).bytes (take count left)) in
       record {
         before = holding_of held;
-        machine = st.machine;
+        reader = st.reader;
         read_to = st.read_to;
         more = take count left;
         filled = prefix_filled count left some within;
         are_bytes = bytes_prefix count left (are_bytes left fits);
         up_to = up_to;
         holding_is = counts;
-        shows = subst (λ state. Shows state st.machine.core) (sym state_is) st.shows;
-        known = subst (λ state. AreKnown (log_of_pairs concrete (fresh_of held.state.profile) (held_pairs (holding_of held))) state.exchanges.items) (sym state_is) st.known;
+        shows = subst (λ state. Shows state st.reader.core) (sym state_is) st.shows;
+        known = subst (λ state. AreKnown (log_of_pairs by_tests (fresh_of held.state.profile) (held_pairs (holding_of held))) state.exchanges.items) (sym state_is) st.known;
         taken_is = taken_counts e;
-        come = subst (IsCome (decided st.machine s) st.machine.core) (sym here)
-            (come_with (held_of (holding_of held) st.machine st.read_to s) (incoming_of held s) (sym (rest_is held s) ∙ sym (st.read_to.rests_are s)) (take count left) up_to (st.knows s));
-        knows = λ u ne. subst (IsKnown (decided st.machine u) st.machine.core) (sym (others u ne)) (st.knows u);
+        come = subst (IsCome (decided st.reader s) st.reader.core) (sym here)
+            (come_with (held_of (holding_of held) st.reader st.read_to s) (incoming_of held s) (sym (rest_is held s) ∙ sym (st.read_to.rests_are s)) (take count left) up_to (st.knows s));
+        knows = λ u ne. subst (IsKnown (decided st.reader u) st.reader.core) (sym (others u ne)) (st.knows u);
       }
 
   pub prefix_added : AddsHeld held taken s left (drop count left)
@@ -163,14 +162,14 @@ settled_added held taken new s piece left x same =
     added_then (held_pairs (holding_of held)) (held_pairs (holding_of taken)) (held_pairs (holding_of new)) held.messages.items taken.messages.items new.messages.items s piece left left x
     (same_left (held_pairs (holding_of taken)) (held_pairs (holding_of new)) taken.messages.items new.messages.items s left (same.adds s))
 
--- what the machine has read is of a run
-pub read_run : (h : Holding) (machine : Machine) → IsReadTo h machine → HoldsRun h
-read_run h machine read =
-    let r = read_is_run_but (held_pairs h) machine h.messages h.client h.server read.are_pairs read.reads_it read.messages_are (read.rests_are Client) (read.rests_are Server) in
+-- what the reader has read is of a run
+pub read_run : (h : Holding) (reader : Reader) → IsReadTo h reader → HoldsRun h
+read_run h reader read =
+    let r = read_is_run_but (held_pairs h) reader h.messages h.client h.server read.are_pairs read.reads_it read.messages_are (read.rests_are Client) (read.rests_are Server) in
     record { items = r.0; is_run = r.1; has_pairs = r.2; has_messages = r.3 }
 
 pub standing_run : (held : Held) → Stands held → HoldsRun (holding_of held)
-standing_run held st = read_run (holding_of held) st.machine st.read_to
+standing_run held st = read_run (holding_of held) st.reader st.read_to
 
 -- memory ran out before a byte was taken
 pub refused_memory : (held new : Held) (s : Side) (piece : List ℕ) → Stands held → holding_of new ≡ holding_of held → new.taken ≡ held.taken → IsRefused held new s piece Memory

@@ -11,16 +11,15 @@ use Rattle.nbd_laws.specs.Bytes.{bytes_of}
 use Rattle.nbd_wire.specs.protocol.Within.{CompletesExactlyOf, IsOfNoRunOf, within}
 use Rattle.nbd_wire.specs.declared.fault.WireFault.{WireFault}
 use Rattle.nbd_wire.specs.declared.fault.WireFault.TheVariants.{Unfinished}
-use Rattle.nbd_laws.proofs.machine.MachineLemmas.{AreHeld}
-use Rattle.nbd_wire.specs.protocol.Machine.{Bad, IsFilled, Machine, More, Reading, Rest, Whole, fresh_of, get, rest_with, old_of, on_ok, reads, settle, step}
-use Rattle.nbd_laws.proofs.machine.MarkLemmas.{IsRead}
+use Rattle.nbd_laws.proofs.reading.ReaderLemmas.{AreHeld}
+use Rattle.nbd_laws.specs.Awaited.{awaited_length}
+use Rattle.nbd_wire.specs.protocol.Reading.{Bad, IsFilled, Reader, More, Reading, Rest, Whole, fresh_of, get, rest_with, old_of, on_ok, reads, settle, step, by_tests}
+use Rattle.nbd_laws.proofs.reading.MarkLemmas.{IsRead}
 use Rattle.nbd_laws.proofs.runs.RunLemmas.{marks_law}
 use Rattle.nbd_session.specs.declared.fault.SessionFault.{SessionFault}
 use Rattle.nbd_session.specs.declared.fault.SessionFault.TheVariants.{Memory, Wire}
 use Rattle.nbd_session.specs.declared.held.Held.{Held}
-use Rattle.nbd_wire.specs.protocol.Concrete.{concrete}
 use Rattle.nbd_session.specs.internal.Holdings.{holding_of}
-use Rattle.nbd_wire.specs.protocol.Judge.{awaited_length}
 use Rattle.nbd_wire.specs.protocol.Places.{IsPlaceOf, IsUnderWayOf}
 use Rattle.nbd_laws.proofs.runs.PlaceLemmas.{read_no_place}
 use Rattle.nbd_session.specs.Refusals.{EndsIn, HasNoPlaceOf, IsAcceptedOf, IsComplete, IsOpenEndOf, IsRefusalOf, IsWireFaultOf, LeavesOpen, Refuses}
@@ -54,67 +53,67 @@ some_last : (bytes : List ℕ) → IsFilled bytes → HasLast bytes
 some_last [] f = absurd f
 some_last (b ∷ bytes) f = last_of b bytes
 
--- what the machine makes of bytes that go on
-record GoesTo (machine : Machine) (s : Side) (bytes : List ℕ) : Type 0 where
-  next : Machine
-  reads_it : reads concrete machine (side_pairs s bytes) ≡ Ok next
-  messages_are : next.messages ≡ machine.messages
+-- what the reader makes of bytes that go on
+record GoesTo (reader : Reader) (s : Side) (bytes : List ℕ) : Type 0 where
+  next : Reader
+  reads_it : reads by_tests reader (side_pairs s bytes) ≡ Ok next
+  messages_are : next.messages ≡ reader.messages
 
-goes_to : (machine : Machine) (s : Side) (bytes : List ℕ) → AreHeld concrete machine →
-    length ((get machine.rests s).bytes ++ bytes) < awaited_length (old_of machine.core (get machine.rests s)) machine.core s (get machine.rests s).bytes → GoesTo machine s bytes
-goes_to machine s [] held l = record { next = machine; reads_it = refl; messages_are = refl }
-goes_to machine s (b ∷ bytes) held l = record {
-  next = with_rest machine s (extended machine.core (get machine.rests s) (b ∷ bytes));
-  reads_it = reads_below machine s (b ∷ bytes) held tt l;
+goes_to : (reader : Reader) (s : Side) (bytes : List ℕ) → AreHeld by_tests reader →
+    length ((get reader.rests s).bytes ++ bytes) < awaited_length (old_of reader.core (get reader.rests s)) reader.core s (get reader.rests s).bytes → GoesTo reader s bytes
+goes_to reader s [] held l = record { next = reader; reads_it = refl; messages_are = refl }
+goes_to reader s (b ∷ bytes) held l = record {
+  next = with_rest reader s (extended reader.core (get reader.rests s) (b ∷ bytes));
+  reads_it = reads_below reader s (b ∷ bytes) held tt l;
   messages_are = refl;
 }
 
-step_of : (r : Result Machine WireFault) (fault : WireFault) → on_ok r (λ next. Ok next) ≡ Err fault → r ≡ Err fault
+step_of : (r : Result Reader WireFault) (fault : WireFault) → on_ok r (λ next. Ok next) ≡ Err fault → r ≡ Err fault
 step_of (Ok next) fault e = absurd (cc)
 step_of (Err other) fault e = e
 
 -- bytes of a side that were taken and refused
-module _ (h : Holding) (machine : Machine) (r : IsReadTo h machine) (s : Side) (more : List ℕ) (entries : ℕ) (filled : IsFilled more)
+module _ (h : Holding) (reader : Reader) (r : IsReadTo h reader) (s : Side) (more : List ℕ) (entries : ℕ) (filled : IsFilled more)
     (are_pairs : ArePairs (held_pairs (with_bytes h s more entries)))
-    (up_to : length ((get machine.rests s).bytes ++ more) ≤ awaited_length (old_of machine.core (get machine.rests s)) machine.core s (get machine.rests s).bytes) where
-  pub stopped : (fault : WireFault) → reads concrete (fresh_of h.profile) (held_pairs (with_bytes h s more entries)) ≡ Err fault → IsStopped (with_bytes h s more entries) fault
+    (up_to : length ((get reader.rests s).bytes ++ more) ≤ awaited_length (old_of reader.core (get reader.rests s)) reader.core s (get reader.rests s).bytes) where
+  pub stopped : (fault : WireFault) → reads by_tests (fresh_of h.profile) (held_pairs (with_bytes h s more entries)) ≡ Err fault → IsStopped (with_bytes h s more entries) fault
   stopped fault e =
       let l : HasLast more = some_last more filled in
       let last : Pair = record { from = s; byte = l.last } in
-      let longer : length ((get machine.rests s).bytes ++ more) ≡ length ((get machine.rests s).bytes ++ l.before) + 1 =
-      ap (λ bs. length ((get machine.rests s).bytes ++ bs)) l.parts ∙ ap length (sym (append_assoc (get machine.rests s).bytes l.before (l.last ∷ []))) ∙ length-append ((get machine.rests s).bytes ++ l.before) (l.last ∷ []) in
-      let g : GoesTo machine s l.before = goes_to machine s l.before (held_of h machine r) (omega (arith, longer, up_to)) in
+      let longer : length ((get reader.rests s).bytes ++ more) ≡ length ((get reader.rests s).bytes ++ l.before) + 1 =
+      ap (λ bs. length ((get reader.rests s).bytes ++ bs)) l.parts ∙ ap length (sym (append_assoc (get reader.rests s).bytes l.before (l.last ∷ []))) ∙ length-append ((get reader.rests s).bytes ++ l.before) (l.last ∷ []) in
+      let g : GoesTo reader s l.before = goes_to reader s l.before (held_of h reader r) (omega (arith, longer, up_to)) in
       let prefix : List Pair = held_pairs h ++ side_pairs s l.before in
       let parts : held_pairs (with_bytes h s more entries) ≡ prefix ++ last ∷ [] =
       pairs-taken h s more entries r.are_stretches
       ∙ ap (λ bs. held_pairs h ++ side_pairs s bs) l.parts
       ∙ ap (λ ps. held_pairs h ++ ps) (sent-append s l.before (l.last ∷ []))
       ∙ sym (append_assoc (held_pairs h) (side_pairs s l.before) (last ∷ [])) in
-      let prefix_is : reads concrete (fresh_of h.profile) prefix ≡ Ok g.next =
-      reads-append concrete (fresh_of h.profile) (held_pairs h) (side_pairs s l.before) ∙ ap (λ o. on_ok o (λ next. reads concrete next (side_pairs s l.before))) r.reads_it ∙ g.reads_it in
-      let refused : on_ok (step concrete g.next last.from last.byte) (λ next. Ok next) ≡ Err fault =
-      sym (ap (λ o. on_ok o (λ next. reads concrete next (last ∷ []))) prefix_is)
-      ∙ sym (reads-append concrete (fresh_of h.profile) prefix (last ∷ []))
-      ∙ ap (reads concrete (fresh_of h.profile)) (sym parts)
+      let prefix_is : reads by_tests (fresh_of h.profile) prefix ≡ Ok g.next =
+      reads-append by_tests (fresh_of h.profile) (held_pairs h) (side_pairs s l.before) ∙ ap (λ o. on_ok o (λ next. reads by_tests next (side_pairs s l.before))) r.reads_it ∙ g.reads_it in
+      let refused : on_ok (step by_tests g.next last.from last.byte) (λ next. Ok next) ≡ Err fault =
+      sym (ap (λ o. on_ok o (λ next. reads by_tests next (last ∷ []))) prefix_is)
+      ∙ sym (reads-append by_tests (fresh_of h.profile) prefix (last ∷ []))
+      ∙ ap (reads by_tests (fresh_of h.profile)) (sym parts)
       ∙ e in
       record {
         are_pairs = are_pairs;
         prefix = prefix;
         last = last;
         parts = parts;
-        machine = g.next;
+        reader = g.next;
         reads_it = prefix_is;
         messages_are = g.messages_are ∙ r.messages_are;
-        refused = step_of (step concrete g.next last.from last.byte) fault refused;
+        refused = step_of (step by_tests g.next last.from last.byte) fault refused;
       }
 
 -- what was read without a fault holds every message of each run that begins so
-pub completes_exactly : {profile : Profile} (ps : List Pair) (end : Machine) (messages : List Message) → ArePairs ps → reads concrete (fresh_of profile) ps ≡ Ok end → end.messages ≡ messages → CompletesExactlyOf profile ps messages
+pub completes_exactly : {profile : Profile} (ps : List Pair) (end : Reader) (messages : List Message) → ArePairs ps → reads by_tests (fresh_of profile) ps ≡ Ok end → end.messages ≡ messages → CompletesExactlyOf profile ps messages
 completes_exactly {profile} ps end messages lt e are items run begins =
-    let r : IsRead concrete (fresh_of profile) ps (within (length ps) items) = marks_law concrete exact items run ps begins.0 lt begins.1 in
+    let r : IsRead by_tests (fresh_of profile) ps (within (length ps) items) = marks_law by_tests exact items run ps begins.0 lt begins.1 in
     let q : Ok r.end ≡ Ok end = sym r.reads_it ∙ e in
     let same : r.end ≡ end = cc in
-    sym r.messages_are ∙ ap (λ (x : Machine). x.messages) same ∙ are
+    sym r.messages_are ∙ ap (λ (x : Reader). x.messages) same ∙ are
 
 are_prefix : (ps qs : List Pair) → ArePairs (ps ++ qs) → ArePairs ps
 are_prefix [] qs a = tt
@@ -132,11 +131,11 @@ but_last (x ∷ ps) (y ∷ qs) p q e =
     let rest : ps ++ p ∷ [] ≡ qs ++ q ∷ [] = cc in
     ap (λ z. z ∷ ps) same ∙ ap (λ l. y ∷ l) (but_last ps qs p q rest)
 
-pub stopped_reads : (h : Holding) (fault : WireFault) (st : IsStopped h fault) → reads concrete (fresh_of h.profile) (held_pairs h) ≡ Err fault
+pub stopped_reads : (h : Holding) (fault : WireFault) (st : IsStopped h fault) → reads by_tests (fresh_of h.profile) (held_pairs h) ≡ Err fault
 stopped_reads h fault st =
-    ap (reads concrete (fresh_of h.profile)) st.parts
-    ∙ reads-append concrete (fresh_of h.profile) st.prefix (st.last ∷ [])
-    ∙ ap (λ o. on_ok o (λ next. reads concrete next (st.last ∷ []))) st.reads_it
+    ap (reads by_tests (fresh_of h.profile)) st.parts
+    ∙ reads-append by_tests (fresh_of h.profile) st.prefix (st.last ∷ [])
+    ∙ ap (λ o. on_ok o (λ next. reads by_tests next (st.last ∷ []))) st.reads_it
     ∙ ap (λ o. on_ok o (λ next. Ok next)) st.refused
 
 -- where a session was stopped is the place
@@ -146,13 +145,13 @@ stopped_place h fault st = record {
   prefix = st.prefix;
   last = st.last;
   parts = st.parts;
-  before = record { are_pairs = are_prefix st.prefix (st.last ∷ []) (subst ArePairs st.parts st.are_pairs); end = st.machine; reads_it = st.reads_it; has_messages = st.messages_are };
+  before = record { are_pairs = are_prefix st.prefix (st.last ∷ []) (subst ArePairs st.parts st.are_pairs); end = st.reader; reads_it = st.reads_it; has_messages = st.messages_are };
   refused = st.refused;
 }
 
 -- no prefix of what was read without a fault has a place
-placeless : {profile : Profile} (ps : List Pair) (end : Machine) → reads concrete (fresh_of profile) ps ≡ Ok end → HasNoPlaceOf profile ps
-placeless {profile} ps end e prefix rest messages fault parts place = read_no_place prefix rest end (ap (reads concrete (fresh_of profile)) parts ∙ e) messages fault place
+placeless : {profile : Profile} (ps : List Pair) (end : Reader) → reads by_tests (fresh_of profile) ps ≡ Ok end → HasNoPlaceOf profile ps
+placeless {profile} ps end e prefix rest messages fault parts place = read_no_place prefix rest end (ap (reads by_tests (fresh_of profile)) parts ∙ e) messages fault place
 
 -- a session that was stopped was refused
 pub refusal : (h : Holding) (fault : WireFault) → IsStopped h fault → IsRefusalOf h.profile (held_pairs h) h.messages fault
@@ -162,7 +161,7 @@ refusal h fault st = record {
   before = λ prefix last parts.
       (let same : st.prefix ≡ prefix = but_last st.prefix prefix st.last last (sym st.parts ∙ parts) in
       subst (λ ps. CompletesExactlyOf h.profile ps h.messages) same
-      (completes_exactly st.prefix st.machine h.messages (are_prefix st.prefix (st.last ∷ []) (subst ArePairs st.parts st.are_pairs)) st.reads_it st.messages_are));
+      (completes_exactly st.prefix st.reader h.messages (are_prefix st.prefix (st.last ∷ []) (subst ArePairs st.parts st.are_pairs)) st.reads_it st.messages_are));
 }
 
 -- a session that answers a fault was refused
@@ -172,13 +171,13 @@ refuses held (Wire at fault) shut = (shut.cause.0 ∙ shut.taken_is, refusal (ho
 
 -- the messages of a session under way are all that complete within its bytes
 pub stands_exactly : (held : Held) (closed : Option SessionFault) → Stands held → CompletesExactlyOf held.state.profile (pairs_of (session_view held closed)) held.messages.items
-stands_exactly held closed st = completes_exactly (held_pairs (holding_of held)) st.machine held.messages.items st.read_to.are_pairs st.read_to.reads_it st.read_to.messages_are
+stands_exactly held closed st = completes_exactly (held_pairs (holding_of held)) st.reader held.messages.items st.read_to.are_pairs st.read_to.reads_it st.read_to.messages_are
 
 pub stands_placeless : (held : Held) (closed : Option SessionFault) → Stands held → HasNoPlaceOf held.state.profile (pairs_of (session_view held closed))
-stands_placeless held closed st = placeless (held_pairs (holding_of held)) st.machine st.read_to.reads_it
+stands_placeless held closed st = placeless (held_pairs (holding_of held)) st.reader st.read_to.reads_it
 
 pub stands_under_way : (held : Held) (closed : Option SessionFault) → Stands held → IsUnderWayOf held.state.profile (pairs_of (session_view held closed)) held.messages.items
-stands_under_way held closed st = record { are_pairs = st.read_to.are_pairs; end = st.machine; reads_it = st.read_to.reads_it; has_messages = st.read_to.messages_are }
+stands_under_way held closed st = record { are_pairs = st.read_to.are_pairs; end = st.reader; reads_it = st.read_to.reads_it; has_messages = st.read_to.messages_are }
 
 stands_accepted : (held : Held) (closed : Option SessionFault) → Stands held → IsAcceptedOf held.state.profile (pairs_of (session_view held closed)) held.messages.items
 stands_accepted held closed st = record { under_way = stands_under_way held closed st; placeless = stands_placeless held closed st; all = stands_exactly held closed st }
@@ -226,7 +225,7 @@ open_end_of {profile} ps messages client server has accepted some = record { acc
 
 held_run : (held : Held) → Stands held → HasRunOf held.state.profile (held_pairs (holding_of held)) held.messages.items (bytes_come held.client) (bytes_come held.server)
 held_run held st =
-    let r = read_is_run_but (held_pairs (holding_of held)) st.machine held.messages.items (bytes_come held.client) (bytes_come held.server) st.read_to.are_pairs st.read_to.reads_it
+    let r = read_is_run_but (held_pairs (holding_of held)) st.reader held.messages.items (bytes_come held.client) (bytes_come held.server) st.read_to.are_pairs st.read_to.reads_it
     st.read_to.messages_are (st.read_to.rests_are Client) (st.read_to.rests_are Server) in
     record { items = r.0; is_run = r.1; has_pairs = r.2; has_messages = r.3 }
 

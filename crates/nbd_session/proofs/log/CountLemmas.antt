@@ -5,11 +5,10 @@ use Rattle.nbd_wire.specs.declared.message.Side.{Side}
 use Rattle.nbd_wire.specs.declared.message.Side.TheVariants.{Client, Server}
 use Rattle.nbd_wire.specs.protocol.Operations.{Operation, Exporting}
 use Rattle.nbd_wire.specs.protocol.States.{Core, Phase, Greet, Flags, Choosing, Naming, Aborting, Answering, Ended, Transmission, is_awaiting, target, target_from}
-use Rattle.nbd_wire.specs.protocol.Judge.{decision, decision_by_count, decision_with}
-use Rattle.nbd_wire.specs.protocol.JudgeTransmission.{operation_counted, operation_if, operation_of, within}
-use Rattle.nbd_wire.specs.protocol.Concrete.{concrete}
-use Rattle.nbd_laws.proofs.machine.MachineLemmas.{Held, Kept, Later, Later-trans, none_held, old-empty, old-filled, some_held}
-use Rattle.nbd_wire.specs.protocol.Machine.{More, Rest, old_of}
+use Rattle.nbd_session.specs.internal.Counted.{decision_by_count, operation_counted, within}
+use Rattle.nbd_wire.specs.protocol.Decisions.{operation_if, operation_of}
+use Rattle.nbd_wire.specs.protocol.Reading.{decision, decision_with, by_tests, More, Rest, old_of}
+use Rattle.nbd_laws.proofs.reading.ReaderLemmas.{Held, Kept, Later, Later-trans, none_held, old-empty, old-filled, some_held}
 use Rattle.nbd_laws.proofs.judge.PhaseLemmas.{IsAppended, Later-appended, Later-turn}
 use Rattle.nbd_laws.proofs.judge.SoundLemmas.{kept_later, turn_of_reading}
 
@@ -71,7 +70,7 @@ none_added : (core : Core) → IsAppended core core
 none_added core = record { more = []; entries_are = sym (append-nil core.entries); structured_is = refl }
 
 -- since a server's first byte requests were only added
-kept_appended : {old now next : Core} {bytes : List ℕ} → Kept concrete Server old now bytes → concrete old now Server bytes ≡ More → Later Server now next → IsAppended old next
+kept_appended : {old now next : Core} {bytes : List ℕ} → Kept by_tests Server old now bytes → by_tests old now Server bytes ≡ More → Later Server now next → IsAppended old next
 kept_appended {old} {now} {next} k m l =
     let later : Later Server old next = Later-trans (kept_later k) l in
     elim (turn_of_reading More k m (λ q. (cc))) [
@@ -79,7 +78,7 @@ kept_appended {old} {now} {next} k m l =
       | inr (export, t) ↦ Later-appended later export t
     ]
 
-pub held_appended : {core : Core} {rest : Rest} → Held concrete core Server rest → IsAppended (old_of core rest) core
+pub held_appended : {core : Core} {rest : Rest} → Held by_tests core Server rest → IsAppended (old_of core rest) core
 held_appended {core} {rest} (none_held r e) = subst (λ c. IsAppended c core) (sym (old-empty core rest e)) (none_added core)
 held_appended {core} {rest} (some_held r now f k m l) = subst (λ c. IsAppended c core) (sym (old-filled core rest f)) (kept_appended k m l)
 
@@ -87,6 +86,6 @@ held_appended {core} {rest} (some_held r now f k m l) = subst (λ c. IsAppended 
 abbrev pub count_of : Core → Rest → ℕ
 count_of core rest = length (old_of core rest).entries
 
--- what is decided of a machine's rest, by the count
-pub held_counted : {core : Core} {s : Side} {rest : Rest} → Held concrete core s rest → (bytes : List ℕ) → decision core.phase (old_of core rest) core s bytes ≡ decision_by_count (count_of core rest) core s bytes
-held_counted {core} {s} {rest} h bytes = decided_is_counted core.phase (old_of core rest) core s bytes (λ export t q. held_appended (subst (λ u. Held concrete core u rest) q h))
+-- what is decided of a reader's rest, by the count
+pub held_counted : {core : Core} {s : Side} {rest : Rest} → Held by_tests core s rest → (bytes : List ℕ) → decision core.phase (old_of core rest) core s bytes ≡ decision_by_count (count_of core rest) core s bytes
+held_counted {core} {s} {rest} h bytes = decided_is_counted core.phase (old_of core rest) core s bytes (λ export t q. held_appended (subst (λ u. Held by_tests core u rest) q h))

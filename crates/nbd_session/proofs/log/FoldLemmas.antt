@@ -1,4 +1,4 @@
--- What messages lead to is where the machine and a run stand.
+-- What messages lead to is where the reader and a run stand.
 use Rattle.std.proofs.Common.{◌≡◌, ℕ, List, [], ◌∷◌, ◌++◌, refl, sym, ◌∙◌, ap, subst, Ok}
 use Rattle.nbd_wire.specs.declared.profile.Profile.{Profile}
 use Rattle.nbd_wire.specs.declared.message.Message.{Message}
@@ -10,7 +10,7 @@ use Rattle.nbd_state.specs.Completions.{core_from}
 use Rattle.nbd_state.specs.Logs.{LogEntry, known_by, known_here}
 use Rattle.nbd_laws.proofs.runs.ProfileLemmas.{complete_with}
 use Rattle.nbd_laws.specs.Profiles.{with_profile}
-use Rattle.nbd_wire.specs.protocol.Machine.{Bad, Judge, Machine, More, Reading, Rest, Whole, get, rest_with, on_ok, reads, settle, fresh_of}
+use Rattle.nbd_wire.specs.protocol.Reading.{Bad, Judge, Reader, More, Reading, Rest, Whole, get, rest_with, on_ok, reads, settle, fresh_of}
 
 -- what messages lead to from the start
 abbrev pub core_of : Profile → List Message → Core
@@ -20,24 +20,24 @@ pub core_from-snoc : (core : Core) (messages : List Message) (m : Message) → c
 core_from-snoc core [] m = refl
 core_from-snoc core (n ∷ messages) m = core_from-snoc (complete core n) messages m
 
--- the machine stands where its messages lead
-abbrev pub IsFolded : Profile → Machine → Type 0
-IsFolded profile machine = machine.core ≡ core_of profile machine.messages
+-- the reader stands where its messages lead
+abbrev pub IsFolded : Profile → Reader → Type 0
+IsFolded profile reader = reader.core ≡ core_of profile reader.messages
 
-pub reads_folded : (profile : Profile) (judge : Judge) (ps : List Pair) (machine end : Machine) → IsFolded profile machine → reads judge machine ps ≡ Ok end → IsFolded profile end
-reads_folded profile judge [] machine end f e = let q : machine ≡ end = cc in subst (IsFolded profile) q f
-reads_folded profile judge (p ∷ ps) machine end f e = go (judge rest.since machine.core p.from rest.bytes) (λ next g h. reads_folded profile judge ps next end g h) e
+pub reads_folded : (profile : Profile) (judge : Judge) (ps : List Pair) (reader end : Reader) → IsFolded profile reader → reads judge reader ps ≡ Ok end → IsFolded profile end
+reads_folded profile judge [] reader end f e = let q : reader ≡ end = cc in subst (IsFolded profile) q f
+reads_folded profile judge (p ∷ ps) reader end f e = go (judge rest.since reader.core p.from rest.bytes) (λ next g h. reads_folded profile judge ps next end g h) e
   where
     rest : Rest
-    rest = rest_with machine.core (get machine.rests p.from) p.byte
+    rest = rest_with reader.core (get reader.rests p.from) p.byte
 
-    go : (r : Reading) → ((next : Machine) → IsFolded profile next → reads judge next ps ≡ Ok end → IsFolded profile end) → on_ok (settle machine p.from rest r) (λ next. reads judge next ps) ≡ Ok end → IsFolded profile end
+    go : (r : Reading) → ((next : Reader) → IsFolded profile next → reads judge next ps ≡ Ok end → IsFolded profile end) → on_ok (settle reader p.from rest r) (λ next. reads judge next ps) ≡ Ok end → IsFolded profile end
     go More ih e = ih _ f e
-    go (Whole m) ih e = ih _ (ap (λ c. complete c m) f ∙ sym (core_from-snoc (start_of profile).core machine.messages m)) e
+    go (Whole m) ih e = ih _ (ap (λ c. complete c m) f ∙ sym (core_from-snoc (start_of profile).core reader.messages m)) e
     go (Bad fault) ih e = absurd (cc)
 
--- what the machine reads from nothing leads it to where its messages do
-pub core_is : (profile : Profile) (judge : Judge) (ps : List Pair) (end : Machine) → reads judge (fresh_of profile) ps ≡ Ok end → end.core ≡ core_of profile end.messages
+-- what the reader reads from nothing leads it to where its messages do
+pub core_is : (profile : Profile) (judge : Judge) (ps : List Pair) (end : Reader) → reads judge (fresh_of profile) ps ≡ Ok end → end.core ≡ core_of profile end.messages
 core_is profile judge ps end e = reads_folded profile judge ps (fresh_of profile) end refl e
 
 -- so do the messages that complete in a run

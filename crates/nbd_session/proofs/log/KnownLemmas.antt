@@ -15,8 +15,8 @@ use Rattle.nbd_wire.specs.protocol.Sides.{side}
 use Rattle.nbd_wire.specs.protocol.States.{start, Core, Phase, Greet, Flags, Choosing, Naming, Aborting, Answering, Ended, Transmission, start_of, target}
 use Rattle.nbd_state.specs.Logs.{known_by, known_here, known_if}
 use Rattle.nbd_session.proofs.log.Logs.{log_from, log_of}
-use Rattle.nbd_wire.specs.protocol.Machine.{Both, get, put}
-use Rattle.nbd_laws.proofs.machine.MachineLemmas.{Busy, Idle, IsNotBusy, Later, Later-trans, Loose, Open, Walk, at_once, behind, ended, final, get-put_other, get-put_same, loose, middle, opening, same_or_not, serving}
+use Rattle.nbd_wire.specs.protocol.Reading.{Both, get, put}
+use Rattle.nbd_laws.proofs.reading.ReaderLemmas.{Busy, Idle, IsNotBusy, Later, Later-trans, Loose, Open, Walk, at_once, behind, ended, final, get-put_other, get-put_same, loose, middle, opening, same_or_not, serving}
 use Rattle.nbd_laws.proofs.runs.FollowLemmas.{Follows, IsBegun, each_with, follows}
 use Rattle.nbd_laws.proofs.judge.PhaseLemmas.{IsAppended, IsTransmitting, Later-appended, Later-turn, target-append}
 use Rattle.nbd_session.proofs.log.FoldLemmas.{known_by_with}

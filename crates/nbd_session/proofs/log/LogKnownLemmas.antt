@@ -6,30 +6,29 @@ use Rattle.nbd_wire.specs.declared.message.Side.{Side}
 use Rattle.nbd_wire.specs.protocol.Captures.{Pair, side_pairs}
 use Rattle.nbd_wire.specs.protocol.Rules.{request_of_reply}
 use Rattle.nbd_wire.specs.protocol.States.{start}
-use Rattle.nbd_wire.specs.protocol.Concrete.{concrete}
-use Rattle.nbd_wire.specs.protocol.Judge.{awaited_length}
+use Rattle.nbd_laws.specs.Awaited.{awaited_length}
+use Rattle.nbd_wire.specs.protocol.Reading.{by_tests, IsFilled, Judge, Reader, More, Whole, fresh_of, get, old_of, reads}
 use Rattle.nbd_state.specs.Logs.{LogEntry, known_by}
 use Rattle.nbd_session.specs.internal.Logging.{log_with, log_of_pairs}
-use Rattle.nbd_laws.proofs.machine.MachineLemmas.{AreHeld}
-use Rattle.nbd_wire.specs.protocol.Machine.{IsFilled, Judge, Machine, More, Whole, fresh_of, get, old_of, reads}
+use Rattle.nbd_laws.proofs.reading.ReaderLemmas.{AreHeld}
 use Rattle.nbd_laws.proofs.judge.BlockLemmas.{extended}
 use Rattle.nbd_session.proofs.log.CountLemmas.{count_of}
 use Rattle.nbd_state.proofs.KnownLemmas.{known_here-other, known_or, or_none}
 use Rattle.nbd_session.proofs.log.LogStepLemmas.{known-next, logged-piece}
 
 -- one that does not changes nothing of it
-pub known-unanswered : (profile : Profile) (judge : Judge) (ps : List Pair) (machine : Machine) (k : ℕ) (l : LogEntry) → reads judge (fresh_of profile) ps ≡ Ok machine → (request_of_reply machine.core l.message ≡ Some k → ⊥) →
+pub known-unanswered : (profile : Profile) (judge : Judge) (ps : List Pair) (reader : Reader) (k : ℕ) (l : LogEntry) → reads judge (fresh_of profile) ps ≡ Ok reader → (request_of_reply reader.core l.message ≡ Some k → ⊥) →
     known_by start.core k (log_of_pairs judge (fresh_of profile) ps ++ l ∷ []) ≡ known_by start.core k (log_of_pairs judge (fresh_of profile) ps)
-known-unanswered profile judge ps machine k l e ne =
-    known-next profile judge ps machine k l e ∙ ap (known_or (known_by start.core k (log_of_pairs judge (fresh_of profile) ps))) (known_here-other (request_of_reply machine.core l.message) l.known k ne) ∙ or_none (known_by start.core k (log_of_pairs judge (fresh_of profile) ps))
+known-unanswered profile judge ps reader k l e ne =
+    known-next profile judge ps reader k l e ∙ ap (known_or (known_by start.core k (log_of_pairs judge (fresh_of profile) ps))) (known_here-other (request_of_reply reader.core l.message) l.known k ne) ∙ or_none (known_by start.core k (log_of_pairs judge (fresh_of profile) ps))
 
-module _ (profile : Profile) (ps : List Pair) (machine : Machine) (s : Side) (more : List ℕ) (e : reads concrete (fresh_of profile) ps ≡ Ok machine) (held : AreHeld concrete machine) (f : IsFilled more)
-    (l : length ((get machine.rests s).bytes ++ more) ≤ awaited_length (old_of machine.core (get machine.rests s)) machine.core s (get machine.rests s).bytes) where
+module _ (profile : Profile) (ps : List Pair) (reader : Reader) (s : Side) (more : List ℕ) (e : reads by_tests (fresh_of profile) ps ≡ Ok reader) (held : AreHeld by_tests reader) (f : IsFilled more)
+    (l : length ((get reader.rests s).bytes ++ more) ≤ awaited_length (old_of reader.core (get reader.rests s)) reader.core s (get reader.rests s).bytes) where
   -- a piece that completes a message
-  pub logged-whole : (m : Message) → concrete (old_of machine.core (get machine.rests s)) machine.core s ((get machine.rests s).bytes ++ more) ≡ Whole m →
-      log_of_pairs concrete (fresh_of profile) (ps ++ side_pairs s more) ≡ log_of_pairs concrete (fresh_of profile) ps ++ record { message = m; known = count_of machine.core (get machine.rests s) } ∷ []
-  logged-whole m is = logged-piece profile ps machine s more e held f l ∙ ap (λ r. log_of_pairs concrete (fresh_of profile) ps ++ log_with (extended machine.core (get machine.rests s) more) r) is
+  pub logged-whole : (m : Message) → by_tests (old_of reader.core (get reader.rests s)) reader.core s ((get reader.rests s).bytes ++ more) ≡ Whole m →
+      log_of_pairs by_tests (fresh_of profile) (ps ++ side_pairs s more) ≡ log_of_pairs by_tests (fresh_of profile) ps ++ record { message = m; known = count_of reader.core (get reader.rests s) } ∷ []
+  logged-whole m is = logged-piece profile ps reader s more e held f l ∙ ap (λ r. log_of_pairs by_tests (fresh_of profile) ps ++ log_with (extended reader.core (get reader.rests s) more) r) is
 
   -- a piece that is kept
-  pub logged-kept : concrete (old_of machine.core (get machine.rests s)) machine.core s ((get machine.rests s).bytes ++ more) ≡ More → log_of_pairs concrete (fresh_of profile) (ps ++ side_pairs s more) ≡ log_of_pairs concrete (fresh_of profile) ps
-  logged-kept is = logged-piece profile ps machine s more e held f l ∙ ap (λ r. log_of_pairs concrete (fresh_of profile) ps ++ log_with (extended machine.core (get machine.rests s) more) r) is ∙ append-nil (log_of_pairs concrete (fresh_of profile) ps)
+  pub logged-kept : by_tests (old_of reader.core (get reader.rests s)) reader.core s ((get reader.rests s).bytes ++ more) ≡ More → log_of_pairs by_tests (fresh_of profile) (ps ++ side_pairs s more) ≡ log_of_pairs by_tests (fresh_of profile) ps
+  logged-kept is = logged-piece profile ps reader s more e held f l ∙ ap (λ r. log_of_pairs by_tests (fresh_of profile) ps ++ log_with (extended reader.core (get reader.rests s) more) r) is ∙ append-nil (log_of_pairs by_tests (fresh_of profile) ps)

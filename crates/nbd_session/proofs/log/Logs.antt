@@ -5,7 +5,7 @@ use Rattle.nbd_wire.specs.protocol.Marks.{Item, Byte, Starts, Completes, Serves}
 use Rattle.nbd_wire.specs.protocol.Reports.{Report, asked_list}
 use Rattle.nbd_wire.specs.protocol.Rules.{complete}
 use Rattle.nbd_wire.specs.protocol.States.{Core, start, start_of, export_in}
-use Rattle.nbd_wire.specs.protocol.Machine.{Both, get, put}
+use Rattle.nbd_wire.specs.protocol.Reading.{Both, get, put}
 use Rattle.nbd_state.specs.Logs.{LogEntry, known_by}
 
 -- what completes in these items, where each side's open message started when so many requests were complete

@@ -10,12 +10,11 @@ use Rattle.nbd_wire.specs.protocol.States.{Core, Phase, Greet, Flags, Choosing, 
 use Rattle.nbd_state.specs.declared.asked.Exchange.{Exchange}
 use Rattle.nbd_session.specs.declared.held.Held.{Held}
 use Rattle.nbd_state.specs.declared.state.State.{State}
-use Rattle.nbd_wire.specs.protocol.Concrete.{concrete}
+use Rattle.nbd_wire.specs.protocol.Reading.{by_tests, fresh_of, get}
 use Rattle.nbd_session.specs.internal.Holdings.{holding_of}
 use Rattle.nbd_state.specs.Logs.{LogEntry, known_by}
 use Rattle.nbd_session.specs.internal.Logging.{log_of_pairs}
 use Rattle.nbd_session.proofs.log.Logs.{report_by}
-use Rattle.nbd_wire.specs.protocol.Machine.{fresh_of, get}
 use Rattle.nbd_session.specs.Sessions.{IsReported}
 use Rattle.nbd_state.specs.Showing.{IsShown, exporting_if}
 use Rattle.nbd_state.specs.Shows.{AreKnown, AreShown, Shows, phase_shown}
@@ -85,15 +84,15 @@ told_by_log state core log shows known = λ i. record {
 }
 
 module _ (held : Held) (st : Stands held) (client : (bytes_come held.client) ≡ []) (server : (bytes_come held.server) ≡ []) where
-  none_left : (s : Side) → (get st.machine.rests s).bytes ≡ []
+  none_left : (s : Side) → (get st.reader.rests s).bytes ≡ []
   none_left Client = st.read_to.rests_are Client ∙ client
   none_left Server = st.read_to.rests_are Server ∙ server
 
   -- any run with these bytes has what is told as its report
   told_of : (items : List Item) → IsRunOf held.state.profile items → pairs items ≡ held_pairs (holding_of held) → report items ≡ transcript_report (export_of held.state.phase) held.state.exchanges.items
   told_of items run has =
-      read_report (held_pairs (holding_of held)) st.machine st.read_to.are_pairs st.read_to.reads_it none_left items run has
-      ∙ sym (told_by_log held.state st.machine.core (log_of_pairs concrete (fresh_of held.state.profile) (held_pairs (holding_of held))) st.shows st.known)
+      read_report (held_pairs (holding_of held)) st.reader st.read_to.are_pairs st.read_to.reads_it none_left items run has
+      ∙ sym (told_by_log held.state st.reader.core (log_of_pairs by_tests (fresh_of held.state.profile) (held_pairs (holding_of held))) st.shows st.known)
 
   whole_run : (run : HoldsRun (holding_of held)) → IsRunOf held.state.profile run.items
   whole_run run = subst (λ c. IsRunBut held.state.profile run.items c []) client (subst (λ s. IsRunBut held.state.profile run.items (bytes_come held.client) s) server run.is_run)

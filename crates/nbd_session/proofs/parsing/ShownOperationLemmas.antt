@@ -10,7 +10,8 @@ use Rattle.nbd_wire.specs.protocol.States.{Core, Transmission, operation}
 use Rattle.nbd_state.specs.declared.asked.Exchange.{Exchange}
 use Rattle.nbd_state.specs.declared.state.State.{State}
 use Rattle.nbd_session.specs.internal.Expecting.{IsPlaceOf}
-use Rattle.nbd_wire.specs.protocol.JudgeTransmission.{operation_counted, operation_if, within}
+use Rattle.nbd_session.specs.internal.Counted.{operation_counted, within}
+use Rattle.nbd_wire.specs.protocol.Decisions.{operation_if}
 use Rattle.nbd_state.specs.Shows.{Shows}
 use Rattle.nbd_state.proofs.PlacedLemmas.{place_shows_operation}
 

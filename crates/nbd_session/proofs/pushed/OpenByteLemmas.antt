@@ -14,9 +14,8 @@ use Rattle.nbd_laws.specs.Bytes.{bytes_of}
 use Rattle.nbd_wire.specs.protocol.Rules.{IsRunBut, Obeys, after, complete}
 use Rattle.nbd_wire.specs.protocol.Sides.{side, same_side}
 use Rattle.nbd_wire.specs.protocol.States.{State, start_of}
-use Rattle.nbd_wire.specs.protocol.Concrete.{concrete}
-use Rattle.nbd_laws.proofs.machine.MachineLemmas.{AreHeld, IsSound, IsSoundAt, Open, Walk, ended, final, held_more, held_whole, kept_next, loose, middle, opening, serving, with_byte}
-use Rattle.nbd_wire.specs.protocol.Machine.{Bad, Both, Judge, Machine, More, Reading, Rest, Whole, fresh_of, get, rest_with, on_ok, put, reads, settle}
+use Rattle.nbd_wire.specs.protocol.Reading.{by_tests, Bad, Both, Judge, Reader, More, Reading, Rest, Whole, fresh_of, get, rest_with, on_ok, put, reads, settle}
+use Rattle.nbd_laws.proofs.reading.ReaderLemmas.{AreHeld, IsSound, IsSoundAt, Open, Walk, ended, final, held_more, held_whole, kept_next, loose, middle, opening, serving, with_byte}
 use Rattle.nbd_laws.proofs.runs.BlockLemmas.{IsCalm, byte_other, byte_same, marked_is_walk}
 use Rattle.nbd_session.specs.internal.Standing.{with_more}
 use Rattle.nbd_laws.specs.Bytes.{bytes_from}
@@ -24,9 +23,9 @@ use Rattle.nbd_laws.proofs.runs.RunLemmas.{fresh_held, run_but_law}
 use Rattle.nbd_laws.proofs.runs.RunByteLemmas.{AreBytesOf, byte_from, bytes_from-cons, run_bytes}
 use Rattle.nbd_laws.proofs.judge.SoundLemmas.{sound}
 
--- what a machine holds of a side's bytes
-abbrev pub held_bytes : Side → Machine → List ℕ
-held_bytes s machine = bytes_of s machine.messages ++ (get machine.rests s).bytes
+-- what a reader holds of a side's bytes
+abbrev pub held_bytes : Side → Reader → List ℕ
+held_bytes s reader = bytes_of s reader.messages ++ (get reader.rests s).bytes
 
 bytes_of-snoc : (s : Side) (messages : List Message) (m : Message) → bytes_of s (messages ++ m ∷ []) ≡ bytes_of s messages ++ (if same_side s (side m) then enc m else [])
 bytes_of-snoc s [] m = one (same_side s (side m))
@@ -41,51 +40,51 @@ bytes_of-snoc s (n ∷ messages) m = go (same_side s (side n)) (bytes_of-snoc s 
     go true ih = ap (λ l. enc n ++ l) ih ∙ sym (append_assoc (enc n) (bytes_of s messages) (if same_side s (side m) then enc m else []))
     go false ih = ih
 
-bytes_more : (s t : Side) (b : ℕ) (machine : Machine) → held_bytes s (record machine { rests = put machine.rests t (rest_with machine.core (get machine.rests t) b) }) ≡ held_bytes s machine ++ byte_from s t b
-bytes_more Client Client b machine = sym (append_assoc (bytes_of Client machine.messages) machine.rests.client.bytes (b ∷ []))
-bytes_more Client Server b machine = sym (append-nil (held_bytes Client machine))
-bytes_more Server Client b machine = sym (append-nil (held_bytes Server machine))
-bytes_more Server Server b machine = sym (append_assoc (bytes_of Server machine.messages) machine.rests.server.bytes (b ∷ []))
+bytes_more : (s t : Side) (b : ℕ) (reader : Reader) → held_bytes s (record reader { rests = put reader.rests t (rest_with reader.core (get reader.rests t) b) }) ≡ held_bytes s reader ++ byte_from s t b
+bytes_more Client Client b reader = sym (append_assoc (bytes_of Client reader.messages) reader.rests.client.bytes (b ∷ []))
+bytes_more Client Server b reader = sym (append-nil (held_bytes Client reader))
+bytes_more Server Client b reader = sym (append-nil (held_bytes Server reader))
+bytes_more Server Server b reader = sym (append_assoc (bytes_of Server reader.messages) reader.rests.server.bytes (b ∷ []))
 
-abbrev emptied : Machine → Side → ℕ → Message → Machine
-emptied machine t b m = record { core = complete machine.core m; rests = put machine.rests t (record (rest_with machine.core (get machine.rests t) b) { bytes = [] }); messages = machine.messages ++ m ∷ [] }
+abbrev emptied : Reader → Side → ℕ → Message → Reader
+emptied reader t b m = record { core = complete reader.core m; rests = put reader.rests t (record (rest_with reader.core (get reader.rests t) b) { bytes = [] }); messages = reader.messages ++ m ∷ [] }
 
-bytes_whole : (s t : Side) (b : ℕ) (m : Message) (machine : Machine) → side m ≡ t → (rest_with machine.core (get machine.rests t) b).bytes ≡ enc m → held_bytes s (emptied machine t b m) ≡ held_bytes s machine ++ byte_from s t b
-bytes_whole s t b m machine sd e =
-    ap (λ l. l ++ (get (emptied machine t b m).rests s).bytes) (bytes_of-snoc s machine.messages m ∙ ap (λ u. bytes_of s machine.messages ++ (if same_side s u then enc m else [])) sd)
+bytes_whole : (s t : Side) (b : ℕ) (m : Message) (reader : Reader) → side m ≡ t → (rest_with reader.core (get reader.rests t) b).bytes ≡ enc m → held_bytes s (emptied reader t b m) ≡ held_bytes s reader ++ byte_from s t b
+bytes_whole s t b m reader sd e =
+    ap (λ l. l ++ (get (emptied reader t b m).rests s).bytes) (bytes_of-snoc s reader.messages m ∙ ap (λ u. bytes_of s reader.messages ++ (if same_side s u then enc m else [])) sd)
     ∙ go s t e
   where
-    go : (s t : Side) → (rest_with machine.core (get machine.rests t) b).bytes ≡ enc m →
-        (bytes_of s machine.messages ++ (if same_side s t then enc m else [])) ++ (get (emptied machine t b m).rests s).bytes ≡ held_bytes s machine ++ byte_from s t b
-    go Client Client e = append-nil (bytes_of Client machine.messages ++ enc m) ∙ ap (λ l. bytes_of Client machine.messages ++ l) (sym e) ∙ sym (append_assoc (bytes_of Client machine.messages) machine.rests.client.bytes (b ∷ []))
-    go Server Server e = append-nil (bytes_of Server machine.messages ++ enc m) ∙ ap (λ l. bytes_of Server machine.messages ++ l) (sym e) ∙ sym (append_assoc (bytes_of Server machine.messages) machine.rests.server.bytes (b ∷ []))
-    go Client Server e = ap (λ l. l ++ machine.rests.client.bytes) (append-nil (bytes_of Client machine.messages)) ∙ sym (append-nil (held_bytes Client machine))
-    go Server Client e = ap (λ l. l ++ machine.rests.server.bytes) (append-nil (bytes_of Server machine.messages)) ∙ sym (append-nil (held_bytes Server machine))
+    go : (s t : Side) → (rest_with reader.core (get reader.rests t) b).bytes ≡ enc m →
+        (bytes_of s reader.messages ++ (if same_side s t then enc m else [])) ++ (get (emptied reader t b m).rests s).bytes ≡ held_bytes s reader ++ byte_from s t b
+    go Client Client e = append-nil (bytes_of Client reader.messages ++ enc m) ∙ ap (λ l. bytes_of Client reader.messages ++ l) (sym e) ∙ sym (append_assoc (bytes_of Client reader.messages) reader.rests.client.bytes (b ∷ []))
+    go Server Server e = append-nil (bytes_of Server reader.messages ++ enc m) ∙ ap (λ l. bytes_of Server reader.messages ++ l) (sym e) ∙ sym (append_assoc (bytes_of Server reader.messages) reader.rests.server.bytes (b ∷ []))
+    go Client Server e = ap (λ l. l ++ reader.rests.client.bytes) (append-nil (bytes_of Client reader.messages)) ∙ sym (append-nil (held_bytes Client reader))
+    go Server Client e = ap (λ l. l ++ reader.rests.server.bytes) (append-nil (bytes_of Server reader.messages)) ∙ sym (append-nil (held_bytes Server reader))
 
--- the machine holds what it read
-pub reads_bytes : (judge : Judge) → IsSound judge → (s : Side) (ps : List Pair) (machine end : Machine) → ArePairs ps → AreHeld judge machine → reads judge machine ps ≡ Ok end →
-    held_bytes s machine ++ bytes_from s ps ≡ held_bytes s end
-reads_bytes judge sd s [] machine end lt held e = let q : machine ≡ end = cc in append-nil (held_bytes s machine) ∙ ap (held_bytes s) q
-reads_bytes judge sd s (p ∷ ps) machine end lt held e = go (judge rest.since machine.core p.from rest.bytes) refl (λ next hd h. reads_bytes judge sd s ps next end lt.1 hd h) e
+-- the reader holds what it read
+pub reads_bytes : (judge : Judge) → IsSound judge → (s : Side) (ps : List Pair) (reader end : Reader) → ArePairs ps → AreHeld judge reader → reads judge reader ps ≡ Ok end →
+    held_bytes s reader ++ bytes_from s ps ≡ held_bytes s end
+reads_bytes judge sd s [] reader end lt held e = let q : reader ≡ end = cc in append-nil (held_bytes s reader) ∙ ap (held_bytes s) q
+reads_bytes judge sd s (p ∷ ps) reader end lt held e = go (judge rest.since reader.core p.from rest.bytes) refl (λ next hd h. reads_bytes judge sd s ps next end lt.1 hd h) e
   where
     rest : Rest
-    rest = rest_with machine.core (get machine.rests p.from) p.byte
+    rest = rest_with reader.core (get reader.rests p.from) p.byte
 
-    joined : (next : Machine) → held_bytes s next ≡ held_bytes s machine ++ byte_from s p.from p.byte → held_bytes s next ++ bytes_from s ps ≡ held_bytes s end → held_bytes s machine ++ bytes_from s (p ∷ ps) ≡ held_bytes s end
+    joined : (next : Reader) → held_bytes s next ≡ held_bytes s reader ++ byte_from s p.from p.byte → held_bytes s next ++ bytes_from s ps ≡ held_bytes s end → held_bytes s reader ++ bytes_from s (p ∷ ps) ≡ held_bytes s end
     joined next is ih =
-        ap (λ l. held_bytes s machine ++ l) (bytes_from-cons s p ps) ∙ sym (append_assoc (held_bytes s machine) (byte_from s p.from p.byte) (bytes_from s ps)) ∙ ap (λ l. l ++ bytes_from s ps) (sym is) ∙ ih
+        ap (λ l. held_bytes s reader ++ l) (bytes_from-cons s p ps) ∙ sym (append_assoc (held_bytes s reader) (byte_from s p.from p.byte) (bytes_from s ps)) ∙ ap (λ l. l ++ bytes_from s ps) (sym is) ∙ ih
 
-    go : (r : Reading) → judge rest.since machine.core p.from rest.bytes ≡ r → ((next : Machine) → AreHeld judge next → reads judge next ps ≡ Ok end → held_bytes s next ++ bytes_from s ps ≡ held_bytes s end) →
-        on_ok (settle machine p.from rest r) (λ next. reads judge next ps) ≡ Ok end → held_bytes s machine ++ bytes_from s (p ∷ ps) ≡ held_bytes s end
-    go More is ih e = joined (with_byte machine p.from p.byte) (bytes_more s p.from p.byte machine) (ih (with_byte machine p.from p.byte) (held_more judge machine p.from p.byte lt.0 held is) e)
+    go : (r : Reading) → judge rest.since reader.core p.from rest.bytes ≡ r → ((next : Reader) → AreHeld judge next → reads judge next ps ≡ Ok end → held_bytes s next ++ bytes_from s ps ≡ held_bytes s end) →
+        on_ok (settle reader p.from rest r) (λ next. reads judge next ps) ≡ Ok end → held_bytes s reader ++ bytes_from s (p ∷ ps) ≡ held_bytes s end
+    go More is ih e = joined (with_byte reader p.from p.byte) (bytes_more s p.from p.byte reader) (ih (with_byte reader p.from p.byte) (held_more judge reader p.from p.byte lt.0 held is) e)
     go (Whole m) is ih e =
-        let ok : IsSoundAt rest.since machine.core p.from rest.bytes m = sd rest.since machine.core p.from rest.bytes m (kept_next judge machine.core p.from (get machine.rests p.from) p.byte lt.0 (held p.from)) is in
-        joined (emptied machine p.from p.byte m) (bytes_whole s p.from p.byte m machine ok.sided ok.encodes)
-        (ih (emptied machine p.from p.byte m) (held_whole judge machine p.from m (record rest { bytes = [] }) refl held ok.sided ok.sendable ok.completes) e)
+        let ok : IsSoundAt rest.since reader.core p.from rest.bytes m = sd rest.since reader.core p.from rest.bytes m (kept_next judge reader.core p.from (get reader.rests p.from) p.byte lt.0 (held p.from)) is in
+        joined (emptied reader p.from p.byte m) (bytes_whole s p.from p.byte m reader ok.sided ok.encodes)
+        (ih (emptied reader p.from p.byte m) (held_whole judge reader p.from m (record rest { bytes = [] }) refl held ok.sided ok.sendable ok.completes) e)
     go (Bad fault) is ih e = absurd (cc)
 
 -- from nothing
-pub fresh_bytes : (profile : Profile) (judge : Judge) → IsSound judge → (s : Side) (ps : List Pair) (end : Machine) → ArePairs ps → reads judge (fresh_of profile) ps ≡ Ok end → bytes_from s ps ≡ held_bytes s end
+pub fresh_bytes : (profile : Profile) (judge : Judge) → IsSound judge → (s : Side) (ps : List Pair) (end : Reader) → ArePairs ps → reads judge (fresh_of profile) ps ≡ Ok end → bytes_from s ps ≡ held_bytes s end
 fresh_bytes profile judge sd Client ps end lt e = reads_bytes judge sd Client ps (fresh_of profile) end lt (fresh_held judge) e
 fresh_bytes profile judge sd Server ps end lt e = reads_bytes judge sd Server ps (fresh_of profile) end lt (fresh_held judge) e
 
@@ -95,8 +94,8 @@ loose_is : (s : Side) (items : List Item) (ps : List Pair) (messages : List Mess
 loose_is s items ps messages rest bytes p c e f =
     append_cancel_left (bytes_of s messages) rest bytes (ap (λ ms. bytes_of s ms ++ rest) (sym c) ∙ sym e ∙ ap (bytes_from s) p ∙ f)
 
--- what a machine read is a run with exactly these pairs and messages, and its rests are the bytes of no message
-pub run_but_of : {profile : Profile} (judge : Judge) → IsSound judge → (ps : List Pair) (end : Machine) → ArePairs ps → reads judge (fresh_of profile) ps ≡ Ok end →
+-- what a reader read is a run with exactly these pairs and messages, and its rests are the bytes of no message
+pub run_but_of : {profile : Profile} (judge : Judge) → IsSound judge → (ps : List Pair) (end : Reader) → ArePairs ps → reads judge (fresh_of profile) ps ≡ Ok end →
     (items : List Item) × IsRunBut profile items end.rests.client.bytes end.rests.server.bytes × (pairs items ≡ ps) × (completed_messages items ≡ end.messages)
 run_but_of {profile} judge sd ps end lt e =
     let r = run_but_law judge sd ps end lt e in
@@ -106,11 +105,11 @@ run_but_of {profile} judge sd ps end lt e =
     (r.0, subst (λ x. IsRunBut profile r.0 x end.rests.server.bytes) c (subst (λ y. IsRunBut profile r.0 r.1 y) d r.3), r.4, r.5)
 
 -- with the project's own judge, and the rests by other names
-pub read_is_run_but : {profile : Profile} (ps : List Pair) (end : Machine) (messages : List Message) (client server : List ℕ) → ArePairs ps → reads concrete (fresh_of profile) ps ≡ Ok end →
+pub read_is_run_but : {profile : Profile} (ps : List Pair) (end : Reader) (messages : List Message) (client server : List ℕ) → ArePairs ps → reads by_tests (fresh_of profile) ps ≡ Ok end →
     end.messages ≡ messages → end.rests.client.bytes ≡ client → end.rests.server.bytes ≡ server →
     (items : List Item) × IsRunBut profile items client server × (pairs items ≡ ps) × (completed_messages items ≡ messages)
 read_is_run_but {profile} ps end messages client server lt e m c d =
-    let r = run_but_of concrete sound ps end lt e in
+    let r = run_but_of by_tests sound ps end lt e in
     (r.0, subst (λ x. IsRunBut profile r.0 x server) c (subst (λ y. IsRunBut profile r.0 end.rests.client.bytes y) d r.1), r.2, r.3 ∙ m)
 
 abbrev pub bytes_items : Side → List ℕ → List Item
@@ -246,8 +245,8 @@ run_but_more {profile} items client server s more run = record {
   obeys = obeys_more items (start_of profile) s more run.obeys;
 }
 
--- what a machine read, and more bytes of a side, is a run but for the rests with these bytes
-pub more_is_run_but : {profile : Profile} (ps : List Pair) (end : Machine) (messages : List Message) (client server : List ℕ) (s : Side) (more : List ℕ) → ArePairs ps → reads concrete (fresh_of profile) ps ≡ Ok end →
+-- what a reader read, and more bytes of a side, is a run but for the rests with these bytes
+pub more_is_run_but : {profile : Profile} (ps : List Pair) (end : Reader) (messages : List Message) (client server : List ℕ) (s : Side) (more : List ℕ) → ArePairs ps → reads by_tests (fresh_of profile) ps ≡ Ok end →
     end.messages ≡ messages → end.rests.client.bytes ≡ client → end.rests.server.bytes ≡ server →
     (items : List Item) × IsRunBut profile items (with_more s Client more client) (with_more s Server more server) × (pairs items ≡ ps ++ side_pairs s more) × (completed_messages items ≡ messages)
 more_is_run_but ps end messages client server s more lt e m c d =

@@ -10,10 +10,9 @@ use Rattle.nbd_state.proofs.PlacedLemmas.{shown_length}
 use Rattle.nbd_state.specs.Completions.{Answers}
 use Rattle.nbd_state.specs.Shows.{AreKnown, Shows, place_of}
 use Rattle.nbd_state.specs.declared.state.State.{State}
-use Rattle.nbd_wire.specs.protocol.Concrete.{concrete, reading_by_decision}
+use Rattle.nbd_session.specs.internal.Counted.{decision_by_count}
 use Rattle.nbd_wire.specs.protocol.Decisions.{Decision}
-use Rattle.nbd_wire.specs.protocol.Judge.{decision_by_count}
-use Rattle.nbd_wire.specs.protocol.Machine.{Bad, IsFilled, More, Whole, fresh_of}
+use Rattle.nbd_wire.specs.protocol.Reading.{by_tests, reading_by_decision, Bad, IsFilled, More, Whole, fresh_of}
 use Rattle.nbd_session.specs.declared.expected.Expected.{Expected}
 use Rattle.nbd_session.specs.declared.expected.Expected.TheVariants as expectations
 use Rattle.nbd_session.specs.declared.fault.SessionFault.TheVariants.{Wire}
@@ -64,7 +63,7 @@ module _ (held : Held) (s : Side) (x : Expected) (e : IsExpecting held s x) (pay
   pub still_missing : length payload < payload_length_of x → Stands held
   still_missing l =
       settled_more held s e.taken
-      (expected_more (decided e.taken.machine s) e.taken.machine.core (incoming_of held s).head (incoming_of held s).payload x e.is (subst (λ p. length p < payload_length_of x) is l))
+      (expected_more (decided e.taken.reader s) e.taken.reader.core (incoming_of held s).head (incoming_of held s).payload x e.is (subst (λ p. length p < payload_length_of x) is l))
       (Some x) e.expected_is (e.is, e.within)
 
   all_come : payload_length_of x ≤ length payload → length (incoming_of held s).payload ≡ payload_length_of x
@@ -74,27 +73,27 @@ module _ (held : Held) (s : Side) (x : Expected) (e : IsExpecting held s x) (pay
   pub refused_at_end : payload_length_of x ≤ length payload → (fault : WireFault) → ((core : Core) → Shows held.state core → Some fault ≡ last_fault_by core.phase core x payload) → IsShut held (Wire held.taken fault)
   refused_at_end l fault bad =
       shut_wire held s e.taken fault
-      (expected_bad (decided e.taken.machine s) e.taken.machine.core (incoming_of held s).head (incoming_of held s).payload x e.is fault (all_come l)
-      (ap (last_fault_by e.taken.machine.core.phase e.taken.machine.core x) (sym is) ∙ sym (bad e.taken.machine.core e.taken.shows)))
+      (expected_bad (decided e.taken.reader s) e.taken.reader.core (incoming_of held s).head (incoming_of held s).payload x e.is fault (all_come l)
+      (ap (last_fault_by e.taken.reader.core.phase e.taken.reader.core x) (sym is) ∙ sym (bad e.taken.reader.core e.taken.shows)))
 
   pub whole_at_end : payload_length_of x ≤ length payload → ((core : Core) → Shows held.state core → None ≡ last_fault_by core.phase core x payload) → IsWhole held s x
   whole_at_end l good = record {
     expecting = e;
     whole = all_come l;
-    no_fault = ap (last_fault_by e.taken.machine.core.phase e.taken.machine.core x) (sym is) ∙ sym (good e.taken.machine.core e.taken.shows);
+    no_fault = ap (last_fault_by e.taken.reader.core.phase e.taken.reader.core x) (sym is) ∙ sym (good e.taken.reader.core e.taken.shows);
   }
 
 pub whole_read : (held : Held) (s : Side) (x : Expected) (w : IsWhole held s x) → IsRead held s w.expecting.taken (Whole (message_of x (incoming_of held s).payload))
 whole_read held s x w =
-    expected_whole (decided w.expecting.taken.machine s) w.expecting.taken.machine.core (incoming_of held s).head (incoming_of held s).payload x w.expecting.is w.whole w.no_fault
+    expected_whole (decided w.expecting.taken.reader s) w.expecting.taken.reader.core (incoming_of held s).head (incoming_of held s).payload x w.expecting.is w.whole w.no_fault
 
 -- what a head says changes no byte
-module _ (held : Held) (s : Side) (e : Option Expected) (t : IsTaken held s) (k : knows_by (decided t.machine s) t.machine.core (incoming_of held s).head (incoming_of held s).payload e) where
+module _ (held : Held) (s : Side) (e : Option Expected) (t : IsTaken held s) (k : knows_by (decided t.reader s) t.reader.core (incoming_of held s).head (incoming_of held s).payload e) where
   here : incoming_of (with_expected held s e) s ≡ record (incoming_of held s) { expected = e }
   here = incoming_here held s (record (incoming_of held s) { expected = e })
 
-  come : (e : Option Expected) → knows_by (decided t.machine s) t.machine.core (incoming_of held s).head (incoming_of held s).payload e →
-      is_come_by (decided t.machine s) t.machine.core (incoming_of held s).head (incoming_of held s).payload e
+  come : (e : Option Expected) → knows_by (decided t.reader s) t.reader.core (incoming_of held s).head (incoming_of held s).payload e →
+      is_come_by (decided t.reader s) t.reader.core (incoming_of held s).head (incoming_of held s).payload e
   come (Some x) k = k
   come None k = (k.0, λ d is. (let same : k.1 ≡ d = same_Some _ _ (sym k.2 ∙ is) in let len : k.1.head_length ≡ d.head_length = ap (λ (x : Decision). x.head_length) same in let short = k.3 in omega (arith, short, len)))
 
@@ -109,18 +108,18 @@ module _ (held : Held) (s : Side) (e : Option Expected) (t : IsTaken held s) (k 
   pub taken_expecting : IsTaken (with_expected held s e) s
   taken_expecting = record {
     before = t.before;
-    machine = t.machine;
+    reader = t.reader;
     read_to = t.read_to;
     more = t.more;
     filled = t.filled;
     are_bytes = t.are_bytes;
     up_to = t.up_to;
     holding_is = holding_expected held s e ∙ t.holding_is;
-    shows = subst (λ state. Shows state t.machine.core) (sym (state_same s)) t.shows;
-    known = subst (λ (state : State). AreKnown (log_of_pairs concrete (fresh_of t.before.profile) (held_pairs t.before)) state.exchanges.items) (sym (state_same s)) t.known;
+    shows = subst (λ state. Shows state t.reader.core) (sym (state_same s)) t.shows;
+    known = subst (λ (state : State). AreKnown (log_of_pairs by_tests (fresh_of t.before.profile) (held_pairs t.before)) state.exchanges.items) (sym (state_same s)) t.known;
     taken_is = taken_same s ∙ t.taken_is ∙ sym (ap (λ h. length (held_pairs h)) (holding_expected held s e));
-    come = subst (IsCome (decided t.machine s) t.machine.core) (sym here) (come e k);
-    knows = λ u ne. subst (IsKnown (decided t.machine u) t.machine.core) (sym (incoming_other held s u (record (incoming_of held s) { expected = e }) ne)) (t.knows u ne);
+    come = subst (IsCome (decided t.reader s) t.reader.core) (sym here) (come e k);
+    knows = λ u ne. subst (IsKnown (decided t.reader u) t.reader.core) (sym (incoming_other held s u (record (incoming_of held s) { expected = e }) ne)) (t.knows u ne);
   }
 
 pub is_expecting : (held : Held) (s : Side) (x : Expected) (t : IsTaken held s) → Knows held s (Some x) → IsExpecting (with_expected held s (Some x)) s x
@@ -131,7 +130,7 @@ is_expecting held s x t known =
     record {
       taken = taken_expecting held s (Some x) t k;
       expected_is = ap (λ (v : IncomingView). v.expected) here;
-      is = subst (λ (v : IncomingView). IsExpected (decided t.machine s) t.machine.core v.head x) (sym here) k.0;
+      is = subst (λ (v : IncomingView). IsExpected (decided t.reader s) t.reader.core v.head x) (sym here) k.0;
       within = subst (λ (v : IncomingView). length v.payload ≤ payload_length_of x) (sym here) k.1;
     }
 
@@ -143,41 +142,41 @@ head_missing held s t known =
     let here = incoming_here held s (record (incoming_of held s) { expected = None }) in
     let bare : (incoming_of held s).head ++ (incoming_of held s).payload ≡ (incoming_of held s).head = ap (λ l. (incoming_of held s).head ++ l) k.0 ∙ append-nil (incoming_of held s).head in
     settled_more (with_expected held s None) s (taken_expecting held s None t k)
-    (subst (λ bs. reading_by_decision (decided t.machine s bs) bs ≡ More) (sym (ap bytes_come here ∙ bare)) (short_more (decided t.machine s (incoming_of held s).head) k.1 (incoming_of held s).head k.2 k.3))
+    (subst (λ bs. reading_by_decision (decided t.reader s bs) bs ≡ More) (sym (ap bytes_come here ∙ bare)) (short_more (decided t.reader s (incoming_of held s).head) k.1 (incoming_of held s).head k.2 k.3))
     None (ap (λ (v : IncomingView). v.expected) here)
-    (subst (λ (v : IncomingView). knows_by (decided t.machine s) t.machine.core v.head v.payload None) (sym here) k)
+    (subst (λ (v : IncomingView). knows_by (decided t.reader s) t.reader.core v.head v.payload None) (sym here) k)
 
 -- it is refused
 pub head_shut : (held : Held) (s : Side) (t : IsTaken held s) (fault : WireFault) → IsHeadRefused held s fault → IsShut held (Wire held.taken fault)
 head_shut held s t fault refused =
     let r = refused t in
     let bare : (incoming_of held s).head ++ (incoming_of held s).payload ≡ (incoming_of held s).head = ap (λ l. (incoming_of held s).head ++ l) r.0 ∙ append-nil (incoming_of held s).head in
-    shut_wire held s t fault (subst (λ bs. reading_by_decision (decided t.machine s bs) bs ≡ Bad fault) (sym bare) r.1)
+    shut_wire held s t fault (subst (λ bs. reading_by_decision (decided t.reader s bs) bs ≡ Bad fault) (sym bare) r.1)
 
 -- a head that is to be decided
 module _ (held : Held) (s : Side) (head : List ℕ) (is : head ≡ (incoming_of held s).head) (none : (incoming_of held s).expected ≡ None) where
-  bare_come : (t : IsTaken held s) → ((incoming_of held s).payload ≡ []) × ((d : Decision) → decided t.machine s (incoming_of held s).head ≡ Some d → length (incoming_of held s).head ≤ d.head_length)
-  bare_come t = subst (is_come_by (decided t.machine s) t.machine.core (incoming_of held s).head (incoming_of held s).payload) none t.come
+  bare_come : (t : IsTaken held s) → ((incoming_of held s).payload ≡ []) × ((d : Decision) → decided t.reader s (incoming_of held s).head ≡ Some d → length (incoming_of held s).head ≤ d.head_length)
+  bare_come t = subst (is_come_by (decided t.reader s) t.reader.core (incoming_of held s).head (incoming_of held s).payload) none t.come
 
-  decided_so : (t : IsTaken held s) (bytes : List ℕ) → decided t.machine s bytes ≡ decision_by_count (count_at_server s t.before.server t.before.counted (length t.machine.core.entries)) t.machine.core s bytes
-  decided_so t bytes = decided_held t.before t.machine s t.read_to bytes
+  decided_so : (t : IsTaken held s) (bytes : List ℕ) → decided t.reader s bytes ≡ decision_by_count (count_at_server s t.before.server t.before.counted (length t.reader.core.entries)) t.reader.core s bytes
+  decided_so t bytes = decided_held t.before t.reader s t.read_to bytes
 
-  counted_so : (t : IsTaken held s) (bytes : List ℕ) → decided t.machine s bytes ≡ decision_by_count held.counted t.machine.core s bytes
-  counted_so t bytes = decided_so t bytes ∙ ap (λ n. decision_by_count n t.machine.core s bytes) (sym (ap (λ (h : Holding). h.counted) t.holding_is))
+  counted_so : (t : IsTaken held s) (bytes : List ℕ) → decided t.reader s bytes ≡ decision_by_count held.counted t.reader.core s bytes
+  counted_so t bytes = decided_so t bytes ∙ ap (λ n. decision_by_count n t.reader.core s bytes) (sym (ap (λ (h : Holding). h.counted) t.holding_is))
 
   pub length_refused : (fault : WireFault) → ((core : Core) (counted : ℕ) → Shows held.state core → reading_by_decision (decision_by_count counted core s head) head ≡ Bad fault) → IsHeadRefused held s fault
   length_refused fault bad t = (
     (bare_come t).0,
     ap (λ o. reading_by_decision o (incoming_of held s).head) (decided_so t (incoming_of held s).head)
-        ∙ subst (λ h. reading_by_decision (decision_by_count (count_at_server s t.before.server t.before.counted (length t.machine.core.entries)) t.machine.core s h) h ≡ Bad fault) is
-        (bad t.machine.core (count_at_server s t.before.server t.before.counted (length t.machine.core.entries)) t.shows),
+        ∙ subst (λ h. reading_by_decision (decision_by_count (count_at_server s t.before.server t.before.counted (length t.reader.core.entries)) t.reader.core s h) h ≡ Bad fault) is
+        (bad t.reader.core (count_at_server s t.before.server t.before.counted (length t.reader.core.entries)) t.shows),
   )
 
   module _ (n : ℕ) (known : HasHeadLength held.state s head n) where
-    length_decided : (t : IsTaken held s) → (d : Decision) × (decided t.machine s (incoming_of held s).head ≡ Some d) × (d.head_length ≡ n)
+    length_decided : (t : IsTaken held s) → (d : Decision) × (decided t.reader s (incoming_of held s).head ≡ Some d) × (d.head_length ≡ n)
     length_decided t =
-        let d = known.decided t.machine.core (count_at_server s t.before.server t.before.counted (length t.machine.core.entries)) t.shows in
-        (d.0, decided_so t (incoming_of held s).head ∙ subst (λ h. decision_by_count (count_at_server s t.before.server t.before.counted (length t.machine.core.entries)) t.machine.core s h ≡ Some d.0) is d.1, d.2)
+        let d = known.decided t.reader.core (count_at_server s t.before.server t.before.counted (length t.reader.core.entries)) t.shows in
+        (d.0, decided_so t (incoming_of held s).head ∙ subst (λ h. decision_by_count (count_at_server s t.before.server t.before.counted (length t.reader.core.entries)) t.reader.core s h ≡ Some d.0) is d.1, d.2)
 
     pub knows_short : length head < n → Knows held s None
     knows_short l t =
@@ -196,10 +195,10 @@ module _ (held : Held) (s : Side) (head : List ℕ) (is : head ≡ (incoming_of 
 
   pub head_refused : (fault : WireFault) → ((core : Core) → Shows held.state core → IsRefusedHead held.counted core s head fault) → IsHeadRefused held s fault
   head_refused fault bad t =
-      let b = bad t.machine.core t.shows in (
+      let b = bad t.reader.core t.shows in (
         (bare_come t).0,
-        refused_head (decided t.machine s (incoming_of held s).head) b.decision (incoming_of held s).head fault
-            (counted_so t (incoming_of held s).head ∙ subst (λ h. decision_by_count held.counted t.machine.core s h ≡ Some b.decision) is b.decided)
+        refused_head (decided t.reader s (incoming_of held s).head) b.decision (incoming_of held s).head fault
+            (counted_so t (incoming_of held s).head ∙ subst (λ h. decision_by_count held.counted t.reader.core s h ≡ Some b.decision) is b.decided)
             (b.length_is ∙ ap length is) b.fault_is,
       )
 
@@ -214,21 +213,21 @@ module _ (held : Held) (s : Side) (head : List ℕ) (is : head ≡ (incoming_of 
   head_filled : (t : IsTaken held s) → IsFilled (incoming_of held s).head
   head_filled t =
       subst IsFilled (ap (λ l. (incoming_of held s).head ++ l) (bare_come t).0 ∙ append-nil (incoming_of held s).head)
-      (subst IsFilled (rest_is held s) (subst (λ h. IsFilled (rest_of h s)) (sym t.holding_is) (rest_filled s t.before t.more (length t.machine.core.entries) t.filled)))
+      (subst IsFilled (rest_is held s) (subst (λ h. IsFilled (rest_of h s)) (sym t.holding_is) (rest_filled s t.before t.more (length t.reader.core.entries) t.filled)))
 
   pub knows_expected : (x : Expected) → ((core : Core) → Shows held.state core → IsExpectedOf held.counted core s head x) → ((core : Core) → Shows held.state core → IsPlaced core x) → Knows held s (Some x)
   knows_expected x expected placed t = (
     record {
       filled = head_filled t;
-      placed = placed t.machine.core t.shows;
-      is = λ payload. counted_so t ((incoming_of held s).head ++ payload) ∙ subst (λ h. IsExpectedOf held.counted t.machine.core s h x) is (expected t.machine.core t.shows) payload;
+      placed = placed t.reader.core t.shows;
+      is = λ payload. counted_so t ((incoming_of held s).head ++ payload) ∙ subst (λ h. IsExpectedOf held.counted t.reader.core s h x) is (expected t.reader.core t.shows) payload;
     },
     (let none = ap length (bare_come t).0 in omega (arith, none)),
   )
 
 -- a head that was decided before
 pub knows_again : (held : Held) (s : Side) (x : Expected) → (incoming_of held s).expected ≡ Some x → Knows held s (Some x)
-knows_again held s x is t = subst (is_come_by (decided t.machine s) t.machine.core (incoming_of held s).head (incoming_of held s).payload) is t.come
+knows_again held s x is t = subst (is_come_by (decided t.reader s) t.reader.core (incoming_of held s).head (incoming_of held s).payload) is t.come
 
 -- the fault of a call is handed on
 pub handed_wire : (A : Type 0) (r : Result A WireFault) (fault : WireFault) (Q : WireFault → Type 0) → IsErrAnd r (λ other. other ≡ fault) → Q fault → IfErr r Q

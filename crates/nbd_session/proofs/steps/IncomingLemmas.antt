@@ -2,7 +2,7 @@
 use Rattle.std.proofs.Common.{◌≡◌, ℕ, List, [], ◌∷◌, ◌++◌, refl, subst, Option, Some, None, true, false, is_some}
 use Rattle.nbd_wire.specs.protocol.States.{Core}
 use Rattle.nbd_wire.specs.protocol.Decisions.{Decision}
-use Rattle.nbd_wire.specs.protocol.Machine.{IsFilled}
+use Rattle.nbd_wire.specs.protocol.Reading.{IsFilled}
 use Rattle.nbd_session.specs.declared.expected.Expected.{Expected}
 use Rattle.nbd_session.specs.Incoming.{IncomingView, bytes_come, incoming_with}
 use Rattle.nbd_session.specs.internal.Incoming.{is_nothing}

@@ -10,16 +10,15 @@ use Rattle.nbd_wire.specs.declared.fault.WireFault.TheVariants.{BadMagic, Unknow
 use Rattle.nbd_wire.specs.protocol.Operations.{Exporting, Operation}
 use Rattle.nbd_wire.specs.protocol.Payloads.{number_at}
 use Rattle.nbd_wire.specs.protocol.States.{Core, Transmission, operation, target}
-use Rattle.nbd_wire.specs.protocol.Concrete.{concrete}
-use Rattle.nbd_wire.specs.protocol.Decisions.{Decision, awaited_length_by}
-use Rattle.nbd_wire.specs.protocol.Judge.{awaited_length, decision, request_unless}
-use Rattle.nbd_wire.specs.protocol.JudgeTransmission.{begins, chunk_head_fault, chunk_last_fault, chunk_of, cookie_fault, operation_if, operation_of, reply, reply_by, request, request_of, simple_fault, simple_last_fault, simple_of, simple_payload_length}
+use Rattle.nbd_laws.specs.Awaited.{awaited_length_by, awaited_length}
+use Rattle.nbd_wire.specs.protocol.Decisions.{Decision, begins, chunk_last_fault, chunk_of, operation_if, operation_of, reply, reply_by, request, request_of, simple_of}
+use Rattle.nbd_wire.specs.protocol.Reading.{by_tests, decision, request_unless, IsFilled, More, Rest, old_of}
+use Rattle.nbd_wire.specs.protocol.Transmission.{chunk_head_fault, cookie_fault, simple_fault, simple_last_fault, simple_payload_length}
 use Rattle.nbd_laws.proofs.judge.AwaitedLemmas.{decision_of}
 use Rattle.nbd_laws.proofs.judge.PhaseLemmas.{IsAppended, Later-appended, Later-disconnected, Later-transmission, Later-turn, target-append}
 use Rattle.nbd_laws.proofs.judge.SoundLemmas.{kept_later, turn_of_reading}
 use Rattle.nbd_laws.proofs.judge.SteadyLemmas.{IsBegun, IsDeciding, as_chunk, as_neither, as_simple, bytes_are_begun, deciding, entry-append, is_chunk_reply, is_no_reply, is_simple_reply}
-use Rattle.nbd_laws.proofs.machine.MachineLemmas.{Held, Later, Later-trans, at_once, none_held, old-empty, old-filled, some_held}
-use Rattle.nbd_wire.specs.protocol.Machine.{IsFilled, More, Rest, old_of}
+use Rattle.nbd_laws.proofs.reading.ReaderLemmas.{Held, Later, Later-trans, at_once, none_held, old-empty, old-filled, some_held}
 use Rattle.nbd_wire.specs.declared.heads.transmission.RequestHead.{RequestHead}
 use Rattle.nbd_session.specs.declared.expected.Expected.{Expected}
 use Rattle.nbd_session.specs.declared.expected.Expected.TheVariants as expectations
@@ -31,7 +30,7 @@ use Rattle.nbd_session.proofs.expecting.ReplyLemmas.{placed_within}
 use Rattle.nbd_wire.specs.declared.heads.negotiation.AnswerHead.{AnswerHead}
 
 -- where something is decided of a rest, it goes on as it began
-pub deciding_rest : {core : Core} {s : Side} {rest : Rest} → Held concrete core s rest → (bytes : List ℕ) (d : Decision) → decision core.phase (old_of core rest) core s bytes ≡ Some d →
+pub deciding_rest : {core : Core} {s : Side} {rest : Rest} → Held by_tests core s rest → (bytes : List ℕ) (d : Decision) → decision core.phase (old_of core rest) core s bytes ≡ Some d →
     IsDeciding s (old_of core rest) × Later s (old_of core rest) core
 deciding_rest {core} {s} {rest} (none_held r e) bytes d is =
     let o : old_of core rest ≡ core = old-empty core rest e in
@@ -223,7 +222,7 @@ by_side Client old core next export head x l before after known =
     go false e = placed_request core next (head ++ []) [] (length head) x (same_Some _ _ e)
 
 -- what a whole head says stays
-pub expected_stays : {core : Core} {s : Side} {rest : Rest} → Held concrete core s rest → IsFilled rest.bytes → (next : Core) → Later s core next → (head : List ℕ) (x : Expected) →
+pub expected_stays : {core : Core} {s : Side} {rest : Rest} → Held by_tests core s rest → IsFilled rest.bytes → (next : Core) → Later s core next → (head : List ℕ) (x : Expected) →
     IsExpected (decision core.phase (old_of core rest) core s) core head x → IsExpected (decision next.phase (old_of next rest) next s) next head x
 expected_stays {core} {s} {rest} (none_held r e) f next l head x known = absurd (subst IsFilled e f)
 expected_stays {core} {s} {rest} (some_held r now f k m j) filled next l head x known =
@@ -246,7 +245,7 @@ filled_with : (head payload : List ℕ) → IsFilled head → IsFilled (head ++ 
 filled_with [] payload f = absurd f
 filled_with (b ∷ head) payload f = tt
 
-short_held : {core : Core} {s : Side} {rest : Rest} → Held concrete core s rest → (next : Core) → Later s core next → (head payload : List ℕ) → head ++ payload ≡ rest.bytes →
+short_held : {core : Core} {s : Side} {rest : Rest} → Held by_tests core s rest → (next : Core) → Later s core next → (head payload : List ℕ) → head ++ payload ≡ rest.bytes →
     IsShort (decision core.phase (old_of core rest) core s) head → IsShort (decision next.phase (old_of next rest) next s) head
 short_held {core} {s} {rest} (none_held r e) next l head payload is short =
     subst (λ bs. IsShort (decision next.phase (old_of next rest) next s) bs) (sym (no_head head payload (is ∙ e)))
@@ -256,7 +255,7 @@ short_held {core} {s} {rest} (some_held r now f k m j) next l head payload is sh
     (short_stays s rest.since core next head (decision_of k m) (Later-trans (kept_later k) j) l (subst (λ c. IsShort (decision core.phase c core s) head) (old-filled core rest f) short))
 
 -- what is known of a side's bytes stays
-pub known_stays : {core : Core} {s : Side} {rest : Rest} → Held concrete core s rest → (next : Core) → Later s core next → (v : IncomingView) → bytes_come v ≡ rest.bytes →
+pub known_stays : {core : Core} {s : Side} {rest : Rest} → Held by_tests core s rest → (next : Core) → Later s core next → (v : IncomingView) → bytes_come v ≡ rest.bytes →
     IsKnown (decision core.phase (old_of core rest) core s) core v → IsKnown (decision next.phase (old_of next rest) next s) next v
 known_stays {core} {s} {rest} held next l v is known = go v.expected known
   where
@@ -269,7 +268,7 @@ pub nothing_known : (core : Core) (s : Side) (rest : Rest) → rest.bytes ≡ []
 nothing_known core s rest e = (refl, subst (λ c. IsShort (decision core.phase c core s) []) (sym (old-empty core rest e)) (nothing_short core s))
 
 -- bytes that were taken up to the awaited length
-pub come_with : {core : Core} {s : Side} {rest : Rest} → Held concrete core s rest → (v : IncomingView) → bytes_come v ≡ rest.bytes → (more : List ℕ) →
+pub come_with : {core : Core} {s : Side} {rest : Rest} → Held by_tests core s rest → (v : IncomingView) → bytes_come v ≡ rest.bytes → (more : List ℕ) →
     length (rest.bytes ++ more) ≤ awaited_length (old_of core rest) core s rest.bytes →
     IsKnown (decision core.phase (old_of core rest) core s) core v → IsCome (decision core.phase (old_of core rest) core s) core (incoming_with v more)
 come_with {core} {s} {rest} held v is more up known = go v.expected known

@@ -4,13 +4,13 @@ use Rattle.std.proofs.lemmas.Bool.{lt-ltb}
 use Rattle.nbd_wire.specs.declared.message.Side.{Side}
 use Rattle.nbd_wire.specs.declared.fault.WireFault.{WireFault}
 use Rattle.nbd_wire.specs.protocol.States.{Core}
-use Rattle.nbd_wire.specs.protocol.Concrete.{concrete, reading_by_decision}
-use Rattle.nbd_wire.specs.protocol.Decisions.{Decision, awaited_length_by}
-use Rattle.nbd_wire.specs.protocol.Judge.{awaited_length, decision, decision_by_count}
+use Rattle.nbd_laws.specs.Awaited.{awaited_length_by, awaited_length}
+use Rattle.nbd_session.specs.internal.Counted.{decision_by_count}
+use Rattle.nbd_wire.specs.protocol.Decisions.{Decision}
+use Rattle.nbd_wire.specs.protocol.Reading.{by_tests, reading_by_decision, decision, Bad, IsFilled, More, Rest, get, old_of}
 use Rattle.nbd_laws.proofs.judge.AwaitedLemmas.{held_short, in_head}
 use Rattle.nbd_laws.proofs.judge.SteadyLemmas.{IsDeciding, deciding}
-use Rattle.nbd_wire.specs.protocol.Machine.{Bad, IsFilled, More, Rest, get, old_of}
-use Rattle.nbd_laws.proofs.machine.MachineLemmas.{Held, at_once, none_held, old-empty, some_held}
+use Rattle.nbd_laws.proofs.reading.ReaderLemmas.{Held, at_once, none_held, old-empty, some_held}
 use Rattle.nbd_state.specs.Shows.{Shows}
 use Rattle.nbd_session.specs.declared.expected.Expected.{Expected}
 use Rattle.nbd_session.specs.declared.held.Held as program
@@ -39,13 +39,13 @@ open_first core s = go (decision core.phase core core s []) refl
         let is : Some (d.F core []) ≡ Some x = sym (d.decides core at_once []) ∙ e in
         inl (ap (λ o. reading_by_decision o []) (sym is) ∙ in_head (d.F core []) [] (omega (arith, two)))
 
-open_held : {core : Core} {s : Side} {rest : Rest} → Held concrete core s rest → IsOpen (decision core.phase (old_of core rest) core s rest.bytes) rest.bytes
+open_held : {core : Core} {s : Side} {rest : Rest} → Held by_tests core s rest → IsOpen (decision core.phase (old_of core rest) core s rest.bytes) rest.bytes
 open_held {core} {s} {rest} (none_held r e) =
     subst (λ c. IsOpen (decision core.phase c core s rest.bytes) rest.bytes) (sym (old-empty core rest e)) (subst (λ bytes. IsOpen (decision core.phase core core s bytes) bytes) (sym e) (open_first core s))
 open_held {core} {s} {rest} (some_held r now f k m l) =
-    let held : Held concrete core s rest = some_held r now f k m l in
+    let held : Held by_tests core s rest = some_held r now f k m l in
     let short = (held_short held).short in
-    inl (subst (λ bytes. concrete (old_of core rest) core s bytes ≡ More) (append-nil rest.bytes)
+    inl (subst (λ bytes. by_tests (old_of core rest) core s bytes ≡ More) (append-nil rest.bytes)
     ((held_short held).goes [] (subst IsFilled (sym (append-nil rest.bytes)) f) (subst (λ bytes. length bytes < awaited_length (old_of core rest) core s rest.bytes) (sym (append-nil rest.bytes)) short)))
 
 -- bytes that are refused are none, of a side that may not send
@@ -54,45 +54,45 @@ refused_first o bytes fault (inl more) e = absurd (let q : More ≡ Bad fault = 
 refused_first o bytes fault (inr (none, empty)) e = (ap (λ p. awaited_length_by p bytes) none, ap length empty)
 
 module _ (held : program.Held) (s : Side) (st : Stands held) where
-  come_is : bytes_come (incoming_of held s) ≡ (get st.machine.rests s).bytes
+  come_is : bytes_come (incoming_of held s) ≡ (get st.reader.rests s).bytes
   come_is = sym (rest_is held s) ∙ sym (st.read_to.rests_are s)
 
-  awaited_of : awaited_length_by (decided st.machine s (bytes_come (incoming_of held s))) (bytes_come (incoming_of held s)) ≡ awaited st.machine s
-  awaited_of = ap (λ bs. awaited_length_by (decided st.machine s bs) bs) come_is
+  awaited_of : awaited_length_by (decided st.reader s (bytes_come (incoming_of held s))) (bytes_come (incoming_of held s)) ≡ awaited st.reader s
+  awaited_of = ap (λ bs. awaited_length_by (decided st.reader s bs) bs) come_is
 
-  pub come_short : length (bytes_come (incoming_of held s)) < awaited st.machine s
+  pub come_short : length (bytes_come (incoming_of held s)) < awaited st.reader s
   come_short =
-      let short = (held_short (held_of (holding_of held) st.machine st.read_to s)).short in
-      let same : length (bytes_come (incoming_of held s)) ≡ length (get st.machine.rests s).bytes = ap length come_is in
+      let short = (held_short (held_of (holding_of held) st.reader st.read_to s)).short in
+      let same : length (bytes_come (incoming_of held s)) ≡ length (get st.reader.rests s).bytes = ap length come_is in
       omega (arith, short, same)
 
   -- the bytes after a head that is whole
-  pub payload_missing : (x : Expected) → (incoming_of held s).expected ≡ Some x → (length (incoming_of held s).payload < payload_length_of x) × (awaited st.machine s ≡ length (incoming_of held s).head + payload_length_of x)
+  pub payload_missing : (x : Expected) → (incoming_of held s).expected ≡ Some x → (length (incoming_of held s).payload < payload_length_of x) × (awaited st.reader s ≡ length (incoming_of held s).head + payload_length_of x)
   payload_missing x is =
-      let known = subst (is_known_by (decided st.machine s) st.machine.core (incoming_of held s).head (incoming_of held s).payload) is (st.knows s) in
-      let all : awaited st.machine s ≡ length (incoming_of held s).head + payload_length_of x = sym awaited_of ∙ expected_awaited (decided st.machine s) st.machine.core (incoming_of held s).head (incoming_of held s).payload x known in
+      let known = subst (is_known_by (decided st.reader s) st.reader.core (incoming_of held s).head (incoming_of held s).payload) is (st.knows s) in
+      let all : awaited st.reader s ≡ length (incoming_of held s).head + payload_length_of x = sym awaited_of ∙ expected_awaited (decided st.reader s) st.reader.core (incoming_of held s).head (incoming_of held s).payload x known in
       let short = come_short in
       let len = length-append (incoming_of held s).head (incoming_of held s).payload in
       (omega (arith, all, short, len), all)
 
   module _ (none : (incoming_of held s).expected ≡ None) where
-    bare_known : is_known_by (decided st.machine s) st.machine.core (incoming_of held s).head (incoming_of held s).payload None
-    bare_known = subst (is_known_by (decided st.machine s) st.machine.core (incoming_of held s).head (incoming_of held s).payload) none (st.knows s)
+    bare_known : is_known_by (decided st.reader s) st.reader.core (incoming_of held s).head (incoming_of held s).payload None
+    bare_known = subst (is_known_by (decided st.reader s) st.reader.core (incoming_of held s).head (incoming_of held s).payload) none (st.knows s)
 
     pub bare : bytes_come (incoming_of held s) ≡ (incoming_of held s).head
     bare = ap (λ l. (incoming_of held s).head ++ l) bare_known.0 ∙ append-nil (incoming_of held s).head
 
-    decided_so : (bytes : List ℕ) → decided st.machine s bytes ≡ decision_by_count (count_at_server s (holding_of held).server held.counted (length st.machine.core.entries)) st.machine.core s bytes
-    decided_so bytes = decided_held (holding_of held) st.machine s st.read_to bytes
+    decided_so : (bytes : List ℕ) → decided st.reader s bytes ≡ decision_by_count (count_at_server s (holding_of held).server held.counted (length st.reader.core.entries)) st.reader.core s bytes
+    decided_so bytes = decided_held (holding_of held) st.reader s st.read_to bytes
 
     -- the bytes of a head that is not whole
-    pub head_is_missing : (head : List ℕ) (n : ℕ) → head ≡ (incoming_of held s).head → HasHeadLength held.state s head n → (length head < n) × (awaited st.machine s ≡ n)
+    pub head_is_missing : (head : List ℕ) (n : ℕ) → head ≡ (incoming_of held s).head → HasHeadLength held.state s head n → (length head < n) × (awaited st.reader s ≡ n)
     head_is_missing head n is known =
-        let d = known.decided st.machine.core (count_at_server s (holding_of held).server held.counted (length st.machine.core.entries)) st.shows in
-        let decides : decided st.machine s (incoming_of held s).head ≡ Some d.0 = subst (λ h. decided st.machine s h ≡ Some d.0) is (decided_so head ∙ d.1) in
+        let d = known.decided st.reader.core (count_at_server s (holding_of held).server held.counted (length st.reader.core.entries)) st.shows in
+        let decides : decided st.reader s (incoming_of held s).head ≡ Some d.0 = subst (λ h. decided st.reader s h ≡ Some d.0) is (decided_so head ∙ d.1) in
         let short : length (incoming_of held s).head < d.0.head_length = bare_known.1 d.0 decides in
-        let all : awaited st.machine s ≡ d.0.head_length =
-        sym awaited_of ∙ ap (λ bs. awaited_length_by (decided st.machine s bs) bs) bare ∙ ap (λ o. awaited_length_by o (incoming_of held s).head) decides
+        let all : awaited st.reader s ≡ d.0.head_length =
+        sym awaited_of ∙ ap (λ bs. awaited_length_by (decided st.reader s bs) bs) bare ∙ ap (λ o. awaited_length_by o (incoming_of held s).head) decides
         ∙ ap (λ (b : Bool). if b then d.0.head_length else d.0.head_length + d.0.payload_length) (lt-ltb (length (incoming_of held s).head) d.0.head_length short) in
         let len = d.2 in
         let same = ap length is in
@@ -100,11 +100,11 @@ module _ (held : program.Held) (s : Side) (st : Stands held) where
 
     -- the first byte of a side that may not send
     pub first_is_missing : (head : List ℕ) (fault : WireFault) → head ≡ (incoming_of held s).head → ((core : Core) (counted : ℕ) → Shows held.state core → reading_by_decision (decision_by_count counted core s head) head ≡ Bad fault) →
-        (awaited st.machine s ≡ 1) × (length head ≡ 0)
+        (awaited st.reader s ≡ 1) × (length head ≡ 0)
     first_is_missing head fault is bad =
-        let word : reading_by_decision (decided st.machine s head) head ≡ Bad fault = ap (λ o. reading_by_decision o head) (decided_so head) ∙ bad st.machine.core (count_at_server s (holding_of held).server held.counted (length st.machine.core.entries)) st.shows in
+        let word : reading_by_decision (decided st.reader s head) head ≡ Bad fault = ap (λ o. reading_by_decision o head) (decided_so head) ∙ bad st.reader.core (count_at_server s (holding_of held).server held.counted (length st.reader.core.entries)) st.shows in
         let same : bytes_come (incoming_of held s) ≡ head = bare ∙ sym is in
-        let opened : IsOpen (decided st.machine s (bytes_come (incoming_of held s))) (bytes_come (incoming_of held s)) =
-        subst (λ bs. IsOpen (decided st.machine s bs) bs) (sym come_is) (open_held (held_of (holding_of held) st.machine st.read_to s)) in
-        let r = refused_first (decided st.machine s head) head fault (subst (λ bs. IsOpen (decided st.machine s bs) bs) same opened) word in
-        (sym awaited_of ∙ ap (λ bs. awaited_length_by (decided st.machine s bs) bs) same ∙ r.0, r.1)
+        let opened : IsOpen (decided st.reader s (bytes_come (incoming_of held s))) (bytes_come (incoming_of held s)) =
+        subst (λ bs. IsOpen (decided st.reader s bs) bs) (sym come_is) (open_held (held_of (holding_of held) st.reader st.read_to s)) in
+        let r = refused_first (decided st.reader s head) head fault (subst (λ bs. IsOpen (decided st.reader s bs) bs) same opened) word in
+        (sym awaited_of ∙ ap (λ bs. awaited_length_by (decided st.reader s bs) bs) same ∙ r.0, r.1)

@@ -8,16 +8,14 @@ use Rattle.nbd_session.specs.declared.fault.SessionFault.TheVariants.{Memory, Wi
 use Rattle.nbd_wire.specs.declared.fault.WireFault.{WireFault}
 use Rattle.nbd_session.specs.declared.held.Held.{Held}
 use Rattle.nbd_wire.specs.protocol.States.{Core}
-use Rattle.nbd_wire.specs.protocol.Concrete.{concrete, reading_by_decision}
-use Rattle.nbd_session.specs.internal.Holdings.{holding_of, incoming_of}
 use Rattle.nbd_wire.specs.protocol.Decisions.{Decision}
-use Rattle.nbd_wire.specs.protocol.Judge.{decision}
+use Rattle.nbd_wire.specs.protocol.Reading.{by_tests, reading_by_decision, decision, Bad, IsFilled, Reader, More, Reading, Rest, fresh_of, get, old_of, put}
+use Rattle.nbd_session.specs.internal.Holdings.{holding_of, incoming_of}
 use Rattle.nbd_session.specs.declared.expected.Expected.{Expected}
 use Rattle.nbd_session.specs.Incoming.{bytes_come}
 use Rattle.nbd_session.specs.internal.Known.{IsKnown, decided, is_known_by}
 use Rattle.nbd_session.specs.internal.Logging.{log_of_pairs}
-use Rattle.nbd_wire.specs.protocol.Machine.{Bad, IsFilled, Machine, More, Reading, Rest, fresh_of, get, old_of, put}
-use Rattle.nbd_laws.proofs.machine.MachineLemmas.{get-put_other, get-put_same, old-filled, same_or_not}
+use Rattle.nbd_laws.proofs.reading.ReaderLemmas.{get-put_other, get-put_same, old-filled, same_or_not}
 use Rattle.nbd_state.specs.Shows.{AreKnown}
 use Rattle.nbd_session.specs.internal.Standing.{Holding, IsReadTo, held_pairs, rest_of, with_bytes}
 use Rattle.nbd_session.specs.internal.Steps.{HoldsRun, IsSame, IsShut, IsTaken, Stands, knows_by}
@@ -38,7 +36,7 @@ same_held held = record {
 
 -- the judge's word on what was taken
 abbrev pub IsRead : (held : Held) (s : Side) → IsTaken held s → Reading → Type 0
-IsRead held s t reading = reading_by_decision (decided t.machine s (bytes_come (incoming_of held s))) (bytes_come (incoming_of held s)) ≡ reading
+IsRead held s t reading = reading_by_decision (decided t.reader s (bytes_come (incoming_of held s))) (bytes_come (incoming_of held s)) ≡ reading
 
 -- with bytes after it a side's rest began where it began
 same_old : (core : Core) (rest : Rest) (more : List ℕ) → IsFilled more → old_of core (extended core rest more) ≡ old_of core rest
@@ -50,48 +48,48 @@ same_old core rest more f = old-filled core (extended core rest more) (filled_ri
 
 module _ (held : Held) (s : Side) (t : IsTaken held s) where
   abbrev after : Holding
-  after = with_bytes t.before s t.more (length t.machine.core.entries)
+  after = with_bytes t.before s t.more (length t.reader.core.entries)
 
-  -- the machine's word on them
-  pub says_so : (reading : Reading) → IsRead held s t reading → concrete (old_of t.machine.core (get t.machine.rests s)) t.machine.core s (rest_of after s) ≡ reading
+  -- the reader's word on them
+  pub says_so : (reading : Reading) → IsRead held s t reading → by_tests (old_of t.reader.core (get t.reader.rests s)) t.reader.core s (rest_of after s) ≡ reading
   says_so reading e =
-      subst (λ (h : Holding). concrete (old_of t.machine.core (get t.machine.rests s)) t.machine.core s (rest_of h s) ≡ reading) t.holding_is
-      (subst (λ bs. concrete (old_of t.machine.core (get t.machine.rests s)) t.machine.core s bs ≡ reading) (sym (rest_is held s)) e)
+      subst (λ (h : Holding). by_tests (old_of t.reader.core (get t.reader.rests s)) t.reader.core s (rest_of h s) ≡ reading) t.holding_is
+      (subst (λ bs. by_tests (old_of t.reader.core (get t.reader.rests s)) t.reader.core s bs ≡ reading) (sym (rest_is held s)) e)
 
-  abbrev longer : Machine
-  longer = record t.machine { rests = put t.machine.rests s (extended t.machine.core (get t.machine.rests s) t.more) }
+  abbrev longer : Reader
+  longer = record t.reader { rests = put t.reader.rests s (extended t.reader.core (get t.reader.rests s) t.more) }
 
-  known_longer : (e : Option Expected) → knows_by (decided t.machine s) t.machine.core (incoming_of held s).head (incoming_of held s).payload e → (incoming_of held s).expected ≡ e →
-      IsKnown (decided t.machine s) t.machine.core (incoming_of held s)
-  known_longer e k is = subst (λ e. is_known_by (decided t.machine s) t.machine.core (incoming_of held s).head (incoming_of held s).payload e) (sym is) (go e k)
+  known_longer : (e : Option Expected) → knows_by (decided t.reader s) t.reader.core (incoming_of held s).head (incoming_of held s).payload e → (incoming_of held s).expected ≡ e →
+      IsKnown (decided t.reader s) t.reader.core (incoming_of held s)
+  known_longer e k is = subst (λ e. is_known_by (decided t.reader s) t.reader.core (incoming_of held s).head (incoming_of held s).payload e) (sym is) (go e k)
     where
-      go : (e : Option Expected) → knows_by (decided t.machine s) t.machine.core (incoming_of held s).head (incoming_of held s).payload e →
-          is_known_by (decided t.machine s) t.machine.core (incoming_of held s).head (incoming_of held s).payload e
+      go : (e : Option Expected) → knows_by (decided t.reader s) t.reader.core (incoming_of held s).head (incoming_of held s).payload e →
+          is_known_by (decided t.reader s) t.reader.core (incoming_of held s).head (incoming_of held s).payload e
       go (Some x) k = k.0
       go None k = (k.0, λ d is. (let same : k.1 ≡ d = same_Some _ _ (sym k.2 ∙ is) in let len : k.1.head_length ≡ d.head_length = ap (λ (x : Decision). x.head_length) same in let short = k.3 in omega (arith, short, len)))
 
-  all_known : IsKnown (decided t.machine s) t.machine.core (incoming_of held s) → (u : Side) → IsKnown (decided longer u) t.machine.core (incoming_of held u)
+  all_known : IsKnown (decided t.reader s) t.reader.core (incoming_of held s) → (u : Side) → IsKnown (decided longer u) t.reader.core (incoming_of held u)
   all_known here u = elim (same_or_not s u) [
-    | inl e ↦ subst (λ v. IsKnown (decided longer v) t.machine.core (incoming_of held v)) e
-        (subst (λ (r : Rest). IsKnown (decision t.machine.core.phase (old_of t.machine.core r) t.machine.core s) t.machine.core (incoming_of held s)) (sym (get-put_same t.machine.rests s (extended t.machine.core (get t.machine.rests s) t.more)))
-        (subst (λ c. IsKnown (decision t.machine.core.phase c t.machine.core s) t.machine.core (incoming_of held s)) (sym (same_old t.machine.core (get t.machine.rests s) t.more t.filled)) here))
-    | inr ne ↦ subst (λ (r : Rest). IsKnown (decision t.machine.core.phase (old_of t.machine.core r) t.machine.core u) t.machine.core (incoming_of held u)) (sym (get-put_other t.machine.rests s u (extended t.machine.core (get t.machine.rests s) t.more) ne)) (t.knows u ne)
+    | inl e ↦ subst (λ v. IsKnown (decided longer v) t.reader.core (incoming_of held v)) e
+        (subst (λ (r : Rest). IsKnown (decision t.reader.core.phase (old_of t.reader.core r) t.reader.core s) t.reader.core (incoming_of held s)) (sym (get-put_same t.reader.rests s (extended t.reader.core (get t.reader.rests s) t.more)))
+        (subst (λ c. IsKnown (decision t.reader.core.phase c t.reader.core s) t.reader.core (incoming_of held s)) (sym (same_old t.reader.core (get t.reader.rests s) t.more t.filled)) here))
+    | inr ne ↦ subst (λ (r : Rest). IsKnown (decision t.reader.core.phase (old_of t.reader.core r) t.reader.core u) t.reader.core (incoming_of held u)) (sym (get-put_other t.reader.rests s u (extended t.reader.core (get t.reader.rests s) t.more) ne)) (t.knows u ne)
   ]
 
   -- more is awaited
-  pub settled_more : IsRead held s t More → (e : Option Expected) → (incoming_of held s).expected ≡ e → knows_by (decided t.machine s) t.machine.core (incoming_of held s).head (incoming_of held s).payload e → Stands held
+  pub settled_more : IsRead held s t More → (e : Option Expected) → (incoming_of held s).expected ≡ e → knows_by (decided t.reader s) t.reader.core (incoming_of held s).head (incoming_of held s).payload e → Stands held
   settled_more more e is k =
       let word = says_so More more in
-      let judged_so : concrete (old_of t.machine.core (get t.machine.rests s)) t.machine.core s ((get t.machine.rests s).bytes ++ t.more) ≡ More =
-      says t.before t.machine t.read_to s t.more t.filled t.are_bytes t.up_to More word in
-      let log : log_of_pairs concrete (fresh_of t.before.profile) (held_pairs after) ≡ log_of_pairs concrete (fresh_of t.before.profile) (held_pairs t.before) =
-      ap (log_of_pairs concrete (fresh_of t.before.profile)) (pairs-taken t.before s t.more (length t.machine.core.entries) t.read_to.are_stretches)
-      ∙ logged-kept t.before.profile (held_pairs t.before) t.machine s t.more t.read_to.reads_it (held_of t.before t.machine t.read_to) t.filled t.up_to judged_so in
+      let judged_so : by_tests (old_of t.reader.core (get t.reader.rests s)) t.reader.core s ((get t.reader.rests s).bytes ++ t.more) ≡ More =
+      says t.before t.reader t.read_to s t.more t.filled t.are_bytes t.up_to More word in
+      let log : log_of_pairs by_tests (fresh_of t.before.profile) (held_pairs after) ≡ log_of_pairs by_tests (fresh_of t.before.profile) (held_pairs t.before) =
+      ap (log_of_pairs by_tests (fresh_of t.before.profile)) (pairs-taken t.before s t.more (length t.reader.core.entries) t.read_to.are_stretches)
+      ∙ logged-kept t.before.profile (held_pairs t.before) t.reader s t.more t.read_to.reads_it (held_of t.before t.reader t.read_to) t.filled t.up_to judged_so in
       record {
-        machine = longer;
-        read_to = subst (λ h. IsReadTo h longer) (sym t.holding_is) (more_taken t.before t.machine t.read_to s t.more t.filled t.are_bytes t.up_to word);
+        reader = longer;
+        read_to = subst (λ h. IsReadTo h longer) (sym t.holding_is) (more_taken t.before t.reader t.read_to s t.more t.filled t.are_bytes t.up_to word);
         shows = t.shows;
-        known = subst (λ h. AreKnown (log_of_pairs concrete (fresh_of h.profile) (held_pairs h)) held.state.exchanges.items) (sym t.holding_is)
+        known = subst (λ h. AreKnown (log_of_pairs by_tests (fresh_of h.profile) (held_pairs h)) held.state.exchanges.items) (sym t.holding_is)
             (subst (λ log. AreKnown log held.state.exchanges.items) (sym log) t.known);
         taken_is = t.taken_is;
         knows = all_known (known_longer e k is);
@@ -99,12 +97,12 @@ module _ (held : Held) (s : Side) (t : IsTaken held s) where
 
   pub taken_run : HoldsRun (holding_of held)
   taken_run =
-      let r = more_is_run_but (held_pairs t.before) t.machine t.before.messages t.before.client t.before.server s t.more t.read_to.are_pairs t.read_to.reads_it
+      let r = more_is_run_but (held_pairs t.before) t.reader t.before.messages t.before.client t.before.server s t.more t.read_to.are_pairs t.read_to.reads_it
       t.read_to.messages_are (t.read_to.rests_are Client) (t.read_to.rests_are Server) in
       subst HoldsRun (sym t.holding_is) (record {
         items = r.0;
         is_run = r.1;
-        has_pairs = r.2 ∙ sym (pairs-taken t.before s t.more (length t.machine.core.entries) t.read_to.are_stretches);
+        has_pairs = r.2 ∙ sym (pairs-taken t.before s t.more (length t.reader.core.entries) t.read_to.are_stretches);
         has_messages = r.3;
       })
 
@@ -116,8 +114,8 @@ module _ (held : Held) (s : Side) (t : IsTaken held s) where
     cause = (
       refl,
       subst (λ h. IsStopped h fault) (sym t.holding_is)
-          (stopped t.before t.machine t.read_to s t.more (length t.machine.core.entries) t.filled (pairs_taken t.before t.machine t.read_to s t.more t.filled t.are_bytes t.up_to) t.up_to fault
-          (refused_taken t.before t.machine t.read_to s t.more t.filled t.are_bytes t.up_to fault (says_so (Bad fault) e))),
+          (stopped t.before t.reader t.read_to s t.more (length t.reader.core.entries) t.filled (pairs_taken t.before t.reader t.read_to s t.more t.filled t.are_bytes t.up_to) t.up_to fault
+          (refused_taken t.before t.reader t.read_to s t.more t.filled t.are_bytes t.up_to fault (says_so (Bad fault) e))),
     );
   }
 

@@ -11,11 +11,10 @@ use Rattle.nbd_wire.specs.protocol.Rules.{complete}
 use Rattle.nbd_wire.specs.protocol.Sides.{side, same_side}
 use Rattle.nbd_wire.specs.protocol.States.{Core, Phase, Greet, Flags, Choosing, Naming, Aborting, Answering, Ended, Transmission}
 use Rattle.nbd_wire.specs.declared.fault.WireFault.{WireFault}
-use Rattle.nbd_wire.specs.protocol.Concrete.{concrete}
-use Rattle.nbd_wire.specs.protocol.Judge.{decision, decision_by_count, decision_with, awaited_length}
-use Rattle.nbd_wire.specs.protocol.JudgeTransmission.{operation_counted}
-use Rattle.nbd_wire.specs.protocol.Machine.{Machine, Rest, Reading, More, Whole, Bad, get, put, reads, fresh_of, old_of, settle, on_ok, IsFilled}
-use Rattle.nbd_laws.proofs.machine.MachineLemmas.{IsSoundAt, AreHeld, reads_held, old-empty, old-filled}
+use Rattle.nbd_laws.specs.Awaited.{awaited_length}
+use Rattle.nbd_session.specs.internal.Counted.{decision_by_count, operation_counted}
+use Rattle.nbd_wire.specs.protocol.Reading.{by_tests, decision, decision_with, Reader, Rest, Reading, More, Whole, Bad, get, put, reads, fresh_of, old_of, settle, on_ok, IsFilled}
+use Rattle.nbd_laws.proofs.reading.ReaderLemmas.{IsSoundAt, AreHeld, reads_held, old-empty, old-filled}
 use Rattle.nbd_session.specs.internal.Standing.{Holding, IsReadTo, AreStretchesOf, stretches_with, held_pairs, rest_of, with_more, with_bytes, count_at_server}
 use Rattle.nbd_laws.proofs.judge.AwaitedLemmas.{reads_up_to}
 use Rattle.nbd_laws.proofs.judge.BlockLemmas.{judged_at_once, extended, reads-append}
@@ -99,28 +98,28 @@ are_pairs-sent : (s : Side) (bytes : List ℕ) → AreBytes bytes → ArePairs (
 are_pairs-sent s [] a = tt
 are_pairs-sent s (b ∷ bytes) a = (a.0, are_pairs-sent s bytes a.1)
 
--- what the machine has read is held as it keeps it
-pub held_of : (h : Holding) (machine : Machine) → IsReadTo h machine → AreHeld concrete machine
-held_of h machine r = reads_held concrete sound (held_pairs h) (fresh_of h.profile) machine r.are_pairs (fresh_held concrete) r.reads_it
+-- what the reader has read is held as it keeps it
+pub held_of : (h : Holding) (reader : Reader) → IsReadTo h reader → AreHeld by_tests reader
+held_of h reader r = reads_held by_tests sound (held_pairs h) (fresh_of h.profile) reader r.are_pairs (fresh_held by_tests) r.reads_it
 
--- the machine's rest of a side, with these bytes after it
-module _ (h : Holding) (machine : Machine) (r : IsReadTo h machine) (s : Side) (more : List ℕ) (filled : IsFilled more) (bytes : AreBytes more)
-    (up_to : length ((get machine.rests s).bytes ++ more) ≤ awaited_length (old_of machine.core (get machine.rests s)) machine.core s (get machine.rests s).bytes) where
+-- the reader's rest of a side, with these bytes after it
+module _ (h : Holding) (reader : Reader) (r : IsReadTo h reader) (s : Side) (more : List ℕ) (filled : IsFilled more) (bytes : AreBytes more)
+    (up_to : length ((get reader.rests s).bytes ++ more) ≤ awaited_length (old_of reader.core (get reader.rests s)) reader.core s (get reader.rests s).bytes) where
   abbrev taken : Holding
-  taken = with_bytes h s more (length machine.core.entries)
+  taken = with_bytes h s more (length reader.core.entries)
 
   abbrev rest : Rest
-  rest = get machine.rests s
+  rest = get reader.rests s
 
-  pub reads_taken : reads concrete (fresh_of h.profile) (held_pairs taken) ≡ judged_at_once concrete machine s more
+  pub reads_taken : reads by_tests (fresh_of h.profile) (held_pairs taken) ≡ judged_at_once by_tests reader s more
   reads_taken =
-      ap (reads concrete (fresh_of h.profile)) (pairs-taken h s more (length machine.core.entries) r.are_stretches)
-      ∙ reads-append concrete (fresh_of h.profile) (held_pairs h) (side_pairs s more)
-      ∙ ap (λ o. on_ok o (λ next. reads concrete next (side_pairs s more))) r.reads_it
-      ∙ reads_up_to machine s more (held_of h machine r) filled up_to
+      ap (reads by_tests (fresh_of h.profile)) (pairs-taken h s more (length reader.core.entries) r.are_stretches)
+      ∙ reads-append by_tests (fresh_of h.profile) (held_pairs h) (side_pairs s more)
+      ∙ ap (λ o. on_ok o (λ next. reads by_tests next (side_pairs s more))) r.reads_it
+      ∙ reads_up_to reader s more (held_of h reader r) filled up_to
 
   pub pairs_taken : ArePairs (held_pairs taken)
-  pairs_taken = subst ArePairs (sym (pairs-taken h s more (length machine.core.entries) r.are_stretches)) (are_pairs-append (held_pairs h) (side_pairs s more) r.are_pairs (are_pairs-sent s more bytes))
+  pairs_taken = subst ArePairs (sym (pairs-taken h s more (length reader.core.entries) r.are_stretches)) (are_pairs-append (held_pairs h) (side_pairs s more) r.are_pairs (are_pairs-sent s more bytes))
 
 -- the count at the first byte of the server's rest
 pub count_at : (server : List ℕ) (rest : Rest) (core : Core) (counted : ℕ) → rest.bytes ≡ server → (IsFilled server → counted ≡ length rest.since.entries) →
@@ -140,114 +139,114 @@ client_alike Ended a b core bytes = refl
 client_alike (Transmission export) a b core bytes = refl
 
 -- what is decided of a side's bytes, by the count that is held
-pub decided_held : (h : Holding) (machine : Machine) (s : Side) → IsReadTo h machine → (bytes : List ℕ) →
-    decision machine.core.phase (old_of machine.core (get machine.rests s)) machine.core s bytes
-    ≡ decision_by_count (count_at_server s h.server h.counted (length machine.core.entries)) machine.core s bytes
-decided_held h machine Client r bytes =
-    held_counted (held_of h machine r Client) bytes
-    ∙ client_alike machine.core.phase (count_of machine.core machine.rests.client) h.counted machine.core bytes
-decided_held h machine Server r bytes =
-    held_counted (held_of h machine r Server) bytes
-    ∙ ap (λ n. decision_by_count n machine.core Server bytes) (sym (count_at h.server machine.rests.server machine.core h.counted (r.rests_are Server) r.count_is))
+pub decided_held : (h : Holding) (reader : Reader) (s : Side) → IsReadTo h reader → (bytes : List ℕ) →
+    decision reader.core.phase (old_of reader.core (get reader.rests s)) reader.core s bytes
+    ≡ decision_by_count (count_at_server s h.server h.counted (length reader.core.entries)) reader.core s bytes
+decided_held h reader Client r bytes =
+    held_counted (held_of h reader r Client) bytes
+    ∙ client_alike reader.core.phase (count_of reader.core reader.rests.client) h.counted reader.core bytes
+decided_held h reader Server r bytes =
+    held_counted (held_of h reader r Server) bytes
+    ∙ ap (λ n. decision_by_count n reader.core Server bytes) (sym (count_at h.server reader.rests.server reader.core h.counted (r.rests_are Server) r.count_is))
 
-rest_taken : (h : Holding) (machine : Machine) (s u : Side) (more : List ℕ) (entries : ℕ) → IsReadTo h machine →
-    (get (put machine.rests s (extended machine.core (get machine.rests s) more)) u).bytes ≡ rest_of (with_bytes h s more entries) u
-rest_taken h machine Client Client more entries r = ap (λ l. l ++ more) (r.rests_are Client)
-rest_taken h machine Client Server more entries r = r.rests_are Server
-rest_taken h machine Server Client more entries r = r.rests_are Client
-rest_taken h machine Server Server more entries r = ap (λ l. l ++ more) (r.rests_are Server)
+rest_taken : (h : Holding) (reader : Reader) (s u : Side) (more : List ℕ) (entries : ℕ) → IsReadTo h reader →
+    (get (put reader.rests s (extended reader.core (get reader.rests s) more)) u).bytes ≡ rest_of (with_bytes h s more entries) u
+rest_taken h reader Client Client more entries r = ap (λ l. l ++ more) (r.rests_are Client)
+rest_taken h reader Client Server more entries r = r.rests_are Server
+rest_taken h reader Server Client more entries r = r.rests_are Client
+rest_taken h reader Server Server more entries r = ap (λ l. l ++ more) (r.rests_are Server)
 
-count_taken : (h : Holding) (machine : Machine) (s : Side) (more : List ℕ) → IsReadTo h machine → IsFilled (with_more s Server more h.server) →
-    count_at_server s h.server h.counted (length machine.core.entries) ≡ length (get (put machine.rests s (extended machine.core (get machine.rests s) more)) Server).since.entries
-count_taken h machine Client more r f = r.count_is f
-count_taken h machine Server more r f = count_at h.server machine.rests.server machine.core h.counted (r.rests_are Server) r.count_is
+count_taken : (h : Holding) (reader : Reader) (s : Side) (more : List ℕ) → IsReadTo h reader → IsFilled (with_more s Server more h.server) →
+    count_at_server s h.server h.counted (length reader.core.entries) ≡ length (get (put reader.rests s (extended reader.core (get reader.rests s) more)) Server).since.entries
+count_taken h reader Client more r f = r.count_is f
+count_taken h reader Server more r f = count_at h.server reader.rests.server reader.core h.counted (r.rests_are Server) r.count_is
 
 -- the bytes of a side with more
-pub bytes_taken : (h : Holding) (machine : Machine) (s : Side) (more : List ℕ) (entries : ℕ) → IsReadTo h machine → (get machine.rests s).bytes ++ more ≡ rest_of (with_bytes h s more entries) s
-bytes_taken h machine Client more entries r = ap (λ l. l ++ more) (r.rests_are Client)
-bytes_taken h machine Server more entries r = ap (λ l. l ++ more) (r.rests_are Server)
+pub bytes_taken : (h : Holding) (reader : Reader) (s : Side) (more : List ℕ) (entries : ℕ) → IsReadTo h reader → (get reader.rests s).bytes ++ more ≡ rest_of (with_bytes h s more entries) s
+bytes_taken h reader Client more entries r = ap (λ l. l ++ more) (r.rests_are Client)
+bytes_taken h reader Server more entries r = ap (λ l. l ++ more) (r.rests_are Server)
 
-module _ (h : Holding) (machine : Machine) (r : IsReadTo h machine) (s : Side) (more : List ℕ) (filled : IsFilled more) (bytes : AreBytes more)
-    (up_to : length ((get machine.rests s).bytes ++ more) ≤ awaited_length (old_of machine.core (get machine.rests s)) machine.core s (get machine.rests s).bytes) where
+module _ (h : Holding) (reader : Reader) (r : IsReadTo h reader) (s : Side) (more : List ℕ) (filled : IsFilled more) (bytes : AreBytes more)
+    (up_to : length ((get reader.rests s).bytes ++ more) ≤ awaited_length (old_of reader.core (get reader.rests s)) reader.core s (get reader.rests s).bytes) where
   abbrev after : Holding
-  after = with_bytes h s more (length machine.core.entries)
+  after = with_bytes h s more (length reader.core.entries)
 
   -- what the judge says of the side's bytes with these
-  pub says : (reading : Reading) → concrete (old_of machine.core (get machine.rests s)) machine.core s (rest_of after s) ≡ reading →
-      concrete (old_of machine.core (get machine.rests s)) machine.core s ((get machine.rests s).bytes ++ more) ≡ reading
-  says reading e = ap (λ l. concrete (old_of machine.core (get machine.rests s)) machine.core s l) (bytes_taken h machine s more (length machine.core.entries) r) ∙ e
+  pub says : (reading : Reading) → by_tests (old_of reader.core (get reader.rests s)) reader.core s (rest_of after s) ≡ reading →
+      by_tests (old_of reader.core (get reader.rests s)) reader.core s ((get reader.rests s).bytes ++ more) ≡ reading
+  says reading e = ap (λ l. by_tests (old_of reader.core (get reader.rests s)) reader.core s l) (bytes_taken h reader s more (length reader.core.entries) r) ∙ e
 
-  settled : (reading : Reading) → concrete (old_of machine.core (get machine.rests s)) machine.core s (rest_of after s) ≡ reading →
-      reads concrete (fresh_of h.profile) (held_pairs after) ≡ settle machine s (extended machine.core (get machine.rests s) more) reading
-  settled reading e = reads_taken h machine r s more filled bytes up_to ∙ ap (settle machine s (extended machine.core (get machine.rests s) more)) (says reading e)
+  settled : (reading : Reading) → by_tests (old_of reader.core (get reader.rests s)) reader.core s (rest_of after s) ≡ reading →
+      reads by_tests (fresh_of h.profile) (held_pairs after) ≡ settle reader s (extended reader.core (get reader.rests s) more) reading
+  settled reading e = reads_taken h reader r s more filled bytes up_to ∙ ap (settle reader s (extended reader.core (get reader.rests s) more)) (says reading e)
 
   -- more is awaited
-  pub more_taken : concrete (old_of machine.core (get machine.rests s)) machine.core s (rest_of after s) ≡ More →
-      IsReadTo after (record machine { rests = put machine.rests s (extended machine.core (get machine.rests s) more) })
+  pub more_taken : by_tests (old_of reader.core (get reader.rests s)) reader.core s (rest_of after s) ≡ More →
+      IsReadTo after (record reader { rests = put reader.rests s (extended reader.core (get reader.rests s) more) })
   more_taken e = record {
-    are_pairs = pairs_taken h machine r s more filled bytes up_to;
+    are_pairs = pairs_taken h reader r s more filled bytes up_to;
     reads_it = settled More e;
     messages_are = r.messages_are;
-    rests_are = λ u. rest_taken h machine s u more (length machine.core.entries) r;
-    count_is = count_taken h machine s more r;
-    are_stretches = stretches-taken h s more (length machine.core.entries) r.are_stretches;
+    rests_are = λ u. rest_taken h reader s u more (length reader.core.entries) r;
+    count_is = count_taken h reader s more r;
+    are_stretches = stretches-taken h s more (length reader.core.entries) r.are_stretches;
   }
 
   -- the bytes are refused
-  pub refused_taken : (fault : WireFault) → concrete (old_of machine.core (get machine.rests s)) machine.core s (rest_of after s) ≡ Bad fault →
-      reads concrete (fresh_of h.profile) (held_pairs after) ≡ Err fault
+  pub refused_taken : (fault : WireFault) → by_tests (old_of reader.core (get reader.rests s)) reader.core s (rest_of after s) ≡ Bad fault →
+      reads by_tests (fresh_of h.profile) (held_pairs after) ≡ Err fault
   refused_taken fault e = settled (Bad fault) e
 
 -- a message's bytes are no longer a rest
-rest_message : (h : Holding) (machine : Machine) (s u : Side) (m : Message) (more : List ℕ) (entries : ℕ) → IsReadTo h machine →
-    (get (put machine.rests s (record (extended machine.core (get machine.rests s) more) { bytes = [] })) u).bytes ≡ rest_of (with_message (with_bytes h s more entries) s m) u
-rest_message h machine Client Client m more entries r = refl
-rest_message h machine Client Server m more entries r = r.rests_are Server
-rest_message h machine Server Client m more entries r = r.rests_are Client
-rest_message h machine Server Server m more entries r = refl
+rest_message : (h : Holding) (reader : Reader) (s u : Side) (m : Message) (more : List ℕ) (entries : ℕ) → IsReadTo h reader →
+    (get (put reader.rests s (record (extended reader.core (get reader.rests s) more) { bytes = [] })) u).bytes ≡ rest_of (with_message (with_bytes h s more entries) s m) u
+rest_message h reader Client Client m more entries r = refl
+rest_message h reader Client Server m more entries r = r.rests_are Server
+rest_message h reader Server Client m more entries r = r.rests_are Client
+rest_message h reader Server Server m more entries r = refl
 
 messages_message : (h : Holding) (s : Side) (m : Message) → (with_message h s m).messages ≡ h.messages ++ m ∷ []
 messages_message h Client m = refl
 messages_message h Server m = refl
 
-count_message : (h : Holding) (machine : Machine) (s : Side) (m : Message) (more : List ℕ) (entries : ℕ) → IsReadTo h machine → IsFilled (with_message (with_bytes h s more entries) s m).server →
-    (with_message (with_bytes h s more entries) s m).counted ≡ length (get (put machine.rests s (record (extended machine.core (get machine.rests s) more) { bytes = [] })) Server).since.entries
-count_message h machine Client m more entries r f = r.count_is f
-count_message h machine Server m more entries r f = absurd f
+count_message : (h : Holding) (reader : Reader) (s : Side) (m : Message) (more : List ℕ) (entries : ℕ) → IsReadTo h reader → IsFilled (with_message (with_bytes h s more entries) s m).server →
+    (with_message (with_bytes h s more entries) s m).counted ≡ length (get (put reader.rests s (record (extended reader.core (get reader.rests s) more) { bytes = [] })) Server).since.entries
+count_message h reader Client m more entries r f = r.count_is f
+count_message h reader Server m more entries r f = absurd f
 
 -- what is held of a side whose bytes have become this message
-pub record IsWholeTaken (h : Holding) (machine : Machine) (s : Side) (after : Holding) (m : Message) : Type 0 where
-  pub at : IsSoundAt (old_of machine.core (get machine.rests s)) machine.core s (rest_of after s) m
+pub record IsWholeTaken (h : Holding) (reader : Reader) (s : Side) (after : Holding) (m : Message) : Type 0 where
+  pub at : IsSoundAt (old_of reader.core (get reader.rests s)) reader.core s (rest_of after s) m
   pub next : Rest
   pub next_empty : next.bytes ≡ []
-  pub read_to : IsReadTo (with_message after s m) (record { core = complete machine.core m; rests = put machine.rests s next; messages = machine.messages ++ m ∷ [] })
+  pub read_to : IsReadTo (with_message after s m) (record { core = complete reader.core m; rests = put reader.rests s next; messages = reader.messages ++ m ∷ [] })
 
-module _ (h : Holding) (machine : Machine) (r : IsReadTo h machine) (s : Side) (more : List ℕ) (filled : IsFilled more) (bytes : AreBytes more)
-    (up_to : length ((get machine.rests s).bytes ++ more) ≤ awaited_length (old_of machine.core (get machine.rests s)) machine.core s (get machine.rests s).bytes) where
-  pub whole_taken : (m : Message) → concrete (old_of machine.core (get machine.rests s)) machine.core s (rest_of (after h machine r s more filled bytes up_to) s) ≡ Whole m →
-      IsWholeTaken h machine s (after h machine r s more filled bytes up_to) m
+module _ (h : Holding) (reader : Reader) (r : IsReadTo h reader) (s : Side) (more : List ℕ) (filled : IsFilled more) (bytes : AreBytes more)
+    (up_to : length ((get reader.rests s).bytes ++ more) ≤ awaited_length (old_of reader.core (get reader.rests s)) reader.core s (get reader.rests s).bytes) where
+  pub whole_taken : (m : Message) → by_tests (old_of reader.core (get reader.rests s)) reader.core s (rest_of (after h reader r s more filled bytes up_to) s) ≡ Whole m →
+      IsWholeTaken h reader s (after h reader r s more filled bytes up_to) m
   whole_taken m e =
-      let held : Holding = after h machine r s more filled bytes up_to in
-      let b = bytes_taken h machine s more (length machine.core.entries) r in
-      let good : IsSoundAt (old_of machine.core (get machine.rests s)) machine.core s ((get machine.rests s).bytes ++ more) m =
-      sound _ _ _ _ m (kept_more machine.core s (get machine.rests s) more (held_of h machine r s) filled bytes up_to) (says h machine r s more filled bytes up_to (Whole m) e) in
-      let at : IsSoundAt (old_of machine.core (get machine.rests s)) machine.core s (rest_of held s) m = subst (λ l. IsSoundAt (old_of machine.core (get machine.rests s)) machine.core s l m) b good in
+      let held : Holding = after h reader r s more filled bytes up_to in
+      let b = bytes_taken h reader s more (length reader.core.entries) r in
+      let good : IsSoundAt (old_of reader.core (get reader.rests s)) reader.core s ((get reader.rests s).bytes ++ more) m =
+      sound _ _ _ _ m (kept_more reader.core s (get reader.rests s) more (held_of h reader r s) filled bytes up_to) (says h reader r s more filled bytes up_to (Whole m) e) in
+      let at : IsSoundAt (old_of reader.core (get reader.rests s)) reader.core s (rest_of held s) m = subst (λ l. IsSoundAt (old_of reader.core (get reader.rests s)) reader.core s l m) b good in
       let same : held_pairs (with_message held s m) ≡ held_pairs held = pairs-message held s m at.encodes at.sided in
       let both = both-completed held s m at.encodes at.sided in
       record {
         at = at;
-        next = record (extended machine.core (get machine.rests s) more) { bytes = [] };
+        next = record (extended reader.core (get reader.rests s) more) { bytes = [] };
         next_empty = refl;
         read_to = record {
-          are_pairs = subst ArePairs (sym same) (pairs_taken h machine r s more filled bytes up_to);
+          are_pairs = subst ArePairs (sym same) (pairs_taken h reader r s more filled bytes up_to);
           reads_it =
-              ap (λ q. reads concrete (fresh_of q) (held_pairs (with_message held s m))) (profile_message held s m)
-              ∙ ap (reads concrete (fresh_of h.profile)) same ∙ settled h machine r s more filled bytes up_to (Whole m) e;
+              ap (λ q. reads by_tests (fresh_of q) (held_pairs (with_message held s m))) (profile_message held s m)
+              ∙ ap (reads by_tests (fresh_of h.profile)) same ∙ settled h reader r s more filled bytes up_to (Whole m) e;
           messages_are = ap (λ l. l ++ m ∷ []) r.messages_are ∙ sym (messages_message held s m);
-          rests_are = λ u. rest_message h machine s u m more (length machine.core.entries) r;
-          count_is = count_message h machine s m more (length machine.core.entries) r;
+          rests_are = λ u. rest_message h reader s u m more (length reader.core.entries) r;
+          count_is = count_message h reader s m more (length reader.core.entries) r;
           are_stretches = subst (λ stretches. AreStretchesOf stretches (bytes_of Client (with_message held s m).messages ++ (with_message held s m).client) (bytes_of Server (with_message held s m).messages ++ (with_message held s m).server)) (sym (stretches_message held s m))
               (subst (λ l. AreStretchesOf held.stretches l (bytes_of Server (with_message held s m).messages ++ (with_message held s m).server)) (sym both.0)
-              (subst (λ l. AreStretchesOf held.stretches (bytes_of Client held.messages ++ held.client) l) (sym both.1) (stretches-taken h s more (length machine.core.entries) r.are_stretches)));
+              (subst (λ l. AreStretchesOf held.stretches (bytes_of Client held.messages ++ held.client) l) (sym both.1) (stretches-taken h s more (length reader.core.entries) r.are_stretches)));
         };
       }

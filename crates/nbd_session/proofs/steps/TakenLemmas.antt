@@ -70,17 +70,17 @@ module _ (held new : Held) (s : Side) (more : List ℕ) (st : Stands held)
     where
       go : (u : Side) → s ≡ u → holding_of new ≡ with_bytes (holding_of held) s more n
       go Client e =
-          let here = ap bytes_come (ap (incoming_of new) (sym e) ∙ taken_here) ∙ come_with_more (decided st.machine s) st.machine.core (incoming_of held s) (st.knows s) more ∙ ap (λ t. bytes_come (incoming_of held t) ++ more) e in
+          let here = ap bytes_come (ap (incoming_of new) (sym e) ∙ taken_here) ∙ come_with_more (decided st.reader s) st.reader.core (incoming_of held s) (st.knows s) more ∙ ap (λ t. bytes_come (incoming_of held t) ++ more) e in
           let there = ap bytes_come (taken_other Server (λ q. (let r : Client ≡ Server = sym e ∙ q in cc))) in
           (λ i. record { profile = (taken_state i).profile; messages = (messages_same i).items; client = here i; server = there i; counted = (counted ∙ ap (λ t. count_at_server t held.server.head held.counted n) e) i; stretches = (stretches ∙ ap (λ t. stretches_with (stretches_of held.stretches.items) t (length more)) e) i })
           ∙ ap (λ t. with_bytes (holding_of held) t more n) (sym e)
       go Server e =
-          let here = ap bytes_come (ap (incoming_of new) (sym e) ∙ taken_here) ∙ come_with_more (decided st.machine s) st.machine.core (incoming_of held s) (st.knows s) more ∙ ap (λ t. bytes_come (incoming_of held t) ++ more) e in
+          let here = ap bytes_come (ap (incoming_of new) (sym e) ∙ taken_here) ∙ come_with_more (decided st.reader s) st.reader.core (incoming_of held s) (st.knows s) more ∙ ap (λ t. bytes_come (incoming_of held t) ++ more) e in
           let there = ap bytes_come (taken_other Client (λ q. (let r : Server ≡ Client = sym e ∙ q in cc))) in
-          let count = counted ∙ ap (λ t. count_at_server t held.server.head held.counted n) e ∙ count_same (decided st.machine Server) st.machine.core held.server (st.knows Server) held.counted n in
+          let count = counted ∙ ap (λ t. count_at_server t held.server.head held.counted n) e ∙ count_same (decided st.reader Server) st.reader.core held.server (st.knows Server) held.counted n in
           (λ i. record { profile = (taken_state i).profile; messages = (messages_same i).items; client = there i; server = here i; counted = count i; stretches = (stretches ∙ ap (λ t. stretches_with (stretches_of held.stretches.items) t (length more)) e) i })
           ∙ ap (λ t. with_bytes (holding_of held) t more n) (sym e)
 
 -- a side of whose head no byte has come
 pub none_on : (held : Held) (s : Side) (b : Bool) → Stands held → b ≡ is_nothing (incoming_of held s).head → b ≡ true → bytes_come (incoming_of held s) ≡ []
-none_on held s b st is e = none_of_known (decided st.machine s) st.machine.core (incoming_of held s) (st.knows s) (sym is ∙ e)
+none_on held s b st is e = none_of_known (decided st.reader s) st.reader.core (incoming_of held s) (st.knows s) (sym is ∙ e)

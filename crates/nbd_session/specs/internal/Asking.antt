@@ -7,7 +7,7 @@ use Rattle.nbd_wire.specs.protocol.Contexts.{Context, Status}
 use Rattle.nbd_wire.specs.protocol.States.{Core, in_force}
 use Rattle.nbd_wire.specs.protocol.Statuses.{tells_all}
 use Rattle.nbd_state.specs.declared.asked.Asked.{Asked}
-use Rattle.nbd_wire.specs.protocol.Decisions.{fault_if}
+use Rattle.nbd_wire.specs.protocol.Tests.{fault_if}
 
 -- a simple reply with this error may not answer it
 abbrev pub is_simple_forbidden : Core → Asked → (error : ℕ) → Bool

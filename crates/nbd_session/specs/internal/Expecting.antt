@@ -15,10 +15,10 @@ use Rattle.nbd_wire.specs.protocol.Contexts.{Context}
 use Rattle.nbd_wire.specs.protocol.Operations.{Exporting, Operation}
 use Rattle.nbd_wire.specs.protocol.States.{Core, Transmission, operation, target, with_reply}
 use Rattle.nbd_wire.specs.protocol.States as definitions
-use Rattle.nbd_wire.specs.protocol.Decisions.{Decision}
-use Rattle.nbd_wire.specs.protocol.Judge.{decision_by_count}
-use Rattle.nbd_wire.specs.protocol.JudgeNegotiation.{earlier_to, padding_fault, payload_fault}
-use Rattle.nbd_wire.specs.protocol.JudgeTransmission.{begins, chunk_fault, chunk_head_fault, cookie_fault, operation_counted, request_payload_length, simple_fault, simple_last_fault, simple_payload_length}
+use Rattle.nbd_session.specs.internal.Counted.{decision_by_count, operation_counted}
+use Rattle.nbd_wire.specs.protocol.Decisions.{Decision, begins}
+use Rattle.nbd_wire.specs.protocol.Negotiation.{earlier_to, padding_fault, payload_fault}
+use Rattle.nbd_wire.specs.protocol.Transmission.{chunk_fault, chunk_head_fault, cookie_fault, request_payload_length, simple_fault, simple_last_fault, simple_payload_length}
 use Rattle.nbd_wire.specs.declared.message.Side.TheVariants.{Client, Server}
 use Rattle.nbd_state.specs.Showing.{IsShown}
 use Rattle.nbd_state.specs.declared.state.Phase.{Phase}

@@ -1,4 +1,4 @@
--- What the program holds of a session, as the machine that reads it sees it.
+-- What the program holds of a session, as the reader that reads it sees it.
 use Rattle.std.specs.Prelude.{Option, Some, None, Bool, false}
 use Rattle.nbd_wire.specs.declared.message.Side.{Side}
 use Rattle.nbd_wire.specs.declared.message.Side.TheVariants.{Client, Server}

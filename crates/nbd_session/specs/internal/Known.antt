@@ -2,21 +2,21 @@
 use Rattle.std.specs.Prelude.{◌≡◌, ◌<◌, ◌≤◌, ◌++◌, ℕ, List, [], Option, Some, None, length}
 use Rattle.nbd_wire.specs.declared.message.Side.{Side}
 use Rattle.nbd_wire.specs.protocol.States.{Core}
+use Rattle.nbd_laws.specs.Awaited.{awaited_length}
 use Rattle.nbd_wire.specs.protocol.Decisions.{Decision}
-use Rattle.nbd_wire.specs.protocol.Judge.{awaited_length, decision}
-use Rattle.nbd_wire.specs.protocol.Machine.{IsFilled, Machine, get, old_of}
+use Rattle.nbd_wire.specs.protocol.Reading.{decision, IsFilled, Reader, get, old_of}
 use Rattle.nbd_session.specs.declared.expected.Expected.{Expected}
 use Rattle.nbd_session.specs.Incoming.{IncomingView}
 use Rattle.nbd_session.specs.internal.Expecting.{IsPlaced, expected_decision, payload_length_of}
 
--- what is decided of these bytes of a side, where the machine stands
-abbrev pub decided : Machine → Side → List ℕ → Option Decision
-decided machine s bytes = decision machine.core.phase (old_of machine.core (get machine.rests s)) machine.core s bytes
+-- what is decided of these bytes of a side, where the reader stands
+abbrev pub decided : Reader → Side → List ℕ → Option Decision
+decided reader s bytes = decision reader.core.phase (old_of reader.core (get reader.rests s)) reader.core s bytes
 
 -- the next length at which something is decided of a side's bytes
-abbrev pub awaited : Machine → Side → ℕ
-awaited machine s = awaited_length (old_of machine.core (get machine.rests s)) machine.core s
-    (get machine.rests s).bytes
+abbrev pub awaited : Reader → Side → ℕ
+awaited reader s = awaited_length (old_of reader.core (get reader.rests s)) reader.core s
+    (get reader.rests s).bytes
 
 -- the head is whole, and this is decided of it and any bytes after it
 pub record IsExpected (decided : List ℕ → Option Decision) (core : Core) (head : List ℕ) (x : Expected) : Type 0 where

@@ -1,4 +1,4 @@
--- What a session under way holds, and what the reading machine has read of it.
+-- What a session under way holds, and what the reading reader has read of it.
 use Rattle.std.specs.Prelude.{◌≡◌, ℕ, ◌+◌, List, [], ◌∷◌, ◌++◌, if◌then◌else◌, length, Ok}
 use Rattle.nbd_wire.specs.declared.profile.Profile.{Profile}
 use Rattle.nbd_wire.specs.declared.message.Side.{Side}
@@ -8,8 +8,7 @@ use Rattle.nbd_wire.specs.protocol.Captures.{Pair, ArePairs}
 use Rattle.nbd_laws.specs.Bytes.{bytes_of}
 use Rattle.nbd_session.specs.Pushed.{Stretch, pushed_pairs}
 use Rattle.nbd_wire.specs.protocol.Sides.{same_side}
-use Rattle.nbd_wire.specs.protocol.Concrete.{concrete}
-use Rattle.nbd_wire.specs.protocol.Machine.{Machine, get, reads, fresh_of, IsFilled}
+use Rattle.nbd_wire.specs.protocol.Reading.{by_tests, Reader, get, reads, fresh_of, IsFilled}
 
 -- the stretches' bytes of a side
 abbrev pub stretch_total : Side → List Stretch → ℕ
@@ -39,13 +38,13 @@ rest_of h Server = h.server
 abbrev pub held_pairs : Holding → List Pair
 held_pairs h = pushed_pairs h.messages h.client h.server h.stretches
 
--- the machine has read what is held, without a fault
-pub record IsReadTo (h : Holding) (machine : Machine) : Type 0 where
+-- the reader has read what is held, without a fault
+pub record IsReadTo (h : Holding) (reader : Reader) : Type 0 where
   pub are_pairs : ArePairs (held_pairs h)
-  pub reads_it : reads concrete (fresh_of h.profile) (held_pairs h) ≡ Ok machine
-  pub messages_are : machine.messages ≡ h.messages
-  pub rests_are : (s : Side) → (get machine.rests s).bytes ≡ rest_of h s
-  pub count_is : IsFilled h.server → h.counted ≡ length (get machine.rests Server).since.entries
+  pub reads_it : reads by_tests (fresh_of h.profile) (held_pairs h) ≡ Ok reader
+  pub messages_are : reader.messages ≡ h.messages
+  pub rests_are : (s : Side) → (get reader.rests s).bytes ≡ rest_of h s
+  pub count_is : IsFilled h.server → h.counted ≡ length (get reader.rests Server).since.entries
   pub are_stretches : AreStretchesOf h.stretches (bytes_of Client h.messages ++ h.client)
       (bytes_of Server h.messages ++ h.server)
 

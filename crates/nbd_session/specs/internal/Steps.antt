@@ -8,13 +8,12 @@ use Rattle.nbd_wire.specs.protocol.Encoding.{AreBytes}
 use Rattle.nbd_session.specs.declared.fault.SessionFault.{SessionFault}
 use Rattle.nbd_session.specs.declared.fault.SessionFault.TheVariants.{Memory, Wire}
 use Rattle.nbd_session.specs.declared.held.Held.{Held}
-use Rattle.nbd_wire.specs.protocol.Concrete.{concrete, reading_by_decision}
 use Rattle.nbd_wire.specs.protocol.Decisions.{Decision}
+use Rattle.nbd_wire.specs.protocol.Reading.{by_tests, reading_by_decision, Bad, IsFilled, Reader, fresh_of, get}
 use Rattle.nbd_session.specs.internal.Holdings.{holding_of, incoming_of}
 use Rattle.nbd_session.specs.internal.Known.{IsCome, IsExpected, IsKnown, awaited, decided}
 use Rattle.nbd_session.specs.internal.Expecting.{last_fault_by, payload_length_of}
 use Rattle.nbd_session.specs.internal.Logging.{log_of_pairs}
-use Rattle.nbd_wire.specs.protocol.Machine.{Bad, IsFilled, Machine, fresh_of, get}
 use Rattle.nbd_session.specs.Sessions.{Adds, HasRunOf}
 use Rattle.nbd_state.specs.Shows.{AreKnown, Shows}
 use Rattle.nbd_session.specs.internal.Standing.{Holding, IsReadTo, held_pairs, with_bytes}
@@ -22,19 +21,19 @@ use Rattle.nbd_session.specs.internal.Stopped.{IsStopped}
 
 -- a session under way
 pub record Stands (held : Held) : Type 0 where
-  pub machine : Machine
-  pub read_to : IsReadTo (holding_of held) machine
-  pub shows : Shows held.state machine.core
-  pub known : AreKnown (log_of_pairs concrete (fresh_of held.state.profile) (held_pairs (holding_of held)))
+  pub reader : Reader
+  pub read_to : IsReadTo (holding_of held) reader
+  pub shows : Shows held.state reader.core
+  pub known : AreKnown (log_of_pairs by_tests (fresh_of held.state.profile) (held_pairs (holding_of held)))
       held.state.exchanges.items
   pub taken_is : held.taken ≡ length (held_pairs (holding_of held))
-  pub knows : (s : Side) → IsKnown (decided machine s) machine.core (incoming_of held s)
+  pub knows : (s : Side) → IsKnown (decided reader s) reader.core (incoming_of held s)
 
 -- what is held is of a run
 abbrev pub HoldsRun : Holding → Type 0
 HoldsRun h = HasRunOf h.profile (held_pairs h) h.messages h.client h.server
 
--- why it is closed: at a wire fault the machine refuses exactly what was taken, at its last byte
+-- why it is closed: at a wire fault the reader refuses exactly what was taken, at its last byte
 abbrev pub IsCause : Held → SessionFault → Type 0
 IsCause held (Wire at fault) = (at ≡ held.taken) × IsStopped (holding_of held) fault
 IsCause held Memory = Unit {0}
@@ -48,18 +47,18 @@ pub record IsShut (held : Held) (fault : SessionFault) : Type 0 where
 -- more bytes of a side were taken, up to the awaited length, and not yet judged
 pub record IsTaken (held : Held) (s : Side) : Type 0 where
   pub before : Holding
-  pub machine : Machine
-  pub read_to : IsReadTo before machine
+  pub reader : Reader
+  pub read_to : IsReadTo before reader
   pub more : List ℕ
   pub filled : IsFilled more
   pub are_bytes : AreBytes more
-  pub up_to : length ((get machine.rests s).bytes ++ more) ≤ awaited machine s
-  pub holding_is : holding_of held ≡ with_bytes before s more (length machine.core.entries)
-  pub shows : Shows held.state machine.core
-  pub known : AreKnown (log_of_pairs concrete (fresh_of before.profile) (held_pairs before)) held.state.exchanges.items
+  pub up_to : length ((get reader.rests s).bytes ++ more) ≤ awaited reader s
+  pub holding_is : holding_of held ≡ with_bytes before s more (length reader.core.entries)
+  pub shows : Shows held.state reader.core
+  pub known : AreKnown (log_of_pairs by_tests (fresh_of before.profile) (held_pairs before)) held.state.exchanges.items
   pub taken_is : held.taken ≡ length (held_pairs (holding_of held))
-  pub come : IsCome (decided machine s) machine.core (incoming_of held s)
-  pub knows : (u : Side) → (s ≡ u → ⊥) → IsKnown (decided machine u) machine.core (incoming_of held u)
+  pub come : IsCome (decided reader s) reader.core (incoming_of held s)
+  pub knows : (u : Side) → (s ≡ u → ⊥) → IsKnown (decided reader u) reader.core (incoming_of held u)
 
 abbrev pub knows_by : (decided : List ℕ → Option Decision) → Core → (head payload : List ℕ) → Option Expected → Type 0
 knows_by decided core head payload (Some x) = IsExpected decided core head x × (length payload ≤ payload_length_of x)
@@ -68,27 +67,27 @@ knows_by decided core head payload None = (payload ≡ []) × (d : Decision) × 
 
 -- after bytes were taken: this is what their head says, or it is not whole
 abbrev pub Knows : Held → Side → Option Expected → Type 0
-Knows held s expected = (t : IsTaken held s) → knows_by (decided t.machine s) t.machine.core (incoming_of held s).head
+Knows held s expected = (t : IsTaken held s) → knows_by (decided t.reader s) t.reader.core (incoming_of held s).head
     (incoming_of held s).payload expected
 
 -- after bytes were taken: those of the head are refused
 abbrev pub IsHeadRefused : Held → Side → WireFault → Type 0
 IsHeadRefused held s fault = (t : IsTaken held s)
     → ((incoming_of held s).payload ≡ [])
-    × (reading_by_decision (decided t.machine s (incoming_of held s).head) (incoming_of held s).head ≡ Bad fault)
+    × (reading_by_decision (decided t.reader s (incoming_of held s).head) (incoming_of held s).head ≡ Bad fault)
 
 -- bytes were taken, and this is what their head says
 pub record IsExpecting (held : Held) (s : Side) (x : Expected) : Type 0 where
   pub taken : IsTaken held s
   pub expected_is : (incoming_of held s).expected ≡ Some x
-  pub is : IsExpected (decided taken.machine s) taken.machine.core (incoming_of held s).head x
+  pub is : IsExpected (decided taken.reader s) taken.reader.core (incoming_of held s).head x
   pub within : length (incoming_of held s).payload ≤ payload_length_of x
 
 -- the same, and they are a whole message whose last byte breaks no rule
 pub record IsWhole (held : Held) (s : Side) (x : Expected) : Type 0 where
   pub expecting : IsExpecting held s x
   pub whole : length (incoming_of held s).payload ≡ payload_length_of x
-  pub no_fault : last_fault_by expecting.taken.machine.core.phase expecting.taken.machine.core x
+  pub no_fault : last_fault_by expecting.taken.reader.core.phase expecting.taken.reader.core x
       (incoming_of held s).payload ≡ None
 
 -- of a side's piece all but `left` was taken

@@ -1,5 +1,5 @@
 -- The export's bytes, looked up backwards from an entry of the order of service.
-use Rattle.std.specs.Prelude.{ℕ, List, [], ◌∷◌, ◌≡◌, ◌≢◌, ◌⊎◌, ◌-◌, ◌==◌, ◌&&◌, Bool, true, false, if◌then◌else◌, Option, Some, None, slice_get, take, IsTrue}
+use Rattle.std.specs.Prelude.{ℕ, List, [], ◌∷◌, ◌≡◌, ◌⊎◌, ◌-◌, ◌==◌, ◌&&◌, Bool, true, false, if◌then◌else◌, Option, Some, None, slice_get, take, IsTrue, is_some}
 use Rattle.nbd_wire.specs.declared.commands.TheConstants as commands
 use Rattle.nbd_wire.specs.declared.entry.Entry.{Entry}
 use Rattle.nbd_wire.specs.declared.entry.Part.{Part}
@@ -92,24 +92,14 @@ byte_before requests order initial i x = byte_or_start (last_touch requests x (t
 abbrev pub Differs : (byte read : ℕ → Option ℕ) → ℕ → Type 0
 Differs byte read x = (b : ℕ) × (byte x ≡ Some b) × (read x ≡ Some b → ⊥)
 
--- x is served of a successful READ, which gives another byte there than the known one, or none
-abbrev pub IsMisread : Option Part → Effect → (ℕ → Option ℕ) → ℕ → Type 0
-IsMisread p e byte x = (e.command ≡ commands.READ) × (e.succeeded ≡ true) × IsTrue (serves p e x)
-    × Differs byte e.read x
+-- a READ says what the byte at x is, and a BLOCK_STATUS where its reply calls it zero (proto.md, "Request types",
+-- "Metadata querying")
+abbrev pub GivesByte : Effect → ℕ → Type 0
+GivesByte e x = (e.command ≡ commands.READ) ⊎ (e.command ≡ commands.BLOCK_STATUS) × IsTrue (is_some (e.read x))
 
--- the byte at x is known, and the reply gives or tells another
-abbrev pub IsBelied : (byte read : ℕ → Option ℕ) → ℕ → Type 0
-IsBelied byte read x = (b c : ℕ) × (byte x ≡ Some b) × (read x ≡ Some c) × (b ≢ c)
-
--- x is served of a successful BLOCK_STATUS, which calls it zero, and the known byte is another (proto.md, "Metadata
--- querying")
-abbrev pub IsFalseZero : Option Part → Effect → (ℕ → Option ℕ) → ℕ → Type 0
-IsFalseZero p e byte x = (e.command ≡ commands.BLOCK_STATUS) × (e.succeeded ≡ true) × IsTrue (serves p e x)
-    × IsBelied byte e.read x
-
--- what the reply to a READ gives at x, or that to a BLOCK_STATUS tells of it, is wrong
+-- x is served of a READ or BLOCK_STATUS that succeeded, which says of it another byte than the known one, or none
 abbrev pub IsWrongIn : Option Part → Effect → (ℕ → Option ℕ) → ℕ → Type 0
-IsWrongIn p e byte x = IsMisread p e byte x ⊎ IsFalseZero p e byte x
+IsWrongIn p e byte x = GivesByte e x × (e.succeeded ≡ true) × IsTrue (serves p e x) × Differs byte e.read x
 
 -- the request of this entry gives a wrong byte at x, which the entry serves, against these bytes of the export
 abbrev pub IsWrongOf : (ℕ → Option Effect) → Entry → (ℕ → Option ℕ) → ℕ → Type 0

@@ -14,9 +14,8 @@ use Rattle.nbd_wire.specs.protocol.Marks.{Item, Byte, Starts, Completes, Serves,
 use Rattle.nbd_wire.specs.protocol.Entries.{IsWhollyServed, MayServe, inside_of}
 use Rattle.nbd_wire.specs.protocol.Sizes.{sizes_kept, sizing_after, sizing_at}
 use Rattle.nbd_wire.specs.protocol.Options.{agrees, is_proper_option, takes_contexts, next_phase, selection_after, selection_at, turn}
-use Rattle.nbd_wire.specs.protocol.Replies.{simple_length}
-use Rattle.nbd_wire.specs.protocol.JudgeNegotiation.{abort_fault, answer_fault, answer_head_fault, answer_last_fault, client_flags_fault, export_fault, greeting_fault}
-use Rattle.nbd_wire.specs.protocol.JudgeTransmission.{chunk_fault, chunk_head_fault, cookie_fault, request_fault, simple_fault, simple_last_fault}
+use Rattle.nbd_wire.specs.protocol.Negotiation.{abort_fault, answer_fault, answer_head_fault, answer_last_fault, client_flags_fault, export_fault, greeting_fault}
+use Rattle.nbd_wire.specs.protocol.Transmission.{simple_length, chunk_fault, chunk_head_fault, cookie_fault, request_fault, simple_fault, simple_last_fault}
 use Rattle.nbd_wire.specs.declared.chunks.TheConstants as chunks
 use Rattle.nbd_wire.specs.protocol.Operations.{Operation, Exporting, proper_on}
 use Rattle.nbd_wire.specs.protocol.Flags.{has}
@@ -122,7 +121,7 @@ complete core (ClientFlags flags) = record core {
 complete core (Choice id payload) = record core {
   phase = next_phase core.phase (Choice id payload);
   selection = selection_at id payload core.selection;
-  agreed = core.structured && agrees id payload core.selection;
+  brings_contexts = core.structured && agrees id payload core.selection;
   sizing = sizing_at id payload;
 }
 complete core (Answer option kind payload) =
@@ -199,7 +198,3 @@ pub record IsRunBut (profile : Profile) (items : List Item) (client server : Lis
 -- a run of a profile: a marked capture that obeys the profile's rules from the start
 abbrev pub IsRunOf : Profile → List Item → Type 0
 IsRunOf profile items = IsRunBut profile items [] []
-
--- a run of the profile Base
-abbrev pub IsRun : List Item → Type 0
-IsRun items = IsRunOf Base items

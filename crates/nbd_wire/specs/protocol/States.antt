@@ -30,7 +30,7 @@ pub data Phase : Type 0 where
 
 -- the profile that the session is held to, the phase, the server's handshake flags, the client's flags, whether
 -- structured replies are in force, what the last SET_META_CONTEXT selected, whether the option that was chosen last
--- brings that selection in force where it leads into transmission, what that option asked of block sizes and was told,
+-- brings the contexts of that selection in force if it leads into transmission, what it asked of block sizes and was told,
 -- whether a DISC has completed, and the numbered requests
 pub record Core : Type 0 where
   pub profile : Profile
@@ -39,7 +39,7 @@ pub record Core : Type 0 where
   pub client_flags : ℕ
   pub structured : Bool
   pub selection : Selection
-  pub agreed : Bool
+  pub brings_contexts : Bool
   pub sizing : Sizing
   pub disconnected : Bool
   pub entries : List Operation
@@ -59,7 +59,7 @@ start_of profile = record {
     client_flags = 0;
     structured = false;
     selection = no_selection;
-    agreed = false;
+    brings_contexts = false;
     sizing = no_sizing;
     disconnected = false;
     entries = [];
@@ -73,7 +73,7 @@ start = start_of Base
 
 -- in transmission, the metadata contexts in force (proto.md, "Metadata querying")
 abbrev pub in_force : Core → List Context
-in_force core = if core.agreed then core.selection.contexts else []
+in_force core = if core.brings_contexts then core.selection.contexts else []
 
 -- the export of a phase: in transmission, the one that was entered
 abbrev pub export_in : Phase → Option Exporting

@@ -1,5 +1,5 @@
 -- What the reply to a BLOCK_STATUS says of its range (proto.md, "Structured reply types").
-use Rattle.std.specs.Prelude.{ℕ, List, [], ◌∷◌, ◌++◌, ◌+◌, ◌-◌, ◌==◌, ◌&&◌, Bool, true, not, min, codes, bytes_eq, if◌then◌else◌, option_to_list}
+use Rattle.std.specs.Prelude.{ℕ, List, [], ◌∷◌, ◌++◌, ◌+◌, ◌-◌, ◌==◌, ◌&&◌, Bool, true, not, min, codes, bytes_eq, if◌then◌else◌, option_to_list, take}
 use Rattle.std.specs.List.{list_any}
 use Rattle.nbd_wire.specs.declared.message.Message.{Message}
 use Rattle.nbd_wire.specs.declared.message.Message.TheVariants.{Chunk}
@@ -51,27 +51,22 @@ allocation_name = codes "base:allocation"
 abbrev pub is_allocation : List Context → ℕ → Bool
 is_allocation contexts id = list_any (λ (c : Context). (c.id == id) && bytes_eq c.name allocation_name) contexts
 
--- the bytes of an extent, if there are some and it calls them zero
-abbrev pub zero_part : (offset size flags : ℕ) → List Piece
-zero_part offset size flags = if has flags states.ZERO && not (size == 0) then Hole offset size ∷ [] else []
-
--- what extents call zero that follow one another from an offset on, as far as so many bytes go
+-- what extents call zero that follow one another from an offset on, as far as so many bytes go (proto.md, "Metadata
+-- querying")
 abbrev pub zeroes_in : (offset size : ℕ) → List Extent → List Piece
 zeroes_in offset size [] = []
 zeroes_in offset size (x ∷ extents) =
-    zero_part offset (min x.length size) x.flags ++ zeroes_in (offset + x.length) (size - x.length) extents
+    (if has x.flags states.ZERO && not (min x.length size == 0) then Hole offset (min x.length size) ∷ [] else [])
+    ++ zeroes_in (offset + x.length) (size - x.length) extents
 
 -- what the first of these statuses calls zero in the range of a request, if it is one of base:allocation
 abbrev pub zeroes_told : Operation → List Status → List Piece
 zeroes_told e [] = []
 zeroes_told e (s ∷ statuses) = if is_allocation e.contexts s.id then zeroes_in e.offset e.length s.extents else []
 
--- the same of the first of these messages
-abbrev pub zeroes_first : Operation → List Message → List Piece
-zeroes_first e [] = []
-zeroes_first e (m ∷ messages) = zeroes_told e (status_in m)
-
 -- the zeroes of a proper BLOCK_STATUS: what the first message of its reply calls zero in its range, where that is a
 -- status of base:allocation (this project's choice); other requests have none
 abbrev pub zeroes : Exporting → Operation → List Piece
-zeroes export e = if (e.command == commands.BLOCK_STATUS) && is_proper export e then zeroes_first e e.replies else []
+zeroes export e =
+    if (e.command == commands.BLOCK_STATUS) && is_proper export e then zeroes_told e (statuses_of (take 1 e.replies))
+    else []

@@ -24,23 +24,11 @@ Begins items ps = (more : List Pair) × (pairs items ≡ ps ++ more)
 abbrev pub BeginsNoRunOf : Profile → List Pair → Type 0
 BeginsNoRunOf profile ps = (items : List Item) → IsRunOf profile items → Begins items ps → ⊥
 
--- the same, of the profile Base
-abbrev pub BeginsNoRun : List Pair → Type 0
-BeginsNoRun ps = BeginsNoRunOf Base ps
-
 -- no run of the profile has exactly these bytes, whatever the moments of service
 abbrev pub IsOfNoRunOf : Profile → List Pair → Type 0
 IsOfNoRunOf profile ps = (items : List Item) → IsRunOf profile items → pairs items ≡ ps → ⊥
-
--- the same, of the profile Base
-abbrev pub IsOfNoRun : List Pair → Type 0
-IsOfNoRun ps = IsOfNoRunOf Base ps
 
 -- in each run of the profile that begins with these bytes exactly these messages complete within them
 abbrev pub CompletesExactlyOf : Profile → List Pair → List Message → Type 0
 CompletesExactlyOf profile ps messages = (items : List Item) → IsRunOf profile items → Begins items ps
     → within (length ps) items ≡ messages
-
--- the same, of the profile Base
-abbrev pub CompletesExactly : List Pair → List Message → Type 0
-CompletesExactly ps messages = CompletesExactlyOf Base ps messages

@@ -10,8 +10,8 @@ use Rattle.nbd_wire.specs.protocol.States.{with_reply}
 use Rattle.nbd_wire.specs.protocol.Statuses.{statuses}
 use Rattle.nbd_wire.specs.declared.fault.WireFault.TheVariants.{BadChunk, BadContent}
 use Rattle.nbd_session.specs.internal.Asking.{done_by, finish_by}
-use Rattle.nbd_wire.specs.protocol.Decisions.{fault_if}
-use Rattle.nbd_wire.specs.protocol.JudgeTransmission.{chunk_fault, fits_read, fits_failure, total}
+use Rattle.nbd_wire.specs.protocol.Tests.{fault_if}
+use Rattle.nbd_wire.specs.protocol.Transmission.{chunk_fault, fits_read, fits_failure, total}
 use Rattle.nbd_state.proofs.RecordingLemmas.{told_without}
 use Rattle.nbd_session.proofs.judge.ChunkFaultLemmas.{none-chunk, content-chunk, failure-chunk, lacks, other_status}
 use Rattle.nbd_session.proofs.chunks.chunk_fault.Goals as goal

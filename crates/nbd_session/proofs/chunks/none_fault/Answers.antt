@@ -1,8 +1,8 @@
 use Rattle.std.proofs.Common.{◌≡◌, ◌==◌, ◌||◌, ◌∙◌, ap, arith, length, not, sym, true}
 use Rattle.nbd_wire.specs.declared.fault.WireFault.TheVariants.{BadChunk}
 use Rattle.nbd_wire.specs.protocol.Operations.{has_failed, is_proper, pieces}
-use Rattle.nbd_wire.specs.protocol.Decisions.{fault_if}
-use Rattle.nbd_wire.specs.protocol.JudgeTransmission.{total}
+use Rattle.nbd_wire.specs.protocol.Tests.{fault_if}
+use Rattle.nbd_wire.specs.protocol.Transmission.{total}
 use Rattle.nbd_session.specs.internal.Asking.{done_by, finish_by, lacks_by}
 use Rattle.nbd_session.proofs.chunks.none_fault.Goals as goal
 

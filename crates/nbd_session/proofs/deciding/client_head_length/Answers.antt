@@ -1,9 +1,8 @@
 use Rattle.std.proofs.Common.{refl, sym, ◌∙◌, ap}
 use Rattle.nbd_wire.specs.declared.message.Side.TheVariants.{Client}
 use Rattle.nbd_wire.specs.protocol.States as definitions
-use Rattle.nbd_wire.specs.protocol.Judge.{request_unless}
-use Rattle.nbd_wire.specs.protocol.JudgeNegotiation.{choice, client_flags}
-use Rattle.nbd_wire.specs.protocol.JudgeTransmission.{request}
+use Rattle.nbd_wire.specs.protocol.Decisions.{choice, client_flags, request}
+use Rattle.nbd_wire.specs.protocol.Reading.{request_unless}
 use Rattle.nbd_session.proofs.expecting.PhaseLemmas.{choosing_of, decided_in, flags_of, head_in, transmission_of}
 use Rattle.nbd_session.proofs.deciding.client_head_length.Goals as goal
 

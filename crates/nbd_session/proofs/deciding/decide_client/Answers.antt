@@ -1,9 +1,8 @@
 use Rattle.std.proofs.Common.{◌≡◌, length, refl, sym, ◌∙◌, ap, subst}
 use Rattle.nbd_wire.specs.declared.message.Side.TheVariants.{Client}
 use Rattle.nbd_wire.specs.protocol.States as definitions
-use Rattle.nbd_wire.specs.protocol.Judge.{request_unless}
-use Rattle.nbd_wire.specs.protocol.JudgeNegotiation.{choice, client_flags}
-use Rattle.nbd_wire.specs.protocol.JudgeTransmission.{request}
+use Rattle.nbd_wire.specs.protocol.Decisions.{choice, client_flags, request}
+use Rattle.nbd_wire.specs.protocol.Reading.{request_unless}
 use Rattle.nbd_state.specs.declared.state.Phase.{Phase}
 use Rattle.nbd_session.specs.internal.Expecting.{whole_head_by}
 use Rattle.nbd_session.proofs.expecting.PhaseLemmas.{choosing_of, flags_of, refused_in, transmission_of}

@@ -1,8 +1,8 @@
 use Rattle.std.proofs.Common.{◌≡◌, length, refl, sym, ◌∙◌, subst}
 use Rattle.nbd_wire.specs.declared.message.Side.TheVariants.{Server}
 use Rattle.nbd_wire.specs.protocol.States as definitions
-use Rattle.nbd_wire.specs.protocol.JudgeNegotiation.{abort_answer, answer, greeting}
-use Rattle.nbd_wire.specs.protocol.JudgeTransmission.{operation_counted, reply_with}
+use Rattle.nbd_session.specs.internal.Counted.{operation_counted}
+use Rattle.nbd_wire.specs.protocol.Decisions.{abort_answer, answer, greeting, reply_with}
 use Rattle.nbd_state.specs.declared.state.Phase.{Phase}
 use Rattle.nbd_state.specs.Showing.{exporting_if}
 use Rattle.nbd_session.specs.internal.Expecting.{IsReplyHead, whole_head_by}

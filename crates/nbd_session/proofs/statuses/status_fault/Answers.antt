@@ -8,7 +8,7 @@ use Rattle.nbd_wire.specs.protocol.Operations.{Operation, ends_reply, has_failed
 use Rattle.nbd_wire.specs.protocol.Payloads.{extents_of}
 use Rattle.nbd_wire.specs.protocol.States.{with_reply}
 use Rattle.nbd_wire.specs.protocol.Statuses.{statuses}
-use Rattle.nbd_wire.specs.protocol.JudgeTransmission.{total}
+use Rattle.nbd_wire.specs.protocol.Transmission.{total}
 use Rattle.nbd_laws.proofs.judge.BoolLemmas.{not_false, not_true}
 use Rattle.nbd_session.specs.internal.Asking.{done_by, finish_by}
 use Rattle.nbd_state.proofs.RecordingLemmas.{told_with}

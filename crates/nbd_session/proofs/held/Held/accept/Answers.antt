@@ -3,8 +3,7 @@ use Rattle.nbd_wire.specs.declared.message.Side.{Side}
 use Rattle.nbd_state.specs.Completions.{Answers}
 use Rattle.nbd_state.specs.Shows.{AreKnown, Shows}
 use Rattle.nbd_state.specs.declared.state.State.{State}
-use Rattle.nbd_wire.specs.protocol.Concrete.{concrete}
-use Rattle.nbd_wire.specs.protocol.Machine.{Whole, fresh_of}
+use Rattle.nbd_wire.specs.protocol.Reading.{by_tests, Whole, fresh_of}
 use Rattle.nbd_session.specs.declared.held.Held.{Held}
 use Rattle.nbd_session.specs.Incoming.{IncomingView}
 use Rattle.nbd_session.specs.internal.Expecting.{message_of}
@@ -50,7 +49,7 @@ complete-completed-requires c =
       place = subst (λ (z : State). Answers z m c.place-place.result) (sym state)
           (subst (λ n. Answers held.state n c.place-place.result) (sym is_m)
           (subst (Answers held.state (message_of c.args.expected (incoming_of held s).payload)) (sym c.place-place.ensures)
-          (answers_at held.state t.machine.core t.shows c.args.expected (incoming_of held s).payload c.requires.expecting.is.placed)));
+          (answers_at held.state t.reader.core t.shows c.args.expected (incoming_of held s).payload c.requires.expecting.is.placed)));
     }
 
 pub returns-clause-stands : goal.returns-clause-stands
@@ -72,13 +71,13 @@ returns-clause-stands c =
     let same = mid_taken held roomy mid new s is sides refl refl in
     let state = mid_state held roomy mid new s is sides refl refl in
     let counted = mid_counted held roomy mid new s is sides refl refl in
-    let log = log_of_pairs concrete (fresh_of t.before.profile) (held_pairs t.before) in
+    let log = log_of_pairs by_tests (fresh_of t.before.profile) (held_pairs t.before) in
     on_ok_both c.complete-completed.result _ _ (Stands new) c.complete-completed.ensures.shown c.complete-completed.ensures.known (λ shown known.
     accepted_stands held s t m whole new holding (emptied_here held roomy mid new s is sides refl refl) (kept_other held roomy mid new s is sides refl refl)
-    (λ reached shows sendable completes. shown t.machine.core reached (subst (λ state. Shows state t.machine.core) (sym state) shows) sendable completes)
+    (λ reached shows sendable completes. shown t.reader.core reached (subst (λ state. Shows state t.reader.core) (sym state) shows) sendable completes)
     (λ reached shows completes folded knew.
     subst (λ n. AreKnown (log ++ record { message = m; known = n } ∷ []) c.complete-completed.new.self.exchanges.items) counted
-    (known t.machine.core t.before.profile log reached (subst (λ state. Shows state t.machine.core) (sym state) shows) completes folded (subst (λ (state : State). AreKnown log state.exchanges.items) (sym state) knew)))
+    (known t.reader.core t.before.profile log reached (subst (λ state. Shows state t.reader.core) (sym state) shows) completes folded (subst (λ (state : State). AreKnown log state.exchanges.items) (sym state) knew)))
     same)
 
 pub returns-clause-same : goal.returns-clause-same

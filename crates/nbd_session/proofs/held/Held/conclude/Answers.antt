@@ -13,7 +13,7 @@ pub returns-then-payload-payload_length-clause-same : goal.returns-then-payload-
 returns-then-payload-payload_length-clause-same c = same_held c.args.self.now
 
 pub last_fault-requires : goal.last_fault-requires
-last_fault-requires c = stands_in c.args.self.now.state c.requires.taken.machine.core c.requires.taken.shows c.args.expected c.requires.is.placed
+last_fault-requires c = stands_in c.args.self.now.state c.requires.taken.reader.core c.requires.taken.shows c.args.expected c.requires.is.placed
 
 pub returns-in-Some-clause-same : goal.returns-in-Some-clause-same
 returns-in-Some-clause-same c = same_held c.args.self.now

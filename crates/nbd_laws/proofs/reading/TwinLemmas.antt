@@ -11,8 +11,8 @@ use Rattle.nbd_wire.specs.protocol.Sides.{side}
 use Rattle.nbd_wire.specs.protocol.States.{Core}
 use Rattle.nbd_laws.proofs.runs.FollowLemmas.{IsBegun, Follows, IsBare, HasEnd, IsSidedOpen, completes_later}
 use Rattle.nbd_laws.proofs.runs.PrefixLemmas.{IsSame, same_message}
-use Rattle.nbd_wire.specs.protocol.Machine.{Both, get, put, IsFilled}
-use Rattle.nbd_laws.proofs.machine.MachineLemmas.{get-put_same, get-put_other, same_or_not, Open, Idle, Busy, Loose, IsNotBusy, Walk, ended, serving, opening, middle, final, loose, Later, Later-trans, at_once, behind}
+use Rattle.nbd_wire.specs.protocol.Reading.{Both, get, put, IsFilled}
+use Rattle.nbd_laws.proofs.reading.ReaderLemmas.{get-put_same, get-put_other, same_or_not, Open, Idle, Busy, Loose, IsNotBusy, Walk, ended, serving, opening, middle, final, loose, Later, Later-trans, at_once, behind}
 
 -- two messages that a side may be in, of which the same bytes have come
 pub record AreTwins (core : Core) (s : Side) (m n : Message) (left left' : List ℕ) : Type 0 where

@@ -10,7 +10,7 @@ use Rattle.nbd_wire.specs.protocol.Captures.{Pair, ArePairs}
 use Rattle.nbd_wire.specs.protocol.States.{Core}
 use Rattle.nbd_wire.specs.protocol.Sendable.{IsSendable}
 use Rattle.nbd_wire.specs.protocol.Rules.{MayStart, MayComplete, complete}
-use Rattle.nbd_wire.specs.protocol.Machine.{Both, get, put, IsFilled, Rest, Machine, Reading, old_by, old_of, settle, Judge, rest_with, on_ok, reads, More, Whole, Bad}
+use Rattle.nbd_wire.specs.protocol.Reading.{Both, get, put, IsFilled, Rest, Reader, Reading, old_by, old_of, settle, Judge, rest_with, on_ok, reads, More, Whole, Bad}
 use Rattle.nbd_laws.specs.Reached.{IsReached, after_message}
 
 pub get-put_same : {A : Type 0} (p : Both A) (s : Side) (a : A) → get (put p s a) s ≡ a
@@ -75,35 +75,35 @@ pub data Kept (judge : Judge) (s : Side) (old : Core) : Core → List ℕ → Ty
 abbrev pub ended_by : Rest → Rest
 ended_by rest = record { bytes = []; since = rest.since }
 
--- the machine that the items lead to
-abbrev pub led : Machine → List Item → Machine
-led machine [] = machine
-led machine (Byte s b ∷ items) = led (record machine { rests = put machine.rests s (rest_with machine.core (get machine.rests s) b) }) items
-led machine (Starts s m ∷ items) = led machine items
-led machine (Completes s m ∷ items) =
-    led (record { core = complete machine.core m; rests = put machine.rests s (ended_by (get machine.rests s)); messages = machine.messages ++ m ∷ [] }) items
-led machine (Serves k ∷ items) = led machine items
+-- the reader that the items lead to
+abbrev pub led : Reader → List Item → Reader
+led reader [] = reader
+led reader (Byte s b ∷ items) = led (record reader { rests = put reader.rests s (rest_with reader.core (get reader.rests s) b) }) items
+led reader (Starts s m ∷ items) = led reader items
+led reader (Completes s m ∷ items) =
+    led (record { core = complete reader.core m; rests = put reader.rests s (ended_by (get reader.rests s)); messages = reader.messages ++ m ∷ [] }) items
+led reader (Serves k ∷ items) = led reader items
 
-abbrev pub with_byte : Machine → Side → ℕ → Machine
-with_byte machine s b = record machine { rests = put machine.rests s (rest_with machine.core (get machine.rests s) b) }
+abbrev pub with_byte : Reader → Side → ℕ → Reader
+with_byte reader s b = record reader { rests = put reader.rests s (rest_with reader.core (get reader.rests s) b) }
 
 abbrev pub IsMoreAt : Judge → Core → Side → Rest → Type 0
 IsMoreAt judge core s rest = (judge rest.since core s rest.bytes ≡ More) × Kept judge s rest.since core rest.bytes
 
-abbrev pub IsMore : Judge → Machine → Side → Type 0
-IsMore judge machine s = IsMoreAt judge machine.core s (get machine.rests s)
+abbrev pub IsMore : Judge → Reader → Side → Type 0
+IsMore judge reader s = IsMoreAt judge reader.core s (get reader.rests s)
 
 -- each byte but the last was judged to go on, or completes its message
-abbrev pub Tracks : Judge → Machine → List Item → Type 0
-Tracks judge machine [] = Unit {0}
-Tracks judge machine (Starts s m ∷ items) = Tracks judge machine items
-Tracks judge machine (Serves k ∷ items) = Tracks judge machine items
-Tracks judge machine (Completes s m ∷ items) = ⊥
-Tracks judge machine (Byte s b ∷ []) = Unit {0}
-Tracks judge machine (Byte s b ∷ Completes t m ∷ items) = (t ≡ s) × Tracks judge (led machine (Byte s b ∷ Completes s m ∷ [])) items
-Tracks judge machine (Byte s b ∷ Byte t c ∷ items) = IsMore judge (with_byte machine s b) s × Tracks judge (with_byte machine s b) (Byte t c ∷ items)
-Tracks judge machine (Byte s b ∷ Starts t m ∷ items) = IsMore judge (with_byte machine s b) s × Tracks judge (with_byte machine s b) items
-Tracks judge machine (Byte s b ∷ Serves k ∷ items) = IsMore judge (with_byte machine s b) s × Tracks judge (with_byte machine s b) items
+abbrev pub Tracks : Judge → Reader → List Item → Type 0
+Tracks judge reader [] = Unit {0}
+Tracks judge reader (Starts s m ∷ items) = Tracks judge reader items
+Tracks judge reader (Serves k ∷ items) = Tracks judge reader items
+Tracks judge reader (Completes s m ∷ items) = ⊥
+Tracks judge reader (Byte s b ∷ []) = Unit {0}
+Tracks judge reader (Byte s b ∷ Completes t m ∷ items) = (t ≡ s) × Tracks judge (led reader (Byte s b ∷ Completes s m ∷ [])) items
+Tracks judge reader (Byte s b ∷ Byte t c ∷ items) = IsMore judge (with_byte reader s b) s × Tracks judge (with_byte reader s b) (Byte t c ∷ items)
+Tracks judge reader (Byte s b ∷ Starts t m ∷ items) = IsMore judge (with_byte reader s b) s × Tracks judge (with_byte reader s b) items
+Tracks judge reader (Byte s b ∷ Serves k ∷ items) = IsMore judge (with_byte reader s b) s × Tracks judge (with_byte reader s b) items
 
 -- a whole message is one that the rules allow
 pub record IsSoundAt (old now : Core) (s : Side) (bytes : List ℕ) (m : Message) : Type 0 where
@@ -143,8 +143,8 @@ pub data Held (judge : Judge) (core : Core) (s : Side) (rest : Rest) : Type 0 wh
   none_held : IsReached core → rest.bytes ≡ [] → Held judge core s rest
   some_held : IsReached core → (now : Core) → IsFilled rest.bytes → Kept judge s rest.since now rest.bytes → judge rest.since now s rest.bytes ≡ More → Later s now core → Held judge core s rest
 
-abbrev pub AreHeld : Judge → Machine → Type 0
-AreHeld judge machine = (s : Side) → Held judge machine.core s (get machine.rests s)
+abbrev pub AreHeld : Judge → Reader → Type 0
+AreHeld judge reader = (s : Side) → Held judge reader.core s (get reader.rests s)
 
 pub reached_of : {judge : Judge} {core : Core} {s : Side} {rest : Rest} → Held judge core s rest → IsReached core
 reached_of (none_held rc e) = rc
@@ -163,30 +163,30 @@ held_with judge rests core next s rest all here other u = go (same_or_not s u)
     go (inl e) = subst (λ v. Held judge next v (get (put rests s rest) v)) e (subst (λ r. Held judge next s r) (sym (get-put_same rests s rest)) here)
     go (inr ne) = subst (λ r. Held judge next u r) (sym (get-put_other rests s u rest ne)) (other u ne (all u))
 
-pub held_more : (judge : Judge) (machine : Machine) (s : Side) (b : ℕ) → b < 256 → AreHeld judge machine →
-    judge (rest_with machine.core (get machine.rests s) b).since machine.core s (rest_with machine.core (get machine.rests s) b).bytes ≡ More → AreHeld judge (with_byte machine s b)
-held_more judge machine s b lt all m = held_with judge machine.rests machine.core machine.core s (rest_with machine.core (get machine.rests s) b) all
-    (some_held (reached_of (all s)) machine.core (IsFilled-snoc (get machine.rests s).bytes b) (kept_next judge machine.core s (get machine.rests s) b lt (all s)) m at_once) (λ u ne h. h)
+pub held_more : (judge : Judge) (reader : Reader) (s : Side) (b : ℕ) → b < 256 → AreHeld judge reader →
+    judge (rest_with reader.core (get reader.rests s) b).since reader.core s (rest_with reader.core (get reader.rests s) b).bytes ≡ More → AreHeld judge (with_byte reader s b)
+held_more judge reader s b lt all m = held_with judge reader.rests reader.core reader.core s (rest_with reader.core (get reader.rests s) b) all
+    (some_held (reached_of (all s)) reader.core (IsFilled-snoc (get reader.rests s).bytes b) (kept_next judge reader.core s (get reader.rests s) b lt (all s)) m at_once) (λ u ne h. h)
 
 later_held : (judge : Judge) (core : Core) (m : Message) (u : Side) (rest : Rest) → (side m ≡ u → ⊥) → IsSendable m → MayComplete core core.phase m → Held judge core u rest → Held judge (complete core m) u rest
 later_held judge core m u rest ne sn ok (none_held rc e) = none_held (after_message m rc sn ok) e
 later_held judge core m u rest ne sn ok (some_held rc now f k j l) = some_held (after_message m rc sn ok) now f k j (Later-trans l (behind m ne ok at_once))
 
-pub held_whole : (judge : Judge) (machine : Machine) (s : Side) (m : Message) (rest : Rest) → rest.bytes ≡ [] → AreHeld judge machine → side m ≡ s → IsSendable m → MayComplete machine.core machine.core.phase m → (u : Side) → Held judge (complete machine.core m) u (get (put machine.rests s rest) u)
-held_whole judge machine s m rest e all sd sn ok = held_with judge machine.rests machine.core (complete machine.core m) s rest all (none_held (after_message m (reached_of (all s)) sn ok) e)
-    (λ u ne h. later_held judge machine.core m u (get machine.rests u) (λ q. ne (sym sd ∙ q)) sn ok h)
+pub held_whole : (judge : Judge) (reader : Reader) (s : Side) (m : Message) (rest : Rest) → rest.bytes ≡ [] → AreHeld judge reader → side m ≡ s → IsSendable m → MayComplete reader.core reader.core.phase m → (u : Side) → Held judge (complete reader.core m) u (get (put reader.rests s rest) u)
+held_whole judge reader s m rest e all sd sn ok = held_with judge reader.rests reader.core (complete reader.core m) s rest all (none_held (after_message m (reached_of (all s)) sn ok) e)
+    (λ u ne h. later_held judge reader.core m u (get reader.rests u) (λ q. ne (sym sd ∙ q)) sn ok h)
 
-held_on : (judge : Judge) → IsSound judge → (machine mid : Machine) (p : Pair) (ps : List Pair) → p.byte < 256 → AreHeld judge machine → ((next : Machine) → AreHeld judge next → reads judge next ps ≡ Ok mid → AreHeld judge mid) →
-    (r : Reading) → judge (rest_with machine.core (get machine.rests p.from) p.byte).since machine.core p.from (rest_with machine.core (get machine.rests p.from) p.byte).bytes ≡ r →
-    on_ok (settle machine p.from (rest_with machine.core (get machine.rests p.from) p.byte) r) (λ next. reads judge next ps) ≡ Ok mid → AreHeld judge mid
-held_on judge sound machine mid p ps lt held ih More is h = ih _ (held_more judge machine p.from p.byte lt held is) h
-held_on judge sound machine mid p ps lt held ih (Whole m) is h =
-    let ok : IsSoundAt (rest_with machine.core (get machine.rests p.from) p.byte).since machine.core p.from (rest_with machine.core (get machine.rests p.from) p.byte).bytes m =
-    sound _ _ _ _ m (kept_next judge machine.core p.from (get machine.rests p.from) p.byte lt (held p.from)) is in
-    ih _ (held_whole judge machine p.from m (record (rest_with machine.core (get machine.rests p.from) p.byte) { bytes = [] }) refl held ok.sided ok.sendable ok.completes) h
-held_on judge sound machine mid p ps lt held ih (Bad f) is h = absurd (cc)
+held_on : (judge : Judge) → IsSound judge → (reader mid : Reader) (p : Pair) (ps : List Pair) → p.byte < 256 → AreHeld judge reader → ((next : Reader) → AreHeld judge next → reads judge next ps ≡ Ok mid → AreHeld judge mid) →
+    (r : Reading) → judge (rest_with reader.core (get reader.rests p.from) p.byte).since reader.core p.from (rest_with reader.core (get reader.rests p.from) p.byte).bytes ≡ r →
+    on_ok (settle reader p.from (rest_with reader.core (get reader.rests p.from) p.byte) r) (λ next. reads judge next ps) ≡ Ok mid → AreHeld judge mid
+held_on judge sound reader mid p ps lt held ih More is h = ih _ (held_more judge reader p.from p.byte lt held is) h
+held_on judge sound reader mid p ps lt held ih (Whole m) is h =
+    let ok : IsSoundAt (rest_with reader.core (get reader.rests p.from) p.byte).since reader.core p.from (rest_with reader.core (get reader.rests p.from) p.byte).bytes m =
+    sound _ _ _ _ m (kept_next judge reader.core p.from (get reader.rests p.from) p.byte lt (held p.from)) is in
+    ih _ (held_whole judge reader p.from m (record (rest_with reader.core (get reader.rests p.from) p.byte) { bytes = [] }) refl held ok.sided ok.sendable ok.completes) h
+held_on judge sound reader mid p ps lt held ih (Bad f) is h = absurd (cc)
 
 -- what was read without a fault was judged so
-pub reads_held : (judge : Judge) → IsSound judge → (ps : List Pair) (machine mid : Machine) → ArePairs ps → AreHeld judge machine → reads judge machine ps ≡ Ok mid → AreHeld judge mid
-reads_held judge sound [] machine mid lt held e = let q : machine ≡ mid = cc in subst (AreHeld judge) q held
-reads_held judge sound (p ∷ ps) machine mid lt held e = held_on judge sound machine mid p ps lt.0 held (λ next hd h. reads_held judge sound ps next mid lt.1 hd h) _ refl e
+pub reads_held : (judge : Judge) → IsSound judge → (ps : List Pair) (reader mid : Reader) → ArePairs ps → AreHeld judge reader → reads judge reader ps ≡ Ok mid → AreHeld judge mid
+reads_held judge sound [] reader mid lt held e = let q : reader ≡ mid = cc in subst (AreHeld judge) q held
+reads_held judge sound (p ∷ ps) reader mid lt held e = held_on judge sound reader mid p ps lt.0 held (λ next hd h. reads_held judge sound ps next mid lt.1 hd h) _ refl e

@@ -1,3 +1,3 @@
-pub mod MachineLemmas
+pub mod ReaderLemmas
 pub mod MarkLemmas
 pub mod TwinLemmas

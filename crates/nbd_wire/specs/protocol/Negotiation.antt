@@ -1,37 +1,32 @@
--- What is refused of a message of the negotiation: for each message the tests at the last byte of its head, and those
--- at its last byte, in order; the first that holds names the fault. Names in quotes are sections of proto.md. "Choice":
--- this project's choice.
-use Rattle.std.specs.Prelude.{ℕ, List, [], ◌∷◌, ◌+◌, Bool, true, false, not, ◌&&◌, ◌||◌, ◌==◌, if◌then◌else◌, nat_lt, Option, Some, None, drop}
+-- What is refused of a message of the negotiation, in lists of tests (`Tests`), each with its section of proto.md.
+use Rattle.std.specs.Prelude.{ℕ, List, [], ◌∷◌, ◌+◌, Bool, true, false, not, ◌&&◌, ◌||◌, ◌==◌, if◌then◌else◌, nat_lt, Option, Some, None}
 use Rattle.nbd_wire.specs.declared.answers.TheConstants as answers
 use Rattle.nbd_wire.specs.declared.handshake.TheConstants as handshake
 use Rattle.nbd_wire.specs.declared.limits.TheConstants.{EXPORT_SIZE}
-use Rattle.nbd_wire.specs.declared.magics.TheConstants.{GREETING_MAGIC, OPTION_MAGIC, ANSWER_MAGIC}
-use Rattle.nbd_wire.specs.declared.message.Message.{Message}
-use Rattle.nbd_wire.specs.declared.message.Message.TheVariants.{Greeting, ClientFlags, Choice, Answer, Exported}
 use Rattle.nbd_wire.specs.declared.options.TheConstants as options
 use Rattle.nbd_wire.specs.declared.payloads.Info.{Info}
 use Rattle.nbd_wire.specs.declared.payloads.Info.TheVariants.{Export, BlockSize, Other}
 use Rattle.nbd_wire.specs.declared.transmission.TheConstants as transmission
-use Rattle.nbd_wire.specs.protocol.Options.{is_error}
 use Rattle.nbd_wire.specs.declared.profile.Profile.{Profile}
 use Rattle.nbd_wire.specs.declared.profile.Profile.TheVariants.{Base, Wide}
+use Rattle.nbd_wire.specs.declared.fault.WireFault.{WireFault}
+use Rattle.nbd_wire.specs.declared.fault.WireFault.TheVariants.{NotFixedNewstyle, BadClientFlags, WrongOption, BadReplyKind, OutOfProfile, BadReplyPayload, MissingExportInfo, BadExport, ExportTooLarge, SuccessOfImproper}
+use Rattle.nbd_wire.specs.protocol.Options.{is_error}
 use Rattle.nbd_wire.specs.protocol.Contexts.{Context, Selection, has_id}
-use Rattle.nbd_wire.specs.protocol.Payloads.{context_of, number_at, info_of, is_listed}
+use Rattle.nbd_wire.specs.protocol.Payloads.{context_of, info_of, is_listed}
 use Rattle.nbd_wire.specs.protocol.Operations.{Exporting}
 use Rattle.nbd_wire.specs.protocol.Sizes.{are_allowed}
 use Rattle.nbd_wire.specs.protocol.Flags.{has, has_only}
-use Rattle.nbd_wire.specs.declared.fault.WireFault.{WireFault}
-use Rattle.nbd_wire.specs.declared.fault.WireFault.TheVariants.{BadMagic, NotFixedNewstyle, BadClientFlags, WrongOption, BadReplyKind, OutOfProfile, BadReplyPayload, MissingExportInfo, BadExport, ExportTooLarge, SuccessOfImproper}
-use Rattle.nbd_wire.specs.protocol.Decisions.{Decision, ◌when◌else◌}
+use Rattle.nbd_wire.specs.protocol.Tests.{◌when◌else◌}
 
 -- a greeting, at its head
 abbrev pub greeting_fault : (flags : ℕ) → Option WireFault
 greeting_fault flags =
-    -- no fixed newstyle ("Handshake flags"; that others are refused is a choice)
+    -- no fixed newstyle ("Handshake flags"; that others are refused is this project's choice)
     NotFixedNewstyle when not (has flags handshake.FIXED_NEWSTYLE) else
     None
 
--- a flag that is unknown, or that the server did not offer
+-- a flag that is unknown, or that the server did not offer ("Client flags")
 abbrev pub sets_more : (offered flags : ℕ) → Bool
 sets_more offered flags =
     not (has_only flags (handshake.C_FIXED_NEWSTYLE + handshake.C_NO_ZEROES))
@@ -51,10 +46,11 @@ abbrev pub export_fault : (size flags : ℕ) → Option WireFault
 export_fault size flags =
     -- no HAS_FLAGS ("Transmission flags")
     BadExport when not (has flags transmission.HAS_FLAGS) else
-    -- too large an export (choice)
+    -- too large an export (this project's choice)
     ExportTooLarge when nat_lt EXPORT_SIZE size else
     None
 
+-- each byte is zero
 abbrev pub are_zeroes : List ℕ → Bool
 are_zeroes [] = true
 are_zeroes (b ∷ bytes) = (b == 0) && are_zeroes bytes
@@ -83,7 +79,7 @@ ack_fault kind len next =
 -- the answer to ABORT, at its head, by its kind
 abbrev pub abort_fault : (kind len : ℕ) → Option WireFault
 abort_fault kind len =
-    -- neither an error nor an ACK ("Option types"; that it may be an error is a choice)
+    -- neither an error nor an ACK ("Option types"; that it may be an error is this project's choice)
     BadReplyKind when not (is_error kind) && not (kind == answers.ACK) else
     ack_fault kind len None
 
@@ -91,6 +87,7 @@ abort_fault kind len =
 abbrev pub is_on_contexts : ℕ → Bool
 is_on_contexts option = (option == options.LIST_META_CONTEXT) || (option == options.SET_META_CONTEXT)
 
+-- the profile is Wide
 abbrev pub is_wide : Profile → Bool
 is_wide Base = false
 is_wide Wide = true
@@ -116,28 +113,19 @@ info_fault option proper None =
     MissingExportInfo when ((option == options.INFO) || (option == options.GO)) && proper else
     None
 info_fault option proper (Some export) =
-    -- GO into too large an export (choice)
+    -- GO into too large an export (this project's choice)
     ExportTooLarge when (option == options.GO) && nat_lt EXPORT_SIZE export.size else
     None
-
-abbrev pub at_ack : Bool → Option WireFault → Option WireFault
-at_ack true fault = fault
-at_ack false fault = None
-
--- an error has no fault of its kind or payload
-abbrev pub unless_error : Bool → Option WireFault → Option WireFault
-unless_error true fault = None
-unless_error false fault = fault
 
 -- an answer that is no error, at its head, by its kind
 abbrev pub success_fault : Profile → (option : ℕ) (proper takes : Bool) (info : Option Exporting) (kind len : ℕ)
     → Option WireFault
 success_fault profile option proper takes info kind len =
-    -- a kind that the option does not take ("Option types")
-    BadReplyKind when is_followed profile option && not (answers_option option takes kind) else
-    -- no error, to an option that is not followed (choice)
+    -- the option is not followed (this project's choice)
     OutOfProfile when not (is_followed profile option) else
-    ack_fault kind len (at_ack (kind == answers.ACK) (info_fault option proper info))
+    -- a kind that the option does not take ("Option types")
+    BadReplyKind when not (answers_option option takes kind) else
+    ack_fault kind len (if kind == answers.ACK then info_fault option proper info else None)
 
 -- an info on the export has HAS_FLAGS, and in Wide block sizes are such as a server may announce
 abbrev pub is_good_info : Profile → Option Info → Bool
@@ -168,95 +156,19 @@ abbrev pub payload_fault : Profile → List Context → (proper : Bool) (kind : 
 payload_fault profile earlier proper kind payload =
     -- a bad payload ("Option reply types", "Transmission flags", "Metadata querying")
     BadReplyPayload when is_bad_payload profile earlier kind payload else
-    -- success of an option whose data has not its form (choice)
+    -- success of an option whose data has not its form (this project's choice)
     SuccessOfImproper when not proper else
     None
 
--- an answer to this option, at its head: whether its data was proper and takes contexts, the last EXPORT info since
+-- an answer to this option, at its head: whether its data was proper and takes contexts, the last EXPORT info since; an
+-- error has no fault but another option's number
 abbrev pub answer_head_fault : Profile → (asked : ℕ) (proper takes : Bool) (info : Option Exporting)
     → (option kind len : ℕ) → Option WireFault
 answer_head_fault profile asked proper takes info option kind len =
-    answer_fault asked option (unless_error (is_error kind) (success_fault profile asked proper takes info kind len))
+    answer_fault asked option (if is_error kind then None else success_fault profile asked proper takes info kind len)
 
 -- and at its last byte: what is selected
 abbrev pub answer_last_fault : Profile → (asked : ℕ) (proper : Bool) → Selection → (kind : ℕ) → List ℕ
     → Option WireFault
 answer_last_fault profile asked proper selection kind payload =
-    unless_error (is_error kind) (payload_fault profile (earlier_to asked selection) proper kind payload)
-
--- below: the same, of bytes. A head with another magic number than its message's is BadMagic ("Newstyle negotiation")
-abbrev pub greeting : List ℕ → Decision
-greeting bytes = record {
-  head_length = 18;
-  head_fault = BadMagic when not ((number_at 0 8 bytes == GREETING_MAGIC) && (number_at 8 8 bytes == OPTION_MAGIC)) else
-      greeting_fault (number_at 16 2 bytes);
-  payload_length = 0;
-  last_fault = None;
-  message = Greeting (number_at 16 2 bytes);
-}
-
-abbrev pub client_flags : (offered : ℕ) → List ℕ → Decision
-client_flags offered bytes = record {
-  head_length = 4;
-  head_fault = client_flags_fault offered (number_at 0 4 bytes);
-  payload_length = 0;
-  last_fault = None;
-  message = ClientFlags (number_at 0 4 bytes);
-}
-
-abbrev pub choice : List ℕ → Decision
-choice bytes = record {
-  head_length = 16;
-  head_fault = BadMagic when not (number_at 0 8 bytes == OPTION_MAGIC) else None;
-  payload_length = number_at 12 4 bytes;
-  last_fault = None;
-  message = Choice (number_at 8 4 bytes) (drop 16 bytes);
-}
-
--- the answer to EXPORT_NAME, by whether the client took NO_ZEROES
-abbrev pub export_answer : (no_zeroes : Bool) → List ℕ → Decision
-export_answer true bytes = record {
-  head_length = 10;
-  head_fault = export_fault (number_at 0 8 bytes) (number_at 8 2 bytes);
-  payload_length = 0;
-  last_fault = None;
-  message = Exported (number_at 0 8 bytes) (number_at 8 2 bytes) false;
-}
-export_answer false bytes = record {
-  head_length = 10;
-  head_fault = export_fault (number_at 0 8 bytes) (number_at 8 2 bytes);
-  payload_length = 124;
-  last_fault = padding_fault (drop 10 bytes);
-  message = Exported (number_at 0 8 bytes) (number_at 8 2 bytes) true;
-}
-
-abbrev pub answer_of : List ℕ → Message
-answer_of bytes = Answer (number_at 8 4 bytes) (number_at 12 4 bytes) (drop 20 bytes)
-
--- an answer's magic number and option, at its head
-abbrev pub answered_fault : (asked magic option : ℕ) → (next : Option WireFault) → Option WireFault
-answered_fault asked magic option next =
-    BadMagic when not (magic == ANSWER_MAGIC) else
-    answer_fault asked option next
-
-abbrev pub abort_answer : List ℕ → Decision
-abort_answer bytes = record {
-  head_length = 20;
-  head_fault = BadMagic when not (number_at 0 8 bytes == ANSWER_MAGIC) else
-      answer_fault options.ABORT (number_at 8 4 bytes) (abort_fault (number_at 12 4 bytes) (number_at 16 4 bytes));
-  payload_length = number_at 16 4 bytes;
-  last_fault = None;
-  message = answer_of bytes;
-}
-
-abbrev pub answer : Profile → (option : ℕ) (proper takes : Bool) (info : Option Exporting) → Selection → List ℕ
-    → Decision
-answer profile option proper takes info selection bytes = record {
-  head_length = 20;
-  head_fault = BadMagic when not (number_at 0 8 bytes == ANSWER_MAGIC) else
-      answer_head_fault profile option proper takes info (number_at 8 4 bytes) (number_at 12 4 bytes)
-      (number_at 16 4 bytes);
-  payload_length = number_at 16 4 bytes;
-  last_fault = answer_last_fault profile option proper selection (number_at 12 4 bytes) (drop 20 bytes);
-  message = answer_of bytes;
-}
+    if is_error kind then None else payload_fault profile (earlier_to asked selection) proper kind payload

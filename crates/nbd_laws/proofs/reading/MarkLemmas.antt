@@ -1,0 +1,174 @@
+-- A run's pairs are read without a fault, and what completes is the run's.
+use Rattle.std.proofs.Common.{◌≡◌, ℕ, ◌<◌, ◌⊎◌, List, [], ◌∷◌, ◌++◌, length, refl, sym, ◌∙◌, ap, subst, inl, inr, Ok, append_assoc, append-nil}
+use Rattle.nbd_wire.specs.declared.entry.Entry.{Entry}
+use Rattle.nbd_wire.specs.declared.message.Side.{Side}
+use Rattle.nbd_wire.specs.declared.message.Message.{Message}
+use Rattle.nbd_wire.specs.protocol.Encoding.{enc}
+use Rattle.nbd_wire.specs.protocol.Sides.{side}
+use Rattle.nbd_wire.specs.protocol.Marks.{Item, pairs}
+use Rattle.nbd_wire.specs.protocol.Captures.{Pair, ArePairs}
+use Rattle.nbd_wire.specs.protocol.States.{Core}
+use Rattle.nbd_wire.specs.protocol.Sendable.{IsSendable}
+use Rattle.nbd_wire.specs.protocol.Rules.{MayStart, MayComplete, complete, Obeys}
+use Rattle.nbd_wire.specs.protocol.Within.{within}
+use Rattle.nbd_laws.proofs.reading.ReaderLemmas.{IsFilled-snoc, old-empty, old-filled, Kept, AreHeld, kept_next, held_more, held_whole, get-put_same, get-put_other, same_or_not, Open, Idle, Busy, Loose, Walk, ended, serving, opening, middle, final, loose, Later, at_once, behind, Later-trans, IsExact}
+use Rattle.nbd_wire.specs.protocol.Reading.{Both, get, put, IsFilled, Rest, Reader, Reading, More, Whole, Bad, old_of, settle, Judge, rest_with, reads, on_ok}
+use Rattle.nbd_laws.proofs.runs.FollowLemmas.{HasEnd, IsSidedOpen, completes_later, each_with, follows}
+use Rattle.nbd_laws.proofs.runs.TraceLemmas.{IsWithin}
+
+-- the reader stands where the run stands
+abbrev pub InStep : Core → Rest → Side → Open → Type 0
+InStep core rest s Idle = rest.bytes ≡ []
+InStep core rest s (Busy m left) = IsWithin rest s m left × Later s rest.since core
+InStep core rest s Loose = ⊥
+
+abbrev pub AreInStep : Reader → Both Open → Type 0
+AreInStep reader o = (s : Side) → InStep reader.core (get reader.rests s) s (get o s)
+
+pub record IsRead (judge : Judge) (reader : Reader) (ps : List Pair) (messages : List Message) : Type 0 where
+  pub end : Reader
+  pub reads_it : reads judge reader ps ≡ Ok end
+  pub messages_are : end.messages ≡ reader.messages ++ messages
+
+pub in_step_sided : (reader : Reader) (o : Both Open) → AreInStep reader o → (u : Side) → IsSidedOpen u (get o u)
+in_step_sided reader o h u = go (get o u) (h u)
+  where
+    go : (x : Open) → InStep reader.core (get reader.rests u) u x → IsSidedOpen u x
+    go Idle i = tt
+    go (Busy m left) i = i.0.sided
+    go Loose i = tt
+
+pub in_step_with : (reader : Reader) (o : Both Open) (s : Side) (rest : Rest) (x : Open) → AreInStep reader o → InStep reader.core rest s x →
+    AreInStep (record reader { rests = put reader.rests s rest }) (put o s x)
+in_step_with reader o s rest x all h u = go (same_or_not s u)
+  where
+    go : (s ≡ u) ⊎ (s ≡ u → ⊥) → InStep reader.core (get (put reader.rests s rest) u) u (get (put o s x) u)
+    go (inl e) = subst (λ v. InStep reader.core (get (put reader.rests s rest) v) v (get (put o s x) v)) e
+        (subst (λ r. InStep reader.core r s (get (put o s x) s)) (sym (get-put_same reader.rests s rest)) (subst (λ y. InStep reader.core rest s y) (sym (get-put_same o s x)) h))
+    go (inr ne) = subst (λ r. InStep reader.core r u (get (put o s x) u)) (sym (get-put_other reader.rests s u rest ne)) (subst (λ y. InStep reader.core (get reader.rests u) u y) (sym (get-put_other o s u x ne)) (all u))
+
+-- a completed message of side s leaves the other side in step
+pub in_step_completed : (reader : Reader) (o : Both Open) (s : Side) (m : Message) (rest : Rest) (ms : List Message) → AreInStep reader o → side m ≡ s → MayComplete reader.core reader.core.phase m → rest.bytes ≡ [] →
+    AreInStep (record { core = complete reader.core m; rests = put reader.rests s rest; messages = ms }) (put o s Idle)
+in_step_completed reader o s m rest ms all sd ok e u = go (same_or_not s u)
+  where
+    moved : (x : Open) → (s ≡ u → ⊥) → InStep reader.core (get reader.rests u) u x → InStep (complete reader.core m) (get reader.rests u) u x
+    moved Idle ne i = i
+    moved (Busy n left) ne i = (i.0, Later-trans i.1 (behind m (λ q. ne (sym sd ∙ q)) ok at_once))
+    moved Loose ne i = i
+
+    go : (s ≡ u) ⊎ (s ≡ u → ⊥) → InStep (complete reader.core m) (get (put reader.rests s rest) u) u (get (put o s Idle) u)
+    go (inl q) = subst (λ v. InStep (complete reader.core m) (get (put reader.rests s rest) v) v (get (put o s Idle) v)) q
+        (subst (λ r. InStep (complete reader.core m) r s (get (put o s Idle) s)) (sym (get-put_same reader.rests s rest)) (subst (λ y. InStep (complete reader.core m) rest s y) (sym (get-put_same o s Idle)) e))
+    go (inr ne) = subst (λ r. InStep (complete reader.core m) r u (get (put o s Idle) u)) (sym (get-put_other reader.rests s u rest ne))
+        (subst (λ y. InStep (complete reader.core m) (get reader.rests u) u y) (sym (get-put_other o s u Idle ne)) (moved (get o u) ne (all u)))
+
+abbrev pub reads_next : (judge : Judge) (reader : Reader) (s : Side) (b : ℕ) (ps : List Pair) (messages : List Message) → Reading → Type 0
+reads_next judge reader s b ps messages More =
+    IsRead judge (record reader { rests = put reader.rests s (rest_with reader.core (get reader.rests s) b) }) ps messages
+reads_next judge reader s b ps messages (Whole m) =
+    (rest : List Message) × (messages ≡ m ∷ rest)
+    × IsRead judge (record { core = complete reader.core m; rests = put reader.rests s (record { bytes = []; since = old_of reader.core (get reader.rests s) }); messages = reader.messages ++ m ∷ [] }) ps rest
+reads_next judge reader s b ps messages (Bad f) = ⊥
+
+-- a step and what follows it
+read_on : (judge : Judge) (reader : Reader) (s : Side) (b : ℕ) (ps : List Pair) (messages : List Message) (r : Reading) →
+    judge (rest_with reader.core (get reader.rests s) b).since reader.core s (rest_with reader.core (get reader.rests s) b).bytes ≡ r →
+    reads_next judge reader s b ps messages r → IsRead judge reader (record { from = s; byte = b } ∷ ps) messages
+read_on judge reader s b ps messages More e h = record {
+  end = h.end;
+  reads_it = ap (λ r. on_ok (settle reader s (rest_with reader.core (get reader.rests s) b) r) (λ next. reads judge next ps)) e ∙ h.reads_it;
+  messages_are = h.messages_are;
+}
+read_on judge reader s b ps messages (Whole m) e (rest, is, h) = record {
+  end = h.end;
+  reads_it = ap (λ r. on_ok (settle reader s (rest_with reader.core (get reader.rests s) b) r) (λ next. reads judge next ps)) e ∙ h.reads_it;
+  messages_are = h.messages_are ∙ append_assoc reader.messages (m ∷ []) rest ∙ ap (λ ms. reader.messages ++ ms) (sym is);
+}
+read_on judge reader s b ps messages (Bad f) e h = absurd h
+
+nothing_read : (judge : Judge) (reader : Reader) (messages : List Message) → messages ≡ [] → IsRead judge reader [] messages
+nothing_read judge reader messages e = record { end = reader; reads_it = refl; messages_are = sym (append-nil reader.messages) ∙ ap (λ ms. reader.messages ++ ms) (sym e) }
+
+-- the rest with one more byte
+pub within_opening : (core : Core) (rest : Rest) (s : Side) (m : Message) (b : ℕ) (left : List ℕ) → rest.bytes ≡ [] → enc m ≡ b ∷ left → IsFilled left → side m ≡ s → IsSendable m → MayStart core s m →
+    InStep core (rest_with core rest b) s (Busy m left)
+within_opening core rest s m b left e f g sd sn ms = (
+  record {
+    filled = IsFilled-snoc rest.bytes b;
+    unfinished = g;
+    encodes = f ∙ ap (λ bs. (bs ++ b ∷ []) ++ left) (sym e);
+    sided = sd;
+    sendable = sn;
+    starts = subst (λ c. MayStart c s m) (sym (old-empty core rest e)) ms;
+  },
+  subst (λ c. Later s c core) (sym (old-empty core rest e)) at_once,
+)
+
+pub within_middle : (core : Core) (rest : Rest) (s : Side) (m : Message) (b : ℕ) (left : List ℕ) → InStep core rest s (Busy m (b ∷ left)) → IsFilled left → InStep core (rest_with core rest b) s (Busy m left)
+within_middle core rest s m b left i g = (
+  record {
+    filled = IsFilled-snoc rest.bytes b;
+    unfinished = g;
+    encodes = i.0.encodes ∙ sym (append_assoc rest.bytes (b ∷ []) left);
+    sided = i.0.sided;
+    sendable = i.0.sendable;
+    starts = subst (λ c. MayStart c s m) (sym (old-filled core rest i.0.filled)) i.0.starts;
+  },
+  subst (λ c. Later s c core) (sym (old-filled core rest i.0.filled)) i.1,
+)
+
+pub judged_more : (judge : Judge) → IsExact judge → (core : Core) (rest : Rest) (s : Side) (m : Message) (left : List ℕ) → InStep core rest s (Busy m left) → HasEnd s core m → Kept judge s rest.since core rest.bytes → judge rest.since core s rest.bytes ≡ More
+judged_more judge exact core rest s m left i end k =
+    exact.more rest.since core end.end s m rest.bytes left i.1 end.later i.0.sided i.0.sendable i.0.starts end.completes i.0.encodes i.0.filled i.0.unfinished k
+
+pub judged_whole : (judge : Judge) → IsExact judge → (core : Core) (rest : Rest) (s : Side) (m : Message) (b : ℕ) → InStep core rest s (Busy m (b ∷ [])) → MayComplete core core.phase m → Kept judge s (old_of core rest) core (rest.bytes ++ b ∷ []) →
+    judge (old_of core rest) core s (rest.bytes ++ b ∷ []) ≡ Whole m
+judged_whole judge exact core rest s m b i ok k =
+    let since_is : old_of core rest ≡ rest.since = old-filled core rest i.0.filled in
+    ap (λ c. judge c core s (rest.bytes ++ b ∷ [])) since_is ∙ ap (λ bs. judge rest.since core s bs) (sym i.0.encodes)
+    ∙ exact.whole rest.since core s m i.1 i.0.sided i.0.sendable i.0.starts ok
+    (subst (λ l. Kept judge s rest.since core l) (sym i.0.encodes) (subst (λ c. Kept judge s c core (rest.bytes ++ b ∷ [])) since_is k))
+
+-- the pairs that a walk begins with are read, with the messages that complete within them
+pub marks : (judge : Judge) → IsExact judge → {o : Both Open} {items : List Item} (w : Walk ⊥ o items) (reader : Reader) (js : List Entry) →
+    Obeys (record { core = reader.core; served = js }) items → AreInStep reader o → AreHeld judge reader → (ps more : List Pair) → ArePairs ps → pairs items ≡ ps ++ more → IsRead judge reader ps (within (length ps) items)
+marks judge exact (ended c d) reader js ob st hd [] more lt e = nothing_read judge reader _ refl
+marks judge exact (ended c d) reader js ob st hd (p ∷ ps) more lt e = absurd (cc)
+marks judge exact (serving k w) reader js ob st hd ps more lt e = marks judge exact w reader _ ob.1 st hd ps more lt e
+marks judge exact (opening s m b left is f g w) reader js ob st hd [] more lt e = nothing_read judge reader _ refl
+marks judge exact {o} (opening s m b left {items = items} is f g w) reader js ob st hd (p ∷ ps) more lt e =
+    let p_is : record { from = s; byte = b } ≡ p = cc in
+    let b_lt : b < 256 = subst (λ (q : Pair). q.byte < 256) (sym p_is) lt.0 in
+    let e' : pairs items ≡ ps ++ more = cc in
+    let i : InStep reader.core (rest_with reader.core (get reader.rests s) b) s (Busy m left) =
+    within_opening reader.core (get reader.rests s) s m b left (subst (InStep reader.core (get reader.rests s) s) is (st s)) f g ob.0.0 ob.0.1 ob.0.2 in
+    let end : HasEnd s reader.core m = completes_later w reader.core (follows items (record { core = reader.core; served = js }) ob.1.1) (each_with IsSidedOpen o s (Busy m left) (in_step_sided reader o st) ob.0.0) s m left (get-put_same o s (Busy m left)) in
+    let j : judge (rest_with reader.core (get reader.rests s) b).since reader.core s (rest_with reader.core (get reader.rests s) b).bytes ≡ More =
+    judged_more judge exact reader.core (rest_with reader.core (get reader.rests s) b) s m left i end (kept_next judge reader.core s (get reader.rests s) b b_lt (hd s)) in
+    subst (λ q. IsRead judge reader (q ∷ ps) (within (length ps) items)) p_is
+    (read_on judge reader s b ps _ More j
+    (marks judge exact w _ js ob.1.1 (in_step_with reader o s (rest_with reader.core (get reader.rests s) b) (Busy m left) st i) (held_more judge reader s b b_lt hd j) ps more lt.1 e'))
+marks judge exact (middle s m b left is g w) reader js ob st hd [] more lt e = nothing_read judge reader _ refl
+marks judge exact {o} (middle s m b left {items = items} is g w) reader js ob st hd (p ∷ ps) more lt e =
+    let p_is : record { from = s; byte = b } ≡ p = cc in
+    let b_lt : b < 256 = subst (λ (q : Pair). q.byte < 256) (sym p_is) lt.0 in
+    let e' : pairs items ≡ ps ++ more = cc in
+    let i0 : InStep reader.core (get reader.rests s) s (Busy m (b ∷ left)) = subst (InStep reader.core (get reader.rests s) s) is (st s) in
+    let i : InStep reader.core (rest_with reader.core (get reader.rests s) b) s (Busy m left) = within_middle reader.core (get reader.rests s) s m b left i0 g in
+    let end : HasEnd s reader.core m = completes_later w reader.core (follows items (record { core = reader.core; served = js }) ob.1) (each_with IsSidedOpen o s (Busy m left) (in_step_sided reader o st) i0.0.sided) s m left (get-put_same o s (Busy m left)) in
+    let j : judge (rest_with reader.core (get reader.rests s) b).since reader.core s (rest_with reader.core (get reader.rests s) b).bytes ≡ More =
+    judged_more judge exact reader.core (rest_with reader.core (get reader.rests s) b) s m left i end (kept_next judge reader.core s (get reader.rests s) b b_lt (hd s)) in
+    subst (λ q. IsRead judge reader (q ∷ ps) (within (length ps) items)) p_is
+    (read_on judge reader s b ps _ More j
+    (marks judge exact w _ js ob.1 (in_step_with reader o s (rest_with reader.core (get reader.rests s) b) (Busy m left) st i) (held_more judge reader s b b_lt hd j) ps more lt.1 e'))
+marks judge exact (final s m b is w) reader js ob st hd [] more lt e = nothing_read judge reader _ refl
+marks judge exact {o} (final s m b {items = items} is w) reader js ob st hd (p ∷ ps) more lt e =
+    let p_is : record { from = s; byte = b } ≡ p = cc in
+    let b_lt : b < 256 = subst (λ (q : Pair). q.byte < 256) (sym p_is) lt.0 in
+    let e' : pairs items ≡ ps ++ more = cc in
+    let i0 : InStep reader.core (get reader.rests s) s (Busy m (b ∷ [])) = subst (InStep reader.core (get reader.rests s) s) is (st s) in
+    subst (λ q. IsRead judge reader (q ∷ ps) (m ∷ within (length ps) items)) p_is
+    (read_on judge reader s b ps _ (Whole m) (judged_whole judge exact reader.core (get reader.rests s) s m b i0 ob.1.0 (kept_next judge reader.core s (get reader.rests s) b b_lt (hd s)))
+    (within (length ps) items, refl, marks judge exact w _ js ob.1.1 (in_step_completed reader o s m _ (reader.messages ++ m ∷ []) st i0.0.sided ob.1.0 refl) (held_whole judge reader s m _ refl hd i0.0.sided i0.0.sendable ob.1.0) ps more lt.1 e'))
+marks judge exact (loose s b absent is w) reader js ob st hd ps more lt e = absurd absent
