@@ -3,7 +3,7 @@
 scripts round it: the build, the installation, the conversions of recordings and of captures, the pages of sessions, and the relay that records.
 
 The last line is `N passed, M failed`. With names as words, runs these parts alone: build, cases, commands, contexts, conversions,
-cuts, edits, explain, improper, install, names, order, picture, picture_pages, readme, record, record_answers, record_programs,
+cuts, edits, explain, improper, install, lists, names, order, picture, picture_pages, readme, record, record_answers, record_programs,
 refusals, search, sizes, texts, to_pcap.
 """
 
@@ -22,6 +22,7 @@ import test_edits
 import test_explain
 import test_improper
 import test_install
+import test_lists
 import test_names
 import test_order
 import test_picture
@@ -48,6 +49,7 @@ PARTS = {
     "explain": test_explain,
     "improper": test_improper,
     "install": test_install,
+    "lists": test_lists,
     "names": test_names,
     "order": test_order,
     "picture": test_picture,
