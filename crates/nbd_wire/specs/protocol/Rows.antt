@@ -324,10 +324,11 @@ IsImproperSuccess since now phase bytes = ⊥
 -- project refuses
 pub data RowIn (since now : Core) (bytes : List ℕ) : WireFault → Phase → Side → Type 0 where
   -- at the head of a greeting, option, answer or request: a wrong magic number (proto.md, "Newstyle negotiation",
-  -- "Request message")
+  -- "Fixed newstyle negotiation", "Request message")
   wrong_magic : {phase : Phase} {s : Side} → IsHead phase s bytes → HasWrongMagic phase s bytes
       → RowIn since now bytes BadMagic phase s
-  -- at the fourth byte of a server's message in transmission: neither of its magic numbers (proto.md, "Transmission")
+  -- at the fourth byte of a server's message in transmission: neither of its magic numbers (proto.md, "Simple
+  -- reply message", "Structured reply chunk message")
   neither_magic : {export : Exporting} → length bytes ≡ short_magic_length → (BeginsSimple bytes → ⊥)
       → (BeginsChunk bytes → ⊥) → RowIn since now bytes BadMagic (Transmission export) Server
   -- at the head: no fixed newstyle (proto.md, "Handshake flags", "Client flags"; that others are refused is this
@@ -337,7 +338,8 @@ pub data RowIn (since now : Core) (bytes : List ℕ) : WireFault → Phase → S
   -- at the client's flags: more than was offered (proto.md, "Client flags")
   bad_client_flags : length bytes ≡ head_lengths.CLIENT_FLAGS → SetsMore now.offered (taken_flags bytes)
       → RowIn since now bytes BadClientFlags Flags Client
-  -- at the first byte (proto.md, "Fixed newstyle negotiation", "Terminating the transmission phase")
+  -- at the first byte (proto.md, "Fixed newstyle negotiation", "Termination of the session during option haggling",
+  -- "Request types")
   out_of_turn : {phase : Phase} {s : Side} → length bytes ≡ 1 → IsOutOfTurn phase now s
       → RowIn since now bytes OutOfTurn phase s
   -- at the head of an answer: another option's number (proto.md, "Fixed newstyle negotiation")
@@ -374,7 +376,7 @@ pub data RowIn (since now : Core) (bytes : List ℕ) : WireFault → Phase → S
   -- at the head of the answer to EXPORT_NAME, and of the ACK to GO: the export is too large (this project's choice)
   export_too_large : {phase : Phase} → IsHead phase Server bytes → IsTooLarge phase bytes
       → RowIn since now bytes ExportTooLarge phase Server
-  -- at the last byte of a request: an outstanding one has its cookie (proto.md, "Request message"; that it is refused,
+  -- at the last byte of a request: an outstanding one has its cookie (proto.md, "Transmission"; that it is refused,
   -- and when it is tried, is this project's choice)
   cookie_in_use : {export : Exporting} (k : ℕ) → IsWholeIn since now bytes (Transmission export) Client
       → request_type bytes ≢ commands.DISC → target (cookie_of bytes) now.entries ≡ Some k
@@ -384,7 +386,8 @@ pub data RowIn (since now : Core) (bytes : List ℕ) : WireFault → Phase → S
   unknown_cookie : {export : Exporting} → IsHead (Transmission export) Server bytes
       → target (cookie_of bytes) since.entries ≡ None → RowIn since now bytes UnknownCookie (Transmission export) Server
   -- at the head of a simple reply: to a READ under structured replies, one of success to a BLOCK_STATUS where a context
-  -- is in force, or to a request that has received a chunk (proto.md, "Simple reply message", "Request types")
+  -- is in force, or to a request that has received a chunk (proto.md, "Transmission", "Simple reply message",
+  -- "Metadata querying", "Request types")
   simple_forbidden : {export : Exporting} (e : Operation) → BeginsSimple bytes → length bytes ≡ head_lengths.SIMPLE
       → IsAnswered since now (cookie_of bytes) e
       → (e.replies ≢ []) ⊎ (e.command ≡ commands.READ) × (now.structured ≡ true)
