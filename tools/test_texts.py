@@ -1,7 +1,9 @@
 """What no program runs: the definitions hold meaning alone and fit their lines, docs/CONTRACTS.md is that of the sources, and
-docs/THEOREMS.md names clauses that there are, on one page, with the counts of files that docs/CONTRACTS.md has."""
+docs/THEOREMS.md names clauses that there are, on one page, with the counts of files that docs/CONTRACTS.md has, and the C of
+docs/RECORDING.md is C."""
 
 import re
+import subprocess
 from itertools import zip_longest
 
 import contracts
@@ -43,7 +45,16 @@ def theorems(tally, made):
                     re.search(rf"\b{counts[function, clause]}\b", page.split("**What must be believed**")[1]))
 
 
+def compiled(tally):
+    """The example of a server that logs an order."""
+    source = (TOP / "docs/RECORDING.md").read_text().split("```c\n")[1].split("```")[0]
+    words = ["cc", "-std=c11", "-Wall", "-Wextra", "-Werror", "-fsyntax-only", "-x", "c", "-"]
+    done = subprocess.run(words, input=source, capture_output=True, text=True, timeout=60)
+    tally.want("docs/RECORDING.md: its C", (done.returncode, done.stderr), (0, ""))
+
+
 def run(tally):
+    compiled(tally)
     made = contracts.page()
     tally.want("definitions", specs.check(), 0)
     there = contracts.PAGE.read_text().split("\n")
