@@ -11,8 +11,8 @@ recorded/suites.tar.xz has their captures, and recorded/suites.tsv a line for ea
   whole, cut                   of a recording that breaks off in a message: how many bytes stand before it, and the line of these
   today, why                   of a session whose wanted line is not the one of today: that line, and the reason
 
-A wanted line comes from the protocol's rules, never from the program: it is also that of a reader which shares no code with it. The one
-of a session without an order is argued by hand: its WRITE was answered before its READ came, and the READ returned the older bytes. Where
+A wanted line is the one that the reader says, which is written from the rules and shares no code with the program; here both are asked.
+That of a session without an order is argued by hand: its WRITE was answered before its READ came, and the READ returned older bytes. Where
 the program's line becomes another one, what is wanted stays, and `today` takes the line. A line in `today` that the program no longer says
 is a failure too.
 """
