@@ -23,7 +23,7 @@ ANSWERS = [("check", "exactly"), ("check", "verdict"), ("conclude", "answers"), 
            ("Session::finish", "report"), ("run_check", "yes"),
            ("run_check", "written"), ("run_check", "left"), ("run_check", "cause"), ("run_check", "limited"), ("run_show", "written"),
            ("run_make", "written"), ("find", "says"), ("run_order", "written"), ("run_explain", "written"),
-           ("run_explain", "limited"), ("run_names", "answer")]
+           ("run_explain", "limited"), ("run_names", "written")]
 
 HEAD = """# The contracts
 

@@ -177,6 +177,8 @@ def reached(function, clause):
     owner, _, function = function.rpartition("::")
     found = [modules for path, _, _, name, modules in clauses({function})
              if name == clause and "/tests" not in path and (not owner or path.endswith(f"/{owner.lower()}.rt"))]
+    if not found:
+        raise LookupError(f"`{function}` has no clause *{clause}*")
     return Reached(set().union(*found))
 
 

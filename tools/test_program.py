@@ -4,7 +4,7 @@ scripts round it: the build, the installation, the conversions of recordings and
 
 The last line is `N passed, M failed`. With names as words, runs these parts alone: build, cases, commands, contexts, conversions,
 cuts, edits, explain, improper, install, lists, names, order, picture, picture_pages, readme, record, record_answers, record_programs,
-refusals, search, sizes, texts, to_pcap.
+refusals, search, sections, sizes, suites, texts, to_pcap.
 """
 
 import os
@@ -33,7 +33,9 @@ import test_record_answers
 import test_record_programs
 import test_refusals
 import test_search
+import test_sections
 import test_sizes
+import test_suites
 import test_texts
 import test_to_pcap
 from built import Tally, build
@@ -60,7 +62,9 @@ PARTS = {
     "record_programs": test_record_programs,
     "refusals": test_refusals,
     "search": test_search,
+    "sections": test_sections,
     "sizes": test_sizes,
+    "suites": test_suites,
     "texts": test_texts,
     "to_pcap": test_to_pcap,
 }

@@ -25,7 +25,8 @@ PRINTED = {
 RECORDING = ("socat ", "nbdsh ", "nbdkit ", "tools/nbdcheck-record ")
 # What recording by hand takes: these packages of Debian, a server, and the end of a socat to which no client came.
 NEEDED = ("nbdkit,", "python3-libnbd", "libnbd-bin", "socat:", "\nnbdkit memory ", "kill %1")
-LONGEST = 150
+LONGEST, WIDEST = 150, 120
+KIT = re.compile(r"logic [0-9a-f]{16}")
 # These have the program built where it is not; what is said of that.
 WRAPPED = ("./nbdcheck ", "tools/install ")
 BUILDING = re.compile(r"(nbdcheck: (proving and building, which takes about \d+ minutes the first time|"
@@ -76,11 +77,28 @@ def alone(tally, lines, folder, home):
             try_command(tally, line, where, home, wanted)
 
 
+def kits(tally):
+    """The kit that the pages name, and what `test` says where `rt version` names another one, before it goes on."""
+    named = {name: set(KIT.findall((TOP / name).read_text())) for name in ("README.md", "docs/THEOREMS.md")}
+    tally.holds("the pages name one kit", len(set.union(*named.values())) == 1 and all(named.values()), named)
+    [wanted] = named["README.md"]
+    asks = (TOP / "test").read_text().split("\nfi\n")[0] + "\nfi\necho goes on\n"
+    asks = asks.replace('cd "$(dirname "$(readlink -f "${BASH_SOURCE[0]}")")"', f'cd "{TOP}"')
+    other = f"test: rt version says '{{}}', and README.md '{wanted}': this is another kit\n"
+    for says, told in ((f"rattle-kit-13x {wanted}", ""), ("rattle-kit-13x logic 0123456789abcdef", other.format("logic 0123456789abcdef")),
+                       ("", other.format("nothing"))):
+        done = subprocess.run(["bash", "-c", f"rt() {{ echo '{says}'; }}\n{asks}"], capture_output=True, text=True, timeout=60)
+        tally.want(f"test, where rt version says {says!r}", (done.returncode, done.stdout, done.stderr), (0, "goes on\n", told))
+
+
 def run(tally):
     page = TOP / "README.md"
     tally.holds("its length", len(page.read_text().splitlines()) <= LONGEST)
+    prose = "".join(page.read_text().split("```")[::2]).splitlines()
+    tally.want("lines that are too long", [line for line in prose if len(line) > WIDEST and not line.startswith("|")], [])
     section = page.read_text().split("\n## Record your own session\n")[1].split("\n## ")[0]
     tally.want("what a recording takes", [part for part in NEEDED if part not in section], [])
+    kits(tally)
     with tempfile.TemporaryDirectory(prefix="nbdcheck-") as folder:
         home = f"{folder}/home"
         os.symlink(TOP / "tools", f"{folder}/tools")

@@ -162,7 +162,7 @@ def lines(tally, room):
         tally.want(f"{name}: nbdcheck takes it", (judged.status in (0, 1), judged.err), (True, hint_of(capture)))
     for name, (capture, number) in REFUSED.items():
         found = run_script(room.put("capture", capture))
-        tally.want(name, (found.status, found.out), (1, b""))
+        tally.want(name, (found.status, found.out), (3, b""))
         is_line = found.err.startswith(f"{NAME}: line {number}: ".encode()) and found.err.count(b"\n") == 1
         tally.holds(f"{name}: says where", is_line and found.err.endswith(b"\n"), found.err)
         tally.want(f"{name}: nbdcheck", room.show(capture), fault(f"capture line {number}"))
@@ -201,7 +201,7 @@ def words(tally, room):
     whole = run_script(capture)
     tally.want("through a pipe", run_script("/dev/stdin", input=SESSION), whole)
     tally.want("a bad line through a pipe", run_script("/dev/stdin", input=SESSION + b"C"),
-               Ended(1, b"", f"{NAME}: line 10: neither C nor S and a space, nor a remark, nor empty\n".encode()))
+               Ended(3, b"", f"{NAME}: line 10: neither C nor S and a space, nor a remark, nor empty\n".encode()))
     long = room.put("long", text(begun() + [write(1, 0, bytes(1 << 25))]))
     found = run_script(long, before=["sh", "-c", 'ulimit -v 40000; exec "$@"', "sh"])
     tally.want("a line of 64 MiB in 40 MB", (found.status, found.err, len(found.out) > 1 << 25), (0, b"", True))

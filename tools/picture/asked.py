@@ -1,17 +1,14 @@
 """What nbdcheck says of a capture: its answer and its messages, as lines and in words."""
 
 import contextlib
-import re
 import subprocess
 import tempfile
 
-from .faults import FAILED, MEMORY, REFUSED, Fault, printable
+from .faults import FAILED, MEMORY, Fault, printable
 from .signals import SIGNALS
 
 YES, NO, GAVE_UP, OUT_OF_MEMORY = 0, 1, 5, 4
 BUFFER = 1 << 20
-# nbdcheck's words for an input that is malformed; behind each other fault an input could not be read.
-MALFORMED = re.compile(r"fault (capture|order) line \d+")
 
 
 class Nbdcheck:
@@ -47,7 +44,7 @@ class Nbdcheck:
         if status == OUT_OF_MEMORY:
             raise Fault(MEMORY, first or "out of memory")
         if first and status > 0:
-            raise Fault(REFUSED if MALFORMED.match(first) else FAILED, first)
+            raise Fault(FAILED, first)
         how = f"ended with status {status}" if status >= 0 else f"was ended by signal {-status}"
         raise Fault(FAILED, f"{printable(self.program)} {how}")
 

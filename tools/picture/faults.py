@@ -2,7 +2,7 @@
 
 import os
 
-REFUSED, MALFORMED, FAILED, MEMORY = 1, 2, 3, 4
+FAILED, MEMORY = 3, 4
 NOT_WHOLE = "what was written is no whole page"
 
 

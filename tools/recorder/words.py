@@ -33,10 +33,10 @@ Exit status, of several the first in the order 1, 2, 4, 3, 5, 10:
   0   each answer is yes, and the client ended with 0
   1   a no: the lines say where and why
   2   the command line is malformed
-  3   no answer: an address or a file failed, or nothing was recorded
+  3   no answer: an address or a file failed, or no connection came, though no client failed
   4   no answer: out of memory
   5   the search for an order gave up, and nothing is proved
-  10  each answer is yes, and the client failed or could not be run
+  10  the client failed or could not be run, and each answer is yes, or no connection came
   128 and the signal's number: interrupted; without CLIENT an interrupt is the end, and not told so"""
 
 # What the words name; `client` is None where there is none.
@@ -52,7 +52,7 @@ def make_parser():
     judged = parser.add_mutually_exclusive_group()
     judged.add_argument("--arrival", action="store_true", help="the server takes one request after the other")
     judged.add_argument("--order", metavar="FILE", help="the order of service, as the server logged it")
-    parser.add_argument("--profile", metavar="NAME", default=PROFILE, help="handed on to nbdcheck")
+    parser.add_argument("--profile", metavar="NAME", default=PROFILE, help="handed on to nbdcheck: base or wide (wide)")
     parser.add_argument("--keep", metavar="DIR", help="keeps each capture, as DIR/session.1.cap and so on")
     parser.add_argument("--out", metavar="OUT", help="without CLIENT: the captures' names (session)")
     return parser

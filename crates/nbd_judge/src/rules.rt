@@ -93,11 +93,12 @@ fn sentence_of(fault: WireFault) -> &'static str {
 // Where the rule of a wire fault stands.
 fn section_of(fault: WireFault) -> &'static str {
     match fault {
-        WireFault::BadMagic => "proto.md, \"Newstyle negotiation\", \"Transmission\"",
+        WireFault::BadMagic =>
+            "proto.md, \"Newstyle negotiation\", \"Fixed newstyle negotiation\", \"Request message\", \"Simple reply message\", \"Structured reply chunk message\"",
         WireFault::NotFixedNewstyle => "proto.md, \"Handshake flags\", \"Client flags\"",
         WireFault::BadClientFlags => "proto.md, \"Client flags\"",
         WireFault::OutOfTurn =>
-            "proto.md, \"Fixed newstyle negotiation\", \"Terminating the transmission phase\"",
+            "proto.md, \"Fixed newstyle negotiation\", \"Termination of the session during option haggling\", \"Request types\"",
         WireFault::WrongOption => "proto.md, \"Fixed newstyle negotiation\"",
         WireFault::BadReplyKind | WireFault::MissingExportInfo => "proto.md, \"Option types\"",
         WireFault::OutOfProfile
@@ -105,11 +106,11 @@ fn section_of(fault: WireFault) -> &'static str {
         | WireFault::SuccessOfImproper
         | WireFault::Unfinished => CHOICE,
         WireFault::BadReplyPayload =>
-            "proto.md, \"Option reply types\", \"Transmission flags\", \"Block size constraints\"",
+            "proto.md, \"Option reply types\", \"Transmission flags\", \"Size constraints\"",
         WireFault::BadExport => "proto.md, \"Transmission flags\", \"Newstyle negotiation\"",
-        WireFault::CookieInUse => "proto.md, \"Request message\"",
-        WireFault::UnknownCookie => "proto.md, \"Transmission\"",
-        WireFault::SimpleForbidden => "proto.md, \"Simple reply message\"",
+        WireFault::CookieInUse | WireFault::UnknownCookie => "proto.md, \"Transmission\"",
+        WireFault::SimpleForbidden =>
+            "proto.md, \"Transmission\", \"Simple reply message\", \"Metadata querying\", \"Request types\"",
         WireFault::ChunkForbidden => "proto.md, \"Structured reply chunk message\"",
         WireFault::BadChunk => "proto.md, \"Structured reply types\"",
         WireFault::BadContent => "proto.md, \"Structured reply types\", \"Request types\"",

@@ -44,7 +44,7 @@ MayAcknowledge option info =
     ⊎ (option ≡ options.GO) × ((export : Exporting) × (info ≡ Some export) × FitsLimit export)
 
 -- an info has its form, one on the export has HAS_FLAGS, and in Wide block sizes are such as a server may announce
--- (proto.md, "Option reply types", "Transmission flags", "Block size constraints")
+-- (proto.md, "Option reply types", "Transmission flags", "Size constraints")
 abbrev pub IsInfo : Profile → List ℕ → Type 0
 IsInfo profile payload = (info : Info) × (info_of payload ≡ Some info)
     × ((size flags : ℕ) → info ≡ Export size flags → IsTrue (has flags transmission.HAS_FLAGS))

@@ -1,4 +1,4 @@
--- Which block sizes a client has to keep, told by looking back (proto.md, "Block size constraints").
+-- Which block sizes a client has to keep, told by looking back (proto.md, "Size constraints").
 use Rattle.std.specs.Prelude.{◌≡◌, ◌==◌, ◌&&◌, ℕ, List, [], ◌∷◌, ◌++◌, Option, None, if◌then◌else◌}
 use Rattle.nbd_wire.specs.declared.answers.TheConstants as answers
 use Rattle.nbd_wire.specs.declared.message.Message.{Message}

@@ -152,8 +152,9 @@ pub fn base_is_wide()
     ensures { BaseIsWide }
 {}
 
-/// Items in which no head of an answer of success to an option on metadata contexts completes are a run, the place
-/// of a fault or a session under way in both profiles or in none.
+/// Items in which no head of an answer of success to an option on metadata contexts completes, and no announcement of
+/// block sizes that a server may not announce, are a run, the place of a fault or a session under way in both profiles or
+/// in none.
 pub fn profiles_agree()
     ensures runs { RunsAgree }
     ensures places { PlacesAgree }

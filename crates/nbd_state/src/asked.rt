@@ -29,7 +29,7 @@ pub struct Asked {
     pub outcome: Outcome,
     /// Whether a client should send it to this export.
     pub proper: bool,
-    /// Whether its range breaks the block sizes that the client has to keep (proto.md, "Block size constraints").
+    /// Whether its range breaks the block sizes that the client has to keep (proto.md, "Size constraints").
     pub outside: bool,
     pub cookie: u64,
     /// Where its range begins, in bytes from the export's start.

@@ -1,4 +1,4 @@
-//! Block sizes (proto.md, "Block size constraints").
+//! Block sizes (proto.md, "Size constraints").
 
 ghost use Rattle.std.specs.Prelude.{◌≡◌, ◌*◌, length};
 ghost use Rattle.nbd_wire.specs.protocol.Payloads.{info_of};

@@ -137,7 +137,7 @@ is_proper export e =
     && has_only e.flags (allowed_flags export.flags e.command)
     && (not (e.command == commands.FLUSH) || ((e.offset == 0) && (e.length == 0)))
 
--- a request of a known type with a range that breaks the block sizes (proto.md, "Block size constraints"; that no other
+-- a request of a known type with a range that breaks the block sizes (proto.md, "Size constraints"; that no other
 -- request is outside, and that nothing is refused for it, are this project's choices)
 abbrev pub is_outside : Operation → Bool
 is_outside e = is_known e && has_range e.command && breaks_sizes e.sizes e.command e.offset e.length

@@ -1,4 +1,4 @@
--- Block sizes (proto.md, "Block size constraints").
+-- Block sizes (proto.md, "Size constraints").
 use Rattle.std.specs.Prelude.{ℕ, zero, suc, List, ◌==◌, ◌&&◌, ◌||◌, ◌%◌, not, nat_le, nat_lt, Bool, false, if◌then◌else◌, Option, Some, None, drop, count_ones}
 use Rattle.nbd_wire.specs.declared.answers.TheConstants as answers
 use Rattle.nbd_wire.specs.declared.commands.TheConstants as commands
@@ -20,7 +20,7 @@ abbrev pub is_bound : (largest least : ℕ) → Bool
 is_bound largest least = (largest == NO_LARGEST_SIZE) || (not (largest == 0) && (largest % least == 0))
 
 -- a server may announce these sizes: the least and the preferred one are powers of 2, the least is 65,536 at most, the
--- preferred one neither below 512 nor below the least, and the largest is a bound (proto.md, "Block size constraints")
+-- preferred one neither below 512 nor below the least, and the largest is a bound (proto.md, "Size constraints")
 abbrev pub are_allowed : Sizes → Bool
 are_allowed sizes =
     is_power sizes.least && nat_le sizes.least LEAST_SIZE
@@ -48,7 +48,7 @@ asks_sizes bytes =
 abbrev pub no_sizing : Sizing
 no_sizing = record { asked = false; told = None }
 
--- once an option is chosen: GO alone can bring sizes in force, and what came before is forgotten (proto.md, "Block size
+-- once an option is chosen: GO alone can bring sizes in force, and what came before is forgotten (proto.md, "Size
 -- constraints")
 abbrev pub sizing_at : (id : ℕ) (payload : List ℕ) → Sizing
 sizing_at id payload = record { asked = (id == options.GO) && asks_sizes payload; told = None }
@@ -63,7 +63,7 @@ abbrev pub sizing_after : (kind : ℕ) (answer : List ℕ) → Sizing → Sizing
 sizing_after kind answer sizing =
     if kind == answers.INFO then record sizing { told = last_sizes (sizes_of (info_of answer)) sizing.told } else sizing
 
--- the sizes that the client has to keep, where that option led into transmission (proto.md, "Block size constraints")
+-- the sizes that the client has to keep, where that option led into transmission (proto.md, "Size constraints")
 abbrev pub sizes_kept : Sizing → Option Sizes
 sizes_kept sizing = if sizing.asked then sizing.told else None
 
@@ -74,7 +74,7 @@ is_too_long sizes command length =
     && not (sizes.largest == NO_LARGEST_SIZE) && nat_lt sizes.largest length
 
 -- a range breaks the sizes, if there are some: its offset or its length is no multiple of the least, or a payload is
--- too long (proto.md, "Block size constraints")
+-- too long (proto.md, "Size constraints")
 abbrev pub breaks_sizes : Option Sizes → (command offset length : ℕ) → Bool
 breaks_sizes None command offset length = false
 breaks_sizes (Some sizes) command offset length =

@@ -30,8 +30,8 @@ pub data Phase : Type 0 where
 
 -- the profile that the session is held to, the phase, the server's handshake flags, the client's flags, whether
 -- structured replies are in force, what the last SET_META_CONTEXT selected, whether the option that was chosen last
--- brings the contexts of that selection in force if it leads into transmission, what it asked of block sizes and was told,
--- whether a DISC has completed, and the numbered requests
+-- brings these contexts in force if it leads into transmission, what it asked of block sizes and was told, whether a
+-- DISC has completed, and the numbered requests
 pub record Core : Type 0 where
   pub profile : Profile
   pub phase : Phase
