@@ -42,7 +42,8 @@ is_none_yet (m ∷ messages) = false
 
 -- at the head of a simple reply
 abbrev pub simple_fault : (structured : Bool) → Option Operation → (error : ℕ) → Option WireFault
--- no request that was outstanding when it started has its cookie ("Simple reply message")
+-- no request that was outstanding when it started has its cookie ("Transmission"; that its start decides is this
+-- project's choice)
 simple_fault structured None error = UnknownCookie when true else None
 simple_fault structured (Some e) error =
     -- it comes after a chunk, to a READ under structured replies, or as success to a BLOCK_STATUS ("Structured reply
@@ -71,7 +72,7 @@ simple_last_fault export (Some e) error =
 -- at the head of a chunk
 abbrev pub chunk_head_fault : (structured : Bool) → Option Operation → Option WireFault
 chunk_head_fault structured to =
-    -- no request that was outstanding when it started has its cookie ("Structured reply chunk message")
+    -- no request that was outstanding when it started has its cookie ("Transmission")
     UnknownCookie when not (is_some to) else
     -- structured replies are not in force ("Structured reply chunk message")
     ChunkForbidden when not structured else

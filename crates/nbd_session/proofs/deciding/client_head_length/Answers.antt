@@ -1,4 +1,4 @@
-use Rattle.std.proofs.Common.{refl, sym, ◌∙◌, ap}
+use Rattle.std.proofs.Common.{refl, sym, ◌∙◌, ap, rules, tests}
 use Rattle.nbd_wire.specs.declared.message.Side.TheVariants.{Client}
 use Rattle.nbd_wire.specs.protocol.States as definitions
 use Rattle.nbd_wire.specs.protocol.Decisions.{choice, client_flags, request}
@@ -19,3 +19,6 @@ returns-in-Transmission-clause-known c = λ head. head_in c.args.state.now Clien
     (λ core counted s. let t = transmission_of core.phase _ (sym c.in-Transmission.is ∙ s.phase_is) in
     decided_in counted core Client head (definitions.Transmission t.0) (request core head) t.1 (ap (λ b. request_unless b core head) (sym s.disconnected_is ∙ c.if-not-state.true)))
     (λ e. (c.if-not-state.true, e))
+
+pub returns-in_default-clause-refused : goal.returns-in_default-clause-refused
+returns-in_default-clause-refused c = search (tests, rules)
