@@ -78,10 +78,10 @@ def is_power(number):
 
 
 def are_sizes(least, preferred, largest):
-    """Whether block sizes may be announced: the largest is a multiple of the least, or no limit."""
+    """Whether block sizes may be announced: of the largest nothing is asked but that it is not 0."""
     is_least = is_power(least) and least <= 65536
     is_preferred = is_power(preferred) and preferred >= 512 and preferred >= least
-    return is_least and is_preferred and (largest == 2**32 - 1 or largest != 0 and largest % least == 0)
+    return is_least and is_preferred and largest != 0
 
 
 def has_form(kind, payload, profile):

@@ -430,8 +430,6 @@ WIDE_REASONS = [
     (announced(1, 513, 1024), "the preferred block size is no power of 2"),
     (announced(1, 256, 512), "the preferred block size is below 512"),
     (announced(1024, 512, 1024), "the preferred block size is below the least"),
-    (announced(2, 512, 5), "the largest block size is no multiple of the least"),
-    (announced(4096, 4096, 2048), "the largest block size is no multiple of the least"),
     (announced(1, 512, 0), "the largest block size is 0"),
     ([*GO, sizes(1, 512, 0)], "the largest block size is 0"),
 ]

@@ -68,7 +68,8 @@ def is_outside(request, found):
     if not has_range or found.sizes is None:
         return False
     least, largest = found.sizes
-    is_long = request.command in (READ, WRITE) and request.length > largest
+    has_payload = request.command == WRITE or request.command == READ and not found.structured
+    is_long = has_payload and request.length > largest
     return is_long or request.offset % least != 0 or request.length % least != 0
 
 

@@ -13,7 +13,7 @@ ghost use Rattle.nbd_wire.specs.protocol.Sendable.{IsSendable};
 ghost use Rattle.nbd_wire.specs.protocol.States as definitions;
 ghost use Rattle.nbd_wire.specs.protocol.States.{Core, in_force, start_of, target};
 ghost use Rattle.nbd_state.specs.internal.Showing.{operation_of_head};
-ghost use Rattle.nbd_wire.specs.protocol.Sizes.{sizes_kept};
+ghost use Rattle.nbd_wire.specs.protocol.Sizes.{sizes_for, sizes_kept};
 ghost use Rattle.nbd_wire.specs.protocol.Statuses.{status_in};
 ghost use Rattle.nbd_state.specs.internal.Completing.{AddsUnanswered, IsTransmitting, TellsOne, is_allocation_told};
 ghost use Rattle.nbd_state.specs.Completions.{Answers, MayTake, core_from};
@@ -27,7 +27,9 @@ use crate::state::{Chosen, Export, Phase, State};
 use crate::statuses::told_in;
 use nbd_wire::answers::is_error;
 use nbd_wire::flags::has;
-use nbd_wire::{Bytes, Message, RequestHead, Sizing, answers, chunks, commands, options};
+use nbd_wire::{
+    Bytes, Message, RequestHead, Sizing, answers, chunks, commands, options, sizes_for,
+};
 use std::alloc::{AllocError, Global};
 
 impl State {
@@ -167,7 +169,8 @@ impl State {
             core.phase ≡ definitions.Transmission export → ((head.now.command == commands.DISC) ≡ false →
             target head.now.cookie core.entries ≡ None) →
             Shows self.new (core_with_request (head.now.command == commands.DISC) core
-            (operation_of_head head.now payload.now (in_force core) (sizes_kept core.sizing) []))) }
+            (operation_of_head head.now payload.now (in_force core)
+            (sizes_for core.structured head.now.command (sizes_kept core.sizing)) []))) }
         ensures adds { OnOk result (AddsUnanswered self.old.exchanges.items self.new.exchanges.items) }
         ensures profile { self.new.profile ≡ self.old.profile }
     {
@@ -177,7 +180,8 @@ impl State {
         }
         match self.phase {
             Phase::Transmission(export) => {
-                let (contexts, sizes) = (self.has_contexts(), self.sizing.kept());
+                let contexts = self.has_contexts();
+                let sizes = sizes_for(self.structured, head.command, self.sizing.kept());
                 let exchange = Exchange::new(alloc, export, contexts, sizes, head, payload)?;
                 self.add(head.cookie, exchange)
             }

@@ -4,7 +4,7 @@ use crate::requests::Request;
 use crate::story::Story;
 use crate::text::Text;
 use nbd_state::is_outside;
-use nbd_wire::{Profile, RequestHead, Sizes, commands};
+use nbd_wire::{Profile, RequestHead, Sizes, commands, sizes_for};
 
 /// How many of them are listed.
 const LISTED: u64 = 10;
@@ -20,7 +20,8 @@ impl Story {
 
     // Whether a request is outside of them.
     fn is_outside(&self, head: &RequestHead) -> bool {
-        is_outside(self.sizes(), self.contexts.are_in_force(), head)
+        let sizes = sizes_for(self.contexts.is_structured(), head.command, self.sizes());
+        is_outside(sizes, self.contexts.are_in_force(), head)
     }
 
     // Whether the client should not have sent a request.
@@ -65,18 +66,21 @@ impl Text {
             .end()
             .improper(&request.head, story);
         match story.sizes() {
-            Some(sizes) if story.is_outside(&request.head) => text.unfit(&request.head, sizes),
+            Some(sizes) if story.is_outside(&request.head) => {
+                text.unfit(&request.head, sizes, story.contexts.is_structured())
+            }
             _ => text,
         }
     }
 
     // Why a request does not fit the block sizes, which are told as the least, the preferred and the largest: each reason.
-    fn unfit(self, head: &RequestHead, sizes: Sizes) -> Text {
+    fn unfit(self, head: &RequestHead, sizes: Sizes, structured: bool) -> Text {
         let length = u64::from(head.length);
         let least = u64::from(sizes.least);
         let preferred = u64::from(sizes.preferred);
         let largest = u64::from(sizes.largest);
-        let has_payload = matches!(head.command, commands::READ | commands::WRITE);
+        let has_payload = head.command == commands::WRITE
+            || head.command == commands::READ && !structured;
         self.fill_if(
             !head.offset.is_multiple_of(least),
             "wrong: outside of the block sizes {}/{}/{}: its offset is no multiple of {}\n",

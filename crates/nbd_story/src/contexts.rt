@@ -50,6 +50,11 @@ impl Contexts {
         }
     }
 
+    /// Whether structured replies are.
+    pub fn is_structured(&self) -> bool {
+        self.structured
+    }
+
     /// Whether one is in force.
     pub fn are_in_force(&self) -> bool {
         self.agreed && !self.selection.is_empty()

@@ -7,7 +7,7 @@ use crate::reading::number_in;
 use crate::story::Story;
 use crate::text::Text;
 use crate::told::{Form, Told};
-use nbd_wire::limits::{LEAST_SIZE, NO_LARGEST_SIZE, PREFERRED_SIZE};
+use nbd_wire::limits::{LEAST_SIZE, PREFERRED_SIZE};
 use nbd_wire::{Side, Sizes, WireFault, answers, infos, options, sizes_of};
 
 impl Text {
@@ -150,9 +150,6 @@ impl Text {
         let has_least = sizes.least.is_power_of_two();
         let has_preferred = sizes.preferred.is_power_of_two();
         let is_small = sizes.preferred < PREFERRED_SIZE;
-        let has_largest = sizes.largest == 0
-            || sizes.largest == NO_LARGEST_SIZE
-            || sizes.largest.is_multiple_of(sizes.least);
         self.wrong_if(!has_least, "the least block size is no power of 2")
             .wrong_if(
                 has_least && sizes.least > LEAST_SIZE,
@@ -168,10 +165,6 @@ impl Text {
                 "the preferred block size is below the least",
             )
             .wrong_if(sizes.largest == 0, "the largest block size is 0")
-            .wrong_if(
-                !has_largest,
-                "the largest block size is no multiple of the least",
-            )
     }
 }
 

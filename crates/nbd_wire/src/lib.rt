@@ -52,4 +52,4 @@ pub use payloads::{Content, Extent, Failure, Info, Piece};
 pub use places::{bit, bytes_in, place_before};
 pub use profile::Profile;
 pub use sides::{fits, side_of};
-pub use sizes::{Sizes, Sizing, asks_sizes, breaks_sizes, sizes_of};
+pub use sizes::{Sizes, Sizing, asks_sizes, breaks_sizes, sizes_for, sizes_of};

@@ -2,7 +2,7 @@
 
 ghost use Rattle.std.specs.Prelude.{◌≡◌, ◌*◌, length};
 ghost use Rattle.nbd_wire.specs.protocol.Payloads.{info_of};
-ghost use Rattle.nbd_wire.specs.protocol.Sizes.{are_allowed, asks_sizes, breaks_sizes, has_number, is_bound, is_too_long, no_sizing, sizes_kept, sizes_of, sizing_after, sizing_at};
+ghost use Rattle.nbd_wire.specs.protocol.Sizes.{are_allowed, asks_sizes, breaks_sizes, has_number, is_too_long, no_sizing, sizes_for, sizes_kept, sizes_of, sizing_after, sizing_at};
 
 use crate::limits::{LEAST_SIZE, NO_LARGEST_SIZE, PREFERRED_SIZE};
 use crate::numbers::u16_at;
@@ -16,13 +16,13 @@ pub struct Sizes {
     pub least: u32,
     /// The size that serves best.
     pub preferred: u32,
-    /// The longest payload of a READ or a WRITE; 2^32 - 1 bounds nothing.
+    /// The longest payload of a WRITE, and of a READ without structured replies; 2^32 - 1 bounds nothing.
     pub largest: u32,
 }
 
 impl Sizes {
     /// Whether a server may announce them: the least and the preferred one are powers of 2, the least is 65,536 at most, the
-    /// preferred one neither below 512 nor below the least, and the largest is 2^32 - 1 or a multiple of the least above 0.
+    /// preferred one neither below 512 nor below the least, and the largest is not 0.
     pub fn are_allowed(self) -> bool
         ensures { result ≡ are_allowed self }
     {
@@ -31,15 +31,8 @@ impl Sizes {
             && self.preferred.is_power_of_two()
             && self.preferred >= PREFERRED_SIZE
             && self.least <= self.preferred
-            && is_bound(self.largest, self.least)
+            && self.largest != 0
     }
-}
-
-// Whether it is a largest size beside this least one.
-fn is_bound(largest: u32, least: u32) -> bool
-    ensures { result ≡ is_bound largest least }
-{
-    largest == NO_LARGEST_SIZE || largest != 0 && largest.is_multiple_of(least)
 }
 
 /// The block sizes that the payload of an INFO answer announces, if it does.
@@ -140,6 +133,20 @@ impl Sizing {
         ensures { result ≡ sizes_kept self }
     {
         if self.asked { self.told } else { None }
+    }
+}
+
+/// The sizes that a request of this type has to keep, of those that are in force: under structured replies the largest
+/// bounds no READ, whose bytes a server may split over chunks (proto.md, "Size constraints").
+pub fn sizes_for(structured: bool, command: u16, sizes: Option<Sizes>) -> Option<Sizes>
+    ensures { result ≡ sizes_for structured command sizes }
+{
+    match sizes {
+        Some(sizes) if structured && command == commands::READ => Some(Sizes {
+            largest: NO_LARGEST_SIZE,
+            ..sizes
+        }),
+        sizes => sizes,
     }
 }
 

@@ -9,7 +9,7 @@ use Rattle.nbd_wire.specs.declared.commands.TheConstants as commands
 use Rattle.nbd_wire.specs.declared.message.Message.{Message}
 use Rattle.nbd_wire.specs.declared.message.Message.TheVariants.{Greeting, ClientFlags, Choice, Answer, Exported, Request, Simple, Chunk}
 use Rattle.nbd_wire.specs.protocol.Rules.{MayReply}
-use Rattle.nbd_wire.specs.protocol.Sizes.{sizes_kept}
+use Rattle.nbd_wire.specs.protocol.Sizes.{sizes_for, sizes_kept}
 use Rattle.nbd_wire.specs.protocol.Reports.{operations_of}
 use Rattle.nbd_wire.specs.protocol.Operations.{Operation, Exporting, any, ends_reply, is_finished}
 use Rattle.nbd_wire.specs.protocol.Rules.{MayComplete, complete, cookie_of, ends_at, grants_structured, reply_to, core_with_request}
@@ -152,7 +152,7 @@ structured-reply_to None core m = refl
 whole_complete : (core : Core) (export : Exporting) (m : Message) → InTransmission core export m → EachIsWhole core.structured core.entries → EachIsWhole (complete core m).structured (complete core m).entries
 unfolding complete
 whole_complete core export m (asks flags command cookie offset len p h) w =
-    let e : Operation = record { flags = flags; command = command; cookie = cookie; offset = offset; length = len; payload = p; contexts = in_force core; sizes = sizes_kept core.sizing; replies = [] } in
+    let e : Operation = record { flags = flags; command = command; cookie = cookie; offset = offset; length = len; payload = p; contexts = in_force core; sizes = sizes_for core.structured command (sizes_kept core.sizing); replies = [] } in
     subst (λ b. EachIsWhole b (core_with_request (command == commands.DISC) core e).entries) (sym (structured-requested (command == commands.DISC) core e)) (each_requested (command == commands.DISC) core.structured core e refl w)
 whole_complete core export m (replies error cookie p (k, e, found, is, h)) w =
     subst (λ b. EachIsWhole b (reply_to (target cookie core.entries) core (Simple error cookie p)).entries) (sym (structured-reply_to (target cookie core.entries) core (Simple error cookie p)))

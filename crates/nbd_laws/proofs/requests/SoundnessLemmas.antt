@@ -15,7 +15,7 @@ use Rattle.nbd_wire.specs.declared.payloads.Info.{Info}
 use Rattle.nbd_wire.specs.declared.payloads.Info.TheVariants.{Export, BlockSize, Other}
 use Rattle.nbd_wire.specs.protocol.Marks.{Item, Byte, Starts, Completes, Serves}
 use Rattle.nbd_wire.specs.declared.profile.Profile.{Profile}
-use Rattle.nbd_wire.specs.protocol.Sizes.{sizes_kept}
+use Rattle.nbd_wire.specs.protocol.Sizes.{sizes_for, sizes_kept}
 use Rattle.nbd_wire.specs.protocol.Options.{ack_phase, reply_phase, choice_phase, last_info, next_phase}
 use Rattle.nbd_wire.specs.protocol.Payloads.{info_of}
 use Rattle.nbd_wire.specs.protocol.Reports.{Asked, operations_of, export_of, known_count, known_from, known_if, first_known, report, asked_of, asked_list}
@@ -66,7 +66,7 @@ good_requested false core export e g h = good_snoc export core.entries e g h
 
 good_transmitted : (core : Core) (export : Exporting) (m : Message) → InTransmission core export m → IsSendable m → AreGood export core.entries → AreGood export (complete core m).entries
 unfolding complete
-good_transmitted core export m (asks flags command cookie offset len p h) sn g = good_requested (command == commands.DISC) core export _ g (good_new export flags command cookie offset len p (in_force core) (sizes_kept core.sizing) sn)
+good_transmitted core export m (asks flags command cookie offset len p h) sn g = good_requested (command == commands.DISC) core export _ g (good_new export flags command cookie offset len p (in_force core) (sizes_for core.structured command (sizes_kept core.sizing)) sn)
 good_transmitted core export m (replies error cookie p (k, e, found, is, h)) sn g =
     good_reply_to core export cookie (Simple error cookie p) (target cookie core.entries) g k e found is (good_simple core.structured export e error cookie p (good_entry export k core.entries e g is) h)
 good_transmitted core export m (gives flags kind cookie p (k, e, found, is, h)) sn g =

@@ -15,18 +15,15 @@ use Rattle.nbd_wire.specs.protocol.Payloads.{behind_name, info_of, is_go, number
 abbrev pub is_power : ℕ → Bool
 is_power n = count_ones n == 1
 
--- 2^32 - 1, which bounds nothing, or a multiple of the least size above 0
-abbrev pub is_bound : (largest least : ℕ) → Bool
-is_bound largest least = (largest == NO_LARGEST_SIZE) || (not (largest == 0) && (largest % least == 0))
-
 -- a server may announce these sizes: the least and the preferred one are powers of 2, the least is 65,536 at most, the
--- preferred one neither below 512 nor below the least, and the largest is a bound (proto.md, "Size constraints")
+-- preferred one neither below 512 nor below the least, and the largest is not 0 (proto.md, "Size constraints"; that a
+-- largest below the preferred one is taken is this project's choice)
 abbrev pub are_allowed : Sizes → Bool
 are_allowed sizes =
     is_power sizes.least && nat_le sizes.least LEAST_SIZE
     && is_power sizes.preferred && nat_le PREFERRED_SIZE sizes.preferred
     && nat_le sizes.least sizes.preferred
-    && is_bound sizes.largest sizes.least
+    && not (sizes.largest == 0)
 
 -- the sizes that an info announces, if it does
 abbrev pub sizes_of : Option Info → Option Sizes
@@ -66,6 +63,13 @@ sizing_after kind answer sizing =
 -- the sizes that the client has to keep, where that option led into transmission (proto.md, "Size constraints")
 abbrev pub sizes_kept : Sizing → Option Sizes
 sizes_kept sizing = if sizing.asked then sizing.told else None
+
+-- the sizes that a request of this type has to keep: where structured replies are in force the largest bounds no READ,
+-- whose bytes a server may split over chunks (proto.md, "Size constraints")
+abbrev pub sizes_for : (structured : Bool) (command : ℕ) → Option Sizes → Option Sizes
+sizes_for structured command None = None
+sizes_for structured command (Some sizes) =
+    Some (if structured && (command == commands.READ) then record sizes { largest = NO_LARGEST_SIZE } else sizes)
 
 -- the payload of a READ or WRITE is longer than the largest size, unless that bounds nothing
 abbrev pub is_too_long : Sizes → (command length : ℕ) → Bool
