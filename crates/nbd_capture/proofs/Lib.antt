@@ -10,7 +10,6 @@ pub mod ReadingLemmas
 pub mod ReadingStepLemmas
 pub mod SizeLemmas
 pub mod SpellLemmas
-pub mod TableLemmas
 pub mod TotalLemmas
 pub mod TotalTextLemmas
 pub mod WriterLemmas

@@ -7,7 +7,6 @@ ghost use Rattle.nbd_capture.specs.internal.Kept.{IsAdded, IsOf, Spell, kept, sa
 ghost use Rattle.nbd_capture.specs.internal.Steps.{IsChunkFault};
 
 use crate::capture::CaptureFault;
-use crate::digits::decode_into;
 use crate::lines::first_line;
 use nbd_wire::Side;
 use std::alloc::AllocError;
@@ -159,5 +158,5 @@ fn append_spelled(digits: &[u8], bytes: &mut Vec<u8>) -> Result<bool, AllocError
     let start = bytes.len();
     bytes.resize(start + digits.len() / 2, 0)?;
     let (_, room) = bytes.as_mut_slice().split_at_mut(start);
-    Ok(decode_into(digits, room))
+    Ok(hex::decode_to_slice(digits, room).is_ok())
 }

@@ -4,7 +4,6 @@
 #![tactic(auto)]
 
 pub mod capture;
-mod digits;
 mod form;
 pub mod laws;
 mod lines;
