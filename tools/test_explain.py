@@ -6,6 +6,7 @@ of examples/ what it writes of that recording; each was judged against docs/PROF
 
 import random
 import re
+import struct
 from collections import namedtuple
 from pathlib import Path
 
@@ -634,6 +635,35 @@ def reasons(tally, room):
         tally.want(f"instead of {number}, in docs/RECORDING.md", [word for word in named if word not in page], [])
 
 
+# The greeting of oldstyle: its magic number, the size of the export, flags, and 124 zeroes.
+OLDSTYLE = [(SERVER, b"NBDMAGIC\0\0\x42\x02\x81\x86\x12\x53" + struct.pack(">QI", 2**20, 1) + bytes(124))]
+OPTION_HEAD, OPTION_REST = cut(option(7, bytes(6)), 16)
+READ_HEAD = cut(simple(1, bytes(4)), 16)[0]
+# Sessions that proto.md allows, or in which it has a SHOULD alone, and who broke the rule.
+BLAMED = {
+    "oldstyle": (OLDSTYLE, "nobody; the server speaks oldstyle, which nbdcheck does not follow"),
+    "a greeting of another magic number": ([(SERVER, b"NBDMAGIC" + bytes(144))], "the server"),
+    "a server without fixed newstyle": ([greeting(0)], "nobody; nbdcheck follows fixed newstyle alone"),
+    "a client without fixed newstyle": ([greeting(), client_flags(0)], "nobody; nbdcheck follows fixed newstyle alone"),
+    "an option is refused before its data": (
+        [*HELLO, OPTION_HEAD, answer(7, 0x80000001), OPTION_REST],
+        "nobody; nbdcheck waits for all data of an option before its reply, which proto.md does not ask"),
+    "a server speaks before an option's head is whole": ([*HELLO, cut(OPTION_HEAD, 15)[0], answer(7, 0x80000001)], "the server"),
+    "the head of a READ's reply alone": (
+        [*ASKED, READ_HEAD],
+        "nobody, where the recording was cut off, or where the server failed to read: it has to disconnect here then; else the server"),
+    "a chunk is cut off": ([*CHUNKED, cut(content(1, 0, bytes(4)), 30)[0]], "nobody, where the recording was cut off; else the sender"),
+    "a cookie in use": ([*ASKED, read(1, 4, 4)], "the client, a SHOULD"),
+}
+
+
+def blamed(tally, room):
+    """Who broke a rule, where nobody broke one that proto.md makes a MUST."""
+    for name, (records, breaker) in BLAMED.items():
+        told = told_of(tally, name, room.run("explain", room.put(name.replace(" ", "-"), text(records))))
+        tally.want(f"{name}: broken by", re.findall("(?m)^broken by: (.*)$", told), [breaker])
+
+
 def arriving(tally, room):
     """A WRITE of 3 bytes that is cut off behind each of its bytes, and a reply to it: how many bytes are there, and missing."""
     whole = write(1, 0, b"\1\2\3")
@@ -1034,7 +1064,7 @@ def faults(tally, room):
 def run(tally):
     with Room() as room:
         for part in (
-            sessions, orderless, limited, reasons, arriving, differing, called_zero, large, deduced, examples, names, fronts, faults,
+            sessions, orderless, limited, reasons, blamed, arriving, differing, called_zero, large, deduced, examples, names, fronts, faults,
         ):
             part(tally, room)
 

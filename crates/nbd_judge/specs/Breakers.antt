@@ -5,10 +5,10 @@ use Rattle.nbd_judge.specs.declared.rules.Breaker.{Breaker}
 use Rattle.nbd_judge.specs.declared.rules.Breaker.TheVariants.{Client, Server, Sender, Nobody}
 
 -- the sender of the byte, where each side can break the rule; the client by its flags and requests; nobody, where the
--- session is not judged or its recording ended; else the server
+-- session is allowed and this project does not follow it, or its recording ended; else the server
 abbrev pub breaker_of : WireFault → Breaker
 breaker_of BadMagic = Sender
-breaker_of NotFixedNewstyle = Sender
+breaker_of NotFixedNewstyle = Nobody
 breaker_of OutOfTurn = Sender
 breaker_of BadClientFlags = Client
 breaker_of CookieInUse = Client

@@ -14,7 +14,7 @@ pub enum Breaker {
     Server,
     /// The side that sent the byte.
     Sender,
-    /// Nobody: the session is not judged, or its recording ended.
+    /// Nobody: the session is allowed and not followed, or its recording ended.
     Nobody,
     /// The order that was given.
     Order,
@@ -124,11 +124,13 @@ fn breaker_of(fault: WireFault) -> Breaker
     ensures { result ≡ breaker_of fault }
 {
     match fault {
-        WireFault::BadMagic | WireFault::NotFixedNewstyle | WireFault::OutOfTurn => Breaker::Sender,
+        WireFault::BadMagic | WireFault::OutOfTurn => Breaker::Sender,
         WireFault::BadClientFlags | WireFault::CookieInUse | WireFault::BadDisconnect =>
             Breaker::Client,
-        WireFault::OutOfProfile | WireFault::ExportTooLarge | WireFault::Unfinished =>
-            Breaker::Nobody,
+        WireFault::NotFixedNewstyle
+        | WireFault::OutOfProfile
+        | WireFault::ExportTooLarge
+        | WireFault::Unfinished => Breaker::Nobody,
         _ => Breaker::Server,
     }
 }

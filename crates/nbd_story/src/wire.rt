@@ -2,7 +2,7 @@
 
 use crate::story::Story;
 use crate::text::Text;
-use crate::told::{NO_MESSAGE, Told};
+use crate::told::{Form, NO_MESSAGE, Told};
 use nbd_judge::{Breaker, Rule, wire_rule};
 use nbd_wire::{Side, WireFault};
 use std::alloc::Global;
@@ -10,6 +10,17 @@ use std::alloc::Global;
 /// Who broke a rule where a request was answered before it was whole.
 const EARLY: &str =
     "the server, if it answered before the request was whole; or the client, if it sent fewer bytes than the request says";
+
+/// What the magic number of a greeting in oldstyle is, behind that of each greeting.
+const OLDSTYLE: &[u8] = b"\x00\x00\x42\x02\x81\x86\x12\x53";
+
+/// Who broke a rule where nobody broke one that proto.md makes a MUST.
+const NOT_FIXED: &str = "nobody; nbdcheck follows fixed newstyle alone";
+const OF_OLDSTYLE: &str = "nobody; the server speaks oldstyle, which nbdcheck does not follow";
+const HASTY: &str = "nobody; nbdcheck waits for all data of an option before its reply, which proto.md does not ask";
+const OF_READ: &str =
+    "nobody, where the recording was cut off, or where the server failed to read: it has to disconnect here then; else the server";
+const SHOULD: &str = "the client, a SHOULD";
 
 impl Text {
     /// Adds why the byte at this place was refused.
@@ -38,7 +49,7 @@ impl Text {
             WireFault::OutOfProfile => self.not_judged(&rule).instead(story),
             WireFault::ExportTooLarge => self.not_judged(&rule),
             _ if story.is_answered_early(fault) => self.rule(&rule, EARLY),
-            _ => self.rule(&rule, breaker_name(rule.breaker, sender)),
+            _ => self.rule(&rule, story.breaker(fault, rule.breaker, sender)),
         }
     }
 
@@ -103,6 +114,38 @@ impl Text {
             )
             .end()
             .say_if(is_bad, magic_of(side, story))
+    }
+}
+
+impl Story {
+    // Who broke the rule of a fault; `sender` sent the byte at which it was seen.
+    fn breaker(&self, fault: WireFault, breaker: Breaker, sender: Option<Side>) -> &'static str {
+        match fault {
+            WireFault::NotFixedNewstyle => NOT_FIXED,
+            WireFault::BadMagic if self.is_oldstyle() => OF_OLDSTYLE,
+            WireFault::OutOfTurn if sender == Some(Side::Server) && self.is_choosing() => HASTY,
+            WireFault::Unfinished if self.is_reading() => OF_READ,
+            WireFault::CookieInUse => SHOULD,
+            _ => breaker_name(breaker, sender),
+        }
+    }
+
+    // Whether the server begins with a greeting in oldstyle.
+    fn is_oldstyle(&self) -> bool {
+        let bytes = self.recording.bytes_from(Side::Server, 0);
+        self.server == 0 && bytes.len() >= 16 && &bytes[8..16] == OLDSTYLE
+    }
+
+    // Whether the head of an option has come, and its data have not.
+    fn is_choosing(&self) -> bool {
+        let told = self.begun(Side::Client);
+        told.is_there() && matches!(told.form, Form::Choice)
+    }
+
+    // Whether a simple reply with the bytes of a READ has begun.
+    fn is_reading(&self) -> bool {
+        let told = self.begun(Side::Server);
+        told.is_there() && matches!(told.form, Form::Simple) && told.payload != 0
     }
 }
 
