@@ -97,7 +97,7 @@ digit_read : (c i v : ℕ) → value_at c i ≡ Ok v → IsDigit c v
 digit_read c i v h = digit_of_value c v (read_value c i (hex_digit_value c) v h)
 
 -- what decodes by pairs is digits
-pub spelled_pairs : (i : ℕ) (digits bytes : List ℕ) → decode_pairs i digits ≡ Ok bytes → AreDigits digits bytes
+spelled_pairs : (i : ℕ) (digits bytes : List ℕ) → decode_pairs i digits ≡ Ok bytes → AreDigits digits bytes
 unfolding decode_pairs
 spelled_pairs i [] bytes h = let e : [] ≡ bytes = cc in subst (λ l. AreDigits [] l) e none
 spelled_pairs i (a ∷ []) bytes h = cc h

@@ -1,7 +1,10 @@
 -- Digits that come in parts, and the lines that they stand in.
-use Rattle.std.proofs.Common.{◌≡◌, ℕ, ◌+◌, ◌*◌, ◌/◌, ◌%◌, ◌≤◌, ◌==◌, eq-eqb, if◌then◌else◌, Bool, true, false, List, [], ◌∷◌, ◌++◌, length, Option, Some, None, Result, Ok, Err, refl, sym, ap, ◌∙◌, arith, subst, append_assoc, append-nil, ◌⊎◌, inl, inr, IfOk, MatchBool, take, slice_get}
+use Rattle.std.proofs.Common.{◌≡◌, ℕ, ◌+◌, ◌*◌, ◌%◌, ◌≤◌, List, [], ◌∷◌, ◌++◌, length, Option, Some, None, Result, Ok, Err, refl, sym, ap, ◌∙◌, arith, subst, append_assoc, append-nil, ◌⊎◌, inl, inr, IfOk, MatchBool, MatchResult, is_ok, take, slice_get}
 use Rattle.std.proofs.Math.Seq.{take-append_seam}
 use Rattle.std.proofs.lemmas.List.{length-append, take_all}
+use Rattle.hex.proofs.HexLemmas.{decode_sized-twice}
+use Rattle.hex.specs.Hex.{decode_of, decode_sized}
+use Rattle.hex.specs.declared.error.FromHexError.{FromHexError}
 use Rattle.nbd_wire.specs.declared.message.Side.{Side}
 use Rattle.nbd_capture.specs.Capture.{AreDigits, Chunk, IsCaptureLine, hash, letter, space}
 use Rattle.nbd_capture.specs.Capture.AreDigits.{none, byte}
@@ -9,13 +12,7 @@ use Rattle.nbd_capture.specs.Capture.IsCaptureLine.{blank, chunk, comment}
 use Rattle.nbd_capture.specs.declared.form.Form.{Form}
 use Rattle.nbd_capture.specs.declared.form.Form.TheVariants.{Empty, Letter, Digits, Comment, Bad}
 use Rattle.nbd_capture.specs.internal.Kept.{IsOf, Spell}
-use Rattle.nbd_capture.proofs.DigitLemmas.{decodes_pairs, even, spelled_pairs}
-use Rattle.std.specs.Prelude.{MatchResult, ⊤}
-use Rattle.std.specs.Result.{is_ok}
-use Rattle.std.proofs.lemmas.Bool.{ne_eqb}
-use Rattle.hex.specs.Hex.{decode_pairs, decode_sized}
-use Rattle.hex.specs.declared.error.FromHexError.{FromHexError}
-use Rattle.hex.specs.declared.error.FromHexError.TheVariants.{InvalidStringLength, OddLength}
+use Rattle.nbd_capture.proofs.DigitLemmas.{decodes, even, spelled}
 use Rattle.nbd_capture.proofs.FormLemmas.{forms, same_parts, silent_sends}
 
 pub join : (a b x y : List ℕ) → AreDigits a x → AreDigits b y → AreDigits (a ++ b) (x ++ y)
@@ -46,32 +43,16 @@ pub begins : (old grown more : List ℕ) (n start : ℕ) → grown ≡ take n ol
 begins old grown more n start is at within =
     ap (take start) (is ∙ ap (λ l. l ++ more) (take_all n old (omega (arith, at, within)))) ∙ ap (λ k. take k (old ++ more)) at ∙ take-append_seam old more
 
--- bytes that were decoded behind others, or none
-pub decoded : (digits old out new : List ℕ) (ok : Bool) → MatchBool ok (AreDigits digits out) ((bytes : List ℕ) → AreDigits digits bytes → ⊥) → new ≡ old ++ out
-    → MatchBool ok ((more : List ℕ) × (new ≡ old ++ more) × AreDigits digits more) ((more : List ℕ) → AreDigits digits more → ⊥)
-decoded digits old out new true d grown = (out, grown, d)
-decoded digits old out new false none_of grown = none_of
-
--- room for the bytes of so many digits takes what their pairs spell
-sized : (digits : List ℕ) (n : ℕ) → length digits ≡ 2 * n → decode_sized digits n ≡ decode_pairs 0 digits
-sized digits n two =
-    let even : (length digits % 2 == 1) ≡ false = ne_eqb (length digits % 2) 1 (λ e. omega (arith, e, two)) in
-    let half : (length digits / 2 == n) ≡ true = eq-eqb (length digits / 2) n (omega (arith, two)) in
-    ap (λ b. if b then Err OddLength else if length digits / 2 == n then decode_pairs 0 digits else Err InvalidStringLength) even
-    ∙ ap (λ b. if b then decode_pairs 0 digits else Err InvalidStringLength) half
-
--- the bytes are those of the digits, or the digits spell none
-abbrev Answer : (digits bytes : List ℕ) → Bool → Type 0
-Answer digits bytes ok = MatchBool ok (AreDigits digits bytes) ((more : List ℕ) → AreDigits digits more → ⊥)
-
--- what hex says of digits and room for their bytes
-pub by_hex : (digits old new : List ℕ) (r : Result ⊤ FromHexError) (ok : Bool) → length digits ≡ 2 * length old
-    → MatchResult (decode_sized digits (length old)) (λ bytes. (r ≡ Ok tt) × (new ≡ bytes)) (λ e. r ≡ Err e) → ok ≡ is_ok r → MatchBool ok (AreDigits digits new) ((bytes : List ℕ) → AreDigits digits bytes → ⊥)
-by_hex digits old new r ok two says is = go (decode_pairs 0 digits) refl (subst (λ q. MatchResult q (λ bytes. (r ≡ Ok tt) × (new ≡ bytes)) (λ e. r ≡ Err e)) (sized digits (length old) two) says)
+-- bytes that hex decoded behind others, or none
+pub decoded : (digits old out new : List ℕ) (n : ℕ) (said : Result Unit FromHexError) → length digits ≡ 2 * n
+    → MatchResult (decode_sized digits n) (λ bytes. (said ≡ Ok tt) × (out ≡ bytes)) (λ e. said ≡ Err e) → new ≡ old ++ out
+    → MatchBool (is_ok said) ((more : List ℕ) × (new ≡ old ++ more) × AreDigits digits more) ((more : List ℕ) → AreDigits digits more → ⊥)
+decoded digits old out new n said twice answer grown = by_answer (decode_of digits) refl (rw (decode_sized-twice digits n twice) at answer)
   where
-    go : (q : Result (List ℕ) FromHexError) → decode_pairs 0 digits ≡ q → MatchResult q (λ bytes. (r ≡ Ok tt) × (new ≡ bytes)) (λ e. r ≡ Err e) → Answer digits new ok
-    go (Ok bytes) e h = subst (Answer digits new) (sym (is ∙ ap is_ok h.0)) (subst (AreDigits digits) (sym h.1) (spelled_pairs 0 digits bytes e))
-    go (Err f) e h = subst (Answer digits new) (sym (is ∙ ap is_ok h)) (λ bytes d. absurd (let q : Err f ≡ Ok bytes = sym e ∙ decodes_pairs 0 digits bytes d in (cc)))
+    by_answer : (r : Result (List ℕ) FromHexError) → decode_of digits ≡ r → MatchResult r (λ bytes. (said ≡ Ok tt) × (out ≡ bytes)) (λ e. said ≡ Err e)
+        → MatchBool (is_ok said) ((more : List ℕ) × (new ≡ old ++ more) × AreDigits digits more) ((more : List ℕ) → AreDigits digits more → ⊥)
+    by_answer (Ok bytes) is (ok, same) = rw ok (bytes, grown ∙ ap (λ l. old ++ l) same, spelled digits bytes is)
+    by_answer (Err e) is refused = rw refused (λ more d. cc (sym (decodes digits more d) ∙ is))
 
 -- a line's digits with more, but for a last one that waits
 pub with_pairs : (side : Side) (digits pairs last before old new : List ℕ) (half : Option ℕ) → pairs ++ last ≡ digits → length last ≤ 1 → half ≡ slice_get last 0

@@ -1,5 +1,5 @@
 use Rattle.std.proofs.Common.{◌+◌, ◌/◌, ◌∙◌, arith, length}
-use Rattle.nbd_capture.proofs.SpellLemmas.{begins, by_hex, decoded, seam}
+use Rattle.nbd_capture.proofs.SpellLemmas.{begins, decoded, seam}
 use Rattle.nbd_capture.proofs.form.append_spelled.Goals as goal
 
 pub returns-clause-spelled : goal.returns-clause-spelled
@@ -7,6 +7,5 @@ returns-clause-spelled c =
     let old = c.args.bytes.now.items in
     let front = begins old _ _ (c.len-start.result + length c.args.digits.now / 2) c.len-start.result (c.as_mut_slice.ensures.value ∙ c.in_ok-resize.ensures.items) (c.len-start.ensures ∙ c.args.bytes.now.ok.0) (omega arith) in
     let room = c.split_at_mut-room.ensures.back_len in
-    decoded c.args.digits.now old c.decode_to_slice.new.out _ c.is_ok.result
-    (by_hex c.args.digits.now _ c.decode_to_slice.new.out c.decode_to_slice.result c.is_ok.result (omega (arith, room, c.as_mut_slice.ensures.len, c.in_ok-resize.ensures.len, c.requires)) c.decode_to_slice.ensures.value c.is_ok.ensures.value)
-    (seam c.resize.new.self.len _ _ _ old (c.split_at_mut-room.ensures.front ∙ front) (omega (arith, room, c.as_mut_slice.ensures.len, c.in_ok-resize.ensures.len, c.len-start.ensures, c.args.bytes.now.ok.0)))
+    rw c.is_ok.ensures.value (decoded c.args.digits.now old c.decode_to_slice.new.out _ _ c.decode_to_slice.result (omega (arith, room, c.as_mut_slice.ensures.len, c.in_ok-resize.ensures.len, c.requires)) c.decode_to_slice.ensures.value
+    (seam c.resize.new.self.len _ _ _ old (c.split_at_mut-room.ensures.front ∙ front) (omega (arith, room, c.as_mut_slice.ensures.len, c.in_ok-resize.ensures.len, c.len-start.ensures, c.args.bytes.now.ok.0))))
