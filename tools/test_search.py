@@ -55,8 +55,8 @@ class Asked:
         return request(self.command, self.number, self.offset, self.length, flags=self.flags)
 
     def is_outside(self, block):
-        """Whether it breaks block sizes of which the least and the largest are this."""
-        is_long = self.command in (READ, WRITE) and self.length > block
+        """Whether it breaks block sizes of which the least and the largest are this; under structured replies that bounds no READ."""
+        is_long = self.command == WRITE and self.length > block
         return is_long or self.offset % block != 0 or self.length % block != 0
 
     def act_at(self, offset):
