@@ -87,10 +87,11 @@ class Sizes:
         infos = data[6 + int.from_bytes(data[:4], "big") :]
         return INFO_BLOCK_SIZE in (int.from_bytes(infos[at : at + 2], "big") for at in range(0, len(infos), 2))
 
-    def are_broken(self, request):
+    def are_broken(self, request, is_structured):
         if not self.is_asked:
             return False
-        is_long = request.command in (READ, WRITE) and request.length > self.largest
+        has_bound = request.command == WRITE or request.command == READ and not is_structured
+        is_long = has_bound and request.length > self.largest
         return is_long or request.offset % self.least != 0 or request.length % self.least != 0
 
 
@@ -132,7 +133,7 @@ class Export:
         may_not_change = command in (WRITE, TRIM, WRITE_ZEROES) and self.flags & READ_ONLY
         is_known = command in (READ, WRITE, FLUSH, TRIM, CACHE, WRITE_ZEROES)
         is_known |= command == BLOCK_STATUS and self.contexts.are_in_force()
-        has_broken = self.sizes is not None and command != FLUSH and self.sizes.are_broken(request)
+        has_broken = self.sizes is not None and command != FLUSH and self.sizes.are_broken(request, self.contexts.is_structured)
         return bool(not is_known or is_beyond or may_not_change or needed & ~self.flags
                     or request.flags & ~self._allowed(command) or has_broken)
 
