@@ -16,10 +16,15 @@ const OLDSTYLE: &[u8] = b"\x00\x00\x42\x02\x81\x86\x12\x53";
 
 /// Who broke a rule where nobody broke one that proto.md makes a MUST.
 const NOT_FIXED: &str = "nobody; nbdcheck follows fixed newstyle alone";
+
 const OF_OLDSTYLE: &str = "nobody; the server speaks oldstyle, which nbdcheck does not follow";
-const HASTY: &str = "nobody; nbdcheck waits for all data of an option before its reply, which proto.md does not ask";
+
+const HASTY: &str =
+    "nobody; nbdcheck waits for all data of an option before its reply, which proto.md does not ask";
+
 const OF_READ: &str =
     "nobody, where the recording was cut off, or where the server failed to read: it has to disconnect here then; else the server";
+
 const SHOULD: &str = "the client, a SHOULD";
 
 impl Text {
