@@ -53,7 +53,6 @@ impl Text {
         match fault {
             WireFault::OutOfProfile => self.not_judged(&rule).instead(story),
             WireFault::ExportTooLarge => self.not_judged(&rule),
-            _ if story.is_answered_early(fault) => self.rule(&rule, EARLY),
             _ => self.rule(&rule, story.breaker(fault, rule.breaker, sender)),
         }
     }
@@ -127,30 +126,31 @@ impl Story {
     fn breaker(&self, fault: WireFault, breaker: Breaker, sender: Option<Side>) -> &'static str {
         match fault {
             WireFault::NotFixedNewstyle => NOT_FIXED,
-            WireFault::BadMagic if self.is_oldstyle() => OF_OLDSTYLE,
-            WireFault::OutOfTurn if sender == Some(Side::Server) && self.is_choosing() => HASTY,
-            WireFault::Unfinished if self.is_reading() => OF_READ,
             WireFault::CookieInUse => SHOULD,
+            WireFault::BadMagic if self.is_oldstyle() => OF_OLDSTYLE,
+            WireFault::OutOfTurn if self.is_hasty(sender) => HASTY,
+            WireFault::Unfinished if self.is_reading() => OF_READ,
+            WireFault::UnknownCookie if self.is_answered_early(fault) => EARLY,
             _ => breaker_name(breaker, sender),
         }
     }
 
     // Whether the server begins with a greeting in oldstyle.
     fn is_oldstyle(&self) -> bool {
-        let bytes = self.recording.bytes_from(Side::Server, 0);
-        self.server == 0 && bytes.len() >= 16 && &bytes[8..16] == OLDSTYLE
+        self.recording
+            .bytes_from(Side::Server, OLDSTYLE.len() as u64)
+            .starts_with(OLDSTYLE)
     }
 
-    // Whether the head of an option has come, and its data have not.
-    fn is_choosing(&self) -> bool {
-        let told = self.begun(Side::Client);
-        told.is_there() && matches!(told.form, Form::Choice)
+    // Whether the server sends where the head of an option has come, and its data have not.
+    fn is_hasty(&self, sender: Option<Side>) -> bool {
+        sender == Some(Side::Server) && matches!(self.begun(Side::Client).form, Form::Choice)
     }
 
     // Whether a simple reply with the bytes of a READ has begun.
     fn is_reading(&self) -> bool {
         let told = self.begun(Side::Server);
-        told.is_there() && matches!(told.form, Form::Simple) && told.payload != 0
+        matches!(told.form, Form::Simple) && told.payload != 0
     }
 }
 
