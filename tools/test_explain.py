@@ -648,6 +648,7 @@ BLAMED = {
     "an option is refused before its data": (
         [*HELLO, OPTION_HEAD, answer(7, 0x80000001), OPTION_REST],
         "nobody; nbdcheck waits for all data of an option before its reply, which proto.md does not ask"),
+    "a server speaks before an option comes": ([*HELLO, answer(7, 0x80000001), option(7, bytes(6))], "the server"),
     "a server speaks before an option's head is whole": ([*HELLO, cut(OPTION_HEAD, 15)[0], answer(7, 0x80000001)], "the server"),
     "the head of a READ's reply alone": (
         [*ASKED, READ_HEAD],

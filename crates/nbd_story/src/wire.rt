@@ -4,7 +4,7 @@ use crate::story::Story;
 use crate::text::Text;
 use crate::told::{Form, NO_MESSAGE, Told};
 use nbd_judge::{Breaker, Rule, wire_rule};
-use nbd_wire::{Side, WireFault};
+use nbd_wire::{Side, WireFault, head_lengths};
 use std::alloc::Global;
 
 /// Who broke a rule where a request was answered before it was whole.
@@ -31,7 +31,7 @@ impl Text {
     /// Adds why the byte at this place was refused.
     pub fn wire_fault(self, alloc: Global, at: u64, fault: WireFault, story: &Story) -> Text {
         let sender = story.recording.sender(at);
-        let text = self.wire_rule(fault, sender, story);
+        let text = self.wire_rule(at, fault, sender, story);
         let text = match (fault, sender) {
             (WireFault::Unfinished, _) => text
                 .open_message(alloc, Side::Client, at, fault, story)
@@ -48,12 +48,12 @@ impl Text {
     }
 
     // The rule of a fault and who broke it, where it judges the session; `sender` sent the byte at which it was seen.
-    fn wire_rule(self, fault: WireFault, sender: Option<Side>, story: &Story) -> Text {
+    fn wire_rule(self, at: u64, fault: WireFault, sender: Option<Side>, story: &Story) -> Text {
         let rule = wire_rule(fault);
         match fault {
             WireFault::OutOfProfile => self.not_judged(&rule).instead(story),
             WireFault::ExportTooLarge => self.not_judged(&rule),
-            _ => self.rule(&rule, story.breaker(fault, rule.breaker, sender)),
+            _ => self.rule(&rule, story.breaker(at, fault, rule.breaker, sender)),
         }
     }
 
@@ -123,12 +123,18 @@ impl Text {
 
 impl Story {
     // Who broke the rule of a fault; `sender` sent the byte at which it was seen.
-    fn breaker(&self, fault: WireFault, breaker: Breaker, sender: Option<Side>) -> &'static str {
+    fn breaker(
+        &self,
+        at: u64,
+        fault: WireFault,
+        breaker: Breaker,
+        sender: Option<Side>,
+    ) -> &'static str {
         match fault {
             WireFault::NotFixedNewstyle => NOT_FIXED,
             WireFault::CookieInUse => SHOULD,
             WireFault::BadMagic if self.is_oldstyle() => OF_OLDSTYLE,
-            WireFault::OutOfTurn if self.is_hasty(sender) => HASTY,
+            WireFault::OutOfTurn if self.is_hasty(at, sender) => HASTY,
             WireFault::Unfinished if self.is_reading() => OF_READ,
             WireFault::UnknownCookie if self.is_answered_early(fault) => EARLY,
             _ => breaker_name(breaker, sender),
@@ -142,9 +148,16 @@ impl Story {
             .starts_with(OLDSTYLE)
     }
 
-    // Whether the server sends where the head of an option has come, and its data have not.
-    fn is_hasty(&self, sender: Option<Side>) -> bool {
-        sender == Some(Side::Server) && matches!(self.begun(Side::Client).form, Form::Choice)
+    // Whether the server sent this byte, and the head of an option had come and its data had not.
+    fn is_hasty(&self, at: u64, sender: Option<Side>) -> bool {
+        let before = self.count(Side::Client);
+        let came = self
+            .recording
+            .count_up_to(Side::Client, at)
+            .saturating_sub(before);
+        sender == Some(Side::Server)
+            && came >= head_lengths::CHOICE as u64
+            && matches!(self.begun(Side::Client).form, Form::Choice)
     }
 
     // Whether a simple reply with the bytes of a READ has begun.
