@@ -58,8 +58,8 @@ counted_other (Some e) initial n size flags q h =
     (h.2, same, λ z. (let more : e.size < n = h.3 in let is : n ≡ length h.0 = h.2 in absurd (omega (arith, z, more, is))))
 
 -- without an export there is no request, and the empty order passes
-pub nothing_passes : (r : Report) (initial : Start) → IsSoundReport r → None ≡ size_and_flags r.export → Passes r [] initial
-nothing_passes r initial sound none =
+pub nothing_passes : (profile : Profile) (r : Report) (initial : Start) → IsSoundReport r → None ≡ size_and_flags r.export → Passes profile r [] initial
+nothing_passes profile r initial sound none =
     let without : r.export ≡ None = no_export r.export none in
     let nobody : length r.asked ≡ 0 = ap length (sound.none without) in
     record {
@@ -69,8 +69,8 @@ nothing_passes r initial sound none =
           | inr (inl e) ↦ nothing_at i e.0 e.1
           | inr (inr e) ↦ nothing_at i e.0 e.1
         ];
-        none_late = λ i late. (let l : late.0 < 0 = late.3 in absurd (omega arith));
-        served = λ k started. (let l : 0 < k = started.0 in let m : k ≤ length r.asked = started.1 in absurd (omega arith));
+        none_late = λ i late. nothing_at i late.0 late.4;
+        served = λ k x due. (let l : 0 < k = due.0 in let m : k ≤ length r.asked = due.1 in absurd (omega arith));
       };
       fits_image = subst (λ e. FitsImage e initial) (sym without) tt;
       reads = λ i x wrong. nothing_at i wrong.0 wrong.1;
@@ -81,12 +81,12 @@ nothing_passes r initial sound none =
 
 -- what was found of the report of a run, and written
 ordered : {profile : Profile} (capture : List Pair) (initial : Start) (wanted : Wanted) (told : Report) (items : List Item) (f : Found) (old new : Option (List ℕ)) → IsRunOf profile items → pairs items ≡ capture → report items ≡ told →
-    IsFound told initial f → IsWanted wanted f → Says profile items initial f → Appends old new (found_text told f) → IsOrdered profile capture initial wanted old new (ordered_of f)
+    IsFound profile told initial f → IsWanted wanted f → Says profile items initial f → Appends old new (found_text told f) → IsOrdered profile capture initial wanted old new (ordered_of f)
 ordered {profile} capture initial wanted told items (found.Order entries) old new is_run has same is fits says appended =
     order entries.items (subst (λ c. IsExplainedOf profile c entries.items initial) has says) fits appended
 ordered {profile} capture initial wanted told items (found.Unexplained refutation) old new is_run has same is fits says appended =
     unexplained items refutation.reads.items refutation.offset is_run has
-    (subst (λ r. IsRefutedBy r (start_byte initial) refutation.offset refutation.reads.items) (sym same) is)
+    (subst (λ r. IsRefutedBy profile r (start_byte initial) refutation.offset refutation.reads.items) (sym same) is)
     (subst (λ c. IsUnexplained profile c initial) has says)
     (subst (λ (r : Report). Appends old new (unexplained_line r refutation.reads.items refutation.offset)) (sym same) appended)
 ordered {profile} capture initial wanted told items (found.Image n size) old new is_run has same is fits says appended =
@@ -98,7 +98,7 @@ ordered {profile} capture initial wanted told items (found.GaveUp request offset
 
 -- the same, where the start may be known
 ordered_from : {profile : Profile} (capture : List Pair) (known : Option Start) (initial : Start) (wanted : Wanted) (told : Report) (items : List Item) (f : Found) (old new : Option (List ℕ)) → IfSome known (λ s. initial ≡ s) →
-    IsRunOf profile items → pairs items ≡ capture → report items ≡ told → IsFound told initial f → IsWanted wanted f → Says profile items initial f → Appends old new (found_text told f) →
+    IsRunOf profile items → pairs items ≡ capture → report items ≡ told → IsFound profile told initial f → IsWanted wanted f → Says profile items initial f → Appends old new (found_text told f) →
     IsOrderedFrom profile capture known wanted old new (ordered_of f)
 ordered_from capture None initial wanted told items f old new is is_run has same found fits says appended = tt
 ordered_from {profile} capture (Some start) initial wanted told items f old new is is_run has same found fits says appended =
@@ -107,8 +107,8 @@ ordered_from {profile} capture (Some start) initial wanted told items f old new 
 pub orders : {profile : Profile} (known : Option (List ℕ)) (start : Option Start) (room : ℕ) (beginning : Beginning) (wanted : Wanted) (r : SessionView) (told : Report) (finished : Result Report SessionFault) (f : Found)
     (old new : Option (List ℕ)) →
     IsOverText profile known r → finished ≡ Ok told → fault_of finished ≡ fault_at_end r → IfOk finished (IsReported r) → (begun : IsBeginningOf start room beginning) → IsReadAs (size_of told.export) begun.initial beginning →
-    ((initial : Start) → IsReadAs (size_of told.export) initial beginning → IsFound told initial f) → IsWanted wanted f →
-    ((profile : Profile) (initial : Start) (items : List Item) → IsReadAs (size_of told.export) initial beginning → IsRunOf profile items → report items ≡ told → Says profile items initial f) →
+    ((initial : Start) → IsReadAs (size_of told.export) initial beginning → IsFound profile told initial f) → IsWanted wanted f →
+    ((initial : Start) (items : List Item) → IsReadAs (size_of told.export) initial beginning → IsRunOf profile items → report items ≡ told → Says profile items initial f) →
     Appends old new (found_text told f) → Orders profile known start wanted (ordered_of f) old new
 orders {profile} known start room beginning wanted r told finished f old new session is same reported begun is_read found fits says appended =
     let has : HasReport profile (flat_of session.chunks) told = subst (λ o. IfOk o (HasReport profile (flat_of session.chunks))) is (report_over (flat_of session.chunks) r finished session.over same reported) in
@@ -117,7 +117,7 @@ orders {profile} known start room beginning wanted r told finished f old new ses
       chunks = session.chunks;
       is_text = session.is_text;
       is_ordered = ordered_from (flat_of session.chunks) start begun.initial wanted told has.items f old new begun.is_known has.is_run has.has_pairs told_is
-          (found begun.initial is_read) fits (says profile begun.initial has.items is_read has.is_run told_is) appended;
+          (found begun.initial is_read) fits (says begun.initial has.items is_read has.is_run told_is) appended;
     }
 
 -- the session was refused
@@ -133,26 +133,26 @@ refuses {profile} known start wanted r at fault finished old new session is same
     record { chunks = session.chunks; is_text = session.is_text; is_ordered = wired (flat_of session.chunks) start wanted at fault old new why appended }
 
 -- what is said of a report, and of a refused session
-pub told_found : (beginning : Beginning) (wanted : Wanted) (finished : Result Report SessionFault) (told : Report) (f : Found) (answer : Ordered) (text : List ℕ) → finished ≡ Ok told →
-    ((initial : Start) → IsReadAs (size_of told.export) initial beginning → IsFound told initial f) → IsWanted wanted f →
-    ((profile : Profile) (initial : Start) (items : List Item) → IsReadAs (size_of told.export) initial beginning → IsRunOf profile items → report items ≡ told → Says profile items initial f) →
-    answer ≡ ordered_of f → text ≡ found_text told f → IsToldOf beginning wanted finished answer text
-told_found beginning wanted finished told f answer text is is_found fits says same lines =
-    subst (λ q. IsToldOf beginning wanted q answer text) (sym is)
-    (subst (λ a. IsToldOf beginning wanted (Ok told) a text) (sym same)
-    (subst (IsToldOf beginning wanted (Ok told) (ordered_of f)) (sym lines) (of_report told f is_found fits says)))
+pub told_found : (profile : Profile) (beginning : Beginning) (wanted : Wanted) (finished : Result Report SessionFault) (told : Report) (f : Found) (answer : Ordered) (text : List ℕ) → finished ≡ Ok told →
+    ((initial : Start) → IsReadAs (size_of told.export) initial beginning → IsFound profile told initial f) → IsWanted wanted f →
+    ((initial : Start) (items : List Item) → IsReadAs (size_of told.export) initial beginning → IsRunOf profile items → report items ≡ told → Says profile items initial f) →
+    answer ≡ ordered_of f → text ≡ found_text told f → IsToldOf profile beginning wanted finished answer text
+told_found profile beginning wanted finished told f answer text is is_found fits says same lines =
+    subst (λ q. IsToldOf profile beginning wanted q answer text) (sym is)
+    (subst (λ a. IsToldOf profile beginning wanted (Ok told) a text) (sym same)
+    (subst (IsToldOf profile beginning wanted (Ok told) (ordered_of f)) (sym lines) (of_report told f is_found fits says)))
 
-pub told_refused : (beginning : Beginning) (wanted : Wanted) (at : ℕ) (fault : WireFault) (finished : Result Report SessionFault) (text : List ℕ) → finished ≡ Err (Wire at fault) →
-    text ≡ line (verdict.Wire at fault) → IsToldOf beginning wanted finished Refuted text
-told_refused beginning wanted at fault finished text is same =
-    subst (λ q. IsToldOf beginning wanted q Refuted text) (sym is)
-    (subst (IsToldOf beginning wanted (Err (Wire at fault)) Refuted) (sym same) (of_refusal at fault))
+pub told_refused : (profile : Profile) (beginning : Beginning) (wanted : Wanted) (at : ℕ) (fault : WireFault) (finished : Result Report SessionFault) (text : List ℕ) → finished ≡ Err (Wire at fault) →
+    text ≡ line (verdict.Wire at fault) → IsToldOf profile beginning wanted finished Refuted text
+told_refused profile beginning wanted at fault finished text is same =
+    subst (λ q. IsToldOf profile beginning wanted q Refuted text) (sym is)
+    (subst (IsToldOf profile beginning wanted (Err (Wire at fault)) Refuted) (sym same) (of_refusal at fault))
 
 -- what was said of a session that has ended
 told_from : {profile : Profile} (known : Option (List ℕ)) (start : Option Start) (beginning : Beginning) (wanted : Wanted) (r : SessionView) (finished : Result Report SessionFault) (answer : Ordered) (text : List ℕ)
     (old new : Option (List ℕ)) →
     IsOverText profile known r → fault_of finished ≡ fault_at_end r → IfOk finished (IsReported r) → IfErr finished (EndsIn r) → IsBeginningOf start (room_in finished) beginning →
-    IsToldOf beginning wanted finished answer text → Appends old new text → Orders profile known start wanted answer old new
+    IsToldOf profile beginning wanted finished answer text → Appends old new text → Orders profile known start wanted answer old new
 told_from known start beginning wanted r _ _ _ old new session same reported ends begun (of_report told f is_found fits says) appended =
     orders known start (size_of told.export) beginning wanted r told (Ok told) f old new session refl same reported begun begun.is_read is_found fits says appended
 told_from known start beginning wanted r _ _ _ old new session same reported ends begun (of_refusal at fault) appended =
@@ -161,7 +161,7 @@ told_from known start beginning wanted r _ _ _ old new session same reported end
 orders_told : {profile : Profile} (known : Option (List ℕ)) (start : Option Start) (wanted : Wanted) (r : SessionView) (finished : Result Report SessionFault) (answer : Ordered) (text : List ℕ)
     (old new : Option (List ℕ)) →
     IsOverText profile known r → fault_of finished ≡ fault_at_end r → IfOk finished (IsReported r) → IfErr finished (EndsIn r) →
-    IsToldFrom start wanted finished answer text → Appends old new text → Orders profile known start wanted answer old new
+    IsToldFrom profile start wanted finished answer text → Appends old new text → Orders profile known start wanted answer old new
 orders_told known start wanted r finished answer text old new session same reported ends told appended =
     told_from known start told.0 wanted r finished answer text old new session same reported ends told.1 told.2 appended
 
@@ -169,7 +169,7 @@ orders_told known start wanted r finished answer text old new session same repor
 pub orders_written : {profile : Profile} (known : Option (List ℕ)) (start : Option Start) (wanted : Wanted) (r : SessionView) (finished : Result Report SessionFault) (answer : Ordered) (text : List ℕ)
     (old new : Option (List ℕ)) (o : Result Ordered RunFault) →
     IsOverText profile known r → fault_of finished ≡ fault_at_end r → IfOk finished (IsReported r) → IfErr finished (EndsIn r) →
-    IsToldFrom start wanted finished answer text → IfOk o (λ ordered. (ordered ≡ answer) × Appends old new text) → IfOk o (λ ordered. Orders profile known start wanted ordered old new)
+    IsToldFrom profile start wanted finished answer text → IfOk o (λ ordered. (ordered ≡ answer) × Appends old new text) → IfOk o (λ ordered. Orders profile known start wanted ordered old new)
 orders_written {profile} known start wanted r finished answer text old new (Ok said) session same reported ends told written =
     subst (λ ordered. Orders profile known start wanted ordered old new) (sym written.0) (orders_told known start wanted r finished answer text old new session same reported ends told written.1)
 orders_written known start wanted r finished answer text old new (Err fault) session same reported ends told written = tt

@@ -49,7 +49,7 @@ yes_of capture entries initial (verdict.Status request offset) explained judged 
 
 -- what was found of the report of a run, and written
 told_of : {profile : Profile} (capture : List Pair) (initial : Start) (told : Report) (beginning : Beginning) (f : Found) (first rest : List ℕ) (old new : Option (List ℕ)) → (has : HasReport profile capture told) →
-    IsReadAs (size_of told.export) initial beginning → IsFound told initial f → IsWanted Any f → Says profile has.items initial f → IsLineOf profile told f beginning first → Appends old new (first ++ rest) → IsTold profile capture initial old new (answer_to f)
+    IsReadAs (size_of told.export) initial beginning → IsFound profile told initial f → IsWanted Any f → Says profile has.items initial f → IsLineOf profile told f beginning first → Appends old new (first ++ rest) → IsTold profile capture initial old new (answer_to f)
 told_of {profile} capture initial told beginning (Order entries) first rest old new has is_read is fits says is_line appended =
     let judged : IsChecked profile capture entries.items initial is_line.verdict =
     checked profile capture entries.items initial (Ok told) is_line.verdict has tt (is_line.concludes initial is_read) (λ items is_run reported. is_line.answers initial items is_read is_run reported) in
@@ -58,7 +58,7 @@ told_of {profile} capture initial told beginning (Order entries) first rest old 
     (rest, subst (λ text. Appends old new (text ++ rest)) is_line.is_line appended)
 told_of {profile} capture initial told beginning (Unexplained refutation) first rest old new has is_read is fits says is_line appended =
     unexplained has.items refutation.reads.items refutation.offset has.is_run has.has_pairs
-    (subst (λ r. IsRefutedBy r (start_byte initial) refutation.offset refutation.reads.items) (sym (has.same_report has.items has.is_run has.has_pairs)) is)
+    (subst (λ r. IsRefutedBy profile r (start_byte initial) refutation.offset refutation.reads.items) (sym (has.same_report has.items has.is_run has.has_pairs)) is)
     (subst (λ c. IsUnexplained profile c initial) has.has_pairs says) (
       rest,
       subst (λ (r : Report). Appends old new (unexplained_line r refutation.reads.items refutation.offset ++ rest))
@@ -74,7 +74,7 @@ told_of {profile} capture initial told beginning (GaveUp request offset reason) 
 
 -- the same, where the start may be known
 told_from : {profile : Profile} (capture : List Pair) (known : Option Start) (initial : Start) (told : Report) (beginning : Beginning) (f : Found) (first rest : List ℕ) (old new : Option (List ℕ)) → IfSome known (λ s. initial ≡ s) → (has : HasReport profile capture told) →
-    IsReadAs (size_of told.export) initial beginning → IsFound told initial f → IsWanted Any f → Says profile has.items initial f → IsLineOf profile told f beginning first → Appends old new (first ++ rest) → IsToldFrom profile capture known old new (answer_to f)
+    IsReadAs (size_of told.export) initial beginning → IsFound profile told initial f → IsWanted Any f → Says profile has.items initial f → IsLineOf profile told f beginning first → Appends old new (first ++ rest) → IsToldFrom profile capture known old new (answer_to f)
 told_from capture None initial told beginning f first rest old new is_known has is_read is fits says is_line appended = tt
 told_from {profile} capture (Some start) initial told beginning f first rest old new is_known has is_read is fits says is_line appended =
     subst (λ s. IsTold profile capture s old new (answer_to f)) is_known (told_of capture initial told beginning f first rest old new has is_read is fits says is_line appended)
@@ -90,7 +90,7 @@ tells {profile} known start told finish beginning begun answered text of = λ ol
       is_text = finish.over.is_text;
       is_told = told_from (flat_of chunks) start begun.initial told of.kept of.found of.begins.first of.begins.explanation old new begun.is_known has
           (of.copied (size_of told.export) begun.initial begun.is_read) (of.is_found begun.initial begun.is_read) of.fits
-          (of.says profile begun.initial has.items begun.is_read has.is_run (has.same_report has.items has.is_run has.has_pairs))
+          (of.says begun.initial has.items begun.is_read has.is_run (has.same_report has.items has.is_run has.has_pairs))
           of.begins.is_line (subst (Appends old new) of.begins.parts appended);
     })
 

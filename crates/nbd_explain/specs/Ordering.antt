@@ -113,7 +113,7 @@ pub data IsOrdered (profile : Profile) (capture : List Pair) (initial : Start) (
       → Appends old new (line (verdict.Image image size)) → IsOrdered profile capture initial wanted old new Refuted
   -- no order explains it: in each one of these requests has a wrong byte at this offset
   unexplained : (items : List Item) (reads : List ℕ) (offset : ℕ) → IsRunOf profile items → pairs items ≡ capture
-      → IsRefutedBy (report items) (start_byte initial) offset reads → IsUnexplained profile capture initial
+      → IsRefutedBy profile (report items) (start_byte initial) offset reads → IsUnexplained profile capture initial
       → Appends old new (unexplained_line (report items) reads offset)
       → IsOrdered profile capture initial wanted old new Refuted
   -- an order of whole requests was wanted and none was found, which is not proved. That of arrival does not explain it

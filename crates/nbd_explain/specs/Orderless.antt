@@ -53,7 +53,7 @@ pub data IsTold (profile : Profile) (capture : List Pair) (initial : Start) (old
       → BeginsWith (line (Image image size)) old new → IsTold profile capture initial old new No
   -- no order explains it: in each one of these requests has a wrong byte at this offset
   unexplained : (items : List Item) (reads : List ℕ) (offset : ℕ) → IsRunOf profile items → pairs items ≡ capture
-      → IsRefutedBy (report items) (start_byte initial) offset reads → IsUnexplained profile capture initial
+      → IsRefutedBy profile (report items) (start_byte initial) offset reads → IsUnexplained profile capture initial
       → BeginsWith (unexplained_line (report items) reads offset) old new
       → IsTold profile capture initial old new No
   -- the search was broken off

@@ -5,15 +5,21 @@ use nbd_search::Reason;
 use nbd_story::{Contest, Sources, Text};
 use std::alloc::{AllocError, Global};
 
-/// What stands behind the line of what was found.
+/// What stands behind the line of what was found, where an order may explain the session in the profile `Wide`.
 pub fn found_explanation(
     alloc: Global,
     found: &Found,
+    is_wider: bool,
     sources: Sources<'_>,
 ) -> Result<String, AllocError> {
     let text = Text::new(alloc);
     let text = match found {
-        Found::Order(entries) => text.found(entries).amiss(sources.story),
+        Found::Order(entries) => text
+            .found(sources.story.profile, entries)
+            .amiss(sources.story),
+        Found::Unexplained(refutation) if is_wider => text
+            .refutation(&contest_of(refutation), &sources)
+            .explained_in_wide(),
         Found::Unexplained(refutation) => text.refutation(&contest_of(refutation), &sources),
         Found::Image { image, size } => text.image(*image, *size),
         Found::NoneWhole => text.open(),

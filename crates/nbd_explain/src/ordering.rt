@@ -100,7 +100,7 @@ pub fn run_order_of<C: BufRead + Drop, I: Measured + Drop, W: Write>(
     ensures left { IfErr result (LeavesOrdered (W.contents out.old) (W.contents out.new)) }
 {
     let session = session_over(alloc, profile, capture, &mut Unseen)?;
-    let told = told_over(alloc, session.finish(), start, scope, progress)?;
+    let told = told_over(alloc, profile, session.finish(), start, scope, progress)?;
     write_told(told, out)
 }
 
@@ -118,32 +118,34 @@ fn write_told<W: Write>(told: (String, Ordered), out: &mut W) -> Result<Ordered,
 // What is written of a finished session from the start that is read, and the answer.
 fn told_over<I: Measured + Drop>(
     alloc: Global,
+    profile: Profile,
     finished: Result<Transcript, SessionFault>,
     start: StartFrom<I>,
     scope: Scope,
     progress: &mut Progress,
 ) -> Result<(String, Ordered), RunFault>
-    ensures told { IfOk result (λ told. IsToldFrom (initial_from I.remaining start) scope.wanted finished
+    ensures told { IfOk result (λ told. IsToldFrom profile (initial_from I.remaining start) scope.wanted finished
         told.1 told.0.bytes.items) }
     ensures limited { OnOk result (IsStartWithinLimit I.remaining start) }
     ensures cause { IfErr result (λ fault. (fault ≡ faults.ImageRead) × HasImage start ⊎ (fault ≡ faults.Memory)) }
 {
     let start = read_start(alloc, start, room_of(&finished))?;
-    Ok(told_of(alloc, finished, start, scope, progress)?)
+    Ok(told_of(alloc, profile, finished, start, scope, progress)?)
 }
 
 // What is written of a finished session, and the answer.
 fn told_of(
     alloc: Global,
+    profile: Profile,
     finished: Result<Transcript, SessionFault>,
     start: Beginning,
     scope: Scope,
     progress: &mut Progress,
 ) -> Result<(String, Ordered), AllocError>
-    ensures { IfOk result (λ told. IsToldOf start scope.wanted finished told.1 told.0.bytes.items) }
+    ensures { IfOk result (λ told. IsToldOf profile start scope.wanted finished told.1 told.0.bytes.items) }
 {
     match finished {
-        Ok(transcript) => told_of_report(alloc, &transcript, start, scope, progress),
+        Ok(transcript) => told_of_report(alloc, profile, &transcript, start, scope, progress),
         Err(fault) => told_of_fault(alloc, fault),
     }
 }
@@ -151,22 +153,23 @@ fn told_of(
 // The same of a session's report.
 fn told_of_report(
     alloc: Global,
+    profile: Profile,
     transcript: &Transcript,
     start: Beginning,
     scope: Scope,
     progress: &mut Progress,
 ) -> Result<(String, Ordered), AllocError>
-    ensures { IfOk result (λ told. IsToldOf start scope.wanted (Ok transcript.now) told.1 told.0.bytes.items) }
+    ensures { IfOk result (λ told. IsToldOf profile start scope.wanted (Ok transcript.now) told.1 told.0.bytes.items) }
 {
-    let found = find_order(alloc, transcript, start, scope, progress)?;
+    let found = find_order(alloc, profile, transcript, start, scope, progress)?;
     let text = found_text_of(alloc, transcript, &found)?;
     Ok((text, ordered_as(&found)))
 }
 
 // The same of the fault that a session ended with.
 fn told_of_fault(alloc: Global, fault: SessionFault) -> Result<(String, Ordered), AllocError>
-    ensures { IfOk result (λ told. (beginning : Beginning) (wanted : Wanted) →
-        IsToldOf beginning wanted (Err fault) told.1 told.0.bytes.items) }
+    ensures { IfOk result (λ told. (profile : Profile) (beginning : Beginning) (wanted : Wanted) →
+        IsToldOf profile beginning wanted (Err fault) told.1 told.0.bytes.items) }
 {
     match fault {
         SessionFault::Wire { at, fault } => {
@@ -177,25 +180,26 @@ fn told_of_fault(alloc: Global, fault: SessionFault) -> Result<(String, Ordered)
     }
 }
 
-/// Looks for an order that explains the session from what was read of the start. An `Err` says that memory ran out.
+/// Looks for an order that explains the session of the profile from what was read of the start. An `Err` says that memory ran out.
 pub fn find_order(
     alloc: Global,
+    profile: Profile,
     transcript: &Transcript,
     beginning: Beginning,
     scope: Scope,
     progress: &mut Progress,
 ) -> Result<Found, AllocError>
     ensures found { IfOk result (λ f. (initial : definitions.Start) →
-        IsReadAs (size_of transcript.now.export) initial beginning → IsFound transcript.now initial f) }
+        IsReadAs (size_of transcript.now.export) initial beginning → IsFound profile transcript.now initial f) }
     ensures wanted { IfOk result (IsWanted scope.wanted) }
-    ensures says { IfOk result (λ f. (profile : Profile) (initial : definitions.Start) (items : List Item) →
+    ensures says { IfOk result (λ f. (initial : definitions.Start) (items : List Item) →
         IsReadAs (size_of transcript.now.export) initial beginning → IsRunOf profile items →
         report items ≡ transcript.now → Says profile items initial f) }
 {
     nbd_order::laws::found_is_so();
     match beginning {
         Beginning::Whole(start) => {
-            let found = find(alloc, transcript, &start, scope, progress);
+            let found = find(alloc, profile, transcript, &start, scope, progress);
             progress.end();
             found
         }

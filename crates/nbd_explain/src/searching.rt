@@ -96,8 +96,25 @@ fn told_of_found(
         wanted: Wanted::Any,
         limits,
     };
-    let found = find_order(alloc, &transcript, start, scope, progress)?;
-    told_found(alloc, profile, transcript, &found, kept, story)
+    let found = find_order(alloc, profile, &transcript, start, scope, progress)?;
+    let is_wider = profile == Profile::Base
+        && matches!(found, Found::Unexplained(_))
+        && story.has_chunks_apart()
+        && is_explained_in_wide(alloc, &transcript, &kept, scope, progress)?;
+    told_found(alloc, profile, transcript, &found, kept, is_wider, story)
+}
+
+// Whether an order is found that explains the session in the profile `Wide`.
+fn is_explained_in_wide(
+    alloc: Global,
+    transcript: &Transcript,
+    start: &Beginning,
+    scope: Scope,
+    progress: &mut Progress,
+) -> Result<bool, AllocError> {
+    let start = copy_of(alloc, start)?;
+    let found = find_order(alloc, Profile::Wide, transcript, start, scope, progress)?;
+    Ok(matches!(found, Found::Order(_)))
 }
 
 // The line of what was found, and what that says, and the answer.
@@ -107,12 +124,13 @@ fn told_found(
     transcript: Transcript,
     found: &Found,
     start: Beginning,
+    is_wider: bool,
     story: &Story,
 ) -> Result<(String, Answer), AllocError>
     ensures begins { IfOk result (λ told. BeginsWithLineOf profile transcript found.now start told.0.bytes.items) }
     ensures answer { IfOk result (λ told. told.1 ≡ answer_to found.now) }
 {
-    let text = text_of(alloc, profile, transcript, found, start, story)?;
+    let text = text_of(alloc, profile, transcript, found, start, is_wider, story)?;
     Ok((text, found_answer(found)))
 }
 
@@ -123,11 +141,12 @@ fn text_of(
     transcript: Transcript,
     found: &Found,
     start: Beginning,
+    is_wider: bool,
     story: &Story,
 ) -> Result<String, AllocError>
     ensures { IfOk result (λ text. BeginsWithLineOf profile transcript found.now start text.bytes.items) }
 {
-    let explanation = found_explanation(alloc, found, story.with(&[], kept_of(&start)));
+    let explanation = found_explanation(alloc, found, is_wider, story.with(&[], kept_of(&start)));
     joined(
         line_of(alloc, profile, transcript, found, start),
         explanation,

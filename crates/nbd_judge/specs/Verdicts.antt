@@ -46,13 +46,13 @@ wrong_verdict r request offset = wrong_verdict_if (asked_at request r.asked) req
 -- the verdict where the export's bytes were these at first: Order, Content, Status or Yes
 abbrev pub IsJudged : Profile → Report → List Entry → (ℕ → Option ℕ) → Verdict → Type 0
 IsJudged profile r order initial (Yes of_requests of_answered of_improper) =
-    IsFaultless r order × HasNoneWrongFrom r order initial
+    IsFaultless profile r order × HasNoneWrongFrom r order initial
     × (of_requests ≡ request_count r) × (of_answered ≡ answered_count r) × (of_improper ≡ improper_count profile r)
-IsJudged profile r order initial (Order entry fault) = IsOrderFault r order entry fault
+IsJudged profile r order initial (Order entry fault) = IsOrderFault profile r order entry fault
 IsJudged profile r order initial (Content request offset) =
-    IsFaultless r order × FirstWrongOf commands.READ r order initial request offset
+    IsFaultless profile r order × FirstWrongOf commands.READ r order initial request offset
 IsJudged profile r order initial (Status request offset) =
-    IsFaultless r order × FirstWrongOf commands.BLOCK_STATUS r order initial request offset
+    IsFaultless profile r order × FirstWrongOf commands.BLOCK_STATUS r order initial request offset
 IsJudged profile r order initial (Wire at fault) = ⊥
 IsJudged profile r order initial (Image image size) = ⊥
 

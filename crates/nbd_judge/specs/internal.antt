@@ -1,5 +1,6 @@
 pub mod Beginnings
 pub mod Captures
+pub mod Dues
 pub mod Lesser
 pub mod Pieces
 pub mod Services

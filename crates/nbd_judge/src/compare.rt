@@ -183,8 +183,8 @@ fn piece_difference_within<C: Contents>(piece: &Piece, part: Part, contents: &mu
     }
 }
 
-// Where a span and a part meet; of size 0 where they do not.
-fn overlap(span: Span, part: Part) -> Span
+/// Where a span and a part meet; of size 0 where they do not.
+pub fn overlap(span: Span, part: Part) -> Span
     ensures offset { result.offset ≡ max span.offset part.offset }
     ensures size { result.size ≡
         min (span.offset + span.size) (part.offset + part.length) - max span.offset part.offset }

@@ -34,11 +34,11 @@ pub fn judge<C: Contents>(
     // The contents have the export's size, or size 0 if transmission was not reached.
     requires { C.size contents.old ≡ size_of transcript.now.export }
     ensures judged { IfOk result (IsJudged profile transcript.now order.now (C.byte contents.old)) }
-    // The verdict is Order only if no run with the bytes of this session, of any profile, is served in this order.
-    ensures unserved { IfOk result (λ v. (profile : Profile) (items : List Item) → IsRunOf profile items →
+    // The verdict is Order only if no run of the profile with the bytes of this session is served in this order.
+    ensures unserved { IfOk result (λ v. (items : List Item) → IsRunOf profile items →
         report items ≡ transcript.now → LeavesUnserved profile (pairs items) order.now v) }
 {
-    if let Some((entry, fault)) = order_fault(alloc, transcript, order)? {
+    if let Some((entry, fault)) = order_fault(alloc, profile, transcript, order)? {
         return Ok(Verdict::Order { entry, fault });
     }
     let requests = transcript.count();
@@ -57,7 +57,7 @@ pub fn judge<C: Contents>(
 pub fn wrong_of(transcript: &Transcript, request: u64, offset: u64) -> Verdict
     ensures verdict { result ≡ wrong_verdict transcript.now request offset }
     ensures judged { (profile : Profile) (order : List Entry) (initial : ℕ → Option ℕ) →
-        IsFaultless transcript.now order → FirstWrongFrom transcript.now order initial request offset →
+        IsFaultless profile transcript.now order → FirstWrongFrom transcript.now order initial request offset →
         IsJudged profile transcript.now order initial result }
     ensures unserved { (profile : Profile) (capture : List Pair) (order : List Entry) →
         LeavesUnserved profile capture order result }

@@ -6,6 +6,7 @@ mod change;
 mod checking;
 mod compare;
 mod concluding;
+mod due;
 mod judging;
 pub mod laws;
 mod least;

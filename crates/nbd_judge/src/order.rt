@@ -1,21 +1,24 @@
 //! The faults of an order of service: each test is one pass over the order or over the requests.
 
-ghost use Rattle.std.specs.Prelude.{◌≡◌, ◌+◌, ℕ, IfOk, MatchOption, replicate};
-ghost use Rattle.nbd_wire.specs.protocol.Entries.{numbers};
+ghost use Rattle.std.specs.Prelude.{◌≡◌, ◌+◌, ◌<◌, ◌^◌, ℕ, IfOk, MatchOption, Some, replicate, slice_get};
 ghost use Rattle.nbd_wire.specs.protocol.Orders.{IsFirst, IsLate};
-ghost use Rattle.nbd_wire.specs.protocol.Reports.{known_in};
+ghost use Rattle.nbd_wire.specs.protocol.Reports.{due_in};
 ghost use Rattle.nbd_wire.specs.protocol.Verdicts.{IsFaultless};
 ghost use Rattle.nbd_state.specs.Transcripts.{report_of_request};
 ghost use Rattle.nbd_judge.specs.Orders.{IsOrderFault};
+ghost use Rattle.nbd_judge.specs.internal.Dues.{IsFair};
+ghost use Rattle.nbd_wire.specs.declared.commands.TheConstants as commands;
+ghost use Rattle.nbd_wire.specs.declared.entry.Entry.{Entry};
 ghost use Rattle.nbd_judge.specs.declared.service.Service.TheVariants.{Unnamed};
-ghost use Rattle.nbd_judge.specs.internal.Services.{IsTable, TellsUnserved, span_of_asked};
+ghost use Rattle.nbd_judge.specs.internal.Services.{IsTable, TellsFaultOf, TellsFaultShown, TellsUnserved};
 
 use crate::OrderFault;
+use crate::due::{inside, is_chunked, least_due, meet};
 use crate::least::{exceeds, lesser};
 use crate::service::Service;
 use nbd_session::{Asked, Transcript};
 use nbd_state::Span;
-use nbd_wire::Entry;
+use nbd_wire::{Entry, Profile};
 use std::alloc::{AllocError, Global};
 use std::mem;
 
@@ -24,20 +27,21 @@ use std::mem;
 /// requests that are served in parts.
 pub fn order_fault(
     alloc: Global,
+    profile: Profile,
     transcript: &Transcript,
     order: &[Entry],
 ) -> Result<Option<(u64, OrderFault)>, AllocError>
-    ensures { IfOk result (λ found. MatchOption found (IsFaultless transcript.now order.now)
-        (λ p. IsOrderFault transcript.now order.now p.0 p.1)) }
+    ensures { IfOk result (λ found. MatchOption found (IsFaultless profile transcript.now order.now)
+        (λ p. IsOrderFault profile transcript.now order.now p.0 p.1)) }
 {
     let table = match services(alloc, transcript, order)? {
         Err(fault) => return Ok(Some(fault)),
         Ok(table) => table,
     };
-    if let Some(entry) = late(transcript, order) {
+    if let Some(entry) = late(profile, transcript, order) {
         return Ok(Some((entry, OrderFault::Late)));
     }
-    Ok(unserved(transcript, &table))
+    Ok(unserved(profile, transcript, &table))
 }
 
 // A table that has at k - 1 what the order serves of request k; or the first entry that names no request, repeats
@@ -76,60 +80,73 @@ fn none_served(alloc: Global, count: usize) -> Result<Vec<Service>, AllocError>
     Ok(table)
 }
 
-// Where the offsets inside a request lie: those of its range that lie in the export. None if its type has no range, or
-// if it is a BLOCK_STATUS that is not proper.
-fn inside(transcript: &Transcript, one: &Asked) -> Span
-    ensures { result ≡ span_of_asked transcript.now.export (report_of_request one.now) }
-{
-    let size = match transcript.export() {
-        Some((size, _)) => size,
-        None => 0,
-    };
-    if one.has_inside() && one.offset < size {
-        Span {
-            offset: one.offset,
-            size: u64::from(one.length).min(size - one.offset),
-        }
-    } else {
-        Span { offset: 0, size: 0 }
-    }
-}
-
-// How many requests had completed when the first reply to request k started, if one did.
-fn known_at(transcript: &Transcript, k: u64) -> Option<u64>
-    ensures { result ≡ known_in transcript.now k }
-{
-    transcript.asked(k)?.known_at
-}
-
-// The first entry that is late: one pass from the end, with the least count known so far.
-fn late(transcript: &Transcript, order: &[Entry]) -> Option<u64>
-    ensures { MatchOption result ((i : ℕ) → IsLate (known_in transcript.now) (numbers order.now) i → ⊥)
-        (λ e. (i : ℕ) × (e ≡ i + 1) × IsFirst (IsLate (known_in transcript.now) (numbers order.now)) i) }
+// The first entry that is late: one pass from the end, with the least count at which what was seen was due.
+fn late(profile: Profile, transcript: &Transcript, order: &[Entry]) -> Option<u64>
+    requires { (i : ℕ) (e : Entry) → slice_get order.now i ≡ Some e → IsFair transcript.now e }
+    ensures { MatchOption result ((i : ℕ) → IsLate (due_in profile transcript.now) order.now i → ⊥)
+        (λ e. (i : ℕ) × (e ≡ i + 1) × IsFirst (IsLate (due_in profile transcript.now) order.now) i) }
 {
     let mut found = None;
     let mut least = None;
     let mut i = order.len();
     while i > 0 {
         i -= 1;
-        let k = order[i].request;
-        least = lesser(least, known_at(transcript, k));
-        if exceeds(k, least) {
+        let entry = order[i];
+        least = lesser(least, least_due(profile, transcript, entry));
+        if exceeds(entry.request, least) {
             found = Some(i as u64 + 1);
         }
     }
     found
 }
 
-// The least request to which a reply started and that is not wholly served, with its fault.
-fn unserved(transcript: &Transcript, table: &[Service]) -> Option<(u64, OrderFault)>
-    ensures { TellsUnserved transcript.now table.now result }
+// The least request of which something was due and is not served, with its fault.
+fn unserved(
+    profile: Profile,
+    transcript: &Transcript,
+    table: &[Service],
+) -> Option<(u64, OrderFault)>
+    ensures { TellsUnserved profile transcript.now table.now result }
 {
     for i in 0..table.len() {
         let k = i as u64 + 1;
-        if known_at(transcript, k).is_some() {
-            if let Some(fault) = table[i].fault() {
+        if let Some(one) = transcript.asked(k) {
+            if let Some(fault) = fault_of(profile, one, inside(transcript, one), &table[i]) {
                 return Some((k, fault));
+            }
+        }
+    }
+    None
+}
+
+// The fault of a request, by what the order serves of it: Missing, NotCovered, or none if what was due is served.
+fn fault_of(profile: Profile, one: &Asked, inside: Span, service: &Service) -> Option<OrderFault>
+    requires { inside.offset + inside.size < 2 ^ 64 }
+    ensures { TellsFaultOf profile (report_of_request one.now) inside service.now result }
+{
+    if is_chunked(profile, one.command) {
+        if one.ended_at.is_none() {
+            return fault_shown(one, inside, service);
+        }
+    } else if one.known_at.is_none() {
+        return None;
+    }
+    service.fault()
+}
+
+// The same, of a READ whose reply has not ended: what its messages showed was due.
+fn fault_shown(one: &Asked, inside: Span, service: &Service) -> Option<OrderFault>
+    requires read { one.now.command ≡ commands.READ }
+    requires fits { inside.offset + inside.size < 2 ^ 64 }
+    ensures { TellsFaultShown service.now inside (report_of_request one.now).shown result }
+{
+    for i in 0..one.shown.len() {
+        if let Some(piece) = one.pieces.get(i) {
+            let here = meet(Span::of(piece), inside);
+            if here.size > 0 {
+                if let Some(fault) = service.fault_in(here) {
+                    return Some(fault);
+                }
             }
         }
     }

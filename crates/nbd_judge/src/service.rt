@@ -1,7 +1,7 @@
 //! What an order serves of a request, entry by entry.
 
-ghost use Rattle.std.specs.Prelude.{◌≡◌, ◌+◌, ◌&&◌, None, Some, IfOk, nat_le};
-ghost use Rattle.nbd_judge.specs.internal.Services.{IsPartsAfter, IsServiceAfter, TellsFault};
+ghost use Rattle.std.specs.Prelude.{◌≡◌, ◌+◌, ◌<◌, ◌^◌, ◌&&◌, None, Some, IfOk, nat_le};
+ghost use Rattle.nbd_judge.specs.internal.Services.{IsPartsAfter, IsServiceAfter, TellsFault, TellsFaultIn};
 ghost use Rattle.nbd_state.specs.Sizes.{sizes_of};
 ghost use Rattle.nbd_state.specs.declared.span.Span.{Span};
 
@@ -65,7 +65,25 @@ impl Service {
         }
     }
 
-    /// The fault if the request was answered: Missing or NotCovered, or none if it is wholly served.
+    /// The fault if this span, which lies inside the request, was due: Missing or NotCovered, or none if it is served.
+    pub fn fault_in(&self, here: Span) -> Option<OrderFault>
+        requires { here.offset + here.size < 2 ^ 64 }
+        ensures { TellsFaultIn self.now here result }
+    {
+        match self {
+            Service::Unnamed => Some(OrderFault::Missing),
+            Service::Whole => None,
+            Service::InParts { spans, .. } => {
+                if spans.covers(here) {
+                    None
+                } else {
+                    Some(OrderFault::NotCovered)
+                }
+            }
+        }
+    }
+
+    /// The fault if all of the request was due: Missing or NotCovered, or none if it is wholly served.
     pub fn fault(&self) -> Option<OrderFault>
         ensures { TellsFault self.now result }
     {

@@ -10,15 +10,15 @@ pub enum OrderFault {
     /// The entry serves atomically a request that an earlier entry names, or it serves a part of a request that an
     /// earlier entry serves atomically.
     Twice,
-    /// The entry or a later one names a request whose first reply message started before the request
-    /// of this entry had completed.
+    /// The entry or a later one serves something that was due before the request of this entry had completed: when the
+    /// first reply message to it started, or of a READ in the profile `Wide` when the message that shows it was whole.
     Late,
-    /// No entry names this request, though a reply message to it started.
+    /// No entry names this request, though something of it was due.
     Missing,
     /// The entry's part is empty, does not lie inside the request, or shares an offset with an earlier part of the
     /// request.
     BadPart,
-    /// Entries name parts of this request, but the parts do not cover its inside, though a reply message to it started.
+    /// Entries name parts of this request, but the parts do not cover what of its inside was due.
     NotCovered,
 }
 

@@ -1,6 +1,8 @@
 pub mod AgreeLemmas
 pub mod AnnouncedLemmas
+pub mod BegunLemmas
 pub mod BlockLemmas
+pub mod CanonLemmas
 pub mod FollowLemmas
 pub mod CutLemmas
 pub mod NegotiationLemmas

@@ -1,7 +1,10 @@
 pub mod EntryLemmas
 pub mod InsideLemmas
 pub mod ExplainingLemmas
-pub mod LatestLemmas
+pub mod DueLemmas
+pub mod DueProfileLemmas
 pub mod MomentLemmas
 pub mod OrderLemmas
+pub mod PlacingLemmas
 pub mod ServiceLemmas
+pub mod SoonerLemmas

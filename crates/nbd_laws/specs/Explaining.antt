@@ -13,12 +13,14 @@ use Rattle.nbd_wire.specs.protocol.Verdicts.{Passes, answered_count, improper_co
 -- where a run passes the tests, its bytes are explained
 abbrev pub PassingIsExplained : Type 0
 PassingIsExplained = (profile : Profile) (items : List Item) (order : List Entry) (initial : Start)
-    → IsRunOf profile items → Passes (report items) order initial → IsExplainedOf profile (pairs items) order initial
+    → IsRunOf profile items → Passes profile (report items) order initial
+    → IsExplainedOf profile (pairs items) order initial
 
 -- where the bytes of a run are explained, it passes the tests
 abbrev pub ExplainedPasses : Type 0
 ExplainedPasses = (profile : Profile) (items : List Item) (order : List Entry) (initial : Start)
-    → IsRunOf profile items → IsExplainedOf profile (pairs items) order initial → Passes (report items) order initial
+    → IsRunOf profile items → IsExplainedOf profile (pairs items) order initial
+    → Passes profile (report items) order initial
 
 -- the counts of a yes, the same for each run of the profile with these bytes
 pub record HasCountsOf (profile : Profile) (capture : List Pair)

@@ -10,10 +10,10 @@ use Rattle.nbd_wire.specs.protocol.Verdicts.{IsFaultless}
 -- where the order has no fault, a run with the same bytes is served in it
 abbrev pub LatestMoments : Type 0
 LatestMoments = (profile : Profile) (items : List Item) (order : List Entry) → IsRunOf profile items
-    → IsFaultless (report items) order →
+    → IsFaultless profile (report items) order →
     (items' : List Item) × IsRunOf profile items' × (pairs items' ≡ pairs items) × (service_order items' ≡ order)
 
 -- the order in which a run is served has no fault
 abbrev pub OrdersAreFaultless : Type 0
 OrdersAreFaultless = (profile : Profile) (items : List Item) → IsRunOf profile items
-    → IsFaultless (report items) (service_order items)
+    → IsFaultless profile (report items) (service_order items)

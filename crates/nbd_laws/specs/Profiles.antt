@@ -11,7 +11,9 @@ use Rattle.nbd_wire.specs.protocol.States.{Answering, Phase}
 use Rattle.nbd_wire.specs.protocol.Captures.{ArePairs}
 use Rattle.nbd_wire.specs.protocol.Negotiation.{is_on_contexts}
 use Rattle.nbd_wire.specs.protocol.Reading.{by_tests, Reader, fresh_of, reads}
-use Rattle.nbd_wire.specs.protocol.Marks.{pairs}
+use Rattle.nbd_wire.specs.protocol.Marks.{pairs, without_service}
+use Rattle.nbd_wire.specs.protocol.Reports.{Asked, Report, asked_at, due_in, report}
+use Rattle.nbd_wire.specs.declared.commands.TheConstants as commands
 use Rattle.nbd_wire.specs.protocol.Options.{is_error}
 use Rattle.nbd_wire.specs.protocol.Payloads.{number_at}
 use Rattle.nbd_wire.specs.protocol.Places.{IsPlaceOf, IsUnderWayOf}
@@ -79,10 +81,21 @@ NothingFrom reader ps = (before more : List Pair) (b : ℕ) (mid : Reader)
 abbrev pub NothingParts : Profile → List Pair → Type 0
 NothingParts profile ps = NothingFrom (fresh_of profile) ps
 
--- items in which nothing parts the profiles are a run of both or of none
+-- where nothing parts the profiles, a run of the one is one of the other, but for the moments of service
 abbrev pub RunsAgree : Type 0
 RunsAgree = (p q : Profile) (items : List Item) → ArePairs (pairs items) → NothingParts p (pairs items)
-    → IsRunOf p items → IsRunOf q items
+    → IsRunOf p items → (items' : List Item) × IsRunOf q items' × (without_service items' ≡ without_service items)
+
+-- each READ was answered at once, or not at all: no request completed from where the first message of its reply
+-- started to where the last one had come
+abbrev pub AnswersAtOnce : Report → Type 0
+AnswersAtOnce r = (k : ℕ) (a : Asked) → asked_at k r.asked ≡ Some a → a.command ≡ commands.READ
+    → a.known_at ≡ a.ended_at
+
+-- where it is so, the same is due in both profiles
+abbrev pub DuesAgree : Type 0
+DuesAgree = (p q profile : Profile) (items : List Item) (k x : ℕ) → IsRunOf profile items
+    → AnswersAtOnce (report items) → due_in p (report items) k x ≡ due_in q (report items) k x
 
 -- and bytes have the same place in both, with the same fault
 abbrev pub PlacesAgree : Type 0

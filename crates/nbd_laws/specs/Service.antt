@@ -1,18 +1,18 @@
 -- What a run says of its requests at a moment: after its first items, `prefix`.
-use Rattle.std.specs.Prelude.{◌≡◌, ◌<◌, ◌≤◌, ℕ, List, [], ◌∷◌, ◌++◌, Some, false, length}
+use Rattle.std.specs.Prelude.{◌≡◌, ◌<◌, ◌≤◌, ℕ, List, [], ◌∷◌, ◌++◌, Some, false, length, IsTrue}
 use Rattle.nbd_wire.specs.declared.entry.Entry.{Entry}
 use Rattle.nbd_wire.specs.declared.commands.TheConstants as commands
 use Rattle.nbd_wire.specs.declared.message.Side.TheVariants.{Client, Server}
 use Rattle.nbd_wire.specs.declared.message.Message.{Message}
 use Rattle.nbd_wire.specs.declared.message.Message.TheVariants.{Request}
 use Rattle.nbd_wire.specs.declared.profile.Profile.{Profile}
-use Rattle.nbd_wire.specs.protocol.Entries.{IsWhollyServed, MayServe}
+use Rattle.nbd_wire.specs.protocol.Entries.{IsServedAt, MayServe}
 use Rattle.nbd_wire.specs.protocol.Explains.{IsExplainedOf, Start}
 use Rattle.nbd_wire.specs.protocol.Reports.{operations_of, export_of}
 use Rattle.nbd_wire.specs.protocol.Marks.{Item, Completes, Starts, Serves, service_order}
 use Rattle.nbd_wire.specs.protocol.Operations.{Operation, Exporting, is_finished}
-use Rattle.nbd_wire.specs.protocol.Rules.{IsRunOf, request_of_reply, cookie_of, ends_at, inside_at}
-use Rattle.nbd_wire.specs.protocol.States.{operation, start}
+use Rattle.nbd_wire.specs.protocol.Rules.{IsRunOf, request_of_reply, cookie_of, ends_at, inside_at, makes_due}
+use Rattle.nbd_wire.specs.protocol.States.{operation, start, start_of}
 use Rattle.nbd_laws.specs.Prefixes.{ended_messages}
 
 -- request k is outstanding after these items
@@ -26,19 +26,20 @@ CookiesAreDistinct = (profile : Profile) (prefix back : List Item) → IsRunOf p
     → (j k : ℕ) (d e : Operation) →
     IsOutstanding prefix j d → IsOutstanding prefix k e → d.cookie ≡ e.cookie → j ≡ k
 
--- the request that a reply answers: it is outstanding with the reply's cookie when the reply starts, it was wholly
--- served before, and it is the only one
-pub record AnswersRequest (prefix : List Item) (m : Message) (k : ℕ) (e : Operation) : Type 0 where
+-- the request that a reply answers: it is outstanding with the reply's cookie when the reply starts, what that makes
+-- due was served before, and it is the only one
+pub record AnswersRequest (profile : Profile) (prefix : List Item) (m : Message) (k : ℕ) (e : Operation) : Type 0 where
   pub outstanding : IsOutstanding prefix k e
   pub cookie : cookie_of m ≡ Some e.cookie
-  pub was_served : IsWhollyServed (inside_at (ends_at start prefix).core k) (service_order prefix) k
+  pub was_served : (x : ℕ) → IsTrue (makes_due (ends_at (start_of profile) prefix).core (Starts Server m) k x)
+      → IsServedAt (inside_at (ends_at start prefix).core k) (service_order prefix) k x
   pub only : (j : ℕ) (d : Operation) → IsOutstanding prefix j d → cookie_of m ≡ Some d.cookie → j ≡ k
 
--- each server message of transmission answers exactly one request, completed and wholly served before its first byte
+-- each server message of transmission answers exactly one request, completed before its first byte
 abbrev pub EachReplyAnswersOne : Type 0
 EachReplyAnswersOne = (profile : Profile) (prefix back : List Item) (m : Message) (export : Exporting)
     → IsRunOf profile (prefix ++ Starts Server m ∷ back) → export_of prefix ≡ Some export →
-    (k : ℕ) × (e : Operation) × AnswersRequest prefix m k e
+    (k : ℕ) × (e : Operation) × AnswersRequest profile prefix m k e
 
 -- what is served is of a request that has completed; a part of it is inside it, not empty, and none of it was served
 -- before

@@ -1,5 +1,5 @@
 -- What the report of every run has, whatever the bytes.
-use Rattle.std.specs.Prelude.{◌≡◌, ◌≢◌, ◌+◌, ◌≤◌, ℕ, List, [], Some, None, length, IsTrue, is_some, slice_get}
+use Rattle.std.specs.Prelude.{◌≡◌, ◌≢◌, ◌+◌, ◌≤◌, ℕ, List, [], Option, Some, None, length, IsTrue, is_some, slice_get}
 use Rattle.nbd_wire.specs.declared.command_flags.TheConstants as command_flags
 use Rattle.nbd_wire.specs.declared.commands.TheConstants as commands
 use Rattle.nbd_wire.specs.declared.limits.TheConstants.{EXPORT_SIZE}
@@ -7,7 +7,7 @@ use Rattle.nbd_wire.specs.declared.transmission.TheConstants as transmission
 use Rattle.nbd_wire.specs.declared.payloads.Piece.{Piece}
 use Rattle.nbd_wire.specs.declared.profile.Profile.{Profile}
 use Rattle.nbd_wire.specs.protocol.Marks.{Item}
-use Rattle.nbd_wire.specs.protocol.Reports.{Asked, Report, asked_at, report}
+use Rattle.nbd_wire.specs.protocol.Reports.{Asked, Report, asked_at, first_shown, report}
 use Rattle.nbd_wire.specs.protocol.Operations.{Exporting, Success, has_range}
 use Rattle.nbd_wire.specs.protocol.Pieces.{byte_at, holds, is_in, piece_offset, piece_size}
 use Rattle.nbd_wire.specs.protocol.Flags.{has}
@@ -20,10 +20,17 @@ pub record AreLaid (offset len : ℕ) (pieces : List Piece) : Type 0 where
   pub apart : (i j : ℕ) (p q : Piece) (x : ℕ) → slice_get pieces i ≡ Some p → slice_get pieces j ≡ Some q
       → IsTrue (holds p x) → IsTrue (holds q x) → i ≡ j
 
+-- so many of `count` requests had completed, and no fewer than when its first reply started
+abbrev pub IsAfter : (known_at : Option ℕ) → (count n : ℕ) → Type 0
+IsAfter known_at count n = ((m : ℕ) × (known_at ≡ Some m) × (m ≤ n)) × (n ≤ count)
+
 -- of request k of a report of `count` requests to an export of this size
 pub record IsSoundAsked (size count k : ℕ) (a : Asked) : Type 0 where
   -- its first reply started after its own completion, and it counted the requests that had completed
   pub known : (n : ℕ) → a.known_at ≡ Some n → (k ≤ n) × (n ≤ count)
+  -- its first reply started before it showed or ended anything
+  pub shown : (x n : ℕ) → first_shown a.shown x ≡ Some n → IsAfter a.known_at count n
+  pub ended : (n : ℕ) → a.ended_at ≡ Some n → IsAfter a.known_at count n
   -- a WRITE carries as many bytes as it says
   pub carried : a.command ≡ commands.WRITE → length a.payload ≡ a.length
   -- a success is that of a proper request

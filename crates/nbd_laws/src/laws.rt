@@ -6,7 +6,7 @@ ghost use Rattle.nbd_laws.specs.Prefixes.{CompletionsStandAfterBytes, PrefixesAr
 ghost use Rattle.nbd_laws.specs.Cuts.{CutsDoNotCount};
 ghost use Rattle.nbd_laws.specs.Moments.{LatestMoments, OrdersAreFaultless};
 ghost use Rattle.nbd_laws.specs.Negotiating.{AnswersFollowChoices, HandshakesAreFair};
-ghost use Rattle.nbd_laws.specs.Profiles.{BaseIsWide, EndsAgree, PlacesAgree, RunsAgree, UnderWayAgrees};
+ghost use Rattle.nbd_laws.specs.Profiles.{BaseIsWide, DuesAgree, EndsAgree, PlacesAgree, RunsAgree, UnderWayAgrees};
 ghost use Rattle.nbd_laws.specs.Replying.{RepliesAreWhole};
 ghost use Rattle.nbd_laws.specs.Selecting.{ContextsAreSelected, ContextsStay};
 ghost use Rattle.nbd_laws.specs.Sameness.{SameMarks, SameReports, ReportsIgnoreService};
@@ -56,8 +56,8 @@ pub fn cookies_are_distinct()
     ensures { CookiesAreDistinct }
 {}
 
-/// Each server message of transmission answers exactly one request, which had completed and was
-/// wholly served before its first byte.
+/// Each server message of transmission answers exactly one request, which had completed before its first byte; what had to
+/// be served by then was: in `Base` all of it, in `Wide` too if it is no READ.
 pub fn each_reply_answers_one()
     ensures { EachReplyAnswersOne }
 {}
@@ -152,11 +152,13 @@ pub fn base_is_wide()
     ensures { BaseIsWide }
 {}
 
-/// Items in which no head of an answer of success to an option on metadata contexts completes, and no announcement of
-/// block sizes that a server may not announce, are a run, the place of a fault or a session under way in both profiles or
-/// in none.
+/// Where no head of an answer of success to an option on metadata contexts completes, and no announcement of block sizes
+/// that a server may not announce, bytes are those of a run, the place of a fault or a session under way in both profiles
+/// or in none. Where besides no request completes from where the reply to a READ starts to where it ends, and each that
+/// starts ends, its requests have to be served at the same moments in both.
 pub fn profiles_agree()
     ensures runs { RunsAgree }
+    ensures dues { DuesAgree }
     ensures places { PlacesAgree }
     ensures under_way { UnderWayAgrees }
 {}

@@ -2,7 +2,6 @@
 use Rattle.std.proofs.Common.{◌≡◌, ℕ, zero, suc, List, [], ◌∷◌, refl, sym, subst, Option, Some, None}
 use Rattle.std.proofs.lemmas.List.Elements.{All-append, All-cons, All-nil}
 use Rattle.nbd_wire.specs.declared.profile.Profile.{Profile}
-use Rattle.nbd_wire.specs.declared.profile.Profile.TheVariants.{Wide}
 use Rattle.nbd_wire.specs.declared.entry.Entry.{Entry}
 use Rattle.nbd_wire.specs.protocol.Entries.{whole}
 use Rattle.nbd_wire.specs.protocol.Explains.{FitsImage, Image, Start, Unknown, Zeroes}
@@ -41,29 +40,29 @@ found_is_so passing only refuted profile items initial NoneWhole is_run found = 
 found_is_so passing only refuted profile items initial (GaveUp request offset reason) is_run found = λ explained.
     found (only profile items (arrival (request_count (report items))) initial is_run explained)
 
-pub passes : (r : Report) (order : List Entry) (initial : Start) (a b c : ℕ) → IsVerdict Wide r order initial (Yes a b c) → Passes r order initial
-passes r order initial a b c v = record { faultless = v.1.0; fits_image = v.0; reads = v.1.1 }
+pub passes : (profile : Profile) (r : Report) (order : List Entry) (initial : Start) (a b c : ℕ) → IsVerdict profile r order initial (Yes a b c) → Passes profile r order initial
+passes profile r order initial a b c v = record { faultless = v.1.0; fits_image = v.0; reads = v.1.1 }
 
-judged_yes : (r : Report) (order : List Entry) (initial : Start) → Passes r order initial → IsVerdict Wide r order initial (Yes (request_count r) (answered_count r) (improper_count Wide r))
-judged_yes r order initial p = (p.fits_image, (p.faultless, p.reads, refl, refl, refl))
+judged_yes : (profile : Profile) (r : Report) (order : List Entry) (initial : Start) → Passes profile r order initial → IsVerdict profile r order initial (Yes (request_count r) (answered_count r) (improper_count profile r))
+judged_yes profile r order initial p = (p.fits_image, (p.faultless, p.reads, refl, refl, refl))
 
-pub does_not_pass : OneVerdict → (r : Report) (order : List Entry) (initial : Start) (v : Verdict) → IsVerdict Wide r order initial v → ((a b c : ℕ) → v ≡ Yes a b c → ⊥) → Passes r order initial → ⊥
-does_not_pass one r order initial v h other p =
-    other (request_count r) (answered_count r) (improper_count Wide r)
-    (one Wide r order initial v (Yes (request_count r) (answered_count r) (improper_count Wide r)) h (judged_yes r order initial p))
+pub does_not_pass : OneVerdict → (profile : Profile) (r : Report) (order : List Entry) (initial : Start) (v : Verdict) → IsVerdict profile r order initial v → ((a b c : ℕ) → v ≡ Yes a b c → ⊥) → Passes profile r order initial → ⊥
+does_not_pass one profile r order initial v h other p =
+    other (request_count r) (answered_count r) (improper_count profile r)
+    (one profile r order initial v (Yes (request_count r) (answered_count r) (improper_count profile r)) h (judged_yes profile r order initial p))
 
 -- what is found of a report is so of the bytes of each run with it
-pub says_of : FoundIsSo → (r : Report) (initial : Start) (found : Found) → IsFound r initial found → (profile : Profile) (items : List Item) → IsRunOf profile items → report items ≡ r
+pub says_of : FoundIsSo → (profile : Profile) (r : Report) (initial : Start) (found : Found) → IsFound profile r initial found → (items : List Item) → IsRunOf profile items → report items ≡ r
     → Says profile items initial found
-says_of law r initial found f profile items is_run same = law profile items initial found is_run (subst (λ q. IsFound q initial found) (sym same) f)
+says_of law profile r initial found f items is_run same = law profile items initial found is_run (subst (λ q. IsFound profile q initial found) (sym same) f)
 
 -- an answer that is not proved may be given where the order of arrival does not explain the report, whatever is wanted
-pub open_found : (r : Report) (initial : Start) (f : Found) → IsOpen f → FailsArrival r initial → IsFound r initial f
-open_found r initial (Order order) is fails = absurd is
-open_found r initial (Unexplained refutation) is fails = absurd is
-open_found r initial (FoundImage image size) is fails = absurd is
-open_found r initial NoneWhole is fails = absurd is
-open_found r initial (GaveUp request offset reason) is fails = fails
+pub open_found : (profile : Profile) (r : Report) (initial : Start) (f : Found) → IsOpen f → FailsArrival profile r initial → IsFound profile r initial f
+open_found profile r initial (Order order) is fails = absurd is
+open_found profile r initial (Unexplained refutation) is fails = absurd is
+open_found profile r initial (FoundImage image size) is fails = absurd is
+open_found profile r initial NoneWhole is fails = absurd is
+open_found profile r initial (GaveUp request offset reason) is fails = fails
 
 pub open_wanted : (wanted : Wanted) (f : Found) → IsOpen f → IsWanted wanted f
 open_wanted wanted (Order order) is = absurd is

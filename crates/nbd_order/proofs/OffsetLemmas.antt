@@ -1,14 +1,16 @@
 -- The tests of a request at one offset.
-use Rattle.std.proofs.Common.{◌≡◌, ℕ, ◌<◌, refl, inl, inr, ◌∙◌, ap, Option, Some, None, Bool, true, false, not, ◌&&◌, ◌||◌, ◌==◌, nat_lt, arith, IsTrue, is_some}
-use Rattle.std.proofs.lemmas.Bool.{and_from, and_parts, eqb-true, ltb-true, or_cases}
+use Rattle.std.proofs.Common.{◌≡◌, ℕ, ◌<◌, refl, inl, inr, ◌∙◌, ap, Option, Some, None, Bool, true, false, not, ◌&&◌, ◌||◌, ◌==◌, nat_le, nat_lt, arith, if◌then◌else◌, ◌≤◌, IsTrue, is_some}
+use Rattle.std.proofs.lemmas.Bool.{and_from, and_parts, eqb-true, leb-true, ltb-true, or_cases}
 use Rattle.nbd_wire.specs.declared.commands.TheConstants as commands
+use Rattle.nbd_wire.specs.declared.profile.Profile.{Profile}
+use Rattle.nbd_wire.specs.declared.profile.Profile.TheVariants.{Base, Wide}
 use Rattle.nbd_wire.specs.protocol.ExportBytes.{effect, effect_if, is_success, GivesByte}
 use Rattle.nbd_wire.specs.protocol.Operations.{Exporting, has_range}
 use Rattle.nbd_wire.specs.protocol.Pieces.{byte_at, is_in}
-use Rattle.nbd_wire.specs.protocol.Reports.{Asked, Report, asked_at, inside_asked, known_of}
+use Rattle.nbd_wire.specs.protocol.Reports.{Asked, Report, asked_at, due_by_chunk, due_of, first_shown, inside_asked, lesser_of}
 use Rattle.nbd_judge.specs.Servable.{size_of}
-use Rattle.nbd_order.specs.internal.Offsets.{gives_byte, reads_at}
-use Rattle.nbd_order.specs.internal.Refutations.{IsReadAt}
+use Rattle.nbd_order.specs.internal.Offsets.{due_at, gives_byte, reads_at}
+use Rattle.nbd_order.specs.internal.Refutations.{IsBefore, IsReadAt}
 
 -- all but a BLOCK_STATUS may have something inside
 pub open_to : (proper : Bool) (command : ℕ) → (command == commands.BLOCK_STATUS) ≡ false → (proper || not (command == commands.BLOCK_STATUS)) ≡ true
@@ -39,23 +41,55 @@ lies_inside (Some e) a x n c i l =
     and_from (a.proper || not (a.command == commands.BLOCK_STATUS)) (has_range a.command && (is_in a.offset a.length x && nat_lt x e.size)) n
     (and_from (has_range a.command) (is_in a.offset a.length x && nat_lt x e.size) c (and_from (is_in a.offset a.length x) (nat_lt x e.size) i l))
 
-known_is : (o : Option ℕ) → is_some o ≡ true → (n : ℕ) × (o ≡ Some n)
-known_is None h = absurd (let q : false ≡ true = h in (cc))
-known_is (Some n) h = (n, refl)
+some_is : (o : Option ℕ) → is_some o ≡ true → (n : ℕ) × (o ≡ Some n)
+some_is None h = absurd (let q : false ≡ true = h in (cc))
+some_is (Some n) h = (n, refl)
 
-pub read_at : (r : Report) (k x : ℕ) (a : Asked) → asked_at k r.asked ≡ Some a → reads_at r.export a x ≡ true → IsReadAt r x k
-read_at r k x a at h =
-    let p1 = and_parts (gives_byte a x) (is_success a.outcome && (is_some a.known_at && (is_in a.offset a.length x && nat_lt x (size_of r.export)))) h in
-    let p2 = and_parts (is_success a.outcome) (is_some a.known_at && (is_in a.offset a.length x && nat_lt x (size_of r.export))) p1.1 in
-    let p3 = and_parts (is_some a.known_at) (is_in a.offset a.length x && nat_lt x (size_of r.export)) p2.1 in
+pub read_at : (profile : Profile) (r : Report) (k x : ℕ) (a : Asked) → asked_at k r.asked ≡ Some a → reads_at profile r.export a x ≡ true → IsReadAt profile r x k
+read_at profile r k x a at h =
+    let p1 = and_parts (gives_byte a x) (is_success a.outcome && (is_some (due_at profile r.export a x) && (is_in a.offset a.length x && nat_lt x (size_of r.export)))) h in
+    let p2 = and_parts (is_success a.outcome) (is_some (due_at profile r.export a x) && (is_in a.offset a.length x && nat_lt x (size_of r.export))) p1.1 in
+    let p3 = and_parts (is_some (due_at profile r.export a x)) (is_in a.offset a.length x && nat_lt x (size_of r.export)) p2.1 in
     let p4 = and_parts (is_in a.offset a.length x) (nat_lt x (size_of r.export)) p3.1 in
     let gives = given a x p1.0 in
-    let known = known_is a.known_at p3.0 in
+    let due = some_is (due_at profile r.export a x) p3.0 in
     record {
       read = effect a;
       is_request = ap effect_if at;
       is_read = gives.0;
       succeeded = p2.0;
       inside = ap (λ o. inside_asked r.export o x) at ∙ lies_inside r.export a x gives.1 gives.2 p4.0 p4.1;
-      answered = (known.0, ap known_of at ∙ known.1);
+      is_due = (due.0, ap (λ o. due_of profile (inside_asked r.export o) o x) at ∙ due.1);
     }
+
+-- a number that is there, and below k
+abbrev pub IsBelow : Option ℕ → (k : ℕ) → Type 0
+IsBelow o k = (n : ℕ) × (o ≡ Some n) × (n < k)
+
+-- the lesser of two is below what the second one is below
+lesser_below : (o p : Option ℕ) (k : ℕ) → IsBelow p k → IsBelow (lesser_of o p) k
+lesser_below o None k h = absurd (let q : None ≡ Some h.0 = h.1 in (cc))
+lesser_below None (Some m) k h = h
+lesser_below (Some n) (Some m) k h = go (nat_le n m) refl
+  where
+    below : m < k
+    below = (let q : Some m ≡ Some h.0 = h.1 in let e : m ≡ h.0 = cc in let l : h.0 < k = h.2 in omega arith)
+
+    go : (b : Bool) → nat_le n m ≡ b → IsBelow (Some (if b then n else m)) k
+    go true t = (n, refl, (let l : n ≤ m = leb-true n m t in let u : m < k = below in omega arith))
+    go false t = (m, refl, below)
+
+-- a request of which the first message of its reply started, and the last had come, before k was complete was due before
+ended_below : (profile : Profile) (within : ℕ → Bool) (a : Asked) (x k : ℕ) → IsBelow a.known_at k → IsBelow a.ended_at k → IsBelow (due_of profile within (Some a) x) k
+ended_below Base within a x k known ended = known
+ended_below Wide within a x k known ended = go (a.command == commands.READ)
+  where
+    go : (b : Bool) → IsBelow (if b then due_by_chunk within a x else a.known_at) k
+    go true = lesser_below (if within x then first_shown a.shown x else None) a.ended_at k ended
+    go false = known
+
+pub ended_before : (profile : Profile) (r : Report) (j k x : ℕ) (a : Asked) → asked_at j r.asked ≡ Some a → IsBelow a.known_at k → IsBelow a.ended_at k
+    → IsBefore profile r x j k
+ended_before profile r j k x a at known ended =
+    let h = ended_below profile (inside_asked r.export (Some a)) a x k known ended in
+    (h.0, ap (λ o. due_of profile (inside_asked r.export o) o x) at ∙ h.1, h.2)

@@ -1,15 +1,16 @@
 -- Where there is a refutation, each order has a fault or a wrong byte of one of its READs.
-use Rattle.std.proofs.Common.{◌≡◌, ℕ, zero, suc, ◌<◌, ◌≤◌, inl, inr, List, [], ◌∷◌, length, refl, sym, ◌∙◌, ap, subst, Option, Some, None, Bool, true, false, ◌&&◌, ◌||◌, ◌==◌, if◌then◌else◌, arith, slice_get, take, IsTrue, is_some}
+use Rattle.std.proofs.Common.{◌≡◌, ℕ, zero, suc, ◌<◌, ◌≤◌, inl, inr, List, [], ◌∷◌, length, refl, sym, ◌∙◌, ap, subst, Option, Some, None, Bool, true, false, ◌&&◌, ◌||◌, ◌==◌, if◌then◌else◌, arith, slice_get, take, IsTrue}
 use Rattle.std.proofs.Math.Seq.{take-length}
 use Rattle.std.proofs.lemmas.Bool.{and_from, and_parts, both_ways, cases_Bool, eqb-true, false_from_ne_true, or_cases, or_from, or_left, or_right}
 use Rattle.std.proofs.lemmas.Option.{slice_get_cases}
 use Rattle.nbd_wire.specs.declared.entry.Entry.{Entry}
 use Rattle.nbd_wire.specs.declared.entry.Part.{Part}
+use Rattle.nbd_wire.specs.declared.profile.Profile.{Profile}
 use Rattle.nbd_wire.specs.protocol.Entries.{in_part, is_served}
 use Rattle.nbd_wire.specs.protocol.ExportBytes.{Differs, Effect, IsWrong, IsWrongIn, byte_before, effect_byte, effects, serves, touch_of, touches, GivesByte}
 use Rattle.nbd_wire.specs.protocol.Operations.{Exporting, is_change}
 use Rattle.nbd_wire.specs.protocol.Pieces.{is_in}
-use Rattle.nbd_wire.specs.protocol.Reports.{Report, asked_at, known_in}
+use Rattle.nbd_wire.specs.protocol.Reports.{Report, asked_at, due_in}
 use Rattle.nbd_wire.specs.protocol.Verdicts.{IsFaultless}
 use Rattle.nbd_laws.specs.Explaining.{ExplainedPasses}
 use Rattle.nbd_order.specs.declared.refutation.State.{State}
@@ -20,13 +21,13 @@ use Rattle.nbd_order.proofs.TouchLemmas.{byte_more, served_more}
 
 -- before entry i of the order: a state in which just the changes are served that the order served at x, and at least its READs, and
 -- which fits the byte at x
-pub record Holds (r : Report) (initial : ℕ → Option ℕ) (x : ℕ) (reads changes : List ℕ) (states : List State) (order : List Entry) (i : ℕ) : Type 0 where
+pub record Holds (profile : Profile) (r : Report) (initial : ℕ → Option ℕ) (x : ℕ) (reads changes : List ℕ) (states : List State) (order : List Entry) (i : ℕ) : Type 0 where
   pub place : ℕ
   pub state : State
   pub is_state : slice_get states place ≡ Some state
   pub changed : (c : ℕ) → has changes c ≡ true → has state.served.items c ≡ is_served (take i order) c x
   pub read : (k : ℕ) → has reads k ≡ true → is_served (take i order) k x ≡ true → has state.served.items k ≡ true
-  pub fits : Fits r x reads changes state.served.items (byte_before (effects r) order initial i x)
+  pub fits : Fits profile r x reads changes state.served.items (byte_before (effects r) order initial i x)
 
 -- no entry that names one of the READs has a wrong byte at x
 abbrev pub IsRight : Report → (ℕ → Option ℕ) → (x : ℕ) → List ℕ → List Entry → Type 0
@@ -89,8 +90,8 @@ given_wrong p e byte x gives well here d = (gives, well, here, d)
 same_effect : (o : Option Effect) (d e : Effect) → o ≡ Some d → o ≡ Some e → d ≡ e
 same_effect o d e p q = cc
 
-module _ (r : Report) (initial : ℕ → Option ℕ) (x : ℕ) (reads changes : List ℕ) (states : List State) (s : IsRefutation r initial x reads changes states)
-    (order : List Entry) (whole : IsFaultless r order) where
+module _ (profile : Profile) (r : Report) (initial : ℕ → Option ℕ) (x : ℕ) (reads changes : List ℕ) (states : List State) (s : IsRefutation profile r initial x reads changes states)
+    (order : List Entry) (whole : IsFaultless profile r order) where
   -- x lies below the export's size
   sized : (z : Exporting) × (r.export ≡ Some z) × (x < z.size)
   sized =
@@ -99,12 +100,12 @@ module _ (r : Report) (initial : ℕ → Option ℕ) (x : ℕ) (reads changes : 
       let k = s.are_reads u.0 u.1 in
       (in_range r.export (asked_at u.0 r.asked) k.read x k.is_request k.inside).1
 
-  -- a READ or a change of the refutation to which a reply began is served at x
-  kept_is_served : (p n : ℕ) → is_kept reads changes p ≡ true → known_in r p ≡ Some n → IsTrue (is_served order p x)
-  kept_is_served p n kept known = elim (or_cases (has reads p) (has changes p) kept) [
-    | inl h ↦ (let k = s.are_reads p h in is_reached r order whole p x n k.read k.is_request known k.inside)
+  -- a READ or a change of the refutation that was due at x is served there
+  kept_is_served : (p n : ℕ) → is_kept reads changes p ≡ true → due_in profile r p x ≡ Some n → IsTrue (is_served order p x)
+  kept_is_served p n kept due = elim (or_cases (has reads p) (has changes p) kept) [
+    | inl h ↦ (let k = s.are_reads p h in is_reached profile r order whole p x n k.read k.is_request due k.inside)
     | inr h ↦ (let c = s.are_changes p h in
-        is_reached r order whole p x n c.0 c.1.0 known (is_inside r.export (asked_at p r.asked) c.0 x sized.0 c.1.0 c.1.1 sized.1 sized.2))
+        is_reached profile r order whole p x n c.0 c.1.0 due (is_inside r.export (asked_at p r.asked) c.0 x sized.0 c.1.0 c.1.1 sized.1 sized.2))
   ]
 
   -- no READ of the refutation changes the byte
@@ -120,26 +121,26 @@ module _ (r : Report) (initial : ℕ → Option ℕ) (x : ℕ) (reads changes : 
   not_both k h g = (let c = s.are_changes k g in read_is_no_change k h c.0 c.1)
 
   -- what of the refutation is served before entry i stands in the state
-  in_state : (i p : ℕ) (h : Holds r initial x reads changes states order i) → is_kept reads changes p ≡ true → is_served (take i order) p x ≡ true → has h.state.served.items p ≡ true
+  in_state : (i p : ℕ) (h : Holds profile r initial x reads changes states order i) → is_kept reads changes p ≡ true → is_served (take i order) p x ≡ true → has h.state.served.items p ≡ true
   in_state i p h kept served = elim (or_cases (has reads p) (has changes p) kept) [
     | inl q ↦ h.read p q served
     | inr q ↦ h.changed p q ∙ served
   ]
 
   -- what is held in the state is not the next to be served
-  not_held : (i : ℕ) (d : Entry) (h : Holds r initial x reads changes states order i) → slice_get order i ≡ Some d
-      → IsHeld r reads changes h.state.served.items d.request → ⊥
+  not_held : (i : ℕ) (d : Entry) (h : Holds profile r initial x reads changes states order i) → slice_get order i ≡ Some d
+      → IsHeld profile r x reads changes h.state.served.items d.request → ⊥
   not_held i d h at held =
       let reached = kept_is_served held.0 held.3.0 held.1 held.3.1 in
-      let served = served_before r order whole i held.0 x d at reached held.3 in
+      let served = served_before profile r order whole i held.0 x d at reached held.3 in
       both_ways (has h.state.served.items held.0) held.2 (in_state i held.0 h held.1 served)
 
   -- the same state stands after an entry that serves no change of the refutation, and of its READs only what the state has
-  stays : (i : ℕ) (d : Entry) (h : Holds r initial x reads changes states order i) → slice_get order i ≡ Some d
+  stays : (i : ℕ) (d : Entry) (h : Holds profile r initial x reads changes states order i) → slice_get order i ≡ Some d
       → ((c : ℕ) → has changes c ≡ true → ((d.request == c) && in_part d.part x) ≡ false)
       → ((k : ℕ) → has reads k ≡ true → ((d.request == k) && in_part d.part x) ≡ true → has h.state.served.items k ≡ true)
-      → Fits r x reads changes h.state.served.items (byte_before (effects r) order initial (suc i) x)
-      → Holds r initial x reads changes states order (suc i)
+      → Fits profile r x reads changes h.state.served.items (byte_before (effects r) order initial (suc i) x)
+      → Holds profile r initial x reads changes states order (suc i)
   stays i d h at none known fits = record {
     place = h.place;
     state = h.state;
@@ -154,9 +155,9 @@ module _ (r : Report) (initial : ℕ → Option ℕ) (x : ℕ) (reads changes : 
   }
 
   -- an entry that serves x of one of the changes leads to a state
-  led : (i : ℕ) (d : Entry) (h : Holds r initial x reads changes states order i) → slice_get order i ≡ Some d → has changes d.request ≡ true → in_part d.part x ≡ true
-      → (j : ℕ) (t : State) → slice_get states j ≡ Some t → Leads r x reads changes h.state.served.items d.request t.served.items
-      → Holds r initial x reads changes states order (suc i)
+  led : (i : ℕ) (d : Entry) (h : Holds profile r initial x reads changes states order i) → slice_get order i ≡ Some d → has changes d.request ≡ true → in_part d.part x ≡ true
+      → (j : ℕ) (t : State) → slice_get states j ≡ Some t → Leads profile r x reads changes h.state.served.items d.request t.served.items
+      → Holds profile r initial x reads changes states order (suc i)
   led i d h at kept here j t is leads = record {
     place = j;
     state = t;
@@ -172,20 +173,20 @@ module _ (r : Report) (initial : ℕ → Option ℕ) (x : ℕ) (reads changes : 
         let c = s.are_changes d.request kept in
         let touch : touch_of d.part (effects r d.request) x ≡ Some c.0 =
         touch_some d.part (effects r d.request) x c.0 c.1.0 (touched d.part c.0 x c.1.1 here) in
-        subst (λ b. Fits r x reads changes t.served.items b) (sym (byte_more (effects r) x order initial i d (Some c.0) at touch)) (leads.1 c.0 c.1.0);
+        subst (λ b. Fits profile r x reads changes t.served.items b) (sym (byte_more (effects r) x order initial i d (Some c.0) at touch)) (leads.1 c.0 c.1.0);
   }
 
-  after_change : (i : ℕ) (d : Entry) → Holds r initial x reads changes states order i → slice_get order i ≡ Some d → has changes d.request ≡ true → in_part d.part x ≡ true
-      → Holds r initial x reads changes states order (suc i)
+  after_change : (i : ℕ) (d : Entry) → Holds profile r initial x reads changes states order i → slice_get order i ≡ Some d → has changes d.request ≡ true → in_part d.part x ≡ true
+      → Holds profile r initial x reads changes states order (suc i)
   after_change i d h at kept here = elim (s.steps h.place h.state h.is_state d.request kept) [
-    | inl q ↦ absurd (both_ways (has h.state.served.items d.request) (h.changed d.request kept ∙ served_once r order whole i x d at here) q)
+    | inl q ↦ absurd (both_ways (has h.state.served.items d.request) (h.changed d.request kept ∙ served_once profile r order whole i x d at here) q)
     | inr (inl q) ↦ absurd (not_held i d h at q)
     | inr (inr t) ↦ led i d h at kept here t.0 t.1 t.2 t.3
   ]
 
   -- an entry that serves x of one of the READs, which the state has
-  known_read : (i : ℕ) (d : Entry) (h : Holds r initial x reads changes states order i) → slice_get order i ≡ Some d → has reads d.request ≡ true
-      → has h.state.served.items d.request ≡ true → Holds r initial x reads changes states order (suc i)
+  known_read : (i : ℕ) (d : Entry) (h : Holds profile r initial x reads changes states order i) → slice_get order i ≡ Some d → has reads d.request ≡ true
+      → has h.state.served.items d.request ≡ true → Holds profile r initial x reads changes states order (suc i)
   known_read i d h at kept known =
       let k = s.are_reads d.request kept in
       let touch : touch_of d.part (effects r d.request) x ≡ None =
@@ -194,10 +195,10 @@ module _ (r : Report) (initial : ℕ → Option ℕ) (x : ℕ) (reads changes : 
       (λ c q. false_from_ne_true ((d.request == c) && in_part d.part x) λ v.
       not_both d.request kept (subst (λ n. has changes n ≡ true) (sym (eqb-true d.request c (and_parts (d.request == c) (in_part d.part x) v).0)) q))
       (λ c q v. subst (λ n. has h.state.served.items n ≡ true) (eqb-true d.request c (and_parts (d.request == c) (in_part d.part x) v).0) known)
-      (subst (λ b. Fits r x reads changes h.state.served.items b) (sym (byte_more (effects r) x order initial i d None at touch)) h.fits)
+      (subst (λ b. Fits profile r x reads changes h.state.served.items b) (sym (byte_more (effects r) x order initial i d None at touch)) h.fits)
 
-  after_read : (i : ℕ) (d : Entry) → IsRight r initial x reads order → Holds r initial x reads changes states order i → slice_get order i ≡ Some d
-      → has reads d.request ≡ true → in_part d.part x ≡ true → Holds r initial x reads changes states order (suc i)
+  after_read : (i : ℕ) (d : Entry) → IsRight r initial x reads order → Holds profile r initial x reads changes states order i → slice_get order i ≡ Some d
+      → has reads d.request ≡ true → in_part d.part x ≡ true → Holds profile r initial x reads changes states order (suc i)
   after_read i d right h at kept here = elim (h.fits d.request kept) [
     | inl q ↦ known_read i d h at kept q
     | inr (inl q) ↦ absurd (not_held i d h at q)
@@ -217,27 +218,27 @@ module _ (r : Report) (initial : ℕ → Option ℕ) (x : ℕ) (reads changes : 
   ]
 
   -- another change that is touched leaves a byte that fits the state
-  fits_other : (i : ℕ) (d : Entry) (h : Holds r initial x reads changes states order i) → slice_get order i ≡ Some d → (e : Effect) → IsChange r d.request x e
-      → has changes d.request ≡ false → Fits r x reads changes h.state.served.items (effect_byte e x)
-  fits_other i d h at e change other k kept = elim (h.fits k kept) [
+  fits_other : (i : ℕ) (d : Entry) (h : Holds profile r initial x reads changes states order i) → slice_get order i ≡ Some d → in_part d.part x ≡ true → (e : Effect) → IsChange r d.request x e
+      → has changes d.request ≡ false → Fits profile r x reads changes h.state.served.items (effect_byte e x)
+  fits_other i d h at here e change other k kept = elim (h.fits k kept) [
     | inl q ↦ inl q
     | inr (inl q) ↦ inr (inl q)
     | inr (inr q) ↦ elim (s.covered d.request e change other k kept) [
       | inl o ↦ inr (inr o)
       | inr (inl b) ↦ inl (h.read k kept
-          (served_before r order whole i k x d at (kept_is_served k b.0 (or_left (has reads k) (has changes k) kept) b.1) b))
+          (served_before profile r order whole i k x d at (kept_is_served k b.0 (or_left (has reads k) (has changes k) kept) b.1) b))
       | inr (inr o) ↦ inr (inl (
         o.0,
         or_right (has reads o.0) (has changes o.0) o.1,
-        h.changed o.0 o.1 ∙ not_served_before r order whole i o.0 x d at o.2,
+        h.changed o.0 o.1 ∙ not_served_before profile r order whole i o.0 x d at here o.2,
         o.3,
       ))
     ]
   ]
 
   -- an entry that serves x of none of the refutation's requests
-  after_other : (i : ℕ) (d : Entry) → Holds r initial x reads changes states order i → slice_get order i ≡ Some d
-      → (is_kept reads changes d.request ≡ true → in_part d.part x ≡ true → ⊥) → Holds r initial x reads changes states order (suc i)
+  after_other : (i : ℕ) (d : Entry) → Holds profile r initial x reads changes states order i → slice_get order i ≡ Some d
+      → (is_kept reads changes d.request ≡ true → in_part d.part x ≡ true → ⊥) → Holds profile r initial x reads changes states order (suc i)
   after_other i d h at other =
       stays i d h at
       (λ c q. false_from_ne_true ((d.request == c) && in_part d.part x) (no c (or_right (has reads c) (has changes c) q)))
@@ -250,18 +251,18 @@ module _ (r : Report) (initial : ℕ → Option ℕ) (x : ℕ) (reads changes : 
           other (subst (λ n. is_kept reads changes n ≡ true) (sym (eqb-true d.request p parts.0)) q) parts.1
 
       go : (o : Option Effect) → touch_of d.part (effects r d.request) x ≡ o
-          → Fits r x reads changes h.state.served.items (byte_before (effects r) order initial (suc i) x)
-      go None touch = subst (λ b. Fits r x reads changes h.state.served.items b) (sym (byte_more (effects r) x order initial i d None at touch)) h.fits
+          → Fits profile r x reads changes h.state.served.items (byte_before (effects r) order initial (suc i) x)
+      go None touch = subst (λ b. Fits profile r x reads changes h.state.served.items b) (sym (byte_more (effects r) x order initial i d None at touch)) h.fits
       go (Some e) touch =
           let t = touch_is d.part (effects r d.request) x e touch in
           let parts = touches_in d.part e x t.1 in
           let unkept : has changes d.request ≡ false =
           false_from_ne_true (has changes d.request) (λ q. other (or_right (has reads d.request) (has changes d.request) q) parts.1) in
-          subst (λ b. Fits r x reads changes h.state.served.items b) (sym (byte_more (effects r) x order initial i d (Some e) at touch))
-          (fits_other i d h at e (t.0, parts.0) unkept)
+          subst (λ b. Fits profile r x reads changes h.state.served.items b) (sym (byte_more (effects r) x order initial i d (Some e) at touch))
+          (fits_other i d h at parts.1 e (t.0, parts.0) unkept)
 
-  step : (i : ℕ) (d : Entry) → IsRight r initial x reads order → Holds r initial x reads changes states order i → slice_get order i ≡ Some d
-      → Holds r initial x reads changes states order (suc i)
+  step : (i : ℕ) (d : Entry) → IsRight r initial x reads order → Holds profile r initial x reads changes states order i → slice_get order i ≡ Some d
+      → Holds profile r initial x reads changes states order (suc i)
   step i d right h at = elim (cases_Bool (in_part d.part x)) [
     | inl here ↦ elim (cases_Bool (has changes d.request)) [
       | inl kept ↦ after_change i d h at kept here
@@ -274,7 +275,7 @@ module _ (r : Report) (initial : ℕ → Option ℕ) (x : ℕ) (reads changes : 
     | inr away ↦ after_other i d h at (λ q p. both_ways (in_part d.part x) away p)
   ]
 
-  at_each : IsRight r initial x reads order → (i : ℕ) → i ≤ length order → Holds r initial x reads changes states order i
+  at_each : IsRight r initial x reads order → (i : ℕ) → i ≤ length order → Holds profile r initial x reads changes states order i
   at_each right zero l =
       let b = s.begins in record {
         place = b.0;
@@ -282,7 +283,7 @@ module _ (r : Report) (initial : ℕ → Option ℕ) (x : ℕ) (reads changes : 
         is_state = b.2;
         changed = λ c q. b.3.0 c q ∙ sym (none_served order c x);
         read = λ k q t. absurd (both_ways (is_served (take zero order) k x) (none_served order k x) t);
-        fits = subst (λ o. Fits r x reads changes b.1.served.items o) (byte_at_first (effects r) order initial x) b.3.1;
+        fits = subst (λ o. Fits profile r x reads changes b.1.served.items o) (byte_at_first (effects r) order initial x) b.3.1;
       }
   at_each right (suc i) l = elim (slice_get_cases order i).1 [
     | inl e ↦ step i e.0 right (at_each right i (omega arith)) e.2
@@ -294,12 +295,12 @@ module _ (r : Report) (initial : ℕ → Option ℕ) (x : ℕ) (reads changes : 
       let h = at_each right (length order) (omega arith) in
       let u = s.ends h.place h.state h.is_state in
       let k = s.are_reads u.0 u.1 in
-      let served : IsTrue (is_served order u.0 x) = kept_is_served u.0 k.answered.0 (or_left (has reads u.0) (has changes u.0) u.1) k.answered.1 in
+      let served : IsTrue (is_served order u.0 x) = kept_is_served u.0 k.is_due.0 (or_left (has reads u.0) (has changes u.0) u.1) k.is_due.1 in
       both_ways (has h.state.served.items u.0) u.2 (h.read u.0 u.1 (ap (λ es. is_served es u.0 x) (take-length order) ∙ served))
 
-pub refuted : (r : Report) (initial : ℕ → Option ℕ) (x : ℕ) (reads changes : List ℕ) (states : List State)
-    → IsRefutation r initial x reads changes states → IsRefutedBy r initial x reads
-refuted r initial x reads changes states s order whole right = contradiction r initial x reads changes states s order whole right
+pub refuted : (profile : Profile) (r : Report) (initial : ℕ → Option ℕ) (x : ℕ) (reads changes : List ℕ) (states : List State)
+    → IsRefutation profile r initial x reads changes states → IsRefutedBy profile r initial x reads
+refuted profile r initial x reads changes states s order whole right = contradiction profile r initial x reads changes states s order whole right
 
 pub refuted_is_unexplained : ExplainedPasses → RefutedIsUnexplained
 refuted_is_unexplained only profile items initial x reads is_run refuted order explained =

@@ -5,15 +5,16 @@ use Rattle.std.proofs.lemmas.Option.{slice_get_within}
 use Rattle.nbd_wire.specs.declared.commands.TheConstants as commands
 use Rattle.nbd_wire.specs.declared.entry.Entry.{Entry}
 use Rattle.nbd_wire.specs.declared.entry.Part.{Part}
+use Rattle.nbd_wire.specs.declared.profile.Profile.{Profile}
 use Rattle.nbd_wire.specs.protocol.Entries.{IsAgain, IsMisplaced, in_part, is_served}
 use Rattle.nbd_wire.specs.protocol.ExportBytes.{Effect, effect, effect_if, effects, touches}
 use Rattle.nbd_wire.specs.protocol.Operations.{Exporting, has_range, is_change}
 use Rattle.nbd_wire.specs.protocol.Pieces.{is_in}
-use Rattle.nbd_wire.specs.protocol.Reports.{Asked, Report, asked_at, inside_asked, inside_in, known_in}
+use Rattle.nbd_wire.specs.protocol.Reports.{Asked, Report, asked_at, inside_asked, due_in, inside_in}
 use Rattle.nbd_wire.specs.protocol.Verdicts.{IsFaultless}
 use Rattle.nbd_order.specs.internal.Refutations.{IsBefore}
 use Rattle.nbd_order.proofs.OffsetLemmas.{open_to}
-use Rattle.nbd_order.proofs.TouchLemmas.{from_taken, is_served_by, names_by, number_at, served_at, taken, within}
+use Rattle.nbd_order.proofs.TouchLemmas.{from_taken, is_served_by, is_served_from, names_by, served_at, taken}
 
 -- a change has a range
 ranged : (command : ℕ) → is_change command ≡ true → has_range command ≡ true
@@ -68,42 +69,35 @@ numbered (suc k) asked e q = go (slice_get asked k) refl q
     go None h q = absurd (cc)
     go (Some a) h q = (let l : k < length asked = slice_get_within asked k a h in (omega arith, omega arith))
 
-module _ (r : Report) (order : List Entry) (whole : IsFaultless r order) where
-  -- what surely comes before stands before
-  pub stands_before : (a b : ℕ) (d e : Entry) → slice_get order a ≡ Some d → slice_get order b ≡ Some e → IsBefore r d.request e.request → a < b
-  stands_before a b d e at bt h = elim (cases_lt a b) [
+module _ (profile : Profile) (r : Report) (order : List Entry) (whole : IsFaultless profile r order) where
+  -- what surely comes before at an offset that it serves stands before
+  pub stands_before : (a b x : ℕ) (d e : Entry) → slice_get order a ≡ Some d → slice_get order b ≡ Some e → IsTrue (in_part d.part x) → IsBefore profile r x d.request e.request → a < b
+  stands_before a b x d e at bt here h = elim (cases_lt a b) [
     | inl l ↦ l
-    | inr l ↦ absurd (whole.none_late b (
-      a,
-      h.0,
-      l,
-      within order a d at,
-      ap (known_in r) (number_at order a d at) ∙ h.1,
-      subst (λ n. h.0 < n) (sym (number_at order b e bt)) h.2,
-    ))
+    | inr l ↦ absurd (whole.none_late b (e, d.request, x, h.0, bt, is_served_from order d.request x b a d l at refl here, h.1, h.2))
   ]
 
-  -- a request is served at an offset inside it, once a reply to it began
-  pub is_reached : (p x n : ℕ) (e : Effect) → effects r p ≡ Some e → known_in r p ≡ Some n → IsTrue (inside_in r p x) → IsTrue (is_served order p x)
-  is_reached p x n e is known here =
+  -- a request is served at an offset inside it, once it was due there
+  pub is_reached : (p x n : ℕ) (e : Effect) → effects r p ≡ Some e → due_in profile r p x ≡ Some n → IsTrue (inside_in r p x) → IsTrue (is_served order p x)
+  is_reached p x n e is due here =
       let num = numbered p r.asked e is in
-      (whole.served p (num.0, num.1, (n, known))).covered x here
+      (whole.served p x (num.0, num.1, (n, due))).covered here
 
   -- what surely comes before an entry, and is served at x, is served there before it
-  pub served_before : (i p x : ℕ) (d : Entry) → slice_get order i ≡ Some d → IsTrue (is_served order p x) → IsBefore r p d.request
+  pub served_before : (i p x : ℕ) (d : Entry) → slice_get order i ≡ Some d → IsTrue (is_served order p x) → IsBefore profile r x p d.request
       → is_served (take i order) p x ≡ true
   served_before i p x d at reached before =
       let s = served_at order p x reached in
-      let l : s.0 < i = stands_before s.0 i s.1 d s.2 at (subst (λ q. IsBefore r q d.request) (sym s.3) before) in
+      let l : s.0 < i = stands_before s.0 i x s.1 d s.2 at s.4 (subst (λ q. IsBefore profile r x q d.request) (sym s.3) before) in
       is_served_by (take i order) p x s.0 s.1 (taken order i s.0 s.1 l s.2) s.3 s.4
 
-  -- what an entry's request surely comes before is not served before it
-  pub not_served_before : (i o x : ℕ) (d : Entry) → slice_get order i ≡ Some d → IsBefore r d.request o → is_served (take i order) o x ≡ false
-  not_served_before i o x d at before = false_from_ne_true (is_served (take i order) o x) λ h.
+  -- what an entry's request surely comes before, at an offset that it serves, is not served before it
+  pub not_served_before : (i o x : ℕ) (d : Entry) → slice_get order i ≡ Some d → in_part d.part x ≡ true → IsBefore profile r x d.request o → is_served (take i order) o x ≡ false
+  not_served_before i o x d at here before = false_from_ne_true (is_served (take i order) o x) λ h.
       let s = served_at (take i order) o x h in
       let f = from_taken order i s.0 s.1 s.2 in
       let l : s.0 < i = f.0 in
-      let g : i < s.0 = stands_before i s.0 d s.1 at f.1 (subst (λ q. IsBefore r d.request q) (sym s.3) before) in
+      let g : i < s.0 = stands_before i s.0 x d s.1 at f.1 here (subst (λ q. IsBefore profile r x d.request q) (sym s.3) before) in
       omega arith
 
   -- an offset of a request is served once

@@ -2,6 +2,7 @@
 use Rattle.std.proofs.Common.{◌≡◌, ℕ, ◌+◌, ◌<◌, ◌≤◌, inl, inr, List, length, refl, sym, ◌∙◌, ap, subst, Option, Some, get_or, arith, slice_get, nat_lt, true, false}
 use Rattle.std.proofs.lemmas.Bool.{cases_eq, ltb-true}
 use Rattle.std.proofs.lemmas.Option.{get_or_from_slice_get, slice_get_read, slice_get_within}
+use Rattle.nbd_wire.specs.declared.profile.Profile.{Profile}
 use Rattle.nbd_wire.specs.protocol.ExportBytes.{Effect, effect, effect_byte, effect_if, effects}
 use Rattle.nbd_wire.specs.protocol.Reports.{Asked, Report, asked_at}
 use Rattle.nbd_order.specs.Unexplained.{has}
@@ -20,16 +21,16 @@ pub none_served : (changes served cs ss : List ℕ) → cs ≡ changes → ss �
     → (c : ℕ) → has changes c ≡ true → has served c ≡ false
 none_served changes served cs ss p q h c kept = ap (λ ns. has ns c) (sym q) ∙ h c (ap (λ ns. has ns c) p ∙ kept)
 
-pub fits_of : (r : Report) (x : ℕ) (reads changes ss served : List ℕ) (a b : Option ℕ) → ss ≡ served → a ≡ b → Fits r x reads changes ss a → Fits r x reads changes served b
-fits_of r x reads changes ss served a b p q h = subst (λ o. Fits r x reads changes served o) q (subst (λ ns. Fits r x reads changes ns a) p h)
+pub fits_of : (profile : Profile) (r : Report) (x : ℕ) (reads changes ss served : List ℕ) (a b : Option ℕ) → ss ≡ served → a ≡ b → Fits profile r x reads changes ss a → Fits profile r x reads changes served b
+fits_of profile r x reads changes ss served a b p q h = subst (λ o. Fits profile r x reads changes served o) q (subst (λ ns. Fits profile r x reads changes ns a) p h)
 
-pub leads_of : (r : Report) (x : ℕ) (reads changes served : List ℕ) (c : ℕ) (ns next : List ℕ) → ns ≡ next
-    → Leads r x reads changes served c ns → Leads r x reads changes served c next
-leads_of r x reads changes served c ns next q h = subst (λ ms. Leads r x reads changes served c ms) q h
+pub leads_of : (profile : Profile) (r : Report) (x : ℕ) (reads changes served : List ℕ) (c : ℕ) (ns next : List ℕ) → ns ≡ next
+    → Leads profile r x reads changes served c ns → Leads profile r x reads changes served c next
+leads_of profile r x reads changes served c ns next q h = subst (λ ms. Leads profile r x reads changes served c ms) q h
 
-pub steps_of : (r : Report) (x : ℕ) (reads changes : List ℕ) (states : List State) (ss served : List ℕ) → ss ≡ served
-    → AreSteps r x reads changes states ss → AreSteps r x reads changes states served
-steps_of r x reads changes states ss served p h = subst (λ ns. AreSteps r x reads changes states ns) p h
+pub steps_of : (profile : Profile) (r : Report) (x : ℕ) (reads changes : List ℕ) (states : List State) (ss served : List ℕ) → ss ≡ served
+    → AreSteps profile r x reads changes states ss → AreSteps profile r x reads changes states served
+steps_of profile r x reads changes states ss served p h = subst (λ ns. AreSteps profile r x reads changes states ns) p h
 
 -- what is found by a place in a list
 pub found_in : {X : Type 0} (xs items : List X) (i : ℕ) (x : X) → items ≡ xs → i < length items → x ≡ get_or items i x → slice_get xs i ≡ Some x

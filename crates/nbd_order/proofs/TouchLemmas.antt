@@ -1,20 +1,9 @@
 -- What the first entries of an order serve at an offset, and the byte that they leave there.
-use Rattle.std.proofs.Common.{◌≡◌, ℕ, zero, suc, ◌<◌, inl, inr, List, [], ◌∷◌, length, refl, sym, ◌∙◌, ap, Option, Some, None, Bool, true, false, ◌&&◌, ◌||◌, ◌==◌, arith, slice_get, slice_index, take, IsTrue}
+use Rattle.std.proofs.Common.{◌≡◌, ℕ, zero, suc, ◌<◌, ◌≤◌, inl, inr, List, [], ◌∷◌, refl, sym, ◌∙◌, ap, Option, Some, None, Bool, true, false, ◌&&◌, ◌||◌, ◌==◌, arith, drop, slice_get, take, IsTrue}
 use Rattle.std.proofs.lemmas.Bool.{and_from, eq-eqb, eqb-true}
 use Rattle.nbd_wire.specs.declared.entry.Entry.{Entry}
-use Rattle.nbd_wire.specs.protocol.Entries.{Names, in_part, is_served, numbers}
+use Rattle.nbd_wire.specs.protocol.Entries.{Names, in_part, is_served}
 use Rattle.nbd_wire.specs.protocol.ExportBytes.{Effect, byte_before, byte_or_start, last_touch, later, touch_of}
-
--- the number that an entry names, by its index
-pub number_at : (order : List Entry) (i : ℕ) (e : Entry) → slice_get order i ≡ Some e → slice_index (numbers order) i ≡ e.request
-number_at [] i e at = absurd (cc)
-number_at (d ∷ order) zero e at = (let q : d ≡ e = cc in ap (λ (y : Entry). y.request) q)
-number_at (d ∷ order) (suc i) e at = number_at order i e at
-
-pub within : (order : List Entry) (i : ℕ) (e : Entry) → slice_get order i ≡ Some e → i < length (numbers order)
-within [] i e at = absurd (cc)
-within (d ∷ order) zero e at = omega arith
-within (d ∷ order) (suc i) e at = (let h : i < length (numbers order) = within order i e at in omega arith)
 
 -- an entry that serves offset x of request k
 abbrev pub ServesAt : List Entry → (k x : ℕ) → Type 0
@@ -41,6 +30,13 @@ is_served_by (d ∷ es) k x (suc j) e at named part = go ((d.request == k) && in
     go : (a : Bool) → is_served es k x ≡ true → (a || is_served es k x) ≡ true
     go true h = refl
     go false h = h
+
+-- the same, of the entries from one on that stands no later
+pub is_served_from : (es : List Entry) (k x i j : ℕ) (e : Entry) → i ≤ j → slice_get es j ≡ Some e → e.request ≡ k → IsTrue (in_part e.part x) → is_served (drop i es) k x ≡ true
+is_served_from [] k x i j e l at named part = absurd (cc)
+is_served_from (d ∷ es) k x zero j e l at named part = is_served_by (d ∷ es) k x j e at named part
+is_served_from (d ∷ es) k x (suc i) zero e l at named part = absurd (omega arith)
+is_served_from (d ∷ es) k x (suc i) (suc j) e l at named part = is_served_from es k x i j e (omega arith) at named part
 
 pub names_by : (es : List Entry) (k j : ℕ) (e : Entry) → slice_get es j ≡ Some e → e.request ≡ k → Names es k
 names_by [] k j e at named = absurd (cc)

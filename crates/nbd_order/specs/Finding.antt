@@ -38,18 +38,19 @@ IsWanted wanted NoneWhole = wanted ≡ Whole
 IsWanted wanted (GaveUp request offset reason) = Unit {0}
 
 -- the order of arrival has a fault or a wrong byte
-abbrev pub FailsArrival : Report → Start → Type 0
-FailsArrival r initial = Passes r (arrival (request_count r)) initial → ⊥
+abbrev pub FailsArrival : Profile → Report → Start → Type 0
+FailsArrival profile r initial = Passes profile r (arrival (request_count r)) initial → ⊥
 
--- what is said of a report: an order without a fault and without a wrong byte, READs or BLOCK_STATUS of which one has
--- a wrong byte in each order without a fault, or an image of another size; of every other answer only that the order
--- of arrival does not explain it
-abbrev pub IsFound : Report → Start → Found → Type 0
-IsFound r initial (Order order) = Passes r order.items initial
-IsFound r initial (Unexplained refutation) = IsRefutedBy r (start_byte initial) refutation.offset refutation.reads.items
-IsFound r initial (Image image size) = IsOtherSize r.export initial image size
-IsFound r initial NoneWhole = FailsArrival r initial
-IsFound r initial (GaveUp request offset reason) = FailsArrival r initial
+-- what is said of a report in a profile: an order without a fault and without a wrong byte, READs or BLOCK_STATUS of
+-- which one has a wrong byte in each order without a fault, or an image of another size; of every other answer only
+-- that the order of arrival does not explain it
+abbrev pub IsFound : Profile → Report → Start → Found → Type 0
+IsFound profile r initial (Order order) = Passes profile r order.items initial
+IsFound profile r initial (Unexplained refutation) =
+    IsRefutedBy profile r (start_byte initial) refutation.offset refutation.reads.items
+IsFound profile r initial (Image image size) = IsOtherSize r.export initial image size
+IsFound profile r initial NoneWhole = FailsArrival profile r initial
+IsFound profile r initial (GaveUp request offset reason) = FailsArrival profile r initial
 
 -- the order of arrival does not explain the bytes of a run of the profile
 abbrev pub IsUnexplainedByArrival : Profile → List Item → Start → Type 0
@@ -65,7 +66,7 @@ Says profile items initial (Image image size) = IsUnexplained profile (pairs ite
 Says profile items initial NoneWhole = IsUnexplainedByArrival profile items initial
 Says profile items initial (GaveUp request offset reason) = IsUnexplainedByArrival profile items initial
 
--- what is found of the report of a run of any profile is so of its bytes
+-- what is found of the report of a run of a profile, in it, is so of its bytes
 abbrev pub FoundIsSo : Type 0
 FoundIsSo = (profile : Profile) (items : List Item) (initial : Start) (found : Found) → IsRunOf profile items
-    → IsFound (report items) initial found → Says profile items initial found
+    → IsFound profile (report items) initial found → Says profile items initial found

@@ -19,15 +19,15 @@ has numbers k = list_any (λ n. n == k) numbers
 abbrev pub IsUnexplained : Profile → List Pair → Start → Type 0
 IsUnexplained profile capture initial = (order : List Entry) → IsExplainedOf profile capture order initial → ⊥
 
--- each order without a fault has, against these bytes at the start, a wrong byte at x of one of these READs, or of one
--- of these BLOCK_STATUS a false zero
-abbrev pub IsRefutedBy : Report → (ℕ → Option ℕ) → (x : ℕ) → List ℕ → Type 0
-IsRefutedBy r initial x reads = (order : List Entry) → IsFaultless r order
+-- each order without a fault in the profile has, against these bytes at the start, a wrong byte at x of one of these
+-- READs, or of one of these BLOCK_STATUS a false zero
+abbrev pub IsRefutedBy : Profile → Report → (ℕ → Option ℕ) → (x : ℕ) → List ℕ → Type 0
+IsRefutedBy profile r initial x reads = (order : List Entry) → IsFaultless profile r order
     → ((i : ℕ) (e : Entry) → slice_get order i ≡ Some e → has reads e.request ≡ true
     → IsWrong (effects r) order initial i x → ⊥) → ⊥
 
--- where the report of a run of any profile is refuted by some READs, no order explains its bytes
+-- where the report of a run of a profile is refuted by some READs in it, no order explains its bytes
 abbrev pub RefutedIsUnexplained : Type 0
 RefutedIsUnexplained = (profile : Profile) (items : List Item) (initial : Start) (x : ℕ) (reads : List ℕ)
-    → IsRunOf profile items → IsRefutedBy (report items) (start_byte initial) x reads
+    → IsRunOf profile items → IsRefutedBy profile (report items) (start_byte initial) x reads
     → IsUnexplained profile (pairs items) initial

@@ -2,7 +2,6 @@
 
 ghost use Rattle.std.specs.Prelude.{◌≡◌, List, IfOk};
 ghost use Rattle.nbd_judge.specs.Beginnings.{initial_of};
-ghost use Rattle.nbd_wire.specs.declared.profile.Profile.{Profile};
 ghost use Rattle.nbd_wire.specs.protocol.Marks.{Item};
 ghost use Rattle.nbd_wire.specs.protocol.Reports.{report};
 ghost use Rattle.nbd_wire.specs.protocol.Rules.{IsRunOf};
@@ -19,7 +18,7 @@ use nbd_export::Start;
 use nbd_judge::Verdict;
 use nbd_search::{Limits, Place, Progress, Proposal, Reason, propose};
 use nbd_session::Transcript;
-use nbd_wire::Entry;
+use nbd_wire::{Entry, Profile};
 use std::alloc::{AllocError, Global};
 
 /// Which orders are looked for.
@@ -78,30 +77,31 @@ pub enum Found {
     },
 }
 
-/// Looks for an order that explains the session from this start. Tried are the order of arrival and then the one that the search
-/// proposes: each is judged by the judge of `check` before it is handed out, and so is a refutation tested. An `Err` says that
-/// memory ran out. A long search says on `progress` how far it is.
+/// Looks for an order that explains the session of the profile from this start. Tried are the order of arrival and then the one that
+/// the search proposes: each is judged by the judge of `check` before it is handed out, and so is a refutation tested. An `Err` says
+/// that memory ran out. A long search says on `progress` how far it is.
 pub fn find(
     alloc: Global,
+    profile: Profile,
     transcript: &Transcript,
     start: &Start,
     scope: Scope,
     progress: &mut Progress,
 ) -> Result<Found, AllocError>
-    ensures found { IfOk result (IsFound transcript.now (initial_of start.now)) }
+    ensures found { IfOk result (IsFound profile transcript.now (initial_of start.now)) }
     ensures wanted { IfOk result (IsWanted scope.wanted) }
-    // What is found is so of each run with this report, of any profile.
-    ensures says { IfOk result (λ f. (profile : Profile) (items : List Item) → IsRunOf profile items →
+    // What is found is so of each run of the profile with this report.
+    ensures says { IfOk result (λ f. (items : List Item) → IsRunOf profile items →
         report items ≡ transcript.now → Says profile items (initial_of start.now) f) }
 {
     laws::found_is_so();
     let arrival = by_arrival(alloc, transcript.count())?;
-    match verdict_of(alloc, transcript, &arrival, start)? {
+    match verdict_of(alloc, profile, transcript, &arrival, start)? {
         Verdict::Yes { .. } => Ok(Found::Order(arrival)),
         Verdict::Image { image, size } => Ok(Found::Image { image, size }),
         verdict => {
             let wrong = place_of(&verdict);
-            searched(alloc, transcript, start, scope, wrong, progress)
+            searched(alloc, profile, transcript, start, scope, wrong, progress)
         }
     }
 }
@@ -109,18 +109,35 @@ pub fn find(
 // What the search finds, where the order of arrival has this wrong byte.
 fn searched(
     alloc: Global,
+    profile: Profile,
     transcript: &Transcript,
     start: &Start,
     scope: Scope,
     wrong: Place,
     progress: &mut Progress,
 ) -> Result<Found, AllocError>
-    requires { Passes transcript.now (arrival (request_count transcript.now)) (initial_of start.now) → ⊥ }
-    ensures found { IfOk result (IsFound transcript.now (initial_of start.now)) }
+    requires { Passes profile transcript.now (arrival (request_count transcript.now)) (initial_of start.now) → ⊥ }
+    ensures found { IfOk result (IsFound profile transcript.now (initial_of start.now)) }
     ensures wanted { IfOk result (IsWanted scope.wanted) }
 {
-    match propose(alloc, transcript, start, scope.limits, wrong, progress)? {
-        Proposal::Order(order) => judged(alloc, transcript, start, scope.wanted, wrong, order),
+    match propose(
+        alloc,
+        profile,
+        transcript,
+        start,
+        scope.limits,
+        wrong,
+        progress,
+    )? {
+        Proposal::Order(order) => judged(
+            alloc,
+            profile,
+            transcript,
+            start,
+            scope.wanted,
+            wrong,
+            order,
+        ),
         Proposal::Contest(offset, reads, changes) => {
             let refutation = Refutation {
                 offset,
@@ -128,7 +145,7 @@ fn searched(
                 changes,
                 states: Vec::new(alloc),
             };
-            tested(alloc, transcript, start, wrong, refutation)
+            tested(alloc, profile, transcript, start, wrong, refutation)
         }
         Proposal::GaveUp(at, reason) => Ok(gave_up(at, reason)),
     }
@@ -137,17 +154,18 @@ fn searched(
 // A proposed order, where it explains the session and is one of those that are wanted.
 fn judged(
     alloc: Global,
+    profile: Profile,
     transcript: &Transcript,
     start: &Start,
     wanted: Wanted,
     wrong: Place,
     order: Vec<Entry>,
 ) -> Result<Found, AllocError>
-    requires { Passes transcript.now (arrival (request_count transcript.now)) (initial_of start.now) → ⊥ }
-    ensures found { IfOk result (IsFound transcript.now (initial_of start.now)) }
+    requires { Passes profile transcript.now (arrival (request_count transcript.now)) (initial_of start.now) → ⊥ }
+    ensures found { IfOk result (IsFound profile transcript.now (initial_of start.now)) }
     ensures wanted { IfOk result (IsWanted wanted) }
 {
-    match verdict_of(alloc, transcript, &order, start)? {
+    match verdict_of(alloc, profile, transcript, &order, start)? {
         Verdict::Yes { .. } => Ok(if wanted == Wanted::Whole && !are_whole(&order) {
             Found::NoneWhole
         } else {
@@ -160,19 +178,20 @@ fn judged(
 // The refutation, with all states that its requests can come to, where it is one.
 fn tested(
     alloc: Global,
+    profile: Profile,
     transcript: &Transcript,
     start: &Start,
     wrong: Place,
     mut refutation: Refutation,
 ) -> Result<Found, AllocError>
-    requires { Passes transcript.now (arrival (request_count transcript.now)) (initial_of start.now) → ⊥ }
-    ensures found { IfOk result (IsFound transcript.now (initial_of start.now)) }
+    requires { Passes profile transcript.now (arrival (request_count transcript.now)) (initial_of start.now) → ⊥ }
+    ensures found { IfOk result (IsFound profile transcript.now (initial_of start.now)) }
     ensures wanted { (wanted : Wanted) → IfOk result (IsWanted wanted) }
 {
-    if refutation.fill(alloc, transcript, start) {
+    if refutation.fill(alloc, profile, transcript, start) {
         return Err(AllocError);
     }
-    Ok(if is_refuted(transcript, start, &refutation) {
+    Ok(if is_refuted(profile, transcript, start, &refutation) {
         Found::Unexplained(refutation)
     } else if refutation.states.len() < MOST_STATES {
         gave_up(wrong, Reason::Mistake)

@@ -3,7 +3,6 @@
 ghost use Rattle.std.specs.Prelude.{◌≡◌, ◌≤◌, [], All, IfOk, MatchBool, None, OnErr, OnOk, vec_capacity, vec_len};
 ghost use Rattle.nbd_judge.specs.Beginnings.{initial_of};
 ghost use Rattle.nbd_judge.specs.Verdicts.{IsVerdict};
-ghost use Rattle.nbd_wire.specs.declared.profile.Profile.TheVariants.{Wide};
 ghost use Rattle.nbd_order.specs.Finding.{AreWhole, arrival};
 
 use nbd_export::Start;
@@ -37,18 +36,18 @@ fn push_arrival(order: &mut Vec<Entry>, count: u64) -> Result<(), AllocError>
     Ok(())
 }
 
-/// The verdict of `check` on an order from this start, in the profile `Wide`; in `Base` a yes may have another count of requests that
-/// a client should not have sent.
+/// The verdict of `check` on an order from this start, in the profile.
 pub fn verdict_of(
     alloc: Global,
+    profile: Profile,
     transcript: &Transcript,
     order: &[Entry],
     start: &Start,
 ) -> Result<Verdict, AllocError>
-    ensures { IfOk result (IsVerdict Wide transcript.now order.now (initial_of start.now)) }
+    ensures { IfOk result (IsVerdict profile transcript.now order.now (initial_of start.now)) }
 {
     let start = copy_of(alloc, start)?;
-    verdict_on(alloc, Profile::Wide, transcript, order, start)
+    verdict_on(alloc, profile, transcript, order, start)
 }
 
 /// The byte that a verdict on an order tells. Of an order with a fault that is the faulty entry, at offset 0.

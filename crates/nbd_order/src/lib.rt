@@ -1,6 +1,7 @@
 //! An order of service that explains a session, or the proof that none does.
 #![tactic(auto)]
 
+mod due;
 pub mod finding;
 mod judging;
 pub mod laws;

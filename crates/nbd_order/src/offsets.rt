@@ -10,25 +10,26 @@ ghost use Rattle.nbd_wire.specs.protocol.Pieces.{byte_at, holds, is_in, piece_by
 ghost use Rattle.nbd_order.specs.internal.Offsets.{differs, gives_byte, reads_at};
 ghost use Rattle.nbd_order.specs.internal.Refutations.{IsBefore, IsChangeAt, IsOther, IsReadAt};
 
+use crate::due::{due_at, is_below};
 use nbd_export::Start;
 use nbd_session::{Asked, Transcript};
 use nbd_state::byte_read;
-use nbd_wire::commands;
+use nbd_wire::{Profile, commands};
 
-/// Whether request `k` is a READ, or a BLOCK_STATUS that calls the offset zero, which succeeded, with the offset inside it, and to
-/// which a reply began.
-pub fn is_read_at(transcript: &Transcript, k: u64, offset: u64) -> bool
-    ensures { IsTrue result → IsReadAt transcript.now offset k }
+/// Whether request `k` is a READ, or a BLOCK_STATUS that calls the offset zero, which succeeded, with the offset inside it, and
+/// which was due there.
+pub fn is_read_at(profile: Profile, transcript: &Transcript, k: u64, offset: u64) -> bool
+    ensures { IsTrue result → IsReadAt profile transcript.now offset k }
 {
     match transcript.asked(k) {
-        Some(one) => reads_at(transcript, one, offset),
+        Some(one) => reads_at(profile, transcript, one, offset),
         None => false,
     }
 }
 
 // Whether the request is such a one.
-fn reads_at(transcript: &Transcript, one: &Asked, offset: u64) -> bool
-    ensures { result ≡ reads_at transcript.now.export (report_of_request one.now) offset }
+fn reads_at(profile: Profile, transcript: &Transcript, one: &Asked, offset: u64) -> bool
+    ensures { result ≡ reads_at profile transcript.now.export (report_of_request one.now) offset }
 {
     let size = match transcript.export() {
         Some((size, _)) => size,
@@ -36,7 +37,7 @@ fn reads_at(transcript: &Transcript, one: &Asked, offset: u64) -> bool
     };
     gives_byte(one, offset)
         && one.succeeded()
-        && one.known_at.is_some()
+        && due_at(profile, transcript, one, offset).is_some()
         && one.has(offset)
         && offset < size
 }
@@ -71,15 +72,17 @@ pub fn is_other(transcript: &Transcript, k: u64, offset: u64, byte: Option<u8>) 
     }
 }
 
-/// Whether each entry of request `j` surely stands before each of request `k`.
-pub fn is_before(transcript: &Transcript, j: u64, k: u64) -> bool
-    ensures { IsTrue result → IsBefore transcript.now j k }
+/// Whether each entry that serves the offset of request `j` surely stands before each of request `k`. Its messages are gone through
+/// only where `k` completed between the first and the last one of them.
+pub fn is_before(profile: Profile, transcript: &Transcript, offset: u64, j: u64, k: u64) -> bool
+    ensures { IsTrue result → IsBefore profile transcript.now offset j k }
 {
-    let Some(one) = transcript.asked(j) else {
-        return false;
-    };
-    match one.known_at {
-        Some(known) => known < k,
+    match transcript.asked(j) {
+        Some(one) => {
+            is_below(one.known_at, k)
+                && (is_below(one.ended_at, k)
+                    || is_below(due_at(profile, transcript, one, offset), k))
+        }
         None => false,
     }
 }

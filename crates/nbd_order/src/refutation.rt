@@ -4,6 +4,7 @@ use crate::offsets::start_byte;
 use nbd_export::Start;
 use nbd_search::keep;
 use nbd_session::Transcript;
+use nbd_wire::Profile;
 use std::alloc::Global;
 
 /// The most states that a refutation may have.
@@ -33,25 +34,38 @@ pub struct State {
 
 impl Refutation {
     /// Adds all states that its requests can come to, or the most that it may have; whether memory was refused. It is still to be tested.
-    pub(crate) fn fill(&mut self, alloc: Global, transcript: &Transcript, start: &Start) -> bool {
+    pub(crate) fn fill(
+        &mut self,
+        alloc: Global,
+        profile: Profile,
+        transcript: &Transcript,
+        start: &Start,
+    ) -> bool {
         let (byte, mut is_lost) = (start_byte(start, self.offset), false);
-        self.add(transcript, Vec::new(alloc), byte, &mut is_lost);
+        self.add(profile, transcript, Vec::new(alloc), byte, &mut is_lost);
         for at in 0..MOST_STATES {
             for turn in 0..self.changes.len() {
-                self.lead(transcript, at, turn, &mut is_lost);
+                self.lead(profile, transcript, at, turn, &mut is_lost);
             }
         }
         is_lost
     }
 
     // Adds the state that a change leads to, where it can be served next and there is no such state: by their places.
-    fn lead(&mut self, transcript: &Transcript, at: usize, turn: usize, is_lost: &mut bool) {
+    fn lead(
+        &mut self,
+        profile: Profile,
+        transcript: &Transcript,
+        at: usize,
+        turn: usize,
+        is_lost: &mut bool,
+    ) {
         if at >= self.states.len() || turn >= self.changes.len() {
             return;
         }
         let change = self.changes[turn];
         let served = &self.states[at].served;
-        if self.is_step(transcript, served, change) {
+        if self.is_step(profile, transcript, served, change) {
             return;
         }
         let byte = match transcript.asked(change) {
@@ -61,7 +75,7 @@ impl Refutation {
         match served.clone() {
             Ok(mut more) => {
                 keep(&mut more, change, is_lost);
-                self.add(transcript, more, byte, is_lost);
+                self.add(profile, transcript, more, byte, is_lost);
             }
             Err(_) => *is_lost = true,
         }
@@ -70,13 +84,14 @@ impl Refutation {
     // Adds the state in which this was served and then each READ that can be, where the offset holds this byte.
     fn add(
         &mut self,
+        profile: Profile,
         transcript: &Transcript,
         mut served: Vec<u64>,
         byte: Option<u8>,
         is_lost: &mut bool,
     ) {
         for k in &self.reads {
-            if !self.is_fitting(transcript, &served, byte, *k) {
+            if !self.is_fitting(profile, transcript, &served, byte, *k) {
                 keep(&mut served, *k, is_lost);
             }
         }

@@ -11,40 +11,49 @@ use crate::refutation::Refutation;
 use crate::states::has;
 use nbd_export::Start;
 use nbd_session::Transcript;
+use nbd_wire::Profile;
 
-/// Whether the refutation shows that each order without a fault has a wrong byte of one of its READs at its offset, from this start.
-/// It takes one pass over the requests.
-pub fn is_refuted(transcript: &Transcript, start: &Start, refutation: &Refutation) -> bool
-    ensures { IsTrue result → IsRefutedBy transcript.now (explains.start_byte (initial_of start.now)) refutation.now.offset refutation.now.reads.items }
+/// Whether the refutation shows that each order without a fault in the profile has a wrong byte of one of its READs at its offset, from
+/// this start. It takes one pass over the requests.
+pub fn is_refuted(
+    profile: Profile,
+    transcript: &Transcript,
+    start: &Start,
+    refutation: &Refutation,
+) -> bool
+    ensures { IsTrue result → IsRefutedBy profile transcript.now (explains.start_byte (initial_of start.now)) refutation.now.offset refutation.now.reads.items }
 {
-    refutation.are_its_requests(transcript) && refutation.are_its_states(transcript, start)
+    refutation.are_its_requests(profile, transcript)
+        && refutation.are_its_states(profile, transcript, start)
 }
 
 impl Refutation {
     // Whether the READs and changes are such of the offset, and no other change is a help.
-    fn are_its_requests(&self, transcript: &Transcript) -> bool
-        ensures reads { let f = self.now in IsTrue result → (k : ℕ) → has f.reads.items k ≡ true → IsReadAt transcript.now f.offset k }
+    fn are_its_requests(&self, profile: Profile, transcript: &Transcript) -> bool
+        ensures reads { let f = self.now in IsTrue result → (k : ℕ) → has f.reads.items k ≡ true → IsReadAt profile transcript.now f.offset k }
         ensures changes { let f = self.now in IsTrue result → (c : ℕ) → has f.changes.items c ≡ true → IsChangeAt transcript.now f.offset c }
-        ensures others { let f = self.now in IsTrue result → (w : ℕ) → HelpsNone transcript.now f.offset f.reads.items f.changes.items w }
+        ensures others { let f = self.now in IsTrue result → (w : ℕ) → HelpsNone profile transcript.now f.offset f.reads.items f.changes.items w }
     {
-        self.are_reads(transcript) && self.are_changes(transcript) && self.covered(transcript)
+        self.are_reads(profile, transcript)
+            && self.are_changes(transcript)
+            && self.covered(profile, transcript)
     }
 
     // Whether the states begin as they have to, lead to one another, and end nowhere.
-    fn are_its_states(&self, transcript: &Transcript, start: &Start) -> bool
-        ensures beginning { let f = self.now in IsTrue result → HasBeginning transcript.now (explains.start_byte (initial_of start.now)) f.offset f.reads.items f.changes.items f.states.items }
-        ensures stepping { let f = self.now in IsTrue result → EachSteps transcript.now f.offset f.reads.items f.changes.items f.states.items }
+    fn are_its_states(&self, profile: Profile, transcript: &Transcript, start: &Start) -> bool
+        ensures beginning { let f = self.now in IsTrue result → HasBeginning profile transcript.now (explains.start_byte (initial_of start.now)) f.offset f.reads.items f.changes.items f.states.items }
+        ensures stepping { let f = self.now in IsTrue result → EachSteps profile transcript.now f.offset f.reads.items f.changes.items f.states.items }
         ensures ending { let f = self.now in IsTrue result → NoneIsLast f.reads.items f.states.items }
     {
-        self.begins(transcript, start) && self.steps(transcript) && self.ends()
+        self.begins(profile, transcript, start) && self.steps(profile, transcript) && self.ends()
     }
 
     // Whether each of the refutation's READs is one of its offset.
-    fn are_reads(&self, transcript: &Transcript) -> bool
-        ensures { let f = self.now in IsTrue result → (k : ℕ) → has f.reads.items k ≡ true → IsReadAt transcript.now f.offset k }
+    fn are_reads(&self, profile: Profile, transcript: &Transcript) -> bool
+        ensures { let f = self.now in IsTrue result → (k : ℕ) → has f.reads.items k ≡ true → IsReadAt profile transcript.now f.offset k }
     {
         for k in &self.reads {
-            if !is_read_at(transcript, *k, self.offset) {
+            if !is_read_at(profile, transcript, *k, self.offset) {
                 return false;
             }
         }
@@ -64,11 +73,11 @@ impl Refutation {
     }
 
     // Whether no other change of the offset is a help to one of the READs.
-    fn covered(&self, transcript: &Transcript) -> bool
-        ensures { let f = self.now in IsTrue result → (w : ℕ) → HelpsNone transcript.now f.offset f.reads.items f.changes.items w }
+    fn covered(&self, profile: Profile, transcript: &Transcript) -> bool
+        ensures { let f = self.now in IsTrue result → (w : ℕ) → HelpsNone profile transcript.now f.offset f.reads.items f.changes.items w }
     {
         for i in 0..transcript.count() {
-            if !self.helps_none(transcript, i + 1) {
+            if !self.helps_none(profile, transcript, i + 1) {
                 return false;
             }
         }
@@ -76,26 +85,32 @@ impl Refutation {
     }
 
     // Whether request w, if it is another change of the offset, is no help to any READ.
-    fn helps_none(&self, transcript: &Transcript, w: u64) -> bool
-        ensures { let f = self.now in IsTrue result → HelpsNone transcript.now f.offset f.reads.items f.changes.items w }
+    fn helps_none(&self, profile: Profile, transcript: &Transcript, w: u64) -> bool
+        ensures { let f = self.now in IsTrue result → HelpsNone profile transcript.now f.offset f.reads.items f.changes.items w }
     {
         match transcript.asked(w) {
             Some(one) => {
                 !one.touches(self.offset)
                     || has(&self.changes, w)
-                    || self.are_not_helped(transcript, w, one.byte_left(self.offset))
+                    || self.are_not_helped(profile, transcript, w, one.byte_left(self.offset))
             }
             None => true,
         }
     }
 
     // Whether the change w, which leaves this byte, is no help to any READ.
-    fn are_not_helped(&self, transcript: &Transcript, w: u64, byte: Option<u8>) -> bool
+    fn are_not_helped(
+        &self,
+        profile: Profile,
+        transcript: &Transcript,
+        w: u64,
+        byte: Option<u8>,
+    ) -> bool
         ensures { let f = self.now in IsTrue result
-            → (k : ℕ) → has f.reads.items k ≡ true → IsNoHelp transcript.now f.offset f.changes.items w byte k }
+            → (k : ℕ) → has f.reads.items k ≡ true → IsNoHelp profile transcript.now f.offset f.changes.items w byte k }
     {
         for k in &self.reads {
-            if !self.is_no_help(transcript, w, byte, *k) {
+            if !self.is_no_help(profile, transcript, w, byte, *k) {
                 return false;
             }
         }
@@ -103,21 +118,37 @@ impl Refutation {
     }
 
     // Whether it is no help to READ k.
-    fn is_no_help(&self, transcript: &Transcript, w: u64, byte: Option<u8>, k: u64) -> bool
-        ensures { let f = self.now in IsTrue result → IsNoHelp transcript.now f.offset f.changes.items w byte k }
+    fn is_no_help(
+        &self,
+        profile: Profile,
+        transcript: &Transcript,
+        w: u64,
+        byte: Option<u8>,
+        k: u64,
+    ) -> bool
+        ensures { let f = self.now in IsTrue result → IsNoHelp profile transcript.now f.offset f.changes.items w byte k }
     {
-        is_before(transcript, k, w)
-            || is_overwritten(transcript, &self.changes, w, k)
+        is_before(profile, transcript, self.offset, k, w)
+            || is_overwritten(profile, transcript, self.offset, &self.changes, w, k)
             || is_other(transcript, k, self.offset, byte)
     }
 }
 
-// Whether one of these changes surely comes between requests w and k.
-fn is_overwritten(transcript: &Transcript, changes: &[u64], w: u64, k: u64) -> bool
-    ensures { IsTrue result → (o : ℕ) × (has changes.now o ≡ true) × IsBefore transcript.now w o × IsBefore transcript.now o k }
+// Whether one of these changes surely comes between requests w and k at the offset.
+fn is_overwritten(
+    profile: Profile,
+    transcript: &Transcript,
+    offset: u64,
+    changes: &[u64],
+    w: u64,
+    k: u64,
+) -> bool
+    ensures { IsTrue result → (o : ℕ) × (has changes.now o ≡ true) × IsBefore profile transcript.now offset w o × IsBefore profile transcript.now offset o k }
 {
     for o in changes {
-        if is_before(transcript, w, *o) && is_before(transcript, *o, k) {
+        if is_before(profile, transcript, offset, w, *o)
+            && is_before(profile, transcript, offset, *o, k)
+        {
             return true;
         }
     }

@@ -10,6 +10,7 @@ use crate::offsets::{is_before, is_other, start_byte};
 use crate::refutation::Refutation;
 use nbd_export::Start;
 use nbd_session::Transcript;
+use nbd_wire::Profile;
 
 /// Whether k is one of these numbers.
 pub fn has(numbers: &[u64], k: u64) -> bool
@@ -20,25 +21,30 @@ pub fn has(numbers: &[u64], k: u64) -> bool
 
 impl Refutation {
     /// Whether the first state is one in which no change is served, and in which each READ fits the start.
-    pub(crate) fn begins(&self, transcript: &Transcript, start: &Start) -> bool
+    pub(crate) fn begins(&self, profile: Profile, transcript: &Transcript, start: &Start) -> bool
         ensures { let f = self.now in IsTrue result
-            → HasBeginning transcript.now (explains.start_byte (initial_of start.now)) f.offset f.reads.items f.changes.items f.states.items }
+            → HasBeginning profile transcript.now (explains.start_byte (initial_of start.now)) f.offset f.reads.items f.changes.items f.states.items }
     {
         match self.states.get(0) {
             Some(state) => {
                 has_none(&self.changes, &state.served)
-                    && self.fits(transcript, &state.served, start_byte(start, self.offset))
+                    && self.fits(
+                        profile,
+                        transcript,
+                        &state.served,
+                        start_byte(start, self.offset),
+                    )
             }
             None => false,
         }
     }
 
     /// Whether in each state each change is served, can't be served yet, or leads to a state.
-    pub(crate) fn steps(&self, transcript: &Transcript) -> bool
-        ensures { let f = self.now in IsTrue result → EachSteps transcript.now f.offset f.reads.items f.changes.items f.states.items }
+    pub(crate) fn steps(&self, profile: Profile, transcript: &Transcript) -> bool
+        ensures { let f = self.now in IsTrue result → EachSteps profile transcript.now f.offset f.reads.items f.changes.items f.states.items }
     {
         for state in &self.states {
-            if !self.are_steps(transcript, &state.served) {
+            if !self.are_steps(profile, transcript, &state.served) {
                 return false;
             }
         }
@@ -46,12 +52,12 @@ impl Refutation {
     }
 
     // The same of one state.
-    fn are_steps(&self, transcript: &Transcript, served: &[u64]) -> bool
+    fn are_steps(&self, profile: Profile, transcript: &Transcript, served: &[u64]) -> bool
         ensures { let f = self.now in IsTrue result
-            → AreSteps transcript.now f.offset f.reads.items f.changes.items f.states.items served.now }
+            → AreSteps profile transcript.now f.offset f.reads.items f.changes.items f.states.items served.now }
     {
         for c in &self.changes {
-            if !self.is_step(transcript, served, *c) {
+            if !self.is_step(profile, transcript, served, *c) {
                 return false;
             }
         }
@@ -59,22 +65,28 @@ impl Refutation {
     }
 
     /// The same of one change.
-    pub(crate) fn is_step(&self, transcript: &Transcript, served: &[u64], c: u64) -> bool
+    pub(crate) fn is_step(
+        &self,
+        profile: Profile,
+        transcript: &Transcript,
+        served: &[u64],
+        c: u64,
+    ) -> bool
         ensures { let f = self.now in IsTrue result
-            → IsStep transcript.now f.offset f.reads.items f.changes.items f.states.items served.now c }
+            → IsStep profile transcript.now f.offset f.reads.items f.changes.items f.states.items served.now c }
     {
         has(served, c)
-            || self.is_held(transcript, served, c)
-            || self.leads_on(transcript, served, c)
+            || self.is_held(profile, transcript, served, c)
+            || self.leads_on(profile, transcript, served, c)
     }
 
     // Whether the change leads to one of the states.
-    fn leads_on(&self, transcript: &Transcript, served: &[u64], c: u64) -> bool
+    fn leads_on(&self, profile: Profile, transcript: &Transcript, served: &[u64], c: u64) -> bool
         ensures { let f = self.now in IsTrue result
-            → LeadsOn transcript.now f.offset f.reads.items f.changes.items f.states.items served.now c }
+            → LeadsOn profile transcript.now f.offset f.reads.items f.changes.items f.states.items served.now c }
     {
         for next in &self.states {
-            if self.leads(transcript, served, c, &next.served) {
+            if self.leads(profile, transcript, served, c, &next.served) {
                 return true;
             }
         }
@@ -82,25 +94,38 @@ impl Refutation {
     }
 
     // Whether change c leads from what is served to what is served next.
-    fn leads(&self, transcript: &Transcript, served: &[u64], c: u64, next: &[u64]) -> bool
-        ensures { let f = self.now in IsTrue result → Leads transcript.now f.offset f.reads.items f.changes.items served.now c next.now }
+    fn leads(
+        &self,
+        profile: Profile,
+        transcript: &Transcript,
+        served: &[u64],
+        c: u64,
+        next: &[u64],
+    ) -> bool
+        ensures { let f = self.now in IsTrue result → Leads profile transcript.now f.offset f.reads.items f.changes.items served.now c next.now }
     {
         match transcript.asked(c) {
             Some(one) => {
                 adds_alone(&self.changes, served, c, next)
                     && keeps(&self.reads, served, next)
-                    && self.fits(transcript, next, one.byte_left(self.offset))
+                    && self.fits(profile, transcript, next, one.byte_left(self.offset))
             }
             None => false,
         }
     }
 
     // Whether each READ is served, or can't be served where the offset holds this byte.
-    fn fits(&self, transcript: &Transcript, served: &[u64], byte: Option<u8>) -> bool
-        ensures { let f = self.now in IsTrue result → Fits transcript.now f.offset f.reads.items f.changes.items served.now byte }
+    fn fits(
+        &self,
+        profile: Profile,
+        transcript: &Transcript,
+        served: &[u64],
+        byte: Option<u8>,
+    ) -> bool
+        ensures { let f = self.now in IsTrue result → Fits profile transcript.now f.offset f.reads.items f.changes.items served.now byte }
     {
         for k in &self.reads {
-            if !self.is_fitting(transcript, served, byte, *k) {
+            if !self.is_fitting(profile, transcript, served, byte, *k) {
                 return false;
             }
         }
@@ -110,23 +135,25 @@ impl Refutation {
     /// The same of one READ.
     pub(crate) fn is_fitting(
         &self,
+        profile: Profile,
         transcript: &Transcript,
         served: &[u64],
         byte: Option<u8>,
         k: u64,
     ) -> bool
-        ensures { let f = self.now in IsTrue result → IsFitting transcript.now f.offset f.reads.items f.changes.items served.now byte k }
+        ensures { let f = self.now in IsTrue result → IsFitting profile transcript.now f.offset f.reads.items f.changes.items served.now byte k }
     {
         has(served, k)
-            || self.is_held(transcript, served, k)
+            || self.is_held(profile, transcript, served, k)
             || is_other(transcript, k, self.offset, byte)
     }
 
     // Whether request k can't be served yet: a READ or change of the refutation surely comes before it, and was not served.
-    fn is_held(&self, transcript: &Transcript, served: &[u64], k: u64) -> bool
-        ensures { let f = self.now in IsTrue result → IsHeld transcript.now f.reads.items f.changes.items served.now k }
+    fn is_held(&self, profile: Profile, transcript: &Transcript, served: &[u64], k: u64) -> bool
+        ensures { let f = self.now in IsTrue result → IsHeld profile transcript.now f.offset f.reads.items f.changes.items served.now k }
     {
-        waits(transcript, &self.reads, served, k) || waits(transcript, &self.changes, served, k)
+        waits(profile, transcript, self.offset, &self.reads, served, k)
+            || waits(profile, transcript, self.offset, &self.changes, served, k)
     }
 
     /// Whether in no state all READs are served.
@@ -178,12 +205,19 @@ fn keeps(reads: &[u64], served: &[u64], next: &[u64]) -> bool
     true
 }
 
-// Whether one of these surely comes before request k, and was not served.
-fn waits(transcript: &Transcript, among: &[u64], served: &[u64], k: u64) -> bool
-    ensures { IsTrue result → (p : ℕ) × (has among.now p ≡ true) × (has served.now p ≡ false) × IsBefore transcript.now p k }
+// Whether one of these surely comes before request k at the offset, and was not served.
+fn waits(
+    profile: Profile,
+    transcript: &Transcript,
+    offset: u64,
+    among: &[u64],
+    served: &[u64],
+    k: u64,
+) -> bool
+    ensures { IsTrue result → (p : ℕ) × (has among.now p ≡ true) × (has served.now p ≡ false) × IsBefore profile transcript.now offset p k }
 {
     for p in among {
-        if !has(served, *p) && is_before(transcript, *p, k) {
+        if !has(served, *p) && is_before(profile, transcript, offset, *p, k) {
             return true;
         }
     }

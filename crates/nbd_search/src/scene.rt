@@ -5,7 +5,7 @@ use crate::work::{Work, keep};
 use nbd_export::Start;
 use nbd_session::{Asked, Transcript};
 use nbd_state::Span;
-use nbd_wire::{Piece, commands};
+use nbd_wire::{Piece, Profile, commands};
 use std::alloc::Global;
 
 /// The last slot of a request that may stay out.
@@ -14,7 +14,8 @@ pub const NEVER: usize = usize::MAX;
 /// A request: its range is empty where it neither leaves bytes nor reads them.
 #[derive(Clone, Copy, Drop)]
 pub struct Request {
-    /// The last slot in which it may be served, or `NEVER`. Slot t lies between the completion of request t and that of the next.
+    /// The last slot in which it may be served whole, or `NEVER`. Slot t lies between the completion of request t and that of the
+    /// next.
     pub due: usize,
     /// The first offset of its range.
     pub lo: u64,
@@ -88,10 +89,10 @@ impl Scene {
             is_torn: false,
         };
         scene.add_request(work, 0, 0, size);
-        scene.add_patch(work, None, 0, size);
+        scene.add_patch(work, 0, None, 0, size);
         for i in 0..source.transcript.count() {
             if let Some(one) = source.transcript.asked(i.saturating_add(1)) {
-                scene.add(work, one);
+                scene.add(work, source, one);
             }
         }
         scene.patches.sort_unstable_by_key(|patch| patch.lo);
@@ -101,20 +102,17 @@ impl Scene {
     }
 
     // Adds a request, and what it leaves or reads.
-    fn add(&mut self, work: &mut Work, one: &Asked) {
-        let due = match one.known_at {
-            Some(known) => known as usize,
-            None => NEVER,
-        };
+    fn add(&mut self, work: &mut Work, source: &Source, one: &Asked) {
+        let due = source.due(one, 0);
         let length = u64::from(one.length);
         if one.touches(one.offset) {
             self.add_request(work, due, one.offset, length);
-            self.add_patch(work, None, one.offset, length);
+            self.add_patch(work, due, None, one.offset, length);
         } else if gives_bytes(one) {
             self.add_request(work, due, one.offset, length);
             for i in 0..one.pieces.len() {
                 let span = Span::of(&one.pieces[i]);
-                self.add_patch(work, Some(i), span.offset, span.size);
+                self.add_patch(work, source.due(one, i), Some(i), span.offset, span.size);
             }
         } else {
             self.add_request(work, due, 0, 0);
@@ -134,7 +132,14 @@ impl Scene {
     }
 
     // Adds what the last request leaves in a range, or reads there as this piece.
-    fn add_patch(&mut self, work: &mut Work, piece: Option<usize>, lo: u64, length: u64) {
+    fn add_patch(
+        &mut self,
+        work: &mut Work,
+        due: usize,
+        piece: Option<usize>,
+        lo: u64,
+        length: u64,
+    ) {
         let hi = lo.saturating_add(length).min(self.size);
         let request = self.requests.len().saturating_sub(1);
         if lo >= hi || request >= self.requests.len() {
@@ -142,7 +147,7 @@ impl Scene {
         }
         let patch = Patch {
             request,
-            due: self.requests[request].due,
+            due,
             moment: (NEVER, 0),
             is_read: piece.is_some(),
             piece: piece.unwrap_or(0),
@@ -170,6 +175,8 @@ const MIXER: u64 = 0x9e37_79b9_7f4a_7c15;
 /// A session and its start.
 #[derive(Clone, Copy, Drop)]
 pub struct Source<'a> {
+    /// The profile of the session.
+    pub profile: Profile,
     /// What the session says.
     pub transcript: &'a Transcript,
     /// What the export holds at first.
@@ -186,6 +193,21 @@ impl<'a> Source<'a> {
             Some(bytes) => Some(mixed(bytes.get(first..behind).unwrap_or(&[]))),
             None => None,
         }
+    }
+
+    /// The last slot in which a request may be served, or `NEVER`; of a READ that is served by chunk, in which this piece may. No piece
+    /// has an earlier one than the first.
+    pub fn due(&self, one: &Asked, piece: usize) -> usize {
+        let is_chunked = match self.profile {
+            Profile::Wide => one.command == commands::READ,
+            Profile::Base => false,
+        };
+        let due = match one.shown.get(piece) {
+            Some(shown) if is_chunked => Some(*shown),
+            _ if is_chunked => one.ended_at,
+            _ => one.known_at,
+        };
+        due.map_or(NEVER, |count| count as usize)
     }
 
     // The bytes of a patch, if they are known; none where they are zeroes.

@@ -9,19 +9,25 @@ use crate::scene::{Scene, Source};
 use crate::work::{End, Limits, Work};
 use nbd_export::Start;
 use nbd_session::Transcript;
+use nbd_wire::Profile;
 use std::alloc::{AllocError, Global};
 
-/// Looks for an order that explains the session from this start, or for requests that refute each, where the order of arrival has this
-/// wrong byte. Several times a second it says on `progress` how far it is. An `Err` says that memory ran out.
+/// Looks for an order that explains the session of the profile from this start, or for requests that refute each, where the order of
+/// arrival has this wrong byte. Several times a second it says on `progress` how far it is. An `Err` says that memory ran out.
 pub fn propose<'a>(
     alloc: Global,
+    profile: Profile,
     transcript: &'a Transcript,
     start: &'a Start,
     limits: Limits,
     wrong: Place,
     progress: &mut Progress,
 ) -> Result<Proposal, AllocError> {
-    let source = Source { transcript, start };
+    let source = Source {
+        profile,
+        transcript,
+        start,
+    };
     let mut register = Register::new(alloc, Work::new(limits, wrong, *progress));
     let mut scene = Scene::new(alloc, &mut register.sweep.work, &source);
     refine(&source, &mut register, &mut scene);

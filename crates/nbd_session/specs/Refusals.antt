@@ -1,7 +1,6 @@
 -- What a session's fault says of the bytes that it was given and of its messages.
 use Rattle.std.specs.Prelude.{◌≡◌, ◌≢◌, ◌⊎◌, ◌∷◌, ◌++◌, ℕ, List, [], Option, Some, None, length}
 use Rattle.nbd_wire.specs.declared.profile.Profile.{Profile}
-use Rattle.nbd_wire.specs.declared.profile.Profile.TheVariants.{Base}
 use Rattle.nbd_wire.specs.declared.message.Message.{Message}
 use Rattle.nbd_wire.specs.protocol.Captures.{Pair}
 use Rattle.nbd_wire.specs.protocol.Reading.{Reader}

@@ -4,11 +4,13 @@ use Rattle.std.proofs.lemmas.Option.{slice_get_read}
 use Rattle.nbd_state.specs.Places.{place_at}
 use Rattle.nbd_wire.specs.declared.message.Message.{Message}
 use Rattle.nbd_wire.specs.protocol.Operations.{Operation, Exporting, ends_reply, is_finished}
-use Rattle.nbd_wire.specs.protocol.Rules.{cookie_of, core_with_reply, reply_to, target_of}
+use Rattle.nbd_wire.specs.protocol.Rules.{cookie_of, core_with_reply, noted, reply_to, shown_with, target_of}
 use Rattle.nbd_wire.specs.protocol.States as definitions
 use Rattle.nbd_wire.specs.protocol.Contexts.{Context}
 use Rattle.nbd_wire.specs.protocol.States.{Core, Transmission, with_reply_at, operation, target, with_reply, export_in, in_force}
+use Rattle.nbd_state.specs.declared.asked.Asked.{Asked}
 use Rattle.nbd_state.specs.declared.asked.Exchange.{Exchange}
+use Rattle.nbd_state.specs.declared.recording.Counts.{Counts}
 use Rattle.nbd_state.specs.declared.state.Export.{Export}
 use Rattle.nbd_state.specs.declared.state.Phase.TheVariants as shown
 use Rattle.nbd_state.specs.declared.state.State.{State}
@@ -18,7 +20,10 @@ use Rattle.nbd_state.specs.Showing.{IsShown, exporting}
 use Rattle.nbd_laws.specs.Reached.{IsReached}
 use Rattle.nbd_laws.specs.Selecting.{AreAskedWith}
 use Rattle.nbd_laws.proofs.requests.ContextLemmas.{asked_answered, asked_at, asked_snoc}
-use Rattle.nbd_state.specs.Shows.{AreShown, HasSelection, Shows, export_shown, phase_shown, place_of}
+use Rattle.nbd_state.specs.Shows.{AreShown, HasSelection, Shows, ended_if, export_shown, phase_shown, place_of, shown_if}
+use Rattle.nbd_state.specs.Moments.{shown_in}
+use Rattle.nbd_state.specs.internal.Noting.{IsNotedWith}
+use Rattle.nbd_state.proofs.NotingLemmas.{ended_added, ended_set, fresh, shown_added, shown_set}
 use Rattle.nbd_state.proofs.PlacedLemmas.{IsPlaced, are_shown_in, place_shows_operation, shown_length}
 use Rattle.nbd_laws.proofs.requests.SoundnessLemmas.{InPhase, open_target, sound}
 use Rattle.nbd_state.proofs.TargetLemmas.{distinct_reached, target_replied, target_requested}
@@ -60,10 +65,10 @@ place_if_last true n j t e = ap Some (omega (arith, e))
 place_if_last false n j t e = refl
 
 -- a message of the negotiation changes the phase and what it says of the handshake
-pub negotiation_is_shown : (old new : State) (core next : Core) → Shows old core → export_in core.phase ≡ None → next.entries ≡ core.entries → new.exchanges ≡ old.exchanges → new.outstanding ≡ old.outstanding →
+pub negotiation_is_shown : (old new : State) (core next : Core) → Shows old core → export_in core.phase ≡ None → next.entries ≡ core.entries → next.shown ≡ core.shown → next.ended_at ≡ core.ended_at → new.exchanges ≡ old.exchanges → new.outstanding ≡ old.outstanding →
     new.profile ≡ next.profile → new.phase ≡ phase_shown next.phase → new.offered ≡ next.offered → new.client_flags ≡ next.client_flags → new.structured ≡ next.structured → new.disconnected ≡ next.disconnected →
     HasSelection new.selection next.selection → new.brings_contexts ≡ next.brings_contexts → new.sizing ≡ next.sizing → Shows new next
-negotiation_is_shown old new core next s n entries exchanges outstanding profile phase offered client_flags structured disconnected selection agreed sizing = record {
+negotiation_is_shown old new core next s n entries shown ended exchanges outstanding profile phase offered client_flags structured disconnected selection agreed sizing = record {
   profile_is = profile;
   phase_is = phase;
   offered_is = offered;
@@ -76,6 +81,8 @@ negotiation_is_shown old new core next s n entries exchanges outstanding profile
   asked_with = subst (AreAskedWith (in_force next)) (sym entries) (none_asked (export_in core.phase) (in_force next) core.entries old.exchanges.items n s.are_shown);
   are_shown = subst (λ es. AreShown (export_in next.phase) es new.exchanges.items) (sym entries)
       (subst (λ v. AreShown (export_in next.phase) core.entries v.items) (sym exchanges) (none_shown (export_in core.phase) (export_in next.phase) core.entries old.exchanges.items n s.are_shown));
+  shown = λ place. ap (λ f. f (suc place)) shown ∙ s.shown place ∙ ap (λ v. shown_if (slice_get v.items place)) (sym exchanges);
+  ended = λ place. ap (λ f. f (suc place)) ended ∙ s.ended place ∙ ap (λ v. ended_if (slice_get v.items place)) (sym exchanges);
   places = λ cookie. ap (λ o. place_at o cookie) outstanding ∙ s.places cookie ∙ ap (λ es. place_of (target cookie es)) (sym entries);
 }
 
@@ -96,6 +103,8 @@ requested_shows old new core export e x s p r asked t h items places kept = reco
   disconnected_is = ap (λ (z : State). z.disconnected) kept ∙ s.disconnected_is;
   are_shown = subst (λ (q : definitions.Phase). AreShown (export_in q) (core.entries ++ e ∷ []) new.exchanges.items) (sym p)
       (subst (λ xs. AreShown (Some export) (core.entries ++ e ∷ []) xs) (sym items) (shown_snoc export core.entries old.exchanges.items e x (are_shown_in old core export s p) h));
+  shown = λ place. s.shown place ∙ shown_added old.exchanges.items x place (fresh export e x h r).1 ∙ ap (λ xs. shown_if (slice_get xs place)) (sym items);
+  ended = λ place. s.ended place ∙ ended_added old.exchanges.items x place (fresh export e x h r).0 ∙ ap (λ xs. ended_if (slice_get xs place)) (sym items);
   places = λ q. places q ∙ ap (λ o. if e.cookie == q then Some (length old.exchanges.items) else o) (s.places q)
       ∙ place_if_last (e.cookie == q) (length old.exchanges.items) (length core.entries) (target q core.entries) (sym (shown_length (export_in core.phase) core.entries old.exchanges.items s.are_shown))
       ∙ ap place_of (sym (target_requested q core.entries e r t));
@@ -103,7 +112,7 @@ requested_shows old new core export e x s p r asked t h items places kept = reco
 
 -- one more reply to the request with this cookie
 pub replied_shows : (old mid new : State) (core : Core) (export : Exporting) (cookie place : ℕ) (m : Message) (x y : Exchange) → IsReached core → Shows old core → core.phase ≡ Transmission export → cookie_of m ≡ Some cookie →
-    place_at old.outstanding cookie ≡ Some place → slice_get old.exchanges.items place ≡ Some x → ((e : Operation) → e.contexts ≡ in_force core → IsShown export e x → is_finished e ≡ false → IsShown export (with_reply e m) y) →
+    place_at old.outstanding cookie ≡ Some place → slice_get old.exchanges.items place ≡ Some x → ((e : Operation) → e.contexts ≡ in_force core → IsShown export e x → is_finished e ≡ false → IsShown export (with_reply e m) y × IsNotedWith e m (length old.exchanges.items) x.asked y.asked) →
     mid ≡ record old { outstanding = mid.outstanding } → ((q : ℕ) → place_at mid.outstanding q ≡ (if ends_reply m && (cookie == q) then None else place_at old.outstanding q)) →
     new ≡ record mid { exchanges = new.exchanges } → new.exchanges.items ≡ slice_set old.exchanges.items place y → Shows new (core_with_reply core m)
 replied_shows old mid new core export cookie place m x y r s p c g i step kept left made items = subst (λ t. Shows new (reply_to t core m)) (sym named) shows
@@ -117,10 +126,13 @@ replied_shows old mid new core export cookie place m x y r s p c g i step kept l
     same : a.x ≡ x
     same = let q : Some a.x ≡ Some x = sym a.stands ∙ i in cc
 
-    shown : IsShown export (with_reply a.e m) y
-    shown = step a.e (asked_at (in_force core) (suc place) core.entries a.e s.asked_with a.numbered) (subst (λ z. IsShown export a.e z) same a.shown) (open_target core cookie (suc place) a.e a.found a.numbered)
+    stepped : IsShown export (with_reply a.e m) y × IsNotedWith a.e m (length old.exchanges.items) x.asked y.asked
+    stepped = step a.e (asked_at (in_force core) (suc place) core.entries a.e s.asked_with a.numbered) (subst (λ z. IsShown export a.e z) same a.shown) (open_target core cookie (suc place) a.e a.found a.numbered)
 
-    shows : Shows new (record core { entries = with_reply_at (suc place) m core.entries })
+    count : length old.exchanges.items ≡ length core.entries
+    count = sym (shown_length (export_in core.phase) core.entries old.exchanges.items s.are_shown)
+
+    shows : Shows new (reply_to (Some (suc place)) core m)
     shows = record {
       asked_with = asked_answered (in_force core) (suc place) m core.entries s.asked_with;
       profile_is = ap (λ (z : State). z.profile) made ∙ ap (λ (z : State). z.profile) kept ∙ s.profile_is;
@@ -134,7 +146,14 @@ replied_shows old mid new core export cookie place m x y r s p c g i step kept l
       disconnected_is = ap (λ (z : State). z.disconnected) made ∙ ap (λ (z : State). z.disconnected) kept ∙ s.disconnected_is;
       are_shown = subst (λ (q : definitions.Phase). AreShown (export_in q) (with_reply_at (suc place) m core.entries) new.exchanges.items) (sym p)
           (subst (λ xs. AreShown (Some export) (with_reply_at (suc place) m core.entries) xs) (sym items)
-          (shown_answered export place m core.entries old.exchanges.items a.e y (are_shown_in old core export s p) a.numbered shown));
+          (shown_answered export place m core.entries old.exchanges.items a.e y (are_shown_in old core export s p) a.numbered stepped.0));
+      shown = λ q. ap (λ l. l ++ (if suc place == suc q then shown_with (operation (suc place) core.entries) m (length core.entries) else [])) (s.shown q)
+          ∙ shown_set old.exchanges.items place q x y (shown_with (operation (suc place) core.entries) m (length core.entries)) i
+          (stepped.1.shown ∙ ap (λ l. shown_in x.asked ++ l) ((λ j. shown_with (sym a.numbered j) m (count j))))
+          ∙ ap (λ xs. shown_if (slice_get xs q)) (sym items);
+      ended = λ q. ap (λ o. noted o ((suc place == suc q) && ends_reply m) (length core.entries)) (s.ended q)
+          ∙ ended_set old.exchanges.items place q x y (ends_reply m) (length core.entries) i (stepped.1.ended ∙ ap (noted x.asked.ended_at (ends_reply m)) count)
+          ∙ ap (λ xs. ended_if (slice_get xs q)) (sym items);
       places = λ q. ap (λ (z : State). place_at z.outstanding q) made ∙ left q ∙ ap (λ o. if ends_reply m && (cookie == q) then None else o) (s.places q)
           ∙ place_if (ends_reply m && (cookie == q)) (target q core.entries)
           ∙ ap place_of (sym (target_replied q cookie (suc place) m core.entries (distinct_reached r) a.found));
@@ -153,6 +172,14 @@ indexed old mid place x kept within is = subst (λ (z : State). slice_get z.exch
 pub on_one : {A E : Type 0} {P : A → Type 0} {C : Type 0} (r : Result A E) → ((x : A) → P x → C) → IfOk r P → OnOk r C
 on_one (Ok x) f p = f x p
 on_one (Err y) f p = tt
+
+pub on_both : {A E : Type 0} {P Q : A → Type 0} {C : Type 0} (r : Result A E) → ((x : A) → P x → Q x → C) → IfOk r P → IfOk r Q → OnOk r C
+on_both (Ok x) f p q = f x p q
+on_both (Err y) f p q = tt
+
+-- the count at a message's end is that of the exchanges
+pub counted_now : {x y : Asked} {m : Message} (e : Operation) (xs : List Exchange) {known : ℕ} {counts : Counts} → counts ≡ record { known = known; now = length xs } → IsNotedWith e m counts.now x y → IsNotedWith e m (length xs) x y
+counted_now {x} {y} {m} e xs q h = subst (λ n. IsNotedWith e m n x y) (ap (λ (k : Counts). k.now) q) h
 
 pub on_all : {A E : Type 0} {P Q R : Type 0} {C : Type 0} (r : Result A E) → (P → Q → R → C) → OnOk r P → OnOk r Q → OnOk r R → OnOk r C
 on_all (Ok x) f p q s = f p q s

@@ -1,17 +1,31 @@
 -- What an index of pieces tells, and what one more piece changes.
-use Rattle.std.proofs.Common.{◌≡◌, ℕ, ◌+◌, ◌<◌, ◌≤◌, ◌==◌, inl, inr, List, [], ◌∷◌, ◌++◌, refl, sym, ◌∙◌, ap, Option, Some, None, Bool, true, false, IsSome, MatchBool, arith, ◌&&◌, ◌||◌, nat_le, if◌then◌else◌, eqb-true, eq-eqb, subst, length, slice_index_or}
+use Rattle.std.proofs.Common.{◌≡◌, ℕ, IsTrue, nat_lt, ◌-◌, ◌+◌, ◌<◌, ◌≤◌, ◌==◌, inl, inr, List, [], ◌∷◌, ◌++◌, refl, sym, ◌∙◌, ap, Option, Some, None, Bool, true, false, IsSome, MatchBool, arith, ◌&&◌, ◌||◌, nat_le, if◌then◌else◌, eqb-true, eq-eqb, subst, length, slice_index_or}
 use Rattle.std.proofs.Math.Bool.{and-true, and-false}
-use Rattle.std.proofs.lemmas.Bool.{leb-true, leb-false, le-leb, cases_order}
+use Rattle.std.proofs.lemmas.Bool.{and_parts, leb-true, leb-false, le-leb, lt-ltb, ltb-false, ltb-true, cases_order}
 use Rattle.std.specs.BTreeMap.{BTreeMap, btree_map_len, is_at}
 use Rattle.std.specs.List.{list_all}
 use Rattle.std.specs.Map.{lookup}
 use Rattle.std.specs.Ordering.{nat_cmp}
 use Rattle.nbd_wire.specs.declared.payloads.Piece.{Piece}
-use Rattle.nbd_wire.specs.protocol.Pieces.{piece_offset, piece_size}
+use Rattle.nbd_wire.specs.protocol.Pieces.{is_in, piece_offset, piece_size}
 use Rattle.nbd_wire.specs.protocol.Transmission.{is_apart, is_apart_from}
 use Rattle.nbd_state.specs.declared.span.Span.{Span}
 use Rattle.nbd_state.specs.Spans.{span_of}
-use Rattle.nbd_state.specs.Indexes.{HasMore, IsApart, IsIndex, size_from}
+use Rattle.nbd_state.specs.Indexes.{Covers, HasMore, IsApart, IsBare, IsHeld, IsHeldFrom, IsIndex, size_from}
+
+-- an offset in a range, as bounds
+pub in_bounds : (offset len x : ℕ) → IsTrue (is_in offset len x) → (offset ≤ x) × (x < offset + len)
+in_bounds offset len x h = (let b = and_parts (nat_le offset x) (nat_lt x (offset + len)) h in (leb-true offset x b.0, ltb-true x (offset + len) b.1))
+
+pub bounds_in : (offset len x : ℕ) → offset ≤ x → x < offset + len → IsTrue (is_in offset len x)
+bounds_in offset len x lo hi = ap (λ b. b && nat_lt x (offset + len)) (le-leb offset x lo) ∙ lt-ltb x (offset + len) hi
+
+pub out_of_bounds : (offset len x : ℕ) → (offset ≤ x → x < offset + len → ⊥) → is_in offset len x ≡ false
+out_of_bounds offset len x none = go (is_in offset len x) refl
+  where
+    go : (b : Bool) → is_in offset len x ≡ b → b ≡ false
+    go true e = (let i = in_bounds offset len x e in absurd (none i.0 i.1))
+    go false e = refl
 
 -- of no piece
 pub index-none : (sizes : ℕ → Option ℕ) → ((k : ℕ) → sizes k ≡ None) → IsIndex sizes []
@@ -82,6 +96,39 @@ last-before sizes offset first size true apart at lo last e = λ k n is l. elim 
   | inr (inr after) ↦ (let up : k ≤ first = last k l (subst IsSome (sym is) refl) in absurd (omega arith))
 ]
 last-before sizes offset first size false apart at lo last e = (first, size, at, lo, leb-false (first + size) offset (sym e))
+
+-- the last span that begins at an offset or before
+pub held-from : (sizes : ℕ → Option ℕ) (offset first size held : ℕ) → ((k n j m : ℕ) → sizes k ≡ Some n → sizes j ≡ Some m → k < j → k + n ≤ j) →
+    sizes first ≡ Some size → first ≤ offset → ((q : ℕ) → q ≤ offset → IsSome (sizes q) → q ≤ first) → held ≡ size - (offset - first) → IsHeldFrom sizes offset held
+held-from sizes offset first size held apart at lo last e = go (nat_lt offset (first + size)) refl
+  where
+    go : (b : Bool) → nat_lt offset (first + size) ≡ b → IsHeldFrom sizes offset held
+    go true q = (let in_ : offset < first + size = ltb-true offset (first + size) q in
+        inr (omega arith, λ x i. (let b = in_bounds offset held x i in let l : offset ≤ x = b.0 in let h : x < offset + held = b.1 in (first, size, at, bounds_in first size x (omega arith) (omega arith)))))
+    go false q = (let out : first + size ≤ offset = ltb-false offset (first + size) q in
+        inl (
+          omega arith,
+          λ k n is. out_of_bounds k n offset (λ l h. elim (cases_order k first) [
+            | inr (inl before) ↦ (let a : k + n ≤ first = apart k n first size is at before in omega arith)
+            | inl same ↦ (let s : Some n ≡ Some size = sym is ∙ ap sizes same ∙ at in let m : n ≡ size = cc in omega arith)
+            | inr (inr after) ↦ (let up : k ≤ first = last k l (subst IsSome (sym is) refl) in omega arith)
+          ]),
+        ))
+
+-- what a walk along the spans has covered
+pub covers-more : (sizes : ℕ → Option ℕ) (offset done held more : ℕ) → more ≤ held → Covers sizes offset done → IsHeldFrom sizes (offset + done) held → (held ≡ 0 → ⊥) → Covers sizes offset (done + more)
+covers-more sizes offset done held more l before (inl none) some = absurd (some none.0)
+covers-more sizes offset done held more l before (inr here) some = λ x i. go x i (nat_lt x (offset + done)) refl
+  where
+    go : (x : ℕ) → IsTrue (is_in offset (done + more) x) → (b : Bool) → nat_lt x (offset + done) ≡ b → IsHeld sizes x
+    go x i true q = (let b = in_bounds offset (done + more) x i in before x (bounds_in offset done x b.0 (ltb-true x (offset + done) q)))
+    go x i false q = (let b = in_bounds offset (done + more) x i in let h : x < offset + (done + more) = b.1 in let low : offset + done ≤ x = ltb-false x (offset + done) q in
+        here.1 x (bounds_in (offset + done) held x low (omega arith)))
+
+-- where none holds the next offset
+pub bare-next : (sizes : ℕ → Option ℕ) (offset size done held : ℕ) → done < size → IsHeldFrom sizes (offset + done) held → held ≡ 0 → (x : ℕ) × IsTrue (is_in offset size x) × IsBare sizes x
+bare-next sizes offset size done held l (inl none) e = (offset + done, bounds_in offset size (offset + done) (omega arith) (omega (arith, l)), none.1)
+bare-next sizes offset size done held l (inr here) e = absurd (let p : 0 < held = here.0 in omega (arith, p, e))
 
 -- an index that took in the first piece
 pub index-first : (m : BTreeMap ℕ ℕ) (new : ℕ → Option ℕ) (q : Piece) → btree_map_len m ≡ 0 → HasMore (size_from m) new (piece_offset q) (piece_size q) → IsIndex new (q ∷ [])

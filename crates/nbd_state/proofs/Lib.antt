@@ -1,3 +1,4 @@
+pub mod NotingLemmas
 pub mod CompletionLemmas
 pub mod IndexLemmas
 pub mod KnownLemmas

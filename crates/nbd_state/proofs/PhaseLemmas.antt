@@ -162,7 +162,7 @@ module _ (old new : State) (core : Core) (s : Shows old core) where
   unfolding complete
   shows_greeted flags ok made =
       let r = greets core core.phase flags ok in
-      negotiation_is_shown old new core (complete core (Greeting flags)) s r.0 refl (ap (λ (z : State). z.exchanges) made) (ap (λ (z : State). z.outstanding) made)
+      negotiation_is_shown old new core (complete core (Greeting flags)) s r.0 refl refl refl (ap (λ (z : State). z.exchanges) made) (ap (λ (z : State). z.outstanding) made)
       (ap (λ (z : State). z.profile) made ∙ s.profile_is)
       (ap (λ (z : State). z.phase) made ∙ r.1) (ap (λ (z : State). z.offered) made) (ap (λ (z : State). z.client_flags) made ∙ s.client_flags_are)
       (ap (λ (z : State). z.structured) made ∙ s.structured_is) (ap (λ (z : State). z.disconnected) made ∙ s.disconnected_is)
@@ -172,7 +172,7 @@ module _ (old new : State) (core : Core) (s : Shows old core) where
   unfolding complete
   shows_flags flags ok made =
       let r = flags_in core core.phase flags ok in
-      negotiation_is_shown old new core (complete core (ClientFlags flags)) s r.0 refl (ap (λ (z : State). z.exchanges) made) (ap (λ (z : State). z.outstanding) made)
+      negotiation_is_shown old new core (complete core (ClientFlags flags)) s r.0 refl refl refl (ap (λ (z : State). z.exchanges) made) (ap (λ (z : State). z.outstanding) made)
       (ap (λ (z : State). z.profile) made ∙ s.profile_is)
       (ap (λ (z : State). z.phase) made ∙ r.1) (ap (λ (z : State). z.offered) made ∙ s.offered_is) (ap (λ (z : State). z.client_flags) made)
       (ap (λ (z : State). z.structured) made ∙ s.structured_is) (ap (λ (z : State). z.disconnected) made ∙ s.disconnected_is)
@@ -183,7 +183,7 @@ module _ (old new : State) (core : Core) (s : Shows old core) where
   unfolding complete
   shows_chosen id payload phase selection agreed sizing ok is brings_contexts_is selected sized made =
       let r = chooses core core.phase id payload ok in
-      negotiation_is_shown old new core (complete core (Choice id payload)) s r.0 refl (ap (λ (z : State). z.exchanges) made) (ap (λ (z : State). z.outstanding) made)
+      negotiation_is_shown old new core (complete core (Choice id payload)) s r.0 refl refl refl (ap (λ (z : State). z.exchanges) made) (ap (λ (z : State). z.outstanding) made)
       (ap (λ (z : State). z.profile) made ∙ s.profile_is)
       (ap (λ (z : State). z.phase) made ∙ is ∙ r.1) (ap (λ (z : State). z.offered) made ∙ s.offered_is) (ap (λ (z : State). z.client_flags) made ∙ s.client_flags_are)
       (ap (λ (z : State). z.structured) made ∙ s.structured_is) (ap (λ (z : State). z.disconnected) made ∙ s.disconnected_is)
@@ -194,7 +194,7 @@ module _ (old new : State) (core : Core) (s : Shows old core) where
       new ≡ record old { phase = phase; structured = old.structured || grants; selection = selection; sizing = sizing } → Shows new (complete core (Answer option kind payload))
   unfolding complete
   shows_answered option kind payload phase grants selection sizing ok is granted selected sized made =
-      negotiation_is_shown old new core (complete core (Answer option kind payload)) s (answers core core.phase option kind payload ok) refl (ap (λ (z : State). z.exchanges) made) (ap (λ (z : State). z.outstanding) made)
+      negotiation_is_shown old new core (complete core (Answer option kind payload)) s (answers core core.phase option kind payload ok) refl refl refl (ap (λ (z : State). z.exchanges) made) (ap (λ (z : State). z.outstanding) made)
       (ap (λ (z : State). z.profile) made ∙ s.profile_is)
       (ap (λ (z : State). z.phase) made ∙ is) (ap (λ (z : State). z.offered) made ∙ s.offered_is) (ap (λ (z : State). z.client_flags) made ∙ s.client_flags_are)
       (ap (λ (z : State). z.structured) made ∙ ap (λ b. b || grants) s.structured_is ∙ ap (λ b. core.structured || b) granted) (ap (λ (z : State). z.disconnected) made ∙ s.disconnected_is)
@@ -204,7 +204,7 @@ module _ (old new : State) (core : Core) (s : Shows old core) where
   unfolding complete
   shows_exported size flags padded phase ok is made =
       let r = exports core core.phase size flags padded ok in
-      negotiation_is_shown old new core (complete core (Exported size flags padded)) s r.0 refl (ap (λ (z : State). z.exchanges) made) (ap (λ (z : State). z.outstanding) made)
+      negotiation_is_shown old new core (complete core (Exported size flags padded)) s r.0 refl refl refl (ap (λ (z : State). z.exchanges) made) (ap (λ (z : State). z.outstanding) made)
       (ap (λ (z : State). z.profile) made ∙ s.profile_is)
       (ap (λ (z : State). z.phase) made ∙ is ∙ r.1) (ap (λ (z : State). z.offered) made ∙ s.offered_is) (ap (λ (z : State). z.client_flags) made ∙ s.client_flags_are)
       (ap (λ (z : State). z.structured) made ∙ s.structured_is) (ap (λ (z : State). z.disconnected) made ∙ s.disconnected_is)

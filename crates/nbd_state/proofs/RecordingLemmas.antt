@@ -18,7 +18,7 @@ use Rattle.nbd_state.specs.declared.asked.Exchange.{Exchange}
 use Rattle.nbd_state.specs.declared.asked.Outcome.{Outcome}
 use Rattle.nbd_state.specs.declared.asked.Outcome.TheVariants.{Success, Failure}
 use Rattle.nbd_wire.specs.protocol.Transmission.{is_none_yet}
-use Rattle.nbd_state.specs.Showing.{IsShown, outcome_of}
+use Rattle.nbd_state.specs.Showing.{AreCounted, IsShown, outcome_of}
 use Rattle.nbd_state.specs.Shows.{TellsThese}
 use Rattle.nbd_state.proofs.ReplyLemmas.{any-snoc, proper-same}
 use Rattle.nbd_laws.proofs.requests.LaidLemmas.{pieces-snoc}
@@ -50,8 +50,9 @@ pub exchange_shows_reply : (export : Exporting) (e : Operation) (m : Message) (x
     y.asked.outcome ≡ (if ends then (if y.failed then Failure else Success) else x.asked.outcome) →
     y.asked.pieces.items ≡ zeroes export (with_reply e m) ++ pieces (with_reply e m) →
     (is_finished (with_reply e m) ≡ false → (id : ℕ) → contains nat_cmp y.told id ≡ tells (statuses (with_reply e m)) id) →
+    (ends ≡ false → (y.asked.ended_at ≡ None) × (e.command ≡ commands.READ → AreCounted y.asked)) →
     IsShown export (with_reply e m) y
-exchange_shows_reply export e m x y ends fails known s u n f k known_is failed_is outcome_is pieces_are told_are =
+exchange_shows_reply export e m x y ends fails known s u n f k known_is failed_is outcome_is pieces_are told_are is_open =
     let failed : has_failed (with_reply e m) ≡ y.failed =
     any-snoc is_failing e.replies m ∙ ap (λ b. b || is_failing m) (sym s.failed) ∙ ap (λ b. x.failed || b) f ∙ sym failed_is in
     let finished : is_finished (with_reply e m) ≡ ends = any-snoc ends_reply e.replies m ∙ ap (λ b. b || ends_reply m) u ∙ n in
@@ -69,6 +70,7 @@ exchange_shows_reply export e m x y ends fails known s u n f k known_is failed_i
       failed = sym failed;
       told_are = told_are;
       pieces_are = pieces_are;
+      is_open = λ g. is_open (sym finished ∙ g);
     }
   where
     some : (o : Option ℕ) → is_some (if is_some o then o else Some known) ≡ true

@@ -5,7 +5,8 @@ use Rattle.std.proofs.lemmas.Map.Views.{All-set_contains}
 use Rattle.std.specs.BTreeMap.{is_at}
 use Rattle.std.specs.BTreeSet.{BTreeSet, btree_set_len, contains}
 use Rattle.std.specs.List.{list_all, list_any}
-use Rattle.nbd_state.specs.Shows.{TellsThese, is_this}
+use Rattle.nbd_state.specs.Shows.{TellsThese}
+use Rattle.nbd_wire.specs.protocol.Rules.{is_this}
 use Rattle.nbd_state.proofs.RecordingLemmas.{at-same}
 use Rattle.std.specs.Ordering.{nat_cmp}
 use Rattle.std.proofs.lemmas.Cmp.{nat_cmp_total}

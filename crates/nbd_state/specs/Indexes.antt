@@ -1,9 +1,9 @@
 -- The sizes of spans by their offsets, and an index of pieces.
-use Rattle.std.specs.Prelude.{ℕ, List, ◌≡◌, ◌+◌, ◌<◌, ◌≤◌, ◌==◌, ◌⊎◌, Option, Some, None, true, false, if◌then◌else◌}
+use Rattle.std.specs.Prelude.{ℕ, List, IsTrue, ◌≡◌, ◌+◌, ◌<◌, ◌≤◌, ◌==◌, ◌⊎◌, Option, Some, None, true, false, if◌then◌else◌}
 use Rattle.std.specs.BTreeMap.{BTreeMap, btree_map_len, get}
 use Rattle.std.specs.Ordering.{nat_cmp}
 use Rattle.nbd_wire.specs.declared.payloads.Piece.{Piece}
-use Rattle.nbd_wire.specs.protocol.Pieces.{piece_offset, piece_size}
+use Rattle.nbd_wire.specs.protocol.Pieces.{is_in, piece_offset, piece_size}
 use Rattle.nbd_wire.specs.protocol.Transmission.{is_apart_from}
 
 -- the size of the span that begins at an offset, where one does
@@ -21,6 +21,22 @@ IsFree sizes offset size = (k n : ℕ) → sizes k ≡ Some n → IsApart offset
 -- the range does not lie apart from one of the spans
 abbrev pub Meets : (ℕ → Option ℕ) → (offset size : ℕ) → Type 0
 Meets sizes offset size = (k : ℕ) × (n : ℕ) × (sizes k ≡ Some n) × (IsApart offset size k n → ⊥)
+
+-- x lies in none of the spans
+abbrev pub IsBare : (ℕ → Option ℕ) → ℕ → Type 0
+IsBare sizes x = (k n : ℕ) → sizes k ≡ Some n → is_in k n x ≡ false
+
+-- x lies in one of the spans
+abbrev pub IsHeld : (ℕ → Option ℕ) → ℕ → Type 0
+IsHeld sizes x = (k : ℕ) × (n : ℕ) × (sizes k ≡ Some n) × IsTrue (is_in k n x)
+
+-- each offset of the range lies in one of the spans
+abbrev pub Covers : (ℕ → Option ℕ) → (offset size : ℕ) → Type 0
+Covers sizes offset size = (x : ℕ) → IsTrue (is_in offset size x) → IsHeld sizes x
+
+-- so many bytes from x on lie in the span that holds it; 0 where none does
+abbrev pub IsHeldFrom : (ℕ → Option ℕ) → (x count : ℕ) → Type 0
+IsHeldFrom sizes x count = ((count ≡ 0) × IsBare sizes x) ⊎ ((0 < count) × Covers sizes x count)
 
 -- the new sizes have one more span, where none began
 abbrev pub HasMore : (old new : ℕ → Option ℕ) → (offset size : ℕ) → Type 0

@@ -1,6 +1,7 @@
 pub mod Completions
 pub mod Indexes
 pub mod Logs
+pub mod Moments
 pub mod Places
 pub mod Showing
 pub mod Shows

@@ -1,11 +1,13 @@
 -- How the program's values show what the definitions speak of.
-use Rattle.std.specs.Prelude.{◌≡◌, ℕ, false, not, Option, Some, None, ◌++◌, is_some}
+use Rattle.std.specs.Prelude.{◌≡◌, ℕ, false, not, Option, Some, None, ◌++◌, is_some, length}
+use Rattle.nbd_wire.specs.declared.commands.TheConstants as commands
 use Rattle.std.specs.BTreeSet.{contains}
 use Rattle.std.specs.Ordering.{nat_cmp}
 use Rattle.nbd_wire.specs.protocol.Transmission.{is_none_yet}
 use Rattle.nbd_wire.specs.protocol.Operations.{Operation, Exporting, is_finished, is_outside, is_proper, has_failed, outcome, pieces}
 use Rattle.nbd_wire.specs.protocol.Statuses.{statuses, tells, zeroes}
 use Rattle.nbd_wire.specs.protocol.Operations as definitions
+use Rattle.nbd_state.specs.declared.asked.Asked.{Asked}
 use Rattle.nbd_state.specs.declared.asked.Exchange.{Exchange}
 use Rattle.nbd_state.specs.declared.asked.Outcome.{Outcome}
 use Rattle.nbd_state.specs.declared.asked.Outcome.TheVariants.{Success, Failure, Pending}
@@ -25,6 +27,10 @@ outcome_of Success = definitions.Success
 outcome_of Failure = definitions.Failure
 outcome_of Pending = definitions.Pending
 
+-- each piece has its count
+abbrev pub AreCounted : Asked → Type 0
+AreCounted a = length a.shown.items ≡ length a.pieces.items
+
 -- an exchange shows a numbered request of a session on this export
 pub record IsShown (export : Exporting) (e : Operation) (x : Exchange) : Type 0 where
   pub flags : x.asked.flags ≡ e.flags
@@ -39,4 +45,7 @@ pub record IsShown (export : Exporting) (e : Operation) (x : Exchange) : Type 0 
   pub outcome_is : outcome_of x.asked.outcome ≡ outcome e
   pub failed : x.failed ≡ has_failed e
   pub pieces_are : x.asked.pieces.items ≡ zeroes export e ++ pieces e
+  -- while it is outstanding nothing has ended, and each piece of a READ has its count
+  pub is_open : is_finished e ≡ false → (x.asked.ended_at ≡ None)
+      × (e.command ≡ commands.READ → AreCounted x.asked)
   pub told_are : is_finished e ≡ false → (id : ℕ) → contains nat_cmp x.told id ≡ tells (statuses e) id

@@ -1,5 +1,5 @@
 -- How the program's state shows what the completed messages have led to.
-use Rattle.std.specs.Prelude.{◌≡◌, ℕ, ◌+◌, ◌-◌, ◌==◌, ◌||◌, Bool, false, List, [], ◌∷◌, Option, Some, None, slice_get}
+use Rattle.std.specs.Prelude.{◌≡◌, ℕ, suc, ◌+◌, ◌-◌, ◌||◌, List, [], ◌∷◌, Option, Some, None, slice_get}
 use Rattle.nbd_state.specs.Places.{place_at}
 use Rattle.std.specs.BTreeSet.{BTreeSet, contains}
 use Rattle.std.specs.Ordering.{nat_cmp}
@@ -9,7 +9,7 @@ use Rattle.nbd_wire.specs.protocol.Contexts.{Status, has_id}
 use Rattle.nbd_wire.specs.protocol.Statuses.{is_allocation, tells}
 use Rattle.nbd_wire.specs.protocol.Operations.{Operation, Exporting}
 use Rattle.nbd_wire.specs.protocol.States as definitions
-use Rattle.nbd_wire.specs.protocol.States.{Core, start, target, export_in, in_force}
+use Rattle.nbd_wire.specs.protocol.States.{Core, Shown, start, target, export_in, in_force}
 use Rattle.nbd_laws.specs.Selecting.{AreAskedWith}
 use Rattle.nbd_state.specs.declared.asked.Exchange.{Exchange}
 use Rattle.nbd_state.specs.declared.selection.Selection.{Selection}
@@ -17,7 +17,9 @@ use Rattle.nbd_state.specs.declared.state.Export.{Export}
 use Rattle.nbd_state.specs.declared.state.Phase.{Phase}
 use Rattle.nbd_state.specs.declared.state.Phase.TheVariants.{Greet, Flags, Choosing, Naming, Aborting, Answering, Ended, Transmission}
 use Rattle.nbd_state.specs.declared.state.State.{State}
+use Rattle.nbd_wire.specs.protocol.Rules.{is_this}
 use Rattle.nbd_state.specs.Logs.{LogEntry, known_by}
+use Rattle.nbd_state.specs.Moments.{shown_in}
 use Rattle.nbd_state.specs.Showing.{IsShown}
 
 -- an export as the program has it
@@ -64,14 +66,19 @@ pub record HasSelection (shown : Selection) (selection : contexts.Selection) : T
   pub allocations_are : (id : ℕ) → contains nat_cmp shown.allocations id ≡ is_allocation selection.contexts id
   pub granted_is : shown.granted ≡ selection.granted
 
--- it is this one
-abbrev pub is_this : Option ℕ → ℕ → Bool
-is_this (Some id) i = id == i
-is_this None i = false
-
 -- the statuses are of the contexts with these ids, and of the one with this, if any
 abbrev pub TellsThese : List Status → BTreeSet ℕ → Option ℕ → Type 0
 TellsThese statuses told id = (i : ℕ) → tells statuses i ≡ (is_this id i || contains nat_cmp told i)
+
+-- what the messages of a reply showed before the last one, of an exchange if there is one
+abbrev pub shown_if : Option Exchange → List Shown
+shown_if (Some e) = shown_in e.asked
+shown_if None = []
+
+-- and how many requests had completed when the last one had come
+abbrev pub ended_if : Option Exchange → Option ℕ
+ended_if (Some e) = e.asked.ended_at
+ended_if None = None
 
 -- the state shows the core
 pub record Shows (state : State) (core : Core) : Type 0 where
@@ -86,6 +93,8 @@ pub record Shows (state : State) (core : Core) : Type 0 where
   pub disconnected_is : state.disconnected ≡ core.disconnected
   pub asked_with : AreAskedWith (in_force core) core.entries
   pub are_shown : AreShown (export_in core.phase) core.entries state.exchanges.items
+  pub shown : (place : ℕ) → core.shown (suc place) ≡ shown_if (slice_get state.exchanges.items place)
+  pub ended : (place : ℕ) → core.ended_at (suc place) ≡ ended_if (slice_get state.exchanges.items place)
   pub places : (cookie : ℕ) → place_at state.outstanding cookie ≡ place_of (target cookie core.entries)
 
 -- each exchange knows what the log says of its request

@@ -8,6 +8,7 @@ use Rattle.nbd_state.specs.declared.asked.Exchange.{Exchange}
 use Rattle.nbd_state.specs.declared.state.Export.{Export}
 use Rattle.nbd_state.specs.declared.state.Phase.{Phase}
 use Rattle.nbd_state.specs.declared.state.Phase.TheVariants.{Transmission}
+use Rattle.nbd_state.specs.Moments.{shown_in}
 use Rattle.nbd_state.specs.Showing.{exporting_if, outcome_of}
 
 -- a request as a report states it
@@ -22,6 +23,8 @@ report_of_request a = record {
   proper = a.proper;
   outside = a.outside;
   known_at = a.known_at;
+  shown = shown_in a;
+  ended_at = a.ended_at;
   outcome = outcome_of a.outcome;
   pieces = a.pieces.items;
 }

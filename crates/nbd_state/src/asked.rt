@@ -38,6 +38,11 @@ pub struct Asked {
     pub payload: Bytes,
     /// What a READ was answered, in the order of the reply messages. Most have one piece, which stands here.
     pub pieces: SmallVec<Piece, 1>,
+    /// Of a READ: how many numbered requests had completed when the message with each piece had come; of the pieces that
+    /// stand behind these it was the last message of the reply.
+    pub shown: Vec<u64>,
+    /// How many numbered requests had completed when the last message of its reply had come; None where it has not.
+    pub ended_at: Option<u64>,
 }
 
 /// A request under way. What a reply reads and changes stands together.

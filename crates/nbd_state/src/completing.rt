@@ -23,6 +23,7 @@ ghost use Rattle.nbd_state.specs.Shows.{AreKnown, Shows, export_shown_if, phase_
 
 use crate::asked::Exchange;
 use crate::options::{is_proper_option, last_info, takes_contexts};
+use crate::recording::Counts;
 use crate::state::{Chosen, Export, Phase, State};
 use crate::statuses::told_in;
 use nbd_wire::answers::is_error;
@@ -227,8 +228,9 @@ impl State {
         ensures tells { OnOk result (TellsOne (place_at self.old.outstanding cookie) known
             self.old.exchanges.items self.new.exchanges.items) }
     {
+        let counts = self.counts(known);
         self.end_if(true, cookie);
-        self.exchanges[place].take_simple(alloc, error, payload, known)
+        self.exchanges[place].take_simple(alloc, error, payload, counts)
     }
 
     // A chunk has completed.
@@ -252,8 +254,19 @@ impl State {
             self.old.exchanges.items self.new.exchanges.items) }
     {
         let zeroes = self.is_allocation_told(kind, payload);
+        let counts = self.counts(known);
         self.end_if(has(flags, chunks::DONE), cookie);
-        self.exchanges[place].take_chunk(alloc, flags, kind, payload, zeroes, known)
+        self.exchanges[place].take_chunk(alloc, flags, kind, payload, zeroes, counts)
+    }
+
+    // So many requests had completed before the first byte of a message, which is whole now.
+    fn counts(&self, known: u64) -> Counts
+        ensures { result ≡ record { known = known; now = length self.now.exchanges.items } }
+    {
+        Counts {
+            known,
+            now: self.exchanges.len() as u64,
+        }
     }
 
     // A chunk is the status of a context in force that tells what reads as zeroes.

@@ -1,8 +1,9 @@
 //! An index of spans by their offsets, and of the pieces of a reply.
 
-ghost use Rattle.std.specs.Prelude.{◌≡◌, ◌⊎◌, ◌↔◌, ◌+◌, ◌++◌, ◌∷◌, ◌<◌, ◌≤◌, ℕ, [], None, Some, false, IfOk, IsTrue, MatchBool};
+ghost use Rattle.std.specs.Prelude.{◌≡◌, ◌⊎◌, ◌↔◌, ◌+◌, ◌++◌, ◌∷◌, ◌<◌, ◌≤◌, ◌^◌, ℕ, [], None, Some, false, IfOk, IsTrue, MatchBool};
 ghost use Rattle.std.specs.BTreeMap.{btree_map_len};
-ghost use Rattle.nbd_state.specs.Indexes.{HasMore, Indexes, IsFree, Meets, size_from};
+ghost use Rattle.nbd_state.specs.Indexes.{Covers, HasMore, Indexes, IsBare, IsFree, IsHeldFrom, Meets, size_from};
+ghost use Rattle.nbd_wire.specs.protocol.Pieces.{is_in};
 
 use crate::proper::ends_by;
 use crate::span::Span;
@@ -86,6 +87,34 @@ impl SpanIndex {
         }
         self.sizes.insert(span.offset, span.size)?;
         Ok(true)
+    }
+
+    /// Whether each offset of a span lies in one of those that it holds. The cost is the logarithm of their number for each of them that
+    /// meets the span.
+    pub fn covers(&self, span: Span) -> bool
+        requires { span.offset + span.size < 2 ^ 64 }
+        ensures { MatchBool result (Covers (size_from self.now.sizes) span.offset span.size)
+            ((x : ℕ) × IsTrue (is_in span.offset span.size x) × IsBare (size_from self.now.sizes) x) }
+    {
+        let mut covered = 0;
+        while covered < span.size {
+            let held = self.held_from(span.offset + covered);
+            if held == 0 {
+                return false;
+            }
+            covered += held.min(span.size - covered);
+        }
+        true
+    }
+
+    // How many bytes from this offset on lie in the span that holds it; 0 if none does.
+    fn held_from(&self, offset: u64) -> u64
+        ensures { IsHeldFrom (size_from self.now.sizes) offset result }
+    {
+        match self.sizes.range(..=offset).next_back() {
+            Some((first, size)) => size.saturating_sub(offset - *first),
+            None => 0,
+        }
     }
 
     /// The index of these pieces and one more, where this is the index of the pieces. It holds pieces from

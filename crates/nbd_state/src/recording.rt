@@ -19,6 +19,9 @@ ghost use Rattle.std.specs.Option.{option_copied};
 ghost use Rattle.nbd_state.specs.Indexes.{Indexes};
 ghost use Rattle.nbd_state.specs.internal.Showing.{operation_of_head};
 ghost use Rattle.nbd_state.specs.Showing.{IsShown, exporting};
+ghost use Rattle.nbd_state.specs.internal.Noting.{IsNotedWith};
+ghost use Rattle.nbd_wire.specs.protocol.Rules.{noted};
+ghost use Rattle.std.specs.Prelude.{◌&&◌, OnOk, IsTrue, vec_capacity, vec_len};
 
 use crate::asked::{Asked, Exchange, Outcome};
 use crate::index::SpanIndex;
@@ -31,6 +34,13 @@ use smallvec::SmallVec;
 use std::alloc::{AllocError, Global};
 use std::collections::BTreeSet;
 use std::mem;
+
+/// How many numbered requests had completed before the first byte of a message, and how many when it was whole.
+#[derive(Clone, Copy, Drop)]
+pub(crate) struct Counts {
+    pub known: u64,
+    pub now: u64,
+}
 
 impl Exchange {
     /// A request that has just completed; whether a metadata context is in force, and the block sizes that are, if any. An `Err`
@@ -55,6 +65,8 @@ impl Exchange {
             offset: head.offset,
             payload,
             pieces: SmallVec::new(alloc),
+            shown: Vec::new(alloc),
+            ended_at: None,
             known_at: None,
             outcome: Outcome::Pending,
             proper: is_proper(export, has_contexts, head),
@@ -68,31 +80,34 @@ impl Exchange {
         })
     }
 
-    /// A whole simple reply has answered it, before whose first byte so many requests had completed.
+    /// A whole simple reply has answered it; so many requests had completed before its first byte and now.
     /// After an `Err`, that memory ran out, the exchange is as it was.
     pub(crate) fn take_simple(
         &mut self,
         alloc: Global,
         error: u32,
         payload: &Bytes,
-        known: u64,
+        counts: Counts,
     ) -> Result<(), AllocError>
         ensures shown { IfOk result (λ _. (export : Exporting) (e : Operation) (cookie : ℕ) →
             IsShown export e self.old → is_finished e ≡ false →
             IsShown export (with_reply e (Simple error cookie payload.now)) self.new) }
+        ensures noted { IfOk result (λ _. (export : Exporting) (e : Operation) (cookie : ℕ) →
+            IsShown export e self.old → is_finished e ≡ false →
+            IsNotedWith e (Simple error cookie payload.now) counts.now self.old.asked self.new.asked) }
         ensures first { IfOk result
             (λ _. self.new.asked.known_at ≡ (if is_some self.old.asked.known_at then self.old.asked.known_at
-            else Some known)) }
+            else Some counts.known)) }
         ensures unchanged { IfErr result (λ _. (export : Exporting) (e : Operation) →
             IsShown export e self.old → IsShown export e self.new) }
         ensures kept { IfErr result (λ _. self.new.asked.known_at ≡ self.old.asked.known_at) }
     {
         let piece = simple_piece(self.asked.offset, payload)?;
-        self.take(alloc, piece, known, true, error != 0)
+        self.take(alloc, piece, counts, true, error != 0)
     }
 
-    /// A whole chunk has answered it, before whose first byte so many requests had completed; whether it is the status
-    /// of a context that tells what reads as zeroes. After an `Err`, that memory ran out, the exchange is as it was.
+    /// A whole chunk has answered it; so many requests had completed before its first byte and now; whether it is the
+    /// status of a context that tells what reads as zeroes. After an `Err`, that memory ran out, the exchange is as it was.
     pub(crate) fn take_chunk(
         &mut self,
         alloc: Global,
@@ -100,15 +115,18 @@ impl Exchange {
         kind: u16,
         payload: &[u8],
         zeroes: bool,
-        known: u64,
+        counts: Counts,
     ) -> Result<(), AllocError>
         ensures shown { IfOk result (λ _. (export : Exporting) (e : Operation) (cookie : ℕ) →
             IsShown export e self.old → is_finished e ≡ false → export.size < 2 ^ 64 →
             zeroes ≡ is_allocation_told e.contexts (status_in (Chunk flags kind cookie payload.now)) →
             IsShown export (with_reply e (Chunk flags kind cookie payload.now)) self.new) }
+        ensures noted { IfOk result (λ _. (export : Exporting) (e : Operation) (cookie : ℕ) →
+            IsShown export e self.old → is_finished e ≡ false →
+            IsNotedWith e (Chunk flags kind cookie payload.now) counts.now self.old.asked self.new.asked) }
         ensures first { IfOk result
             (λ _. self.new.asked.known_at ≡ (if is_some self.old.asked.known_at then self.old.asked.known_at
-            else Some known)) }
+            else Some counts.known)) }
         ensures unchanged { IfErr result (λ _. (export : Exporting) (e : Operation) →
             IsShown export e self.old → IsShown export e self.new) }
         ensures kept { IfErr result (λ _. self.new.asked.known_at ≡ self.old.asked.known_at) }
@@ -116,12 +134,12 @@ impl Exchange {
         let ends = has(flags, chunks::DONE);
         if let Some((id, descriptors)) = told_in(kind, payload) {
             if self.asked.known_at.is_some() {
-                return self.take_status(id, known, ends);
+                return self.take_status(id, counts, ends);
             }
-            return self.take_first_status(alloc, id, descriptors, zeroes, known, ends);
+            return self.take_first_status(alloc, id, descriptors, zeroes, counts, ends);
         }
         let piece = content_piece(alloc, kind, payload)?;
-        self.take(alloc, piece, known, ends, is_error_chunk(kind))
+        self.take(alloc, piece, counts, ends, is_error_chunk(kind))
     }
 
     // The first message of the reply is the status of the context with this id; it may end the reply.
@@ -131,7 +149,7 @@ impl Exchange {
         id: u32,
         descriptors: &[u8],
         zeroes: bool,
-        known: u64,
+        counts: Counts,
         ends: bool,
     ) -> Result<(), AllocError>
         ensures shown { IfOk result (λ _. (export : Exporting) (e : Operation) (m : Message) →
@@ -140,9 +158,13 @@ impl Exchange {
             is_failing m ≡ false → pieces.piece_of e.offset m ≡ [] →
             status_in m ≡ record { id = id; extents = extents_of descriptors.now } ∷ [] →
             zeroes ≡ is_allocation e.contexts id → IsShown export (with_reply e m) self.new) }
+        ensures noted { IfOk result (λ _. (export : Exporting) (e : Operation) (m : Message) →
+            IsShown export e self.old → is_finished e ≡ false → is_some self.old.asked.known_at ≡ false →
+            ends_reply m ≡ ends → pieces.piece_of e.offset m ≡ [] →
+            IsNotedWith e m counts.now self.old.asked self.new.asked) }
         ensures first { IfOk result
             (λ _. self.new.asked.known_at ≡ (if is_some self.old.asked.known_at then self.old.asked.known_at
-            else Some known)) }
+            else Some counts.known)) }
         ensures unchanged { IfErr result (λ _. (export : Exporting) (e : Operation) →
             IsShown export e self.old → IsShown export e self.new) }
         ensures kept { IfErr result (λ _. self.new.asked.known_at ≡ self.old.asked.known_at) }
@@ -151,26 +173,31 @@ impl Exchange {
         tell(&mut self.told, id, ends)?;
         self.asked.pieces = SmallVec::from_vec(pieces);
         self.index = SpanIndex::new(alloc);
-        self.asked.known_at = first(self.asked.known_at, known);
+        self.asked.known_at = first(self.asked.known_at, counts.known);
+        self.asked.ended_at = ended(self.asked.ended_at, ends, counts.now);
         self.asked.outcome = outcome_after(self.asked.outcome, ends, self.failed);
         Ok(())
     }
 
     // A later message of the reply is the status of the context with this id; it may end the reply.
-    fn take_status(&mut self, id: u32, known: u64, ends: bool) -> Result<(), AllocError>
+    fn take_status(&mut self, id: u32, counts: Counts, ends: bool) -> Result<(), AllocError>
         ensures shown { IfOk result (λ _. (export : Exporting) (e : Operation) (m : Message) (status : Status) →
             IsShown export e self.old → is_finished e ≡ false → is_some self.old.asked.known_at ≡ true →
             ends_reply m ≡ ends → is_failing m ≡ false → pieces.piece_of e.offset m ≡ [] →
             status_in m ≡ status ∷ [] → status.id ≡ id → IsShown export (with_reply e m) self.new) }
+        ensures noted { IfOk result (λ _. (export : Exporting) (e : Operation) (m : Message) →
+            IsShown export e self.old → is_finished e ≡ false → ends_reply m ≡ ends →
+            pieces.piece_of e.offset m ≡ [] → IsNotedWith e m counts.now self.old.asked self.new.asked) }
         ensures first { IfOk result
             (λ _. self.new.asked.known_at ≡ (if is_some self.old.asked.known_at then self.old.asked.known_at
-            else Some known)) }
+            else Some counts.known)) }
         ensures unchanged { IfErr result (λ _. (export : Exporting) (e : Operation) →
             IsShown export e self.old → IsShown export e self.new) }
         ensures kept { IfErr result (λ _. self.new.asked.known_at ≡ self.old.asked.known_at) }
     {
         tell(&mut self.told, id, ends)?;
-        self.asked.known_at = first(self.asked.known_at, known);
+        self.asked.known_at = first(self.asked.known_at, counts.known);
+        self.asked.ended_at = ended(self.asked.ended_at, ends, counts.now);
         self.asked.outcome = outcome_after(self.asked.outcome, ends, self.failed);
         Ok(())
     }
@@ -180,7 +207,7 @@ impl Exchange {
         &mut self,
         alloc: Global,
         piece: Option<Piece>,
-        known: u64,
+        counts: Counts,
         ends: bool,
         fails: bool,
     ) -> Result<(), AllocError>
@@ -188,20 +215,28 @@ impl Exchange {
             IsShown export e self.old → is_finished e ≡ false → ends_reply m ≡ ends → is_failing m ≡ fails →
             pieces.piece_of e.offset m ≡ chunk_piece piece → status_in m ≡ [] →
             IsShown export (with_reply e m) self.new) }
+        ensures noted { IfOk result (λ _. (export : Exporting) (e : Operation) (m : Message) →
+            IsShown export e self.old → is_finished e ≡ false → ends_reply m ≡ ends →
+            pieces.piece_of e.offset m ≡ chunk_piece piece →
+            IsNotedWith e m counts.now self.old.asked self.new.asked) }
         ensures first { IfOk result
             (λ _. self.new.asked.known_at ≡ (if is_some self.old.asked.known_at then self.old.asked.known_at
-            else Some known)) }
+            else Some counts.known)) }
         ensures unchanged { IfErr result (λ _. (export : Exporting) (e : Operation) →
             IsShown export e self.old → IsShown export e self.new) }
         ensures kept { IfErr result (λ _. self.new.asked.known_at ≡ self.old.asked.known_at) }
     {
         let index = mem::replace(&mut self.index, SpanIndex::new(alloc));
         let index = index_after(alloc, index, &self.asked.pieces, piece.as_ref(), ends)?;
+        let gives = piece.is_some();
+        room_if(&mut self.asked.shown, gives, ends)?;
         push_if(&mut self.asked.pieces, piece)?;
+        count_if(&mut self.asked.shown, gives, ends, counts.now)?;
         clear_if(&mut self.told, ends);
         self.index = index;
         self.failed |= fails;
-        self.asked.known_at = first(self.asked.known_at, known);
+        self.asked.known_at = first(self.asked.known_at, counts.known);
+        self.asked.ended_at = ended(self.asked.ended_at, ends, counts.now);
         self.asked.outcome = outcome_after(self.asked.outcome, ends, self.failed);
         Ok(())
     }
@@ -237,6 +272,39 @@ fn push_if(pieces: &mut SmallVec<Piece, 1>, piece: Option<Piece>) -> Result<(), 
         pieces.push(piece)?;
     }
     Ok(())
+}
+
+// Room for the count of a message that gives a piece, unless it ends the reply.
+fn room_if(shown: &mut Vec<u64>, gives: bool, ends: bool) -> Result<(), AllocError>
+    ensures same { shown.new.items ≡ shown.old.items }
+    ensures room { OnOk result (IsTrue (gives && not ends) → vec_len shown.new < vec_capacity shown.new) }
+{
+    if gives && !ends {
+        shown.reserve(1)?;
+    }
+    Ok(())
+}
+
+// The count after the others.
+fn count_if(shown: &mut Vec<u64>, gives: bool, ends: bool, count: u64) -> Result<(), AllocError>
+    ensures counted { OnOk result (shown.new.items ≡ shown.old.items
+        ++ (if gives && not ends then count ∷ [] else [])) }
+    ensures full { OnErr result ((IsTrue (gives && not ends) → vec_len shown.old < vec_capacity shown.old) → ⊥) }
+{
+    if gives && !ends {
+        shown.push(count)?;
+    }
+    Ok(())
+}
+
+// How many requests had completed when the reply ended, which it may do now.
+fn ended(before: Option<u64>, ends: bool, count: u64) -> Option<u64>
+    ensures { result ≡ noted before ends count }
+{
+    match before {
+        None if ends => Some(count),
+        _ => before,
+    }
 }
 
 // What was known at the first reply message, of which this may be the first.

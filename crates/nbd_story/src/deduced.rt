@@ -5,7 +5,7 @@ use crate::content::{byte_at_first, byte_by, found_byte};
 use crate::explanation::Sources;
 use crate::refutation::Contest;
 use crate::requests::{NO_REQUEST, Request};
-use nbd_wire::bit;
+use nbd_wire::{Part, bit};
 
 /// The most requests of which something is deduced.
 pub const MOST: usize = 64;
@@ -93,7 +93,9 @@ impl Deduced {
     fn add(&mut self, numbers: &[u64], offset: u64, sources: &Sources<'_>) {
         for number in numbers {
             let place = self.count;
-            let request = *sources.story.request(*number);
+            let request = sources
+                .story
+                .request_for(*number, Part { offset, length: 1 });
             self.parties[place % PLACES] = party_with(request, byte_of(&request, offset, sources));
             self.count = place.saturating_add(1);
             for other in 1..self.count {

@@ -2,11 +2,11 @@
 
 use crate::explanation::{NO_PLACE, Sources};
 use crate::layers::Stretches;
-use crate::parts::{has_offset, meet, outside, part_in};
+use crate::parts::{common, has_offset, meet, outside, part_in};
 use crate::requests::{Request, range};
 use crate::text::Text;
 use nbd_judge::{OrderFault, order_rule};
-use nbd_wire::{Entry, Part};
+use nbd_wire::{Entry, Part, Profile};
 use std::alloc::Global;
 
 impl Text {
@@ -22,13 +22,19 @@ impl Text {
         let request = sources.story.request(entry);
         let size = sources.story.export.size;
         let place = entry.wrapping_sub(1) as usize;
+        let text = text.say_if(
+            is_of_moments(fault)
+                && sources.story.profile == Profile::Base
+                && sources.story.has_chunks_apart(),
+            "wide: each message of a READ's reply is served by itself there, so this may be no fault; try --profile wide\n",
+        );
         match (fault, sources.order.get(place)) {
             (OrderFault::Missing, _) => text.moments("no entry: ", request),
             (OrderFault::NotCovered, _) => text
                 .moments("request: ", request)
                 .range(request, size)
                 .gap(
-                    &Stretches::served(alloc, request.number, request.inside(size), sources.order),
+                    &served_where_due(alloc, request, sources),
                     ", which no part serves\n",
                 ),
             (_, Some(entry)) => text.wrong_entry(place, entry, fault, sources),
@@ -65,7 +71,7 @@ impl Text {
         let Some(entry) = sources.order.get(place) else {
             return self;
         };
-        let request = sources.story.request(entry.request);
+        let request = &served_by(entry, sources);
         let text = self
             .number("entry {}: ", (place as u64).saturating_add(1))
             .part_served(entry, " of ");
@@ -79,16 +85,21 @@ impl Text {
         }
     }
 
-    // A request, when it had come whole, and when its first reply began.
+    // A request, when it had come whole, and when its first reply began; or where that is later, before which byte it was served.
     fn moments(self, label: &str, request: &Request) -> Text {
-        self.say(label)
+        let text = self
+            .say(label)
             .request(&request.head, request.number)
-            .number("; whole at byte {}", request.last)
-            .number_or(
+            .number("; whole at byte {}", request.last);
+        if request.due > request.replied {
+            text.number(", served before byte {}\n", request.due)
+        } else {
+            text.number_or(
                 request.replied,
                 ", first reply at byte {}\n",
                 ", no reply\n",
             )
+        }
     }
 
     // What a request asks for, and how much of that lies inside an export of this size.
@@ -151,6 +162,14 @@ impl Text {
     }
 }
 
+// Whether a fault is one of when a request was due.
+fn is_of_moments(fault: OrderFault) -> bool {
+    matches!(
+        fault,
+        OrderFault::Late | OrderFault::Missing | OrderFault::NotCovered
+    )
+}
+
 // The place of the first entry that an entry repeats: one that serves the request atomically, or any where the entry itself does.
 fn first_naming(place: usize, entry: &Entry, order: &[Entry]) -> usize {
     for at in 0..place.min(order.len()) {
@@ -162,18 +181,41 @@ fn first_naming(place: usize, entry: &Entry, order: &[Entry]) -> usize {
     NO_PLACE
 }
 
-// The place of the first entry behind a late one whose reply had begun before the late one's request was whole.
+// The place of the first entry behind a late one that had to be served before the late one's request was whole.
 fn earlier(place: usize, late: &Request, sources: &Sources<'_>) -> usize {
     for at in place.saturating_add(1)..sources.order.len() {
-        if sources
-            .story
-            .request(sources.order[at].request)
-            .is_before(late)
-        {
+        let entry = &sources.order[at];
+        let may_be = sources.story.request(entry.request).is_before(late);
+        if may_be && served_by(entry, sources).is_before(late) {
             return at;
         }
     }
     NO_PLACE
+}
+
+// The request of an entry, with the place before which something of what the entry serves was served.
+fn served_by(entry: &Entry, sources: &Sources<'_>) -> Request {
+    let story = sources.story;
+    let inside = story.request(entry.request).inside(story.export.size);
+    story.request_for(entry.request, entry.part.unwrap_or(inside))
+}
+
+// What an order serves of a request. Of a READ by chunk whose reply has not ended, what it serves of the first message with a gap.
+fn served_where_due(alloc: Global, request: &Request, sources: &Sources<'_>) -> Stretches {
+    let inside = request.inside(sources.story.export.size);
+    if request.finished == 0 && sources.story.serves_by_chunk(request) {
+        for message in &sources.story.told {
+            let shown = common(message.content_to(request.number), inside);
+            if shown.length == 0 {
+                continue;
+            }
+            let served = Stretches::served(alloc, request.number, shown, sources.order);
+            if served.gap().length != 0 {
+                return served;
+            }
+        }
+    }
+    Stretches::served(alloc, request.number, inside, sources.order)
 }
 
 // The least offset of a part that an entry before a place serves of this request, and the place of that entry.

@@ -5,6 +5,7 @@ use crate::explanation::Sources;
 use crate::requests::Request;
 use crate::story::Story;
 use crate::text::Text;
+use nbd_wire::Part;
 
 /// READs of an offset of the export, and BLOCK_STATUSes that call it zero, of which each order of the session has one wrong there, and
 /// the changes that it takes to show that, by their numbers.
@@ -26,7 +27,7 @@ impl Text {
                 .changes(contest.changes, contest.offset, sources)
                 .reads(contest.reads, contest.offset, sources.story)
                 .deduction(contest, sources)
-                .assumed(),
+                .assumed(sources.story.profile),
         }
     }
 
@@ -76,10 +77,10 @@ impl Text {
     fn reads(self, numbers: &[u64], offset: u64, story: &Story) -> Text {
         let mut text = self;
         for number in numbers {
-            let request = story.request(*number);
+            let request = story.request_for(*number, Part { offset, length: 1 });
             text = text
                 .say_either(request.is_status(), "status: ", "read: ")
-                .between("", request)
+                .between("", &request)
                 .got(&found_byte(*number, offset, story));
         }
         text
@@ -106,6 +107,6 @@ impl Text {
     fn between(self, label: &str, request: &Request) -> Text {
         self.asked(label, request)
             .number("; served after byte {}", request.last)
-            .number_or(request.replied, " and before byte {}; ", " or never; ")
+            .number_or(request.due, " and before byte {}; ", " or never; ")
     }
 }

@@ -22,6 +22,8 @@ pub struct Request {
     pub replied: u64,
     /// The place of the last byte of its reply; 0 before that.
     pub finished: u64,
+    /// The place of the byte before which it was served: `replied`, or what `Story::request_for` says; 0 where there is none.
+    pub due: u64,
     /// The error that its reply told; 0 where it told none.
     pub error: u32,
     /// Whether a client should send it to the export.
@@ -43,6 +45,7 @@ pub const NO_REQUEST: Request = Request {
     last: 0,
     replied: 0,
     finished: 0,
+    due: 0,
     error: 0,
     proper: false,
 };
@@ -86,9 +89,9 @@ impl Request {
         }
     }
 
-    /// Whether it was surely served before another one: its reply began before that one had come whole.
+    /// Whether it was surely served before another one: it had to be before that one had come whole.
     pub fn is_before(&self, other: &Request) -> bool {
-        self.replied != 0 && self.replied < other.last
+        self.due != 0 && self.due < other.last
     }
 }
 

@@ -4,6 +4,7 @@ use crate::content::{byte_at_first, byte_by, found_byte, rule_of};
 use crate::explanation::Sources;
 use crate::requests::{NO_REQUEST, Request};
 use crate::text::Text;
+use nbd_wire::Part;
 
 /// How many changes are listed.
 const LISTED: u64 = 8;
@@ -20,10 +21,12 @@ impl Text {
     /// Adds which byte the READ with this number got for this offset of the export, or that the BLOCK_STATUS called it zero, and why
     /// neither the start nor a change can have left that.
     pub fn no_source(self, number: u64, offset: u64, sources: &Sources<'_>) -> Text {
-        let read = sources.story.request(number);
+        let read = sources
+            .story
+            .request_for(number, Part { offset, length: 1 });
         let came = found_byte(number, offset, sources.story);
         let got = Got {
-            read: *read,
+            read,
             byte: came.byte,
             offset,
         };
@@ -32,7 +35,7 @@ impl Text {
                 &rule_of(read.is_status()),
                 "the server, in whatever order it served",
             )
-            .asked("message: ", read)
+            .asked("message: ", &read)
             .end();
         if came.place == 0 {
             return text;
@@ -40,7 +43,7 @@ impl Text {
         text.came(&came, offset, sources.story)
             .not_the_start(&got, sources)
             .not_from_changes(&got, sources)
-            .assumed()
+            .assumed(sources.story.profile)
             .window(&sources.story.recording, came.place)
     }
 

@@ -1,5 +1,6 @@
 //! The messages of a session with their places, and what became of its requests.
 
+use crate::content::bringer;
 use crate::contexts::Contexts;
 use crate::recording::Recording;
 use crate::requests::{NO_REQUEST, Request};
@@ -7,7 +8,7 @@ use crate::told::{Form, Told};
 use nbd_state::{Export, is_proper};
 use nbd_wire::flags::{has, has_wide};
 use nbd_wire::{
-    Info, Message, Profile, Side, Sizing, answers, chunks, commands, handshake, head_lengths,
+    Info, Message, Part, Profile, Side, Sizing, answers, chunks, commands, handshake, head_lengths,
     info_of, options, side_of,
 };
 use std::alloc::{AllocError, Global};
@@ -134,6 +135,7 @@ impl Story {
                 last: told.last,
                 replied: 0,
                 finished: 0,
+                due: 0,
                 error: 0,
                 proper: is_proper(self.export, self.contexts.are_in_force(), &head),
             };
@@ -148,6 +150,7 @@ impl Story {
         if let Some(request) = self.requests.get_mut(told.request.wrapping_sub(1) as usize) {
             if request.replied == 0 {
                 request.replied = told.first;
+                request.due = told.first;
             }
             if request.error == 0 {
                 request.error = told.error;
@@ -179,6 +182,46 @@ impl Story {
         self.requests
             .get(number.wrapping_sub(1) as usize)
             .unwrap_or(&NO_REQUEST)
+    }
+
+    /// The request with this number, with the place before which something in a part of it was served. In the profile `Wide` that is,
+    /// of a READ, the last byte of the first message that brings something of the part, or else that of its reply.
+    pub fn request_for(&self, number: u64, part: Part) -> Request {
+        let mut request = *self.request(number);
+        if self.serves_by_chunk(&request) {
+            let reply = bringer(&self.told, number, part);
+            request.due = if reply.is_there() {
+                reply.last
+            } else {
+                request.finished
+            };
+        }
+        request
+    }
+
+    /// Whether what each message of a request's reply brings is served by itself: of a READ, in the profile `Wide`.
+    pub fn serves_by_chunk(&self, request: &Request) -> bool {
+        self.profile == Profile::Wide && request.head.command == commands::READ
+    }
+
+    /// Whether a request came whole behind the first byte of a READ's reply and before its last one. Without that the profile `Wide`
+    /// serves each READ as `Base` does.
+    pub fn has_chunks_apart(&self) -> bool {
+        self.requests.iter().any(|one| one.head.command == commands::READ
+            && self.is_answered_around(one))
+    }
+
+    // Whether a request came whole behind the first byte of another one's reply and before its last one.
+    fn is_answered_around(&self, answered: &Request) -> bool {
+        let next = self
+            .requests
+            .partition_point(|one| one.last < answered.replied);
+        match self.requests.get(next) {
+            Some(one) => {
+                answered.replied != 0 && (answered.finished == 0 || one.last < answered.finished)
+            }
+            None => false,
+        }
     }
 
     /// The outstanding request with this cookie.

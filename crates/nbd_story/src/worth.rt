@@ -1,11 +1,11 @@
 //! What the answer of a search is worth.
 
 use crate::text::Text;
-use nbd_wire::Entry;
+use nbd_wire::{Entry, Profile};
 
 impl Text {
     /// Adds what an order is worth that was found.
-    pub fn found(self, order: &[Entry]) -> Text {
+    pub fn found(self, profile: Profile, order: &[Entry]) -> Text {
         self.fill(
             "entries: {}, of which {} are parts\n\
             shows: some order explains the session, not that the server kept it\n\
@@ -14,19 +14,31 @@ impl Text {
             stronger: an order that the server logged\n",
             &[order.len() as u64, count_of_parts(order)],
         )
-        .assumed()
+        .assumed(profile)
     }
 
     /// Adds on what an answer without an order rests.
-    pub fn assumed(self) -> Text {
+    pub fn assumed(self, profile: Profile) -> Text {
         self.say(
-            "assumes: the start is right, this is the only connection, a request takes effect before its first reply\n",
+            "assumes: the start is right, this is the only connection, a request takes effect before its first reply",
+        ).say_if(
+            profile == Profile::Wide,
+            ", a byte of a READ is read before the message that shows it is complete",
         )
+        .end()
     }
 
     /// Adds on what an answer about an order that was given rests.
     pub fn assumed_of_order(self) -> Text {
         self.say("assumes: the start is right, this is the only connection\n")
+    }
+
+    /// Adds that an order explains the session in the profile `Wide`.
+    pub fn explained_in_wide(self) -> Text {
+        self.say(
+            "wide: an order explains the session in the profile wide, where each message of a READ's reply is served by itself; \
+            try --profile wide\n",
+        )
     }
 
     /// Adds what a search is worth that was broken off.

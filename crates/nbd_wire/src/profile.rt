@@ -5,6 +5,6 @@
 pub enum Profile {
     /// What docs/PROFILE.md says.
     Base,
-    /// Base, with the negotiation of metadata contexts.
+    /// Base, with the negotiation of metadata contexts, block sizes, and READs that are served by chunk.
     Wide,
 }

@@ -142,6 +142,12 @@ fn ordered(files: &Files<'_>, answer: &Result<Ordered, RunFault>, asked: &Asked<
     ensures { result ≡ ordering.status_of answer.now }
 {
     let status = order_status(answer);
+    if matches!(answer, Ok(Ordered::Refuted)) {
+        hint(
+            files.rt,
+            "'nbdcheck explain' with the same words and no order says why, and of the profile base whether wide has an order",
+        );
+    }
     ended(files, status, answer.as_ref().err(), asked)
 }
 

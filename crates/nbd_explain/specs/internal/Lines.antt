@@ -91,11 +91,12 @@ pub record IsToldOfFound (profile : Profile) (told : Report) (beginning : Beginn
   pub found : Found
   pub kept : Beginning
   pub copied : (n : ℕ) (initial : Start) → IsReadAs n initial beginning → IsReadAs n initial kept
-  pub is_found : (initial : Start) → IsReadAs (size_of told.export) initial beginning → IsFound told initial found
+  pub is_found : (initial : Start) → IsReadAs (size_of told.export) initial beginning
+      → IsFound profile told initial found
   pub fits : IsWanted Any found
-  pub says : (any : Profile) (initial : Start) (items : List Item)
-      → IsReadAs (size_of told.export) initial beginning → IsRunOf any items → report items ≡ told
-      → Says any items initial found
+  pub says : (initial : Start) (items : List Item)
+      → IsReadAs (size_of told.export) initial beginning → IsRunOf profile items → report items ≡ told
+      → Says profile items initial found
   pub begins : BeginsWithLineOf profile told found kept text
   pub answer : answered ≡ answer_to found
 

@@ -22,19 +22,19 @@ use Rattle.nbd_tool.specs.declared.beginning.Beginning.{Beginning}
 
 -- the answer and the text: of a report those of what is found of it from this beginning, of a refused session the
 -- verdict's line
-pub data IsToldOf (beginning : Beginning) (wanted : Wanted) : Result Report SessionFault → Ordered → List ℕ
-    → Type 0 where
+pub data IsToldOf (profile : Profile) (beginning : Beginning) (wanted : Wanted)
+    : Result Report SessionFault → Ordered → List ℕ → Type 0 where
   of_report : (told : Report) (f : Found) → ((initial : Start) → IsReadAs (size_of told.export) initial beginning
-      → IsFound told initial f)
+      → IsFound profile told initial f)
       → IsWanted wanted f
-      → ((profile : Profile) (initial : Start) (items : List Item) → IsReadAs (size_of told.export) initial beginning
+      → ((initial : Start) (items : List Item) → IsReadAs (size_of told.export) initial beginning
       → IsRunOf profile items → report items ≡ told → Says profile items initial f)
-      → IsToldOf beginning wanted (Ok told) (ordered_of f) (found_text told f)
-  of_refusal : (at : ℕ) (fault : WireFault) → IsToldOf beginning wanted (Err (Wire at fault)) Refuted
+      → IsToldOf profile beginning wanted (Ok told) (ordered_of f) (found_text told f)
+  of_refusal : (at : ℕ) (fault : WireFault) → IsToldOf profile beginning wanted (Err (Wire at fault)) Refuted
       (line (verdict.Wire at fault))
 
 -- the same from a beginning that was read of this start
-abbrev pub IsToldFrom : Option Start → Wanted → Result Report SessionFault → Ordered → List ℕ → Type 0
-IsToldFrom start wanted finished ordered text =
+abbrev pub IsToldFrom : Profile → Option Start → Wanted → Result Report SessionFault → Ordered → List ℕ → Type 0
+IsToldFrom profile start wanted finished ordered text =
     (beginning : Beginning) × IsBeginningOf start (room_in finished) beginning
-    × IsToldOf beginning wanted finished ordered text
+    × IsToldOf profile beginning wanted finished ordered text

@@ -13,7 +13,7 @@ use Rattle.nbd_wire.specs.protocol.Reports.{Asked}
 use Rattle.nbd_wire.specs.protocol.Pieces.{byte_at, holds, is_in, piece_byte, piece_offset, piece_size}
 use Rattle.nbd_export.specs.Ranges.{DiffersIn, IsLeast, bytes_from, zeroes}
 use Rattle.nbd_laws.specs.Soundness.{AreLaid}
-use Rattle.nbd_judge.specs.internal.Lesser.{lesser_of}
+use Rattle.nbd_wire.specs.protocol.Reports.{lesser_of}
 use Rattle.nbd_judge.specs.internal.Pieces.{AreInside, DiffersInOneOf, DiffersInPiece}
 use Rattle.nbd_judge.specs.internal.Servable.{IsServable}
 use Rattle.nbd_judge.proofs.verdicts.DecisionLemmas.{same_or_not}

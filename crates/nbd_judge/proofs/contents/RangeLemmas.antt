@@ -11,7 +11,7 @@ use Rattle.nbd_wire.specs.protocol.Reports.{Asked}
 use Rattle.nbd_export.specs.Ranges.{DiffersIn, IsLeast, bytes_from, overlay, zeroes}
 use Rattle.nbd_judge.specs.Folding.{contents_with_effect}
 use Rattle.nbd_state.specs.declared.span.Span.{Span}
-use Rattle.nbd_judge.specs.internal.Lesser.{lesser_of}
+use Rattle.nbd_wire.specs.protocol.Reports.{lesser_of}
 use Rattle.nbd_judge.specs.internal.Pieces.{DiffersInOneWithin, DiffersInPiece, DiffersWithin}
 use Rattle.nbd_judge.proofs.verdicts.DecisionLemmas.{same_or_not}
 use Rattle.std.proofs.lemmas.Option.{slice_get-get_or}

@@ -1,106 +1,92 @@
--- The pass from the end that keeps the least count known so far.
-use Rattle.std.proofs.Common.{◌≡◌, ℕ, zero, suc, ◌+◌, ◌<◌, ◌≤◌, ◌⊎◌, inl, inr, List, [], ◌∷◌, get_or, length, refl, sym, ◌∙◌, ap, subst, Option, Some, None, arith, slice_index, Bool, true, false, nat_le, if◌then◌else◌, le_refl}
-use Rattle.std.proofs.lemmas.Bool.{leb-true, leb-false, ltb-true, ltb-false}
+-- The pass from the end that keeps the least count at which something was due.
+use Rattle.std.proofs.Common.{◌≡◌, ℕ, zero, suc, ◌+◌, ◌<◌, ◌≤◌, ◌⊎◌, ◌==◌, ◌&&◌, ◌||◌, inl, inr, List, [], ◌∷◌, length, refl, sym, ◌∙◌, ap, subst, Option, Some, None, arith, Bool, true, false, IsTrue, MatchOption, drop, eq-eqb, eqb-true, slice_get}
+use Rattle.std.proofs.lemmas.Bool.{and_parts, ltb-true, ltb-false}
+use Rattle.nbd_export.specs.Ranges.{IsLeast}
 use Rattle.nbd_wire.specs.declared.entry.Entry.{Entry}
-use Rattle.nbd_wire.specs.protocol.Entries.{numbers}
-use Rattle.nbd_wire.specs.protocol.Orders.{IsLate}
-use Rattle.nbd_judge.specs.internal.Lesser.{lesser_of, is_above}
+use Rattle.nbd_wire.specs.protocol.Entries.{in_part, is_served}
+use Rattle.nbd_wire.specs.protocol.Orders.{IsFirst, IsLate}
+use Rattle.nbd_wire.specs.protocol.Reports.{lesser_of}
+use Rattle.nbd_judge.specs.internal.Dues.{ServesDue}
+use Rattle.nbd_judge.specs.internal.Lesser.{is_above}
+use Rattle.nbd_judge.proofs.contents.CompareLemmas.{least_as, least_lesser}
 use Rattle.nbd_judge.proofs.verdicts.DecisionLemmas.{same_or_not}
 
--- the number that an entry names, by its index
-pub number_at : (order : List Entry) (i : ℕ) (d : Entry) → i < length order → (get_or order i d).request ≡ slice_index (numbers order) i
-number_at [] i d w = absurd (omega arith)
-number_at (e ∷ order) zero d w = refl
-number_at (e ∷ order) (suc i) d w = number_at order i d (omega arith)
+-- an offset that one of the entries from i on serves was due when so many requests had completed
+abbrev pub ServedDueFrom : (due : ℕ → ℕ → Option ℕ) → List Entry → ℕ → ℕ → Type 0
+ServedDueFrom due order i n = (k : ℕ) × (x : ℕ) × IsTrue (is_served (drop i order) k x) × (due k x ≡ Some n)
 
-pub as_many : (order : List Entry) → length (numbers order) ≡ length order
-as_many [] = refl
-as_many (e ∷ order) = ap suc (as_many order)
+-- the first entry from i on that is late
+abbrev pub IsFound : (due : ℕ → ℕ → Option ℕ) → List Entry → ℕ → Option ℕ → Type 0
+IsFound due order i None = (j : ℕ) → i ≤ j → IsLate due order j → ⊥
+IsFound due order i (Some e) = (j : ℕ) × (e ≡ j + 1) × (i ≤ j) × IsLate due order j × ((m : ℕ) → i ≤ m → m < j → IsLate due order m → ⊥)
 
--- the least count known of the entries from i on
-pub record IsLeastFrom (known : ℕ → Option ℕ) (order : List ℕ) (i : ℕ) (least : Option ℕ) : Type 0 where
-  pub below : (j n : ℕ) → i ≤ j → j < length order → known (slice_index order j) ≡ Some n → (m : ℕ) × (least ≡ Some m) × (m ≤ n)
-  pub met : (m : ℕ) → least ≡ Some m → (j : ℕ) × (i ≤ j) × (j < length order) × (known (slice_index order j) ≡ Some m)
-
--- the first late entry from i on
-abbrev pub IsFound : (ℕ → Option ℕ) → List ℕ → ℕ → Option ℕ → Type 0
-IsFound known order i None = (j : ℕ) → i ≤ j → IsLate known order j → ⊥
-IsFound known order i (Some e) = (j : ℕ) × (e ≡ j + 1) × (i ≤ j) × IsLate known order j × ((m : ℕ) → i ≤ m → m < j → IsLate known order m → ⊥)
-
-lower_left : (a b : Option ℕ) (x : ℕ) → a ≡ Some x → (m : ℕ) × (lesser_of a b ≡ Some m) × (m ≤ x)
-lower_left None b x e = absurd (cc)
-lower_left (Some y) None x e = (let q : y ≡ x = cc in (y, refl, omega arith))
-lower_left (Some y) (Some z) x e = (let q : y ≡ x = cc in go (nat_le y z) refl q)
+drop_at : (order : List Entry) (at : ℕ) (e : Entry) → slice_get order at ≡ Some e → drop at order ≡ e ∷ drop (at + 1) order
+drop_at [] at e q = absurd (cc)
+drop_at (d ∷ order) zero e q = (let s : d ≡ e = cc in ap (λ z. z ∷ order) s)
+drop_at (d ∷ order) (suc at) e q = drop_at order at e q ∙ ap (λ n. e ∷ drop n (d ∷ order)) (next at)
   where
-    go : (t : Bool) → nat_le y z ≡ t → y ≡ x → (m : ℕ) × (Some (if t then y else z) ≡ Some m) × (m ≤ x)
-    go true h q = (y, refl, omega arith)
-    go false h q = (let l : z < y = leb-false y z h in (z, refl, omega arith))
+    next : (at : ℕ) → suc (at + 1) ≡ suc at + 1
+    next at = omega arith
 
-lower_right : (a b : Option ℕ) (x : ℕ) → b ≡ Some x → (m : ℕ) × (lesser_of a b ≡ Some m) × (m ≤ x)
-lower_right None b x e = (x, e, le_refl x)
-lower_right (Some y) None x e = absurd (cc)
-lower_right (Some y) (Some z) x e = (let q : z ≡ x = cc in go (nat_le y z) refl q)
-  where
-    go : (t : Bool) → nat_le y z ≡ t → z ≡ x → (m : ℕ) × (Some (if t then y else z) ≡ Some m) × (m ≤ x)
-    go true h q = (let l : y ≤ z = leb-true y z h in (y, refl, omega arith))
-    go false h q = (z, refl, omega arith)
+module _ (due : ℕ → ℕ → Option ℕ) (order : List Entry) (i at : ℕ) (here : i ≡ at + 1) (e : Entry) (entry : slice_get order at ≡ Some e) where
+  served_at : (k x : ℕ) → is_served (drop at order) k x ≡ (((e.request == k) && in_part e.part x) || is_served (drop i order) k x)
+  served_at k x = ap (λ l. is_served l k x) (drop_at order at e entry) ∙ ap (λ j. ((e.request == k) && in_part e.part x) || is_served (drop j order) k x) (sym here)
 
-lower_from : (a b : Option ℕ) (m : ℕ) → lesser_of a b ≡ Some m → (a ≡ Some m) ⊎ (b ≡ Some m)
-lower_from None b m e = inr e
-lower_from (Some y) None m e = inl e
-lower_from (Some y) (Some z) m e = go (nat_le y z) e
-  where
-    go : (t : Bool) → Some (if t then y else z) ≡ Some m → (Some y ≡ Some m) ⊎ (Some z ≡ Some m)
-    go true q = inl q
-    go false q = inr q
-
-module _ (known : ℕ → Option ℕ) (order : List ℕ) (i at : ℕ) (e : i ≡ at + 1) (within : at < length order) where
-  pub least_step : (least here : Option ℕ) → known (slice_index order at) ≡ here → IsLeastFrom known order i least → IsLeastFrom known order at (lesser_of least here)
-  least_step least here k h = record {
-    below = λ j n lo hi q. elim (same_or_not at j) [
-      | inl s ↦ lower_right least here n (sym k ∙ ap (λ x. known (slice_index order x)) s ∙ q)
-      | inr ne ↦ (let b : (m : ℕ) × (least ≡ Some m) × (m ≤ n) = h.below j n (omega arith) hi q in
-          let l : (m : ℕ) × (lesser_of least here ≡ Some m) × (m ≤ b.0) = lower_left least here b.0 b.1 in
-          let le : b.0 ≤ n = b.2 in
-          let le2 : l.0 ≤ b.0 = l.2 in
-          (l.0, l.1, omega arith))
-    ];
-    met = λ m q. elim (lower_from least here m q) [
-      | inl a ↦ (let b : (j : ℕ) × (i ≤ j) × (j < length order) × (known (slice_index order j) ≡ Some m) = h.met m a in
-          let lo : i ≤ b.0 = b.1 in (b.0, omega arith, b.2, b.3))
-      | inr b ↦ (at, le_refl at, within, k ∙ b)
-    ];
-  }
-
-  pub is_late : (least : Option ℕ) → IsLeastFrom known order at least → is_above (slice_index order at) least ≡ true → IsLate known order at
-  is_late None h q = absurd (cc)
-  is_late (Some m) h q =
-      let b : (j : ℕ) × (at ≤ j) × (j < length order) × (known (slice_index order j) ≡ Some m) = h.met m refl in
-      (b.0, m, b.1, b.2, b.3, ltb-true m (slice_index order at) q)
-
-  pub not_late : (least : Option ℕ) → IsLeastFrom known order at least → is_above (slice_index order at) least ≡ false → IsLate known order at → ⊥
-  not_late least h q l = go least h q
+  to : (n : ℕ) → ServedDueFrom due order i n ⊎ ServesDue due e n → ServedDueFrom due order at n
+  to n (inl (k, x, s, d)) = (k, x, served_at k x ∙ or_right ((e.request == k) && in_part e.part x) s, d)
     where
-      go : (least : Option ℕ) → IsLeastFrom known order at least → is_above (slice_index order at) least ≡ false → ⊥
-      go None h q = (let b : (m : ℕ) × (None ≡ Some m) × (m ≤ l.1) = h.below l.0 l.1 l.2 l.3 l.4 in let bad : None ≡ Some b.0 = b.1 in absurd (cc))
-      go (Some x) h q =
-          let b : (m : ℕ) × (Some x ≡ Some m) × (m ≤ l.1) = h.below l.0 l.1 l.2 l.3 l.4 in
-          let s : Some x ≡ Some b.0 = b.1 in
-          let xs : x ≡ b.0 = cc in
-          let le : b.0 ≤ l.1 = b.2 in
-          let lt : l.1 < slice_index order at = l.5 in
-          let no : slice_index order at ≤ x = ltb-false x (slice_index order at) q in
-          absurd (omega arith)
+      or_right : (b : Bool) {c : Bool} → c ≡ true → (b || c) ≡ true
+      or_right true q = refl
+      or_right false q = q
+  to n (inr (x, p, d)) = (e.request, x, served_at e.request x ∙ ap (λ b. (b && in_part e.part x) || is_served (drop i order) e.request x) (eq-eqb e.request e.request refl) ∙ ap (λ b. b || is_served (drop i order) e.request x) p, d)
 
-  pub found_now : IsLate known order at → IsFound known order at (Some (at + 1))
-  found_now l = (at, refl, le_refl at, l, λ m lo hi. absurd (omega arith))
+  from : (n : ℕ) → ServedDueFrom due order at n → ServedDueFrom due order i n ⊎ ServesDue due e n
+  from n (k, x, s, d) = go ((e.request == k) && in_part e.part x) refl (sym (served_at k x) ∙ s)
+    where
+      go : (b : Bool) → ((e.request == k) && in_part e.part x) ≡ b → (b || is_served (drop i order) k x) ≡ true → ServedDueFrom due order i n ⊎ ServesDue due e n
+      go true q s = (let a = and_parts (e.request == k) (in_part e.part x) q in inr (x, a.1, ap (λ j. due j x) (eqb-true e.request k a.0) ∙ d))
+      go false q s = inl (k, x, s, d)
 
-  pub found_later : (found : Option ℕ) → (IsLate known order at → ⊥) → IsFound known order i found → IsFound known order at found
-  found_later None fresh f = λ j lo l. elim (same_or_not at j) [ inl s ↦ fresh (subst (IsLate known order) (sym s) l) | inr ne ↦ f j (omega arith) l ]
-  found_later (Some x) fresh f = (f.0, f.1, (let lo : i ≤ f.0 = f.2 in omega arith), f.3, λ m lo hi l. elim (same_or_not at m) [ inl s ↦ fresh (subst (IsLate known order) (sym s) l) | inr ne ↦ f.4 m (omega arith) hi l ])
+  pub least_step : (least found : Option ℕ) → IsLeast (ServedDueFrom due order i) least → IsLeast (ServesDue due e) found → IsLeast (ServedDueFrom due order at) (lesser_of least found)
+  least_step least found a b =
+      least_as (λ n. ServedDueFrom due order i n ⊎ ServesDue due e n) (ServedDueFrom due order at) (lesser_of least found) to from
+      (least_lesser (ServedDueFrom due order i) (ServesDue due e) least found a b)
 
-pub least_end : (known : ℕ → Option ℕ) (order : List ℕ) → IsLeastFrom known order (length order) None
-least_end known order = record { below = λ j n lo hi q. absurd (omega arith); met = λ m q. absurd (cc) }
+  pub is_late : (least : Option ℕ) → IsLeast (ServedDueFrom due order at) least → is_above e.request least ≡ true → IsLate due order at
+  is_late None h above = absurd (let q : false ≡ true = above in (cc))
+  is_late (Some m) h above = (e, h.0.0, h.0.1, m, entry, h.0.2, h.0.3, ltb-true m e.request above)
 
-pub found_end : (known : ℕ → Option ℕ) (order : List ℕ) → IsFound known order (length order) None
-found_end known order = λ j lo l. (let a : j ≤ l.0 = l.2 in let b : l.0 < length order = l.3 in absurd (omega arith))
+  pub not_late : (least : Option ℕ) → IsLeast (ServedDueFrom due order at) least → is_above e.request least ≡ false → IsLate due order at → ⊥
+  not_late None h above (d, k, x, n, q, s, due_is, lt) = h n (k, x, s, due_is)
+  not_late (Some m) h above (d, k, x, n, q, s, due_is, lt) =
+      (let same : e ≡ d = (let w : Some e ≡ Some d = sym entry ∙ q in cc) in
+      let eq : e.request ≡ d.request = ap (λ (y : Entry). y.request) same in
+      let low : e.request ≤ m = ltb-false m e.request above in
+      h.1 n (omega (arith, lt, eq, low)) (k, x, s, due_is))
+
+  pub found_now : IsLate due order at → IsFound due order at (Some (at + 1))
+  found_now l = (at, refl, omega arith, l, λ m lo hi. absurd (omega arith))
+
+  pub found_later : (found : Option ℕ) → (IsLate due order at → ⊥) → IsFound due order i found → IsFound due order at found
+  found_later None fresh f = λ j lo l. elim (same_or_not at j) [ inl s ↦ fresh (subst (IsLate due order) (sym s) l) | inr ne ↦ f j (omega arith) l ]
+  found_later (Some x) fresh f = (f.0, f.1, (let lo : i ≤ f.0 = f.2 in omega arith), f.3, λ m lo hi l. elim (same_or_not at m) [ inl s ↦ fresh (subst (IsLate due order) (sym s) l) | inr ne ↦ f.4 m (omega arith) hi l ])
+
+none_behind : (order : List Entry) → drop (length order) order ≡ []
+none_behind [] = refl
+none_behind (e ∷ order) = none_behind order
+
+pub least_end : (due : ℕ → ℕ → Option ℕ) (order : List Entry) → IsLeast (ServedDueFrom due order (length order)) None
+least_end due order n (k, x, s, d) = (let q : false ≡ true = ap (λ l. is_served l k x) (sym (none_behind order)) ∙ s in (cc))
+
+late_within : (due : ℕ → ℕ → Option ℕ) (order : List Entry) (j : ℕ) → length order ≤ j → IsLate due order j → ⊥
+late_within due [] j l (e, k, x, n, q, s, d, lt) = (cc)
+late_within due (y ∷ order) zero l h = omega (arith, l)
+late_within due (y ∷ order) (suc j) l h = late_within due order j (omega (arith, l)) h
+
+pub found_end : (due : ℕ → ℕ → Option ℕ) (order : List Entry) → IsFound due order (length order) None
+found_end due order j lo l = late_within due order j lo l
+
+-- when the pass is through
+pub found_first : (due : ℕ → ℕ → Option ℕ) (order : List Entry) (i : ℕ) → i ≤ 0 → (o : Option ℕ) → IsFound due order i o → MatchOption o ((j : ℕ) → IsLate due order j → ⊥) (λ e. (j : ℕ) × (e ≡ j + 1) × IsFirst (IsLate due order) j)
+found_first due order i z None f = λ j. f j (omega (arith, z))
+found_first due order i z (Some e) f = (f.0, f.1, (f.3, λ m l. f.4 m (omega (arith, z)) l))

@@ -1,18 +1,18 @@
 -- What entries serve of a request.
 use Rattle.std.proofs.Common.{◌≡◌, ℕ, zero, suc, ◌+◌, ◌-◌, ◌<◌, ◌≤◌, ◌==◌, ◌&&◌, ◌||◌, ◌⊎◌, inl, inr, List, [], ◌∷◌, ◌++◌, refl, sym, ◌∙◌, ap, subst, Option, Some, None, Bool, true, false, is_some, if◌then◌else◌, arith, nat_le, nat_lt, eqb-true, eq-eqb, append_assoc, append-nil}
-use Rattle.std.proofs.lemmas.Bool.{leb-true, leb-false, le-leb, lt-ltb, ltb-true}
+use Rattle.std.proofs.lemmas.Bool.{leb-true, leb-false, le-leb, lt-ltb, ltb-false, ltb-true}
 use Rattle.nbd_wire.specs.declared.entry.Entry.{Entry}
 use Rattle.nbd_wire.specs.declared.entry.Part.{Part}
 use Rattle.nbd_wire.specs.declared.payloads.Piece.{Piece}
 use Rattle.nbd_wire.specs.declared.payloads.Piece.TheVariants.{Hole}
-use Rattle.nbd_wire.specs.protocol.Entries.{HasBadPart, IsWhollyServed, MayServe, Names, NamesWhole, in_part, is_served}
+use Rattle.nbd_wire.specs.protocol.Entries.{HasBadPart, IsServedAt, MayServe, Names, NamesWhole, in_part, is_served}
 use Rattle.nbd_wire.specs.protocol.Pieces.{SharesNone, byte_at, holds, is_in, piece_byte, piece_offset, piece_size}
 use Rattle.nbd_wire.specs.protocol.Transmission.{is_apart, is_apart_from, total}
 use Rattle.nbd_laws.proofs.judge.CoverLemmas.{apart_from-shares, covered_total, full_total_covers, no_overlap, total_within}
 use Rattle.nbd_laws.proofs.requests.LaidLemmas.{AreApart, AreInside}
-use Rattle.nbd_laws.proofs.service.EntryLemmas.{whole_names}
+use Rattle.nbd_laws.proofs.service.EntryLemmas.{same_number, whole_names}
 use Rattle.nbd_state.specs.declared.span.Span.{Span}
-use Rattle.nbd_state.specs.Indexes.{HasMore, IsFree, IsIndex, Meets}
+use Rattle.nbd_state.specs.Indexes.{HasMore, IsApart, IsBare, IsFree, IsHeld, IsIndex, Meets}
 use Rattle.nbd_state.proofs.IndexLemmas.{index-more, index-none}
 use Rattle.nbd_judge.specs.internal.Services.{AreParts, IsSpanOf, LieApart, part_pieces, parts_of}
 
@@ -35,6 +35,17 @@ outside offset len x none = go (is_in offset len x) refl
     go : (b : Bool) → is_in offset len x ≡ b → b ≡ false
     go true e = (let i = from_in offset len x e in absurd (none i.0 i.1))
     go false e = refl
+
+-- a test passes at each offset of a range, or fails at one
+pub all_or_one : (f : ℕ → Bool) (offset size : ℕ) → ((x : ℕ) → offset ≤ x → x < offset + size → f x ≡ true) ⊎ ((x : ℕ) × (offset ≤ x) × (x < offset + size) × (f x ≡ false))
+all_or_one f offset zero = inl (λ x lo hi. absurd (omega arith))
+all_or_one f offset (suc size) = go (f offset) refl (all_or_one f (suc offset) size)
+  where
+    go : (b : Bool) → f offset ≡ b → ((x : ℕ) → suc offset ≤ x → x < suc offset + size → f x ≡ true) ⊎ ((x : ℕ) × (suc offset ≤ x) × (x < suc offset + size) × (f x ≡ false)) →
+        ((x : ℕ) → offset ≤ x → x < offset + suc size → f x ≡ true) ⊎ ((x : ℕ) × (offset ≤ x) × (x < offset + suc size) × (f x ≡ false))
+    go false q rest = inr (offset, omega arith, omega arith, q)
+    go true q (inl all) = inl (λ x lo hi. elim (same_number offset x) [ inl s ↦ subst (λ y. f y ≡ true) s q | inr ne ↦ all x (omega arith) (omega arith) ])
+    go true q (inr (x, lo, hi, none)) = inr (x, omega (arith, lo), omega (arith, hi), none)
 
 -- where no entry serves the request atomically, its served offsets are those of its parts
 has : List Piece → ℕ → Bool
@@ -150,10 +161,10 @@ module _ (span : Span) (within : ℕ → Bool) (is_span : IsSpanOf span within) 
     none_left : left ≡ 0 → total (parts_of before k) ≡ span.size
     none_left e = (let c : left ≡ span.size - total (parts_of before k) = h.count in let l : total (parts_of before k) ≤ span.size = parts_within in omega arith)
 
-    pub full : Names before k → left ≡ 0 → IsWhollyServed within before k
-    full named e = record {
+    pub full : Names before k → left ≡ 0 → (x : ℕ) → IsServedAt within before k x
+    full named e x = record {
       named = named;
-      covered = λ x i.
+      covered = λ i.
           (let r = from_in span.offset span.size x (sym (is_span x) ∙ i) in
           served_parts before k x h.in_parts
           ∙ full_total_covers span.offset span.size (parts_of before k) (are_inside span (parts_of before k) h.laid) (are_apart span (parts_of before k) h.laid) (none_left e) x r.0 r.1);
@@ -162,9 +173,44 @@ module _ (span : Span) (within : ℕ → Bool) (is_span : IsSpanOf span within) 
     all_served : total (parts_of before k) ≡ span.size → left ≡ 0
     all_served e = (let c : left ≡ span.size - total (parts_of before k) = h.count in omega arith)
 
-    pub not_full : (left ≡ 0 → ⊥) → IsWhollyServed within before k → ⊥
-    not_full ne w = ne (all_served (covered_total span.offset span.size (parts_of before k) (are_inside span (parts_of before k) h.laid) (are_apart span (parts_of before k) h.laid)
-        (λ x lo hi. sym (served_parts before k x h.in_parts) ∙ w.covered x (is_span x ∙ in_from span.offset span.size x lo hi))))
+    pub not_full : (left ≡ 0 → ⊥) → (x : ℕ) × (IsServedAt within before k x → ⊥)
+    not_full ne = elim (all_or_one (is_served before k) span.offset span.size) [
+      | inl all ↦ absurd (ne (all_served (covered_total span.offset span.size (parts_of before k) (are_inside span (parts_of before k) h.laid) (are_apart span (parts_of before k) h.laid)
+          (λ x lo hi. sym (served_parts before k x h.in_parts) ∙ all x lo hi))))
+      | inr (x, lo, hi, none) ↦ (x, λ w. (let q : false ≡ true = sym none ∙ w.covered (is_span x ∙ in_from span.offset span.size x lo hi) in (cc)))
+    ]
+
+    -- an offset in a span of the index is served, and one in none is not
+    pub served_held : (x : ℕ) → IsHeld sizes x → is_served before k x ≡ true
+    served_held x (j, n, at, i) =
+        let b = from_in j n x i in
+        let lo : j ≤ x = b.0 in
+        let hi : x < j + n = b.1 in
+        let met : is_apart_from (Hole x 1) (parts_of before k) ≡ false = h.index.meets (Hole x 1) j n at (λ a. elim a [ inl l ↦ absurd (omega arith) | inr l ↦ absurd (omega arith) ]) in
+        let s = shared span (Hole x 1) (parts_of before k) (omega arith) h.laid met in
+        let c = from_in x 1 s.0 s.1 in
+        let same : s.0 ≡ x = (let l : x ≤ s.0 = c.0 in let u : s.0 < x + 1 = c.1 in omega arith) in
+        served_parts before k x h.in_parts ∙ subst (λ y. is_some (byte_at (parts_of before k) y) ≡ true) same s.2
+
+    pub served_bare : (x : ℕ) → IsBare sizes x → is_served before k x ≡ false
+    served_bare x bare =
+        let free : IsFree sizes x 1 = λ j n at. apart j n (bare j n at) in
+        let none : SharesNone (Hole x 1) (parts_of before k) = apart_from-shares (Hole x 1) (parts_of before k) (h.index.free (Hole x 1) free) in
+        served_parts before k x h.in_parts ∙ ap (λ o. is_some o) (none x (in_from x 1 x (omega arith) (omega arith)))
+      where
+        apart : (j n : ℕ) → is_in j n x ≡ false → IsApart x 1 j n
+        apart j n out = go (nat_le j x) (nat_lt x (j + n)) refl refl out
+          where
+            go : (a b : Bool) → nat_le j x ≡ a → nat_lt x (j + n) ≡ b → (a && b) ≡ false → IsApart x 1 j n
+            go true true p q out = absurd (cc)
+            go true false p q out = inr (ltb-false x (j + n) q)
+            go false b p q out = inl (let l : x < j = leb-false j x p in omega arith)
+
+    pub covered_here : Names before k → (x : ℕ) → IsHeld sizes x → IsServedAt within before k x
+    covered_here named x held = record { named = named; covered = λ i. served_held x held }
+
+    pub bare_here : (x : ℕ) → within x ≡ true → IsBare sizes x → IsServedAt within before k x → ⊥
+    bare_here x inside bare w = (let q : false ≡ true = sym (served_bare x bare) ∙ w.covered inside in (cc))
 
     -- a part may be served where it is not empty, lies in the span, and apart from the others
     module _ (p : Part) (some : 0 < p.length) (lo : span.offset ≤ p.offset) (hi : p.offset + p.length ≤ span.offset + span.size) (free : IsFree sizes p.offset p.length) where

@@ -1,15 +1,17 @@
 -- The table of what an order serves of each request.
 use Rattle.std.proofs.lemmas.Option.{slice_get_within}
 use Rattle.nbd_wire.specs.protocol.Verdicts.{IsFaultless}
-use Rattle.std.proofs.Common.{MatchOption, is_some, ◌≡◌, ℕ, zero, suc, ◌+◌, ◌-◌, ◌<◌, ◌≤◌, ◌==◌, ◌&&◌, ◌⊎◌, inl, inr, List, [], ◌∷◌, ◌++◌, length, refl, sym, ◌∙◌, ap, subst, Option, Some, None, Result, Ok, Err, Bool, true, false, if◌then◌else◌, arith, nat_le, nat_lt, min, eqb-true, slice_get, slice_set, take, replicate, add-one, ◌||◌, not}
-use Rattle.std.proofs.lemmas.Bool.{leb-true, le-leb, lt-ltb, ltb-true, ltb-false}
+use Rattle.std.proofs.Common.{MatchOption, is_some, ◌≡◌, ℕ, zero, suc, ◌+◌, ◌-◌, ◌<◌, ◌≤◌, ◌==◌, ◌&&◌, ◌⊎◌, inl, inr, List, [], ◌∷◌, ◌++◌, length, refl, sym, ◌∙◌, ap, subst, Option, Some, None, Result, Ok, Err, Bool, true, false, if◌then◌else◌, arith, nat_le, nat_lt, min, eqb-true, slice_get, slice_set, take, replicate, add-one, ◌||◌, not, IsTrue}
+use Rattle.std.proofs.lemmas.Bool.{eqb-false, leb-false, leb-true, le-leb, lt-ltb, ltb-true, ltb-false}
 use Rattle.nbd_wire.specs.declared.entry.Entry.{Entry}
-use Rattle.nbd_wire.specs.protocol.Entries.{HasBadPart, IsTwice, IsWhollyServed, MayServe, NamesWhole, numbers, inside_of}
+use Rattle.nbd_wire.specs.protocol.Entries.{HasBadPart, IsTwice, MayServe, NamesWhole, inside_of}
 use Rattle.nbd_wire.specs.declared.commands.TheConstants as commands
 use Rattle.nbd_wire.specs.protocol.Operations.{Exporting, has_range}
-use Rattle.nbd_wire.specs.protocol.Orders.{HasReplyStarted, IsBad, IsLate, IsUnserved, NamesNone}
+use Rattle.nbd_wire.specs.protocol.Orders.{IsBad, IsDue, IsLate, IsUnserved, NamesNone}
+use Rattle.nbd_wire.specs.declared.entry.Part.{Part}
+use Rattle.nbd_wire.specs.declared.profile.Profile.{Profile}
 use Rattle.nbd_wire.specs.protocol.Pieces.{is_in}
-use Rattle.nbd_wire.specs.protocol.Reports.{Asked, Report, asked_at, inside_asked, inside_in, known_in, known_of}
+use Rattle.nbd_wire.specs.protocol.Reports.{Asked, Report, asked_at, due_in, due_of, first_shown, inside_asked, inside_in, lesser_of}
 use Rattle.nbd_laws.proofs.service.EntryLemmas.{Names-left, Names-push_cases, NamesWhole-left}
 use Rattle.nbd_wire.specs.protocol.Transmission.{total}
 use Rattle.nbd_state.specs.declared.span.Span.{Span}
@@ -20,7 +22,9 @@ use Rattle.nbd_judge.specs.declared.service.Service.TheVariants.{Unnamed, Whole,
 use Rattle.nbd_judge.specs.declared.verdict.OrderFault.{OrderFault}
 use Rattle.nbd_judge.specs.declared.verdict.OrderFault.TheVariants.{NoSuchRequest, Twice, Late, Missing, BadPart, NotCovered}
 use Rattle.nbd_judge.specs.Orders.{IsOrderFault}
-use Rattle.nbd_judge.specs.internal.Services.{has_inside, AreServices, IsBadAt, IsFaultAfter, IsFaultOfService, IsFirstBad, IsNext, IsServiceAfter, IsServiceOf, IsSpanOf, IsUnservedBy, LieApart, TellsFault, TellsUnserved, part_pieces, parts_of, span_if, span_of_asked}
+use Rattle.nbd_judge.specs.internal.Services.{has_inside, AreServices, IsAllServed, IsBadAt, IsFaultAfter, IsFaultOf, IsFaultOfService, IsFirstBad, IsNext, IsServiceAfter, IsServiceOf, IsShownAt, IsSpanOf, IsUnservedBy, LieApart, TellsFaultOf, TellsUnserved, part_pieces, parts_of, span_if, span_of_asked}
+use Rattle.nbd_judge.specs.internal.Dues.{IsFair, is_chunked}
+use Rattle.nbd_judge.proofs.orders.DueLemmas.{due_chunked, due_none, due_whole}
 use Rattle.nbd_judge.proofs.contents.EffectLemmas.{taken_one}
 use Rattle.nbd_judge.proofs.verdicts.DecisionLemmas.{same_or_not}
 
@@ -244,10 +248,9 @@ module _ (r : Report) (order : List Entry) (i : ℕ) (e : Entry) (at : slice_get
 pub first_unknown : (r : Report) (order : List Entry) (i : ℕ) (e : Entry) (table : List Service) → slice_get order i ≡ Some e → asked_at e.request r.asked ≡ None → AreServices r order i table → IsFirstBad r order (i + 1) NoSuchRequest
 first_unknown r order i e table at none h = (i, refl, (e, at, no_request e.request r.asked none), h.none_bad)
 
--- what is wholly served has no fault
-pub not_unserved : (r : Report) (order : List Entry) (k : ℕ) → (HasReplyStarted (length r.asked) (known_in r) k → IsWhollyServed (inside_in r k) order k) →
-    IsUnserved (length r.asked) (known_in r) (inside_in r) order k → ⊥
-not_unserved r order k served u = elim u [ inl m ↦ m.1 (served m.0).named | inr n ↦ n.2 (served n.0) ]
+-- what is served where it was due has no fault
+pub not_unserved : (profile : Profile) (r : Report) (order : List Entry) (k : ℕ) → IsAllServed profile r order k → IsUnserved (length r.asked) (due_in profile r) (inside_in r) order k → ⊥
+not_unserved profile r order k served u = elim u [ inl m ↦ m.1 (served m.0.0 m.0.1).named | inr n ↦ n.0.2 (served n.0.0 n.0.1) ]
 
 take_all : {A : Type 0} (xs : List A) → take (length xs) xs ≡ xs
 take_all [] = refl
@@ -256,6 +259,10 @@ take_all (x ∷ xs) = ap (λ l. x ∷ l) (take_all xs)
 pub some_of : (o : Option ℕ) → is_some o ≡ true → (n : ℕ) × (o ≡ Some n)
 some_of (Some n) e = (n, refl)
 some_of None e = absurd (let q : false ≡ true = e in cc)
+
+pub none_of : (o : Option ℕ) → is_some o ≡ false → o ≡ None
+none_of None e = refl
+none_of (Some n) e = absurd (let q : true ≡ false = e in cc)
 
 -- a request and its cell, when the order is through
 module _ (r : Report) (order : List Entry) (table : List Service) (h : AreServices r order (length order) table) (k : ℕ) (a : Asked) (s : Service)
@@ -267,47 +274,75 @@ module _ (r : Report) (order : List Entry) (table : List Service) (h : AreServic
       let same : suc (k - 1) ≡ k = omega arith in
       subst (λ es. IsServiceOf s (span_of_asked r.export a) es k) (take_all order) (subst (IsServiceOf s (span_of_asked r.export a) (take (length order) order)) same (h.each (k - 1) s a cell w.2))
 
-  answered_at : (n : ℕ) → a.known_at ≡ Some n → HasReplyStarted (length r.asked) (known_in r) k
-  answered_at n e = (let w = request_within k r.asked a told in (w.0, w.1, (n, ap known_of told ∙ e)))
+  pub fault_here : (profile : Profile) (found : Option OrderFault) → TellsFaultOf profile a (span_of_asked r.export a) s found → IsFaultOf profile r order k found
+  fault_here profile found tells = tells r order k told (span_of_request r k a told) service_at
 
-  pub fault_here : (found : Option OrderFault) → TellsFault s found → IsFaultOfService (inside_in r k) order k found
-  fault_here found tells = tells (span_of_asked r.export a) (inside_in r k) order k (span_of_request r k a told) service_at
+-- of a request that is not there nothing was due
+pub not_asked : (profile : Profile) (r : Report) (order : List Entry) (k : ℕ) → asked_at k r.asked ≡ None → IsAllServed profile r order k
+not_asked profile r order k none x (lo, hi, (n, d)) = absurd (let q : None ≡ Some n = sym (ap (λ o. due_of profile (inside_in r k) o x) none ∙ due_none profile (inside_in r k) x) ∙ d in (cc))
 
-  pub unserved_by : (fault : OrderFault) → TellsFault s (Some fault) → (n : ℕ) × (a.known_at ≡ Some n) → IsUnservedBy r order k fault
-  unserved_by fault tells n = go fault (fault_here (Some fault) tells)
+-- the fault by what was due is the request's
+pub fault_by : (profile : Profile) (r : Report) (order : List Entry) (k : ℕ) (at : ℕ → Type 0) (found : Option OrderFault) → ((x : ℕ) → at x → IsDue (length r.asked) (due_in profile r) k x) → ((x : ℕ) → IsDue (length r.asked) (due_in profile r) k x → at x) →
+    ((fault : OrderFault) → found ≡ Some fault → (x : ℕ) × at x) → IsFaultOfService at (inside_in r k) order k found → IsFaultOf profile r order k found
+fault_by profile r order k at None due from one f = λ x d. f x (from x d)
+fault_by profile r order k at (Some Missing) due from one f = (let o = one Missing refl in ((o.0, due o.0 o.1), f))
+fault_by profile r order k at (Some NotCovered) due from one f = ((f.0.0, due f.0.0 f.0.1, f.0.2), f.1)
+fault_by profile r order k at (Some NoSuchRequest) due from one f = absurd f
+fault_by profile r order k at (Some Twice) due from one f = absurd f
+fault_by profile r order k at (Some Late) due from one f = absurd f
+fault_by profile r order k at (Some BadPart) due from one f = absurd f
+
+module _ (profile : Profile) (r : Report) (order : List Entry) (k : ℕ) (a : Asked) (told : asked_at k r.asked ≡ Some a) where
+  due_at : (x : ℕ) → due_in profile r k x ≡ due_of profile (inside_in r k) (Some a) x
+  due_at x = ap (λ o. due_of profile (inside_in r k) o x) told
+
+  is_due : (x n : ℕ) → due_of profile (inside_in r k) (Some a) x ≡ Some n → IsDue (length r.asked) (due_in profile r) k x
+  is_due x n d = (let w = request_within k r.asked a told in (w.0, w.1, (n, due_at x ∙ d)))
+
+  -- a request whose reply has not started
+  pub not_started : is_chunked profile a.command ≡ false → a.known_at ≡ None → IsAllServed profile r order k
+  not_started whole none x (lo, hi, (n, d)) = absurd (let q : None ≡ Some n = sym (due_at x ∙ due_whole profile (inside_in r k) a x whole ∙ none) ∙ d in (cc))
+
+  -- one that was due at each offset: by the start of its reply, or by the end of a READ's
+  pub all_due : (found : Option OrderFault) → ((x : ℕ) → (n : ℕ) × (due_of profile (inside_in r k) (Some a) x ≡ Some n)) → IsFaultOfService (λ x. Unit {0}) (inside_in r k) order k found → IsFaultOf profile r order k found
+  all_due found due f = fault_by profile r order k (λ x. Unit {0}) found (λ x u. is_due x (due x).0 (due x).1) (λ x d. tt) (λ fault q. (0, tt)) f
+
+  pub started : (n x : ℕ) → is_chunked profile a.command ≡ false → a.known_at ≡ Some n → (m : ℕ) × (due_of profile (inside_in r k) (Some a) x ≡ Some m)
+  started n x whole e = (n, due_whole profile (inside_in r k) a x whole ∙ e)
+
+  pub ended : (n x : ℕ) → is_chunked profile a.command ≡ true → a.ended_at ≡ Some n → (m : ℕ) × (due_of profile (inside_in r k) (Some a) x ≡ Some m)
+  ended n x chunked e = (let o = go (if inside_in r k x then first_shown a.shown x else None) in (o.0, due_chunked profile (inside_in r k) a x chunked ∙ ap (lesser_of (if inside_in r k x then first_shown a.shown x else None)) e ∙ o.1))
     where
-      go : (fault : OrderFault) → IsFaultOfService (inside_in r k) order k (Some fault) → IsUnservedBy r order k fault
-      go Missing f = (answered_at n.0 n.1, f)
-      go NotCovered f = (answered_at n.0 n.1, f.0, f.1)
-      go NoSuchRequest f = absurd f
-      go Twice f = absurd f
-      go Late f = absurd f
-      go BadPart f = absurd f
+      go : (o : Option ℕ) → (m : ℕ) × (lesser_of o (Some n) ≡ Some m)
+      go None = (n, refl)
+      go (Some v) = (if nat_le v n then v else n, refl)
 
--- a request with a count is there
-pub known_request : (r : Report) (k n : ℕ) → known_in r k ≡ Some n → (a : Asked) × (asked_at k r.asked ≡ Some a) × (a.known_at ≡ Some n)
-known_request r k n e = go (asked_at k r.asked) refl e
-  where
-    go : (o : Option Asked) → asked_at k r.asked ≡ o → known_of o ≡ Some n → (a : Asked) × (asked_at k r.asked ≡ Some a) × (a.known_at ≡ Some n)
-    go (Some a) q e = (a, q, e)
-    go None q e = absurd (let z : None ≡ Some n = e in cc)
+  -- a READ whose reply has not ended is due where it was shown
+  pub shown_due : is_chunked profile a.command ≡ true → a.ended_at ≡ None → (found : Option OrderFault) → ((fault : OrderFault) → found ≡ Some fault → (x : ℕ) × IsShownAt (inside_in r k) a.shown x) →
+      IsFaultOfService (IsShownAt (inside_in r k) a.shown) (inside_in r k) order k found → IsFaultOf profile r order k found
+  shown_due chunked open_ found one f = fault_by profile r order k (IsShownAt (inside_in r k) a.shown) found
+      (λ x (i, (n, s)). is_due x n (due_chunked profile (inside_in r k) a x chunked ∙ ap (lesser_of (if inside_in r k x then first_shown a.shown x else None)) open_ ∙ ap (λ b. lesser_of (if b then first_shown a.shown x else None) None) i ∙ ap (λ o. lesser_of o None) s))
+      (λ x (lo, hi, (n, d)). shown x n (sym (due_at x ∙ due_chunked profile (inside_in r k) a x chunked ∙ ap (lesser_of (if inside_in r k x then first_shown a.shown x else None)) open_) ∙ d)) one f
+    where
+      shown : (x n : ℕ) → lesser_of (if inside_in r k x then first_shown a.shown x else None) None ≡ Some n → IsShownAt (inside_in r k) a.shown x
+      shown x n d = go (inside_in r k x) refl d
+        where
+          at : (o : Option ℕ) → lesser_of o None ≡ Some n → o ≡ Some n
+          at None z = absurd (cc)
+          at (Some w) z = z
 
--- what is not answered has no count
-pub unanswered : (r : Report) (k : ℕ) → known_in r k ≡ None → HasReplyStarted (length r.asked) (known_in r) k → ⊥
-unanswered r k e a = (let q : None ≡ Some a.2.0 = sym e ∙ a.2.1 in cc)
-
-pub none_of : (o : Option ℕ) → is_some o ≡ false → o ≡ None
-none_of None e = refl
-none_of (Some n) e = absurd (let q : true ≡ false = e in cc)
+          go : (b : Bool) → inside_in r k x ≡ b → lesser_of (if b then first_shown a.shown x else None) None ≡ Some n → IsShownAt (inside_in r k) a.shown x
+          go true i d = (i, (n, at (first_shown a.shown x) d))
+          go false i d = absurd (cc)
 
 -- the first bad entry is what the order is answered with
-pub answered_with : (r : Report) (order : List Entry) (entry : ℕ) (fault : OrderFault) → IsFirstBad r order entry fault → IsOrderFault r order entry fault
-answered_with r order entry NoSuchRequest h = h
-answered_with r order entry Twice h = h
-answered_with r order entry BadPart h = (h.0, h.1, h.2.0, h.2.1, h.2.2, h.3)
-answered_with r order entry Late h = absurd h.2
-answered_with r order entry Missing h = absurd h.2
-answered_with r order entry NotCovered h = absurd h.2
+pub answered_with : (profile : Profile) (r : Report) (order : List Entry) (entry : ℕ) (fault : OrderFault) → IsFirstBad r order entry fault → IsOrderFault profile r order entry fault
+answered_with profile r order entry NoSuchRequest h = h
+answered_with profile r order entry Twice h = h
+answered_with profile r order entry BadPart h = (h.0, h.1, h.2.0, h.2.1, h.2.2, h.3)
+answered_with profile r order entry Late h = absurd h.2
+answered_with profile r order entry Missing h = absurd h.2
+answered_with profile r order entry NotCovered h = absurd h.2
 
 bad_within : (r : Report) (order : List Entry) (i : ℕ) → IsBad (length r.asked) (inside_in r) order i → i < length order
 bad_within r order i b = elim b [
@@ -318,13 +353,36 @@ bad_within r order i b = elim b [
 pub none_bad : (r : Report) (order : List Entry) (table : List Service) → AreServices r order (length order) table → (i : ℕ) → IsBad (length r.asked) (inside_in r) order i → ⊥
 none_bad r order table h i b = h.none_bad i (bad_within r order i b) b
 
--- where no entry is bad or late, what the table tells is the answer
-pub told_by_table : (r : Report) (order : List Entry) (table : List Service) → AreServices r order (length order) table → ((i : ℕ) → IsLate (known_in r) (numbers order) i → ⊥) →
-    (o : Option (ℕ × OrderFault)) → TellsUnserved r table o → MatchOption o (IsFaultless r order) (λ p. IsOrderFault r order p.0 p.1)
-told_by_table r order table h late None tells = record { none_bad = none_bad r order table h; none_late = late; served = tells order h }
-told_by_table r order table h late (Some p) tells = go p.1 (tells order h)
+-- an entry that is not bad is fair
+pub fair : (r : Report) (order : List Entry) → ((i : ℕ) → IsBad (length r.asked) (inside_in r) order i → ⊥) → (i : ℕ) (e : Entry) → slice_get order i ≡ Some e → IsFair r e
+fair r order none i e at = record {
+  named = named (e.request == 0) (nat_le e.request (length r.asked)) refl refl;
+  part = λ p q. (some p q p.length refl, λ x h. inside p q x h (inside_in r e.request x) refl);
+}
   where
-    go : (fault : OrderFault) → IsUnservedBy r order p.0 fault × ((k : ℕ) → k < p.0 → IsUnserved (length r.asked) (known_in r) (inside_in r) order k → ⊥) → IsOrderFault r order p.0 fault
+    named : (a b : Bool) → (e.request == 0) ≡ a → nat_le e.request (length r.asked) ≡ b → (0 < e.request) × (e.request ≤ length r.asked)
+    named true b z w = absurd (none i (inl (e, at, inl (eqb-true e.request 0 z))))
+    named false true z w = (let ne = eqb-false e.request 0 z in omega (arith, ne), leb-true e.request (length r.asked) w)
+    named false false z w = absurd (none i (inl (e, at, inr (leb-false e.request (length r.asked) w))))
+
+    bad : (p : Part) → e.part ≡ Some p → HasBadPart (inside_in r e.request) (take i order) (record { request = e.request; part = Some p }) → ⊥
+    bad p q h = none i (inr (inr (e, at, subst (λ o. HasBadPart (inside_in r e.request) (take i order) (record { request = e.request; part = o })) (sym q) h)))
+
+    some : (p : Part) → e.part ≡ Some p → (n : ℕ) → p.length ≡ n → 0 < p.length
+    some p q zero z = absurd (bad p q (inl z))
+    some p q (suc n) z = omega (arith, z)
+
+    inside : (p : Part) → e.part ≡ Some p → (x : ℕ) → IsTrue (is_in p.offset p.length x) → (b : Bool) → inside_in r e.request x ≡ b → b ≡ true
+    inside p q x h true z = refl
+    inside p q x h false z = absurd (bad p q (inr (inl (x, h, z))))
+
+-- where no entry is bad or late, what the table tells is the answer
+pub told_by_table : (profile : Profile) (r : Report) (order : List Entry) (table : List Service) → AreServices r order (length order) table → ((i : ℕ) → IsLate (due_in profile r) order i → ⊥) →
+    (o : Option (ℕ × OrderFault)) → TellsUnserved profile r table o → MatchOption o (IsFaultless profile r order) (λ p. IsOrderFault profile r order p.0 p.1)
+told_by_table profile r order table h late None tells = record { none_bad = none_bad r order table h; none_late = late; served = λ k x d. tells order h k x d }
+told_by_table profile r order table h late (Some p) tells = go p.1 (tells order h)
+  where
+    go : (fault : OrderFault) → IsUnservedBy profile r order p.0 fault × ((k : ℕ) → k < p.0 → IsUnserved (length r.asked) (due_in profile r) (inside_in r) order k → ⊥) → IsOrderFault profile r order p.0 fault
     go Missing t = ((none_bad r order table h, late, t.1), t.0)
     go NotCovered t = ((none_bad r order table h, late, t.1), t.0)
     go NoSuchRequest t = absurd t.0

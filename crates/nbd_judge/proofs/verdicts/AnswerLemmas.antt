@@ -20,20 +20,20 @@ use Rattle.nbd_judge.proofs.verdicts.SingleLemmas.{fits_not, has_fault, has_wron
 
 -- where an order has a fault, no run with these bytes is served in it
 fault_unserved : OrdersAreFaultless → SameReports → (profile : Profile) (items : List Item) (order : List Entry) (entry : ℕ) (fault : OrderFault) → IsRunOf profile items →
-    IsOrderFault (report items) order entry fault → IsUnserved profile (pairs items) order
-fault_unserved faultless same profile items order entry fault run is other run' bytes serves = has_fault (report items) order entry fault is
-    (subst (λ (r : Report). IsFaultless r order) (same profile other items run' run bytes)
-    (subst (λ (o : List Entry). IsFaultless (report other) o) serves (faultless profile other run')))
+    IsOrderFault profile (report items) order entry fault → IsUnserved profile (pairs items) order
+fault_unserved faultless same profile items order entry fault run is other run' bytes serves = has_fault profile (report items) order entry fault is
+    (subst (λ (r : Report). IsFaultless profile r order) (same profile other items run' run bytes)
+    (subst (λ (o : List Entry). IsFaultless profile (report other) o) serves (faultless profile other run')))
 
 -- so an Order verdict is of an order that no run with the session's bytes is served in
-pub order_unserved : (r : Report) (order : List Entry) (entry : ℕ) (fault : OrderFault) → IsOrderFault r order entry fault →
-    (profile : Profile) (items : List Item) → IsRunOf profile items → report items ≡ r → IsUnserved profile (pairs items) order
-order_unserved r order entry fault is profile items run of_run =
-    fault_unserved orders_are_faultless same_reports profile items order entry fault run (subst (λ (q : Report). IsOrderFault q order entry fault) (sym of_run) is)
+pub order_unserved : (profile : Profile) (r : Report) (order : List Entry) (entry : ℕ) (fault : OrderFault) → IsOrderFault profile r order entry fault →
+    (items : List Item) → IsRunOf profile items → report items ≡ r → IsUnserved profile (pairs items) order
+order_unserved profile r order entry fault is items run of_run =
+    fault_unserved orders_are_faultless same_reports profile items order entry fault run (subst (λ (q : Report). IsOrderFault profile q order entry fault) (sym of_run) is)
 
 module _ (passing : PassingIsExplained) (only : ExplainedPasses) (faultless : OrdersAreFaultless) (same : SameReports) where
   -- a run that does not pass is not explained
-  no_pass : (profile : Profile) (items : List Item) (order : List Entry) (initial : Start) → IsRunOf profile items → (Passes (report items) order initial → ⊥)
+  no_pass : (profile : Profile) (items : List Item) (order : List Entry) (initial : Start) → IsRunOf profile items → (Passes profile (report items) order initial → ⊥)
       → IsNoOf profile (pairs items) order initial
   no_pass profile items order initial run fails explained = fails (only profile items order initial run explained)
 
@@ -51,7 +51,7 @@ module _ (passing : PassingIsExplained) (only : ExplainedPasses) (faultless : Or
     };
   }
   answers_runs profile items order initial (Order e p) run v = (
-    no_pass profile items order initial run (λ passes. has_fault (report items) order e p v.1 passes.faultless),
+    no_pass profile items order initial run (λ passes. has_fault profile (report items) order e p v.1 passes.faultless),
     fault_unserved faultless same profile items order e p run v.1,
   )
   answers_runs profile items order initial (Content k x) run v =

@@ -1,5 +1,5 @@
 -- A capture in which no answer of success on metadata contexts comes has the same verdict in both profiles.
-use Rattle.std.proofs.Common.{◌≡◌, ℕ, zero, suc, ◌<◌, ◌/◌, ◌^◌, List, [], ◌∷◌, ◌++◌, length, replicate, if◌then◌else◌, Bool, true, false, refl, sym, ◌∙◌, ap, subst, inl, inr, arith, append-nil}
+use Rattle.std.proofs.Common.{◌≡◌, ℕ, zero, suc, ◌<◌, ◌/◌, ◌^◌, List, [], ◌∷◌, ◌++◌, length, replicate, if◌then◌else◌, Bool, true, false, refl, sym, ◌∙◌, ap, subst, inl, inr, arith}
 use Rattle.std.proofs.Math.Nat.{mod-lt}
 use Rattle.std.specs.Int.{byte_at, bytes_high_first}
 use Rattle.nbd_wire.specs.declared.entry.Entry.{Entry}
@@ -14,24 +14,30 @@ use Rattle.nbd_wire.specs.declared.profile.Profile.{Profile}
 use Rattle.nbd_wire.specs.protocol.Captures.{ArePairs, Pair}
 use Rattle.nbd_wire.specs.protocol.Encoding.{AreBytes, enc, head, tail}
 use Rattle.nbd_wire.specs.protocol.Explains.{Start}
-use Rattle.nbd_wire.specs.protocol.Marks.{Item, completed_messages, pairs}
+use Rattle.nbd_wire.specs.protocol.Marks.{Item, pairs}
 use Rattle.nbd_wire.specs.protocol.Reports.{Report, report}
-use Rattle.nbd_wire.specs.protocol.Rules.{IsRunBut, IsRunOf, Obeys}
+use Rattle.nbd_wire.specs.protocol.Rules.{IsRunOf, Obeys}
 use Rattle.nbd_wire.specs.protocol.Sendable.{IsSendable}
 use Rattle.nbd_wire.specs.protocol.Places.{IsPlaceOf, IsUnderWayOf}
 use Rattle.nbd_wire.specs.protocol.States.{State, start_of}
 use Rattle.nbd_laws.specs.Profiles.{NothingParts}
 use Rattle.nbd_wire.specs.protocol.Reading.{by_tests, Both, fresh_of, get, reads}
-use Rattle.nbd_laws.proofs.judge.ExactLemmas.{exact}
-use Rattle.nbd_laws.proofs.judge.SoundLemmas.{sound}
 use Rattle.nbd_laws.proofs.reading.ReaderLemmas.{Busy, Idle, Loose, Open, Walk, ended, final, loose, middle, opening, serving}
-use Rattle.nbd_laws.proofs.runs.AgreeLemmas.{nothing_before, places_agree, runs_agree, under_way_in}
+use Rattle.nbd_laws.proofs.runs.AgreeLemmas.{dues_agree, nothing_before, places_agree, runs_agree, under_way_in}
+use Rattle.nbd_laws.proofs.runs.FollowLemmas.{pairs_unserved}
+use Rattle.nbd_wire.specs.protocol.Marks.{without_service}
+use Rattle.nbd_wire.specs.protocol.Orders.{FirstLate, HasNoOrderFault, LeastMissing, LeastNotCovered}
+use Rattle.nbd_wire.specs.protocol.Reports.{due_in, inside_in}
+use Rattle.nbd_wire.specs.protocol.Verdicts.{IsFaultless}
+use Rattle.nbd_judge.specs.Orders.{IsOrderFault}
+use Rattle.nbd_judge.specs.declared.verdict.OrderFault.{OrderFault}
+use Rattle.nbd_judge.specs.declared.verdict.OrderFault.TheVariants.{BadPart, Late, Missing, NoSuchRequest, NotCovered, Twice}
 use Rattle.nbd_laws.proofs.runs.FollowLemmas.{each_with}
 use Rattle.nbd_laws.proofs.runs.PlaceLemmas.{but_last, places_begin_no_run, read_no_place}
 use Rattle.nbd_laws.proofs.runs.RunLemmas.{walk_of}
 use Rattle.nbd_laws.proofs.service.ExplainingLemmas.{explained_passes, passing_is_explained}
 use Rattle.nbd_laws.proofs.service.MomentLemmas.{orders_are_faultless}
-use Rattle.nbd_laws.proofs.service.ServiceLemmas.{same_reports}
+use Rattle.nbd_laws.proofs.service.ServiceLemmas.{reports_ignore_service, same_reports}
 use Rattle.nbd_session.specs.Refusals.{IsOpenEndOf, IsRefusalOf, IsWireFaultOf, LeavesOpen}
 use Rattle.nbd_wire.specs.protocol.Within.{CompletesExactlyOf}
 use Rattle.nbd_session.proofs.judge.RefusalLemmas.{completes_exactly}
@@ -39,7 +45,7 @@ use Rattle.nbd_judge.specs.declared.verdict.Verdict.{Verdict}
 use Rattle.nbd_judge.specs.declared.verdict.Verdict.TheVariants.{Yes, Wire, Image, Order, Content, Status}
 use Rattle.nbd_judge.specs.Captures.{HasVerdict}
 use Rattle.nbd_judge.specs.Conclusions.{Answers}
-use Rattle.nbd_judge.specs.Profiles.{NothingPartsIn, with_improper, VerdictsAgree}
+use Rattle.nbd_judge.specs.Profiles.{AnswersAtOnceIn, NothingPartsIn, with_improper, VerdictsAgree}
 use Rattle.nbd_wire.specs.protocol.Verdicts.{improper_count}
 use Rattle.nbd_judge.specs.Verdicts.{IsVerdict}
 use Rattle.nbd_judge.proofs.verdicts.AnswerLemmas.{answers_runs}
@@ -119,16 +125,32 @@ place_refuses profile ps messages fault place = record {
       subst (λ qs. CompletesExactlyOf profile qs messages) same (completes_exactly place.prefix place.before.end messages place.before.are_pairs place.before.reads_it place.before.has_messages));
 }
 
--- a verdict is one of the other profile too, with its count
-other_count : (p q : Profile) (r : Report) (order : List Entry) (initial : Start) (v : Verdict) → IsVerdict p r order initial v → IsVerdict q r order initial (with_improper (improper_count q r) v)
-other_count p q r order initial (Yes a b c) h = (h.0, (h.1.0, h.1.1, h.1.2, h.1.3, refl))
-other_count p q r order initial (Order e f) h = h
-other_count p q r order initial (Content k x) h = h
-other_count p q r order initial (Status k x) h = h
-other_count p q r order initial (Image i s) h = h
-other_count p q r order initial (Wire at fault) h = h
+-- where the same is due, an order has the same fault
+same_fault : (p q : Profile) (r : Report) (order : List Entry) (entry : ℕ) (fault : OrderFault) → due_in p r ≡ due_in q r → IsOrderFault p r order entry fault → IsOrderFault q r order entry fault
+same_fault p q r order entry NoSuchRequest same h = h
+same_fault p q r order entry Twice same h = h
+same_fault p q r order entry BadPart same h = h
+same_fault p q r order entry Late same h = subst (λ due. FirstLate (length r.asked) due (inside_in r) order entry) same h
+same_fault p q r order entry Missing same h = subst (λ due. LeastMissing (length r.asked) due (inside_in r) order entry) same h
+same_fault p q r order entry NotCovered same h = subst (λ due. LeastNotCovered (length r.asked) due (inside_in r) order entry) same h
 
-module _ (p q : Profile) (capture : List Pair) (tells : NothingPartsIn capture) where
+same_faultless : (p q : Profile) (r : Report) (order : List Entry) → due_in p r ≡ due_in q r → IsFaultless p r order → IsFaultless q r order
+same_faultless p q r order same h = subst (λ due. HasNoOrderFault (length r.asked) due (inside_in r) order) same h
+
+-- a verdict is one of the other profile too, with its count
+other_count : (p q : Profile) (r : Report) (order : List Entry) (initial : Start) (v : Verdict) → due_in p r ≡ due_in q r → IsVerdict p r order initial v → IsVerdict q r order initial (with_improper (improper_count q r) v)
+other_count p q r order initial (Yes a b c) same h = (h.0, (same_faultless p q r order same h.1.0, h.1.1, h.1.2, h.1.3, refl))
+other_count p q r order initial (Order e f) same h = (h.0, same_fault p q r order e f same h.1)
+other_count p q r order initial (Content k x) same h = (h.0, (same_faultless p q r order same h.1.0, h.1.1))
+other_count p q r order initial (Status k x) same h = (h.0, (same_faultless p q r order same h.1.0, h.1.1))
+other_count p q r order initial (Image i s) same h = h
+other_count p q r order initial (Wire at fault) same h = h
+
+-- items with the same marks, but for those of service, have the same bytes
+same_pairs : (items other : List Item) → without_service other ≡ without_service items → pairs other ≡ pairs items
+same_pairs items other e = sym (pairs_unserved other) ∙ ap pairs e ∙ pairs_unserved items
+
+module _ (p q : Profile) (capture : List Pair) (tells : NothingPartsIn capture) (at_once : AnswersAtOnceIn capture) where
   none_told : (profile : Profile) (items : List Item) → pairs items ≡ capture → NothingParts profile (pairs items)
   none_told profile items is = subst (NothingParts profile) (sym is) (tells profile)
 
@@ -136,14 +158,18 @@ module _ (p q : Profile) (capture : List Pair) (tells : NothingPartsIn capture) 
   same_verdict : (order : List Entry) (initial : Start) (v : Verdict) (h : HasVerdict p capture order initial v) → HasVerdict q capture order initial (with_improper (improper_count q (report h.items)) v)
   same_verdict order initial v h =
       let w : Verdict = with_improper (improper_count q (report h.items)) v in
-      let run : IsRunOf q h.items = runs_agree p q h.items (run_pairs p h.items h.is_run) (none_told p h.items h.has_pairs) h.is_run in
-      let here : IsVerdict q (report h.items) order initial w = other_count p q (report h.items) order initial v (h.is_verdict h.items h.is_run h.has_pairs) in
+      let other : (items : List Item) × IsRunOf q items × (without_service items ≡ without_service h.items) = runs_agree p q h.items (run_pairs p h.items h.is_run) (none_told p h.items h.has_pairs) h.is_run in
+      let has : pairs other.0 ≡ capture = same_pairs h.items other.0 other.2 ∙ h.has_pairs in
+      let same : report h.items ≡ report other.0 = sym (reports_ignore_service other.0 h.items other.2) in
+      let due : due_in p (report h.items) ≡ due_in q (report h.items) = λ i k x. dues_agree p q p h.items k x h.is_run (at_once p h.items h.is_run h.has_pairs) i in
+      let here : IsVerdict q (report other.0) order initial w =
+      subst (λ (r : Report). IsVerdict q r order initial w) same (other_count p q (report h.items) order initial v due (h.is_verdict h.items h.is_run h.has_pairs)) in
       record {
-        items = h.items;
-        is_run = run;
-        has_pairs = h.has_pairs;
-        is_verdict = λ others is has. subst (λ (r : Report). IsVerdict q r order initial w) (same_reports q h.items others run is (h.has_pairs ∙ sym has)) here;
-        answers = subst (λ ps. Answers q ps order initial w) h.has_pairs (answers_runs passing_is_explained explained_passes orders_are_faultless same_reports q h.items order initial w run here);
+        items = other.0;
+        is_run = other.1;
+        has_pairs = has;
+        is_verdict = λ others is has'. subst (λ (r : Report). IsVerdict q r order initial w) (same_reports q other.0 others other.1 is (has ∙ sym has')) here;
+        answers = subst (λ ps. Answers q ps order initial w) has (answers_runs passing_is_explained explained_passes orders_are_faultless same_reports q other.0 order initial w other.1 here);
       }
 
   -- an end within a message
@@ -158,7 +184,7 @@ module _ (p q : Profile) (capture : List Pair) (tells : NothingPartsIn capture) 
           all = completes_exactly capture v.0.end messages v.0.are_pairs v.0.reads_it v.0.has_messages;
         };
         leaves_open = subst LeavesOpen (sym v.1) e.leaves_open;
-        none = λ items run has. e.none items (runs_agree q p items (run_pairs q items run) (none_told q items has) run) has;
+        none = λ items run has. (let other = runs_agree q p items (run_pairs q items run) (none_told q items has) run in e.none other.0 other.1 (same_pairs items other.0 other.2 ∙ has));
       }
 
   same_wire_fault : (messages : List Message) (at : ℕ) (fault : WireFault) → IsWireFaultOf p capture messages at fault → IsWireFaultOf q capture messages at fault
@@ -168,9 +194,9 @@ module _ (p q : Profile) (capture : List Pair) (tells : NothingPartsIn capture) 
   same_wire_fault messages at fault (inr e) = inr (e.0, e.1, same_open_end messages e.2)
 
 pub verdicts_agree : VerdictsAgree
-verdicts_agree p q capture order initial (Wire at fault) tells c = (0, (c.0, same_wire_fault p q capture tells c.0 at fault c.1))
-verdicts_agree p q capture order initial (Yes a b c) tells h = (improper_count q (report h.items), same_verdict p q capture tells order initial (Yes a b c) h)
-verdicts_agree p q capture order initial (Image image size) tells h = (0, same_verdict p q capture tells order initial (Image image size) h)
-verdicts_agree p q capture order initial (Order entry fault) tells h = (0, same_verdict p q capture tells order initial (Order entry fault) h)
-verdicts_agree p q capture order initial (Content request offset) tells h = (0, same_verdict p q capture tells order initial (Content request offset) h)
-verdicts_agree p q capture order initial (Status request offset) tells h = (0, same_verdict p q capture tells order initial (Status request offset) h)
+verdicts_agree p q capture order initial (Wire at fault) tells once c = (0, (c.0, same_wire_fault p q capture tells once c.0 at fault c.1))
+verdicts_agree p q capture order initial (Yes a b c) tells once h = (improper_count q (report h.items), same_verdict p q capture tells once order initial (Yes a b c) h)
+verdicts_agree p q capture order initial (Image image size) tells once h = (0, same_verdict p q capture tells once order initial (Image image size) h)
+verdicts_agree p q capture order initial (Order entry fault) tells once h = (0, same_verdict p q capture tells once order initial (Order entry fault) h)
+verdicts_agree p q capture order initial (Content request offset) tells once h = (0, same_verdict p q capture tells once order initial (Content request offset) h)
+verdicts_agree p q capture order initial (Status request offset) tells once h = (0, same_verdict p q capture tells once order initial (Status request offset) h)

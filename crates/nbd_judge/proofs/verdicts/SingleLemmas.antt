@@ -2,13 +2,14 @@
 use Rattle.std.proofs.Common.{◌≡◌, ℕ, ◌+◌, ◌<◌, ◌⊎◌, inl, inr, List, length, sym, ◌∙◌, ap, subst, Option, Some, None, slice_get, take, arith}
 use Rattle.nbd_wire.specs.declared.entry.Entry.{Entry}
 use Rattle.nbd_wire.specs.declared.entry.Part.{Part}
-use Rattle.nbd_wire.specs.protocol.Entries.{IsAgain, Names, numbers}
+use Rattle.nbd_wire.specs.protocol.Entries.{IsAgain, Names}
 use Rattle.nbd_laws.proofs.service.EntryLemmas.{whole_names}
 use Rattle.nbd_wire.specs.protocol.ExportBytes.{IsWrong, effects}
 use Rattle.nbd_wire.specs.protocol.Explains.{FitsImage, Start, start_byte}
 use Rattle.nbd_wire.specs.protocol.Explains as starts
 use Rattle.nbd_wire.specs.protocol.Orders.{IsBad, IsFirst, IsLate, IsUnserved, NamesAgain, NamesNone}
-use Rattle.nbd_wire.specs.protocol.Reports.{Report, inside_in, known_in, asked_at, Asked}
+use Rattle.nbd_wire.specs.protocol.Reports.{Report, due_in, inside_in, asked_at, Asked}
+use Rattle.nbd_wire.specs.declared.profile.Profile.{Profile}
 use Rattle.nbd_wire.specs.protocol.Operations.{Exporting}
 use Rattle.nbd_wire.specs.protocol.Verdicts.{IsFaultless}
 use Rattle.nbd_judge.specs.declared.verdict.OrderFault.{OrderFault}
@@ -27,28 +28,28 @@ one_first P m n p q = elim (before_or_behind m n) [
   | inr r ↦ elim r [ inl l ↦ absurd (p.1 n l q.0) | inr e ↦ e ]
 ]
 
-module _ (r : Report) (order : List Entry) where
+module _ (profile : Profile) (r : Report) (order : List Entry) where
   abbrev Bad : ℕ → Type 0
   Bad i = IsBad (length r.asked) (inside_in r) order i
 
   abbrev Unserved : ℕ → Type 0
-  Unserved k = IsUnserved (length r.asked) (known_in r) (inside_in r) order k
+  Unserved k = IsUnserved (length r.asked) (due_in profile r) (inside_in r) order k
 
   -- the first bad entry, and that its fault is the one
-  abbrev first_none : (e : ℕ) → IsOrderFault r order e NoSuchRequest → (i : ℕ) × (e ≡ i + 1) × IsFirst Bad i
+  abbrev first_none : (e : ℕ) → IsOrderFault profile r order e NoSuchRequest → (i : ℕ) × (e ≡ i + 1) × IsFirst Bad i
   first_none e f = (f.0, f.1, (inl f.2, f.3))
 
-  abbrev first_again : (e : ℕ) → IsOrderFault r order e Twice → (i : ℕ) × (e ≡ i + 1) × IsFirst Bad i
+  abbrev first_again : (e : ℕ) → IsOrderFault profile r order e Twice → (i : ℕ) × (e ≡ i + 1) × IsFirst Bad i
   first_again e f = (f.0, f.1, (inr (inl f.2), f.3))
 
-  abbrev first_part : (e : ℕ) → IsOrderFault r order e BadPart → (i : ℕ) × (e ≡ i + 1) × IsFirst Bad i
+  abbrev first_part : (e : ℕ) → IsOrderFault profile r order e BadPart → (i : ℕ) × (e ≡ i + 1) × IsFirst Bad i
   first_part e f = (f.0, f.1, (inr (inr f.2), f.5))
 
   one_bad : (d e : ℕ) → (i : ℕ) × (d ≡ i + 1) × IsFirst Bad i → (j : ℕ) × (e ≡ j + 1) × IsFirst Bad j → d ≡ e
   one_bad d e f g = f.1 ∙ ap (λ n. n + 1) (one_first Bad f.0 g.0 f.2 g.2) ∙ sym g.1
 
   -- an entry that repeats an entry of no request is not the first bad one
-  none_again : (d e : ℕ) → IsOrderFault r order d NoSuchRequest → IsOrderFault r order e Twice → ⊥
+  none_again : (d e : ℕ) → IsOrderFault profile r order d NoSuchRequest → IsOrderFault profile r order e Twice → ⊥
   none_again d e f g =
       let same : f.0 ≡ g.0 = one_first Bad f.0 g.0 (first_none d f).2 (first_again e g).2 in
       let entry : f.2.0 ≡ g.2.0 = (let q : Some f.2.0 ≡ Some g.2.0 = sym f.2.1 ∙ ap (slice_get order) same ∙ g.2.1 in cc) in
@@ -60,30 +61,30 @@ module _ (r : Report) (order : List Entry) where
       named_before before k None h = h
       named_before before k (Some p) h = whole_names before k h
 
-  none_part : (d e : ℕ) → IsOrderFault r order d NoSuchRequest → IsOrderFault r order e BadPart → ⊥
+  none_part : (d e : ℕ) → IsOrderFault profile r order d NoSuchRequest → IsOrderFault profile r order e BadPart → ⊥
   none_part d e f g = g.3 (subst (NamesNone (length r.asked) order) (one_first Bad f.0 g.0 (first_none d f).2 (first_part e g).2) f.2)
 
-  again_part : (d e : ℕ) → IsOrderFault r order d Twice → IsOrderFault r order e BadPart → ⊥
+  again_part : (d e : ℕ) → IsOrderFault profile r order d Twice → IsOrderFault profile r order e BadPart → ⊥
   again_part d e f g = g.4 (subst (NamesAgain order) (one_first Bad f.0 g.0 (first_again d f).2 (first_part e g).2) f.2)
 
-  least_missing : (e : ℕ) → IsOrderFault r order e Missing → IsFirst Unserved e
+  least_missing : (e : ℕ) → IsOrderFault profile r order e Missing → IsFirst Unserved e
   least_missing e f = (inl f.1, f.0.2)
 
-  least_uncovered : (e : ℕ) → IsOrderFault r order e NotCovered → IsFirst Unserved e
+  least_uncovered : (e : ℕ) → IsOrderFault profile r order e NotCovered → IsFirst Unserved e
   least_uncovered e f = (inr f.1, f.0.2)
 
-  missing_covered : (d e : ℕ) → IsOrderFault r order d Missing → IsOrderFault r order e NotCovered → ⊥
+  missing_covered : (d e : ℕ) → IsOrderFault profile r order d Missing → IsOrderFault profile r order e NotCovered → ⊥
   missing_covered d e f g = f.1.1 (subst (Names order) (sym (one_first Unserved d e (least_missing d f) (least_uncovered e g))) g.1.1)
 
-  pub has_fault : (e : ℕ) (p : OrderFault) → IsOrderFault r order e p → IsFaultless r order → ⊥
+  pub has_fault : (e : ℕ) (p : OrderFault) → IsOrderFault profile r order e p → IsFaultless profile r order → ⊥
   has_fault e NoSuchRequest f ok = ok.none_bad f.0 (inl f.2)
   has_fault e Twice f ok = ok.none_bad f.0 (inr (inl f.2))
   has_fault e BadPart f ok = ok.none_bad f.0 (inr (inr f.2))
   has_fault e Late f ok = ok.none_late f.0 f.3.0
-  has_fault e Missing f ok = f.1.1 (ok.served e f.1.0).named
-  has_fault e NotCovered f ok = f.1.2 (ok.served e f.1.0)
+  has_fault e Missing f ok = f.1.1 (ok.served e f.1.0.0 f.1.0.1).named
+  has_fault e NotCovered f ok = f.1.0.2 (ok.served e f.1.0.0 f.1.0.1)
 
-  one_fault : (d e : ℕ) (p q : OrderFault) → IsOrderFault r order d p → IsOrderFault r order e q → Order d p ≡ Order e q
+  one_fault : (d e : ℕ) (p q : OrderFault) → IsOrderFault profile r order d p → IsOrderFault profile r order e q → Order d p ≡ Order e q
   one_fault d e NoSuchRequest NoSuchRequest f g = ap (λ n. Order n NoSuchRequest) (one_bad d e (first_none d f) (first_none e g))
   one_fault d e NoSuchRequest Twice f g = absurd (none_again d e f g)
   one_fault d e NoSuchRequest BadPart f g = absurd (none_part d e f g)
@@ -105,7 +106,7 @@ module _ (r : Report) (order : List Entry) where
   one_fault d e Late NoSuchRequest f g = absurd (f.2 g.0 (first_none e g).2.0)
   one_fault d e Late Twice f g = absurd (f.2 g.0 (first_again e g).2.0)
   one_fault d e Late BadPart f g = absurd (f.2 g.0 (first_part e g).2.0)
-  one_fault d e Late Late f g = ap (λ n. Order n Late) (f.1 ∙ ap (λ n. n + 1) (one_first (IsLate (known_in r) (numbers order)) f.0 g.0 f.3 g.3) ∙ sym g.1)
+  one_fault d e Late Late f g = ap (λ n. Order n Late) (f.1 ∙ ap (λ n. n + 1) (one_first (IsLate (due_in profile r) order) f.0 g.0 f.3 g.3) ∙ sym g.1)
   one_fault d e Late Missing f g = absurd (g.0.1 f.0 f.3.0)
   one_fault d e Late NotCovered f g = absurd (g.0.1 f.0 f.3.0)
   one_fault d e Missing NoSuchRequest f g = absurd (f.0.0 g.0 (first_none e g).2.0)
@@ -143,25 +144,25 @@ module _ (r : Report) (order : List Entry) (initial : ℕ → Option ℕ) where
 
 pub one_judgement : OneJudgement
 one_judgement profile r order initial (Yes a b c) (Yes d e f) v w = (let p : a ≡ d = v.2 ∙ sym w.2 in let q : b ≡ e = v.3 ∙ sym w.3 in let s : c ≡ f = v.4 ∙ sym w.4 in cc)
-one_judgement profile r order initial (Yes a b c) (Order e p) v w = absurd (has_fault r order e p w v.0)
+one_judgement profile r order initial (Yes a b c) (Order e p) v w = absurd (has_fault profile r order e p w v.0)
 one_judgement profile r order initial (Yes a b c) (Content k x) v w = absurd (has_wrong r order initial k x w.1.0 v.1)
 one_judgement profile r order initial (Yes a b c) (Status k x) v w = absurd (has_wrong r order initial k x w.1.0 v.1)
 one_judgement profile r order initial (Yes a b c) (Wire at fault) v w = absurd w
 one_judgement profile r order initial (Yes a b c) (Image image size) v w = absurd w
-one_judgement profile r order initial (Order e p) (Yes a b c) v w = absurd (has_fault r order e p v w.0)
-one_judgement profile r order initial (Order d p) (Order e q) v w = one_fault r order d e p q v w
-one_judgement profile r order initial (Order e p) (Content k x) v w = absurd (has_fault r order e p v w.0)
-one_judgement profile r order initial (Order e p) (Status k x) v w = absurd (has_fault r order e p v w.0)
+one_judgement profile r order initial (Order e p) (Yes a b c) v w = absurd (has_fault profile r order e p v w.0)
+one_judgement profile r order initial (Order d p) (Order e q) v w = one_fault profile r order d e p q v w
+one_judgement profile r order initial (Order e p) (Content k x) v w = absurd (has_fault profile r order e p v w.0)
+one_judgement profile r order initial (Order e p) (Status k x) v w = absurd (has_fault profile r order e p v w.0)
 one_judgement profile r order initial (Order e p) (Wire at fault) v w = absurd w
 one_judgement profile r order initial (Order e p) (Image image size) v w = absurd w
 one_judgement profile r order initial (Content k x) (Yes a b c) v w = absurd (has_wrong r order initial k x v.1.0 w.1)
-one_judgement profile r order initial (Content k x) (Order e p) v w = absurd (has_fault r order e p w v.0)
+one_judgement profile r order initial (Content k x) (Order e p) v w = absurd (has_fault profile r order e p w v.0)
 one_judgement profile r order initial (Content j x) (Content k y) v w = let one = one_wrong r order initial j k x y v.1.0 w.1.0 in (λ i. Content (one.0 i) (one.1 i))
 one_judgement profile r order initial (Content j x) (Status k y) v w = absurd (let q = one_command r order initial j k x y _ _ v.1 w.1 in omega (arith, q))
 one_judgement profile r order initial (Content k x) (Wire at fault) v w = absurd w
 one_judgement profile r order initial (Content k x) (Image image size) v w = absurd w
 one_judgement profile r order initial (Status k x) (Yes a b c) v w = absurd (has_wrong r order initial k x v.1.0 w.1)
-one_judgement profile r order initial (Status k x) (Order e p) v w = absurd (has_fault r order e p w v.0)
+one_judgement profile r order initial (Status k x) (Order e p) v w = absurd (has_fault profile r order e p w v.0)
 one_judgement profile r order initial (Status j x) (Content k y) v w = absurd (let q = one_command r order initial j k x y _ _ v.1 w.1 in omega (arith, q))
 one_judgement profile r order initial (Status j x) (Status k y) v w = let one = one_wrong r order initial j k x y v.1.0 w.1.0 in (λ i. Status (one.0 i) (one.1 i))
 one_judgement profile r order initial (Status k x) (Wire at fault) v w = absurd w

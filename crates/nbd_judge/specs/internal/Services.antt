@@ -1,16 +1,18 @@
 -- What the entries of an order serve of one request, and a table of that.
-use Rattle.std.specs.Prelude.{ℕ, suc, List, [], ◌∷◌, ◌++◌, ◌≡◌, ◌+◌, ◌-◌, ◌<◌, ◌≤◌, ◌==◌, ◌&&◌, Bool, true, false, min, nat_lt, if◌then◌else◌, Option, Some, None, Result, Ok, Err, MatchResult, length, slice_get, take, ◌||◌, not}
+use Rattle.std.specs.Prelude.{ℕ, suc, List, [], ◌∷◌, ◌++◌, ◌≡◌, ◌+◌, ◌-◌, ◌<◌, ◌≤◌, ◌==◌, ◌&&◌, Bool, true, false, min, nat_lt, if◌then◌else◌, Option, Some, None, Result, Ok, Err, MatchResult, length, slice_get, take, ◌||◌, not, IsTrue}
 use Rattle.std.specs.declared.vec.Vec.{Vec}
 use Rattle.nbd_wire.specs.declared.entry.Entry.{Entry}
 use Rattle.nbd_wire.specs.declared.entry.Part.{Part}
 use Rattle.nbd_wire.specs.declared.payloads.Piece.{Piece}
 use Rattle.nbd_wire.specs.declared.payloads.Piece.TheVariants.{Hole}
-use Rattle.nbd_wire.specs.protocol.Entries.{HasBadPart, IsTwice, IsWhollyServed, MayServe, Names, NamesWhole}
+use Rattle.nbd_wire.specs.protocol.Entries.{HasBadPart, IsServedAt, IsTwice, MayServe, Names, NamesWhole}
 use Rattle.nbd_wire.specs.declared.commands.TheConstants as commands
 use Rattle.nbd_wire.specs.protocol.Operations.{Exporting, has_range}
-use Rattle.nbd_wire.specs.protocol.Orders.{IsBad, IsMissing, IsNotCovered, IsUnserved, HasReplyStarted, NamesNone, NamesAgain, IsBadPart}
+use Rattle.nbd_wire.specs.protocol.Orders.{IsBad, IsBadPart, IsDue, IsMissing, IsNotCovered, IsUnserved, NamesAgain, NamesNone}
 use Rattle.nbd_wire.specs.protocol.Pieces.{SharesNone, is_in, piece_offset, piece_size}
-use Rattle.nbd_wire.specs.protocol.Reports.{Asked, Report, inside_in, known_in}
+use Rattle.nbd_wire.specs.protocol.Reports.{Asked, Report, asked_at, due_in, first_shown, inside_in}
+use Rattle.nbd_wire.specs.protocol.States.{Shown}
+use Rattle.nbd_wire.specs.declared.profile.Profile.{Profile}
 use Rattle.nbd_wire.specs.protocol.Transmission.{total}
 use Rattle.nbd_state.specs.declared.span.Span.{Span}
 use Rattle.nbd_state.specs.Indexes.{IsIndex}
@@ -80,18 +82,37 @@ IsPartsAfter sizes left span p after =
     (within : ℕ → Bool) (before : List Entry) (k : ℕ) → IsSpanOf span within → AreParts sizes left span before k
     → IsNext span within before (record { request = k; part = Some p }) after
 
--- the fault of a request that is answered, by what the entries serve of it: none where it is wholly served
-abbrev pub IsFaultOfService : (within : ℕ → Bool) → List Entry → ℕ → Option OrderFault → Type 0
-IsFaultOfService within entries k None = IsWhollyServed within entries k
-IsFaultOfService within entries k (Some Missing) = Names entries k → ⊥
-IsFaultOfService within entries k (Some NotCovered) = Names entries k × (IsWhollyServed within entries k → ⊥)
-IsFaultOfService within entries k (Some _) = ⊥
+-- the fault of a request that is due at these offsets, by what the entries serve of it: none where it is served there
+abbrev pub IsFaultOfService : (at : ℕ → Type 0) → (within : ℕ → Bool) → List Entry → ℕ → Option OrderFault → Type 0
+IsFaultOfService at within entries k None = (x : ℕ) → at x → IsServedAt within entries k x
+IsFaultOfService at within entries k (Some Missing) = Names entries k → ⊥
+IsFaultOfService at within entries k (Some NotCovered) =
+    ((x : ℕ) × at x × (IsServedAt within entries k x → ⊥)) × Names entries k
+IsFaultOfService at within entries k (Some _) = ⊥
 
--- the same, whatever the entries
+-- x lies inside, and one of the ranges has it
+abbrev pub IsShownAt : (within : ℕ → Bool) → List Shown → ℕ → Type 0
+IsShownAt within shown x = IsTrue (within x) × ((n : ℕ) × (first_shown shown x ≡ Some n))
+
+-- the same, whatever the entries, of a request that is due at each offset
 abbrev pub TellsFault : Service → Option OrderFault → Type 0
 TellsFault service found =
     (span : Span) (within : ℕ → Bool) (entries : List Entry) (k : ℕ) → IsSpanOf span within
-    → IsServiceOf service span entries k → IsFaultOfService within entries k found
+    → IsServiceOf service span entries k → IsFaultOfService (λ x. Unit {0}) within entries k found
+
+-- and at those of a span inside it
+abbrev pub TellsFaultIn : Service → (here : Span) → Option OrderFault → Type 0
+TellsFaultIn service here found =
+    (span : Span) (within : ℕ → Bool) (entries : List Entry) (k : ℕ) → IsSpanOf span within
+    → IsServiceOf service span entries k → ((x : ℕ) → IsTrue (is_in here.offset here.size x) → IsTrue (within x))
+    → IsFaultOfService (λ x. IsTrue (is_in here.offset here.size x)) within entries k found
+
+-- and at those inside it that these ranges show: there is one where there is a fault
+abbrev pub TellsFaultShown : Service → Span → List Shown → Option OrderFault → Type 0
+TellsFaultShown service span shown found =
+    (within : ℕ → Bool) (entries : List Entry) (k : ℕ) → IsSpanOf span within → IsServiceOf service span entries k
+    → IsFaultOfService (IsShownAt within shown) within entries k found
+    × ((fault : OrderFault) → found ≡ Some fault → (x : ℕ) × IsShownAt within shown x)
 
 -- a range from an offset on, as far as a size goes; nowhere where the condition fails
 abbrev pub span_if : Bool → (offset len size : ℕ) → Span
@@ -142,21 +163,35 @@ abbrev pub IsTable : {A : Type 0} → Report → List Entry → Result (Vec Serv
 IsTable {A} r order (Ok table) = AreServices r order (length order) table.items
 IsTable {A} r order (Err bad) = IsFirstBad r order bad.0 bad.1
 
--- a fault of request k that is answered, with the request's number
-abbrev pub IsUnservedBy : Report → List Entry → ℕ → OrderFault → Type 0
-IsUnservedBy r order k Missing = IsMissing (length r.asked) (known_in r) order k
-IsUnservedBy r order k NotCovered = IsNotCovered (length r.asked) (known_in r) (inside_in r) order k
-IsUnservedBy r order k _ = ⊥
+-- a fault of request k that was due, with the request's number
+abbrev pub IsUnservedBy : Profile → Report → List Entry → ℕ → OrderFault → Type 0
+IsUnservedBy profile r order k Missing = IsMissing (length r.asked) (due_in profile r) order k
+IsUnservedBy profile r order k NotCovered = IsNotCovered (length r.asked) (due_in profile r) (inside_in r) order k
+IsUnservedBy profile r order k _ = ⊥
 
--- each answered request is wholly served, or this is the least one that is not, with its fault
-abbrev pub IsLeastUnserved : Report → List Entry → Option (ℕ × OrderFault) → Type 0
-IsLeastUnserved r order None = (k : ℕ) → HasReplyStarted (length r.asked) (known_in r) k
-    → IsWhollyServed (inside_in r k) order k
-IsLeastUnserved r order (Some found) =
-    IsUnservedBy r order found.0 found.1 × ((k : ℕ) → k < found.0
-    → IsUnserved (length r.asked) (known_in r) (inside_in r) order k → ⊥)
+-- request k is served where it was due
+abbrev pub IsAllServed : Profile → Report → List Entry → ℕ → Type 0
+IsAllServed profile r order k = (x : ℕ) → IsDue (length r.asked) (due_in profile r) k x
+    → IsServedAt (inside_in r k) order k x
+
+-- the fault of request k, of which a cell of the table says what is served
+abbrev pub IsFaultOf : Profile → Report → List Entry → ℕ → Option OrderFault → Type 0
+IsFaultOf profile r order k None = IsAllServed profile r order k
+IsFaultOf profile r order k (Some fault) = IsUnservedBy profile r order k fault
+
+-- the same, of each report with this request, and for each order
+abbrev pub TellsFaultOf : Profile → Asked → Span → Service → Option OrderFault → Type 0
+TellsFaultOf profile a span service found = (r : Report) (order : List Entry) (k : ℕ) → asked_at k r.asked ≡ Some a
+    → IsSpanOf span (inside_in r k) → IsServiceOf service span order k → IsFaultOf profile r order k found
+
+-- each request is served where it was due, or this is the least one that is not, with its fault
+abbrev pub IsLeastUnserved : Profile → Report → List Entry → Option (ℕ × OrderFault) → Type 0
+IsLeastUnserved profile r order None = (k : ℕ) → IsAllServed profile r order k
+IsLeastUnserved profile r order (Some found) =
+    IsUnservedBy profile r order found.0 found.1 × ((k : ℕ) → k < found.0
+    → IsUnserved (length r.asked) (due_in profile r) (inside_in r) order k → ⊥)
 
 -- the same, for each order of which the table holds what is served
-abbrev pub TellsUnserved : Report → List Service → Option (ℕ × OrderFault) → Type 0
-TellsUnserved r table found = (order : List Entry) → AreServices r order (length order) table
-    → IsLeastUnserved r order found
+abbrev pub TellsUnserved : Profile → Report → List Service → Option (ℕ × OrderFault) → Type 0
+TellsUnserved profile r table found = (order : List Entry) → AreServices r order (length order) table
+    → IsLeastUnserved profile r order found

@@ -169,6 +169,6 @@ marks judge exact {o} (final s m b {items = items} is w) reader js ob st hd (p �
     let e' : pairs items ≡ ps ++ more = cc in
     let i0 : InStep reader.core (get reader.rests s) s (Busy m (b ∷ [])) = subst (InStep reader.core (get reader.rests s) s) is (st s) in
     subst (λ q. IsRead judge reader (q ∷ ps) (m ∷ within (length ps) items)) p_is
-    (read_on judge reader s b ps _ (Whole m) (judged_whole judge exact reader.core (get reader.rests s) s m b i0 ob.1.0 (kept_next judge reader.core s (get reader.rests s) b b_lt (hd s)))
-    (within (length ps) items, refl, marks judge exact w _ js ob.1.1 (in_step_completed reader o s m _ (reader.messages ++ m ∷ []) st i0.0.sided ob.1.0 refl) (held_whole judge reader s m _ refl hd i0.0.sided i0.0.sendable ob.1.0) ps more lt.1 e'))
+    (read_on judge reader s b ps _ (Whole m) (judged_whole judge exact reader.core (get reader.rests s) s m b i0 ob.1.0.0 (kept_next judge reader.core s (get reader.rests s) b b_lt (hd s)))
+    (within (length ps) items, refl, marks judge exact w _ js ob.1.1 (in_step_completed reader o s m _ (reader.messages ++ m ∷ []) st i0.0.sided ob.1.0.0 refl) (held_whole judge reader s m _ refl hd i0.0.sided i0.0.sendable ob.1.0.0) ps more lt.1 e'))
 marks judge exact (loose s b absent is w) reader js ob st hd ps more lt e = absurd absent

@@ -76,7 +76,7 @@ steady : (state : State) (items : List Item) → Obeys state items → IsSteady 
 steady state [] ob s = s
 steady state (Byte side b ∷ items) ob s = steady state items ob.1 s
 steady state (Starts side m ∷ items) ob s = steady state items ob.1 s
-steady state (Completes side m ∷ items) ob s = steady (after state (Completes side m)) items ob.1 (completed state.core state.core.phase m refl ob.0 s)
+steady state (Completes side m ∷ items) ob s = steady (after state (Completes side m)) items ob.1 (completed state.core state.core.phase m refl ob.0.0 s)
 steady state (Serves e ∷ items) ob s = steady (after state (Serves e)) items ob.1 (record { none = s.none; asked = s.asked })
 
 pub contexts_stay : ContextsStay

@@ -50,7 +50,7 @@ stays_gone [] state ob g = g
 stays_gone (Byte s b ∷ items) state ob g = stays_gone items state ob.1 g
 stays_gone (Starts s m ∷ items) state ob g = stays_gone items state ob.1 g
 stays_gone (Completes s m ∷ items) state ob g =
-    let i : InTransmission state.core g.export m = transmission_row state.core g.export m (subst (λ phase. MayComplete state.core phase m) g.phase_is ob.0) in
+    let i : InTransmission state.core g.export m = transmission_row state.core g.export m (subst (λ phase. MayComplete state.core phase m) g.phase_is ob.0.0) in
     stays_gone items (after state (Completes s m)) ob.1 (record {
       export = g.export;
       phase_is = phase-complete state.core g.export m i ∙ g.phase_is;
@@ -62,7 +62,7 @@ pub disconnects_are_empty : DisconnectsAreEmpty
 disconnects_are_empty profile prefix back flags cookie offset len p run =
     let state : State = ends_at (start_of profile) prefix in
     (request_row state.core state.core.phase flags commands.DISC cookie offset len p
-    (obeys_back (start_of profile) prefix (Completes Client (Request flags commands.DISC cookie offset len p) ∷ back) run.obeys).0).asks_it
+    (obeys_back (start_of profile) prefix (Completes Client (Request flags commands.DISC cookie offset len p) ∷ back) run.obeys).0.0).asks_it
 
 gone_behind : (core : Core) (flags cookie offset len : ℕ) (p : List ℕ) → MayComplete core core.phase (Request flags commands.DISC cookie offset len p) → IsGone (complete core (Request flags commands.DISC cookie offset len p))
 unfolding complete
@@ -84,5 +84,5 @@ nothing_after_disconnect profile prefix middle back flags cookie offset len p m 
     let ob : Obeys state (Completes Client disc ∷ (middle ++ Starts Client m ∷ back)) = obeys_back (start_of profile) prefix (Completes Client disc ∷ (middle ++ Starts Client m ∷ back)) run.obeys in
     let next : State = after state (Completes Client disc) in
     let rest : Obeys (ends_at next middle) (Starts Client m ∷ back) = obeys_back next middle (Starts Client m ∷ back) ob.1 in
-    let g : IsGone (ends_at next middle).core = stays_gone middle next (obeys_prefix next middle (Starts Client m ∷ back) ob.1) (gone_behind state.core flags cookie offset len p ob.0) in
+    let g : IsGone (ends_at next middle).core = stays_gone middle next (obeys_prefix next middle (Starts Client m ∷ back) ob.1) (gone_behind state.core flags cookie offset len p ob.0.0) in
     not_gone (ends_at next middle).core m g rest.0.2

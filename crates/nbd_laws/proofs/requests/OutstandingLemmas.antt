@@ -3,7 +3,7 @@ use Rattle.std.proofs.Common.{◌≡◌, ℕ, zero, suc, ◌+◌, ◌==◌, ◌&
 use Rattle.nbd_laws.proofs.judge.AllowLemmas.{ask_allow}
 use Rattle.nbd_laws.specs.Allowed.{MayAsk}
 use Rattle.nbd_wire.specs.declared.entry.Entry.{Entry}
-use Rattle.nbd_wire.specs.protocol.Entries.{IsWhollyServed, MayServe}
+use Rattle.nbd_wire.specs.protocol.Entries.{IsServedAt, MayServe}
 use Rattle.nbd_wire.specs.declared.commands.TheConstants as commands
 use Rattle.nbd_wire.specs.declared.message.Side.TheVariants.{Server}
 use Rattle.nbd_wire.specs.declared.message.Message.{Message}
@@ -12,7 +12,7 @@ use Rattle.nbd_wire.specs.declared.profile.Profile.{Profile}
 use Rattle.nbd_wire.specs.protocol.Reports.{operations_of, report}
 use Rattle.nbd_wire.specs.protocol.Marks.{Item, Byte, Starts, Completes, Serves, service_order}
 use Rattle.nbd_wire.specs.protocol.Operations.{Operation, Exporting, any, ends_reply, is_finished}
-use Rattle.nbd_wire.specs.protocol.Rules.{MayComplete, MayStartIn, Obeys, after, request_of_reply, complete, cookie_of, ends_at, inside_at, reply_to, core_with_request, target_of}
+use Rattle.nbd_wire.specs.protocol.Rules.{MayComplete, MayStartIn, Obeys, after, request_of_reply, complete, cookie_of, ends_at, inside_at, makes_due, reply_to, core_with_request, target_of}
 use Rattle.nbd_wire.specs.protocol.States.{Core, Phase, State, Greet, Flags, Choosing, Naming, Aborting, Answering, Ended, Transmission, with_reply_at, operation, is_awaiting, start, start_of, target, target_from, with_reply, export_in}
 use Rattle.nbd_laws.proofs.runs.PartLemmas.{obeys_back, obeys_prefix, served_in}
 use Rattle.nbd_laws.proofs.runs.ProfileLemmas.{at_base, phase_at_base}
@@ -117,7 +117,7 @@ pub distinct : (state : State) (items : List Item) → Obeys state items → Are
 distinct state [] ob d = d
 distinct state (Byte s b ∷ items) ob d = distinct state items ob.1 d
 distinct state (Starts s m ∷ items) ob d = distinct state items ob.1 d
-distinct state (Completes s m ∷ items) ob d = distinct (after state (Completes s m)) items ob.1 (distinct_complete state.core state.core.phase m ob.0 d)
+distinct state (Completes s m ∷ items) ob d = distinct (after state (Completes s m)) items ob.1 (distinct_complete state.core state.core.phase m ob.0.0 d)
 distinct state (Serves e ∷ items) ob d = distinct (after state (Serves e)) items ob.1 d
 
 pub free_at : (cookie k : ℕ) (es : List Operation) (e : Operation) → Free cookie es → operation k es ≡ Some e → e.cookie ≡ cookie → is_finished e ≡ false → ⊥
@@ -178,10 +178,10 @@ pub not_true_is_false : (b : Bool) → not b ≡ true → b ≡ false
 not_true_is_false true e = absurd (cc)
 not_true_is_false false e = refl
 
-answers_found : (prefix : List Item) (m : Message) (cookie k : ℕ) → AreDistinct (operations_of prefix) → cookie_of m ≡ Some cookie → target cookie (operations_of prefix) ≡ Some k →
-    IsWhollyServed (inside_at (ends_at start prefix).core k) (service_order prefix) k →
-    (k : ℕ) × (e : Operation) × AnswersRequest prefix m k e
-answers_found prefix m cookie k d c h n =
+answers_found : (profile : Profile) (prefix : List Item) (m : Message) (cookie k : ℕ) → AreDistinct (operations_of prefix) → cookie_of m ≡ Some cookie → target cookie (operations_of prefix) ≡ Some k →
+    ((x : ℕ) → IsTrue (makes_due (ends_at (start_of profile) prefix).core (Starts Server m) k x) → IsServedAt (inside_at (ends_at start prefix).core k) (service_order prefix) k x) →
+    (k : ℕ) × (e : Operation) × AnswersRequest profile prefix m k e
+answers_found profile prefix m cookie k d c h n =
     let f : IsFound cookie k (operations_of prefix) = find cookie (operations_of prefix) k h in
     let w = both_true (f.found.cookie == cookie) (not (is_finished f.found)) f.waits in
     let same : f.found.cookie ≡ cookie = eqb-true f.found.cookie cookie w.0 in
@@ -217,17 +217,18 @@ each_reply_answers_one profile prefix back m export run e = go (cookie_of m) ref
     some = subst (λ (c : Core). IsTrue (is_some (request_of_reply c m))) (at_base profile prefix)
         (subst (λ phase. MayStartIn phase (ends_at (start_of profile) prefix).core Server m) (phase_at_base profile prefix ∙ in_transmission (ends_at start prefix).core.phase export e) ob.0.2)
 
-    served : (k : ℕ) → request_of_reply (ends_at start prefix).core m ≡ Some k → IsWhollyServed (inside_at (ends_at start prefix).core k) (ends_at (start_of profile) prefix).served k
-    served = subst (λ (c : Core). (k : ℕ) → request_of_reply c m ≡ Some k → IsWhollyServed (inside_at c k) (ends_at (start_of profile) prefix).served k) (at_base profile prefix) ob.0.3
+    served : (k x : ℕ) → IsTrue (makes_due (ends_at (start_of profile) prefix).core (Starts Server m) k x) → IsServedAt (inside_at (ends_at start prefix).core k) (service_order prefix) k x
+    served k x h =
+        subst (λ js. IsServedAt (inside_at (ends_at start prefix).core k) js k x) (served_in (start_of profile) prefix)
+        (subst (λ (c : Core). IsServedAt (inside_at c k) (ends_at (start_of profile) prefix).served k x) (at_base profile prefix) (ob.0.3 k x h))
 
-    go : (c : Option ℕ) → cookie_of m ≡ c → IsTrue (is_some (target_of c (operations_of prefix))) → (k : ℕ) × (e : Operation) × AnswersRequest prefix m k e
+    go : (c : Option ℕ) → cookie_of m ≡ c → IsTrue (is_some (target_of c (operations_of prefix))) → (k : ℕ) × (e : Operation) × AnswersRequest profile prefix m k e
     go None c h = absurd (cc)
     go (Some cookie) c h = at (target cookie (operations_of prefix)) refl h
       where
-        at : (t : Option ℕ) → target cookie (operations_of prefix) ≡ t → IsTrue (is_some t) → (k : ℕ) × (e : Operation) × AnswersRequest prefix m k e
+        at : (t : Option ℕ) → target cookie (operations_of prefix) ≡ t → IsTrue (is_some t) → (k : ℕ) × (e : Operation) × AnswersRequest profile prefix m k e
         at None t h = absurd (cc)
-        at (Some k) t h = answers_found prefix m cookie k (distinct_of profile prefix (Starts Server m ∷ back) run.obeys) c t
-            (subst (λ js. IsWhollyServed (inside_at (ends_at start prefix).core k) js k) (served_in (start_of profile) prefix) (served k (ap (λ o. target_of o (operations_of prefix)) c ∙ t)))
+        at (Some k) t h = answers_found profile prefix m cookie k (distinct_of profile prefix (Starts Server m ∷ back) run.obeys) c t (served k)
 
 pub served_once_after_completion : ServedOnceAfterCompletion
 served_once_after_completion profile prefix back e run =

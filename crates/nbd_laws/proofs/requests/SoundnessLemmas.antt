@@ -26,7 +26,7 @@ use Rattle.nbd_wire.specs.protocol.Flags as requests_flags
 use Rattle.nbd_wire.specs.protocol.Rules.{MayComplete, request_of_reply, complete, ends_at, reply_to, core_with_request}
 use Rattle.nbd_wire.specs.protocol.Sendable.{IsSendable}
 use Rattle.nbd_wire.specs.protocol.States.{Core, Phase, Greet, Flags, Choosing, Naming, Aborting, Answering, Ended, Transmission, with_reply_at, operation, start, target, with_reply, export_in, in_force}
-use Rattle.nbd_laws.specs.Soundness.{IsSoundAsked, IsSoundReport, ReportsAreSound}
+use Rattle.nbd_laws.specs.Soundness.{IsAfter, IsSoundAsked, IsSoundReport, ReportsAreSound}
 use Rattle.nbd_laws.proofs.runs.PrefixLemmas.{InTransmission, asks, gives, phase-complete, replies, transmission_row}
 use Rattle.nbd_wire.specs.declared.command_flags.TheConstants as command_flags
 use Rattle.nbd_wire.specs.protocol.Statuses.{zeroes}
@@ -38,7 +38,8 @@ use Rattle.nbd_laws.proofs.requests.OutstandingLemmas.{IsFound, both_true, find,
 use Rattle.nbd_laws.proofs.runs.ProfileLemmas.{at_base}
 use Rattle.nbd_laws.proofs.runs.ReachLemmas.{run_reaches}
 use Rattle.nbd_laws.proofs.runs.RunLemmas.{core_end-ends_at}
-use Rattle.nbd_laws.proofs.requests.ReportLemmas.{asked-report, length-report, told_if}
+use Rattle.nbd_laws.proofs.requests.ReportLemmas.{asked-report, length-report, stated, told_if}
+use Rattle.nbd_laws.proofs.service.SoonerLemmas.{IsSooner, sooner_at_end}
 use Rattle.nbd_laws.proofs.runs.TraceLemmas.{answered_by-within}
 use Rattle.nbd_laws.proofs.requests.GoodLemmas.{AreGood, IsGood, good_answered, good_chunk, good_entry, good_new, good_simple, good_snoc}
 use Rattle.nbd_wire.specs.protocol.Contexts.{Selection}
@@ -228,13 +229,15 @@ reports_are_sound profile items run =
       each = λ export k a q. absurd (let r : None ≡ Some export = sym x ∙ q in (cc));
     }
       where
-        asked_none : (es : List Operation) → es ≡ [] → asked_list 0 (export_of items) (known_count items) es ≡ []
+        asked_none : (es : List Operation) → es ≡ [] → asked_list 0 (ends_at start items).core (known_count items) es ≡ []
         asked_none [] e = refl
         asked_none (x ∷ es) e = absurd (cc)
 
-    one : (export : Exporting) (k : ℕ) (e : Operation) (a : Asked) → export_of items ≡ Some export → IsGood export e → asked_of (export_of items) (known_count items k) e ≡ a → IsSoundAsked export.size (length (report items).asked) k a
-    one export k e a x g q = subst (λ (a : Asked). IsSoundAsked export.size (length (report items).asked) k a) (ap (λ o. asked_of o (known_count items k) e) (sym x) ∙ q) (record {
+    one : (export : Exporting) (k : ℕ) (e : Operation) (a : Asked) → export_of items ≡ Some export → IsGood export e → stated (ends_at start items).core (known_count items) k e ≡ a → IsSoundAsked export.size (length (report items).asked) k a
+    one export k e a x g q = subst (λ (a : Asked). IsSoundAsked export.size (length (report items).asked) k a) (ap (λ o. asked_of o (known_count items k) ((ends_at start items).core.shown k) ((ends_at start items).core.ended_at k) e) (sym x) ∙ q) (record {
       known = λ n h. (let b : (k ≤ n) × (n ≤ length (core_end start.core items).entries) = known_between start.core items k n h in (b.0, subst (λ c. n ≤ c) count b.1));
+      shown = λ x n h. after_start n (sooner.shown x n h);
+      ended = λ n h. after_start n (sooner.ended n h);
       carried = g.carried;
       success = g.success;
       inside = λ p r. proper_range export e p r;
@@ -245,6 +248,12 @@ reports_are_sound profile items run =
       covered = λ c s. subst (Covers e) (sym (read_told c (told_of export e))) (g.covered s c);
     })
       where
+        sooner : IsSooner k (known_count items k) (ends_at start items).core
+        sooner = sooner_at_end items run k
+
+        after_start : (n : ℕ) → (u : ℕ) × (known_count items k ≡ Some u) × (u ≤ n) × (n ≤ length (operations_of items)) → IsAfter (known_count items k) (length (report items).asked) n
+        after_start n (u, known, first, last) = ((u, known, first), subst (λ c. n ≤ c) (sym (length-report items)) last)
+
         read_told : e.command ≡ commands.READ → Told export e → zeroes export e ++ pieces e ≡ pieces e
         read_told c (content z) = ap (λ l. l ++ pieces e) z
         read_told c (told k p i b) = absurd (let w : commands.READ ≡ commands.BLOCK_STATUS = sym c ∙ k in omega (arith, w))
@@ -283,10 +292,10 @@ reports_are_sound profile items run =
               (numbered export k a x i.2 (operation k (operations_of items)) refl (sym (asked-report items k) ∙ at)));
         }
       where
-        numbered : (export : Exporting) (k : ℕ) (a : Asked) → export_of items ≡ Some export → AreGood export (operations_of items) → (o : Option Operation) → operation k (operations_of items) ≡ o → told_if (export_of items) (known_count items k) o ≡ Some a →
+        numbered : (export : Exporting) (k : ℕ) (a : Asked) → export_of items ≡ Some export → AreGood export (operations_of items) → (o : Option Operation) → operation k (operations_of items) ≡ o → told_if (ends_at start items).core (known_count items) k o ≡ Some a →
             IsSoundAsked export.size (length (report items).asked) k a
         numbered export k a x g None p q = absurd (cc)
-        numbered export k a x g (Some e) p q = one export k e a x (good_entry export k (operations_of items) e g p) (let w : Some (asked_of (export_of items) (known_count items k) e) ≡ Some a = q in cc)
+        numbered export k a x g (Some e) p q = one export k e a x (good_entry export k (operations_of items) e g p) (let w : Some (stated (ends_at start items).core (known_count items) k e) ≡ Some a = q in cc)
     go Greet q h = no_requests (subst (λ phase. InPhase phase (operations_of items)) q h) (ap export_in q)
     go Flags q h = no_requests (subst (λ phase. InPhase phase (operations_of items)) q h) (ap export_in q)
     go Choosing q h = no_requests (subst (λ phase. InPhase phase (operations_of items)) q h) (ap export_in q)

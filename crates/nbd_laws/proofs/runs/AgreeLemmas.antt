@@ -5,20 +5,27 @@ use Rattle.std.proofs.Common.{Result, Ok, Err, Option, Some, inl, inr, nat_lt, d
 use Rattle.std.proofs.lemmas.Bool.{ltb-false}
 use Rattle.std.proofs.Common.{◌++◌}
 use Rattle.std.proofs.Common.{◌<◌}
-use Rattle.nbd_laws.specs.Profiles.{RunsAgree}
+use Rattle.nbd_laws.specs.Profiles.{DuesAgree, RunsAgree}
 use Rattle.nbd_wire.specs.protocol.Places.{IsUnderWayOf}
 use Rattle.nbd_wire.specs.protocol.Captures.{ArePairs}
 use Rattle.nbd_wire.specs.protocol.Decisions.{answer, answer_of, begins, operation_of, reply_by}
 use Rattle.nbd_wire.specs.protocol.Negotiation.{ack_fault, answer_fault, info_fault, is_wide, answers_option, earlier_to, is_bad_payload, is_followed, is_good_context, is_good_info, is_on_contexts, payload_fault, success_fault}
 use Rattle.nbd_wire.specs.protocol.Reading.{Both, by_tests, judge_in, last_reading, read_by, reading_by_decision, staged_reading_by, request_unless, Bad, Reader, More, Reading, Rest, Whole, fresh_of, get, old_by, on_ok, reads, rest_with, settle, step}
 use Rattle.nbd_wire.specs.protocol.Tests.{fault_if}
-use Rattle.nbd_wire.specs.protocol.Marks.{pairs}
+use Rattle.nbd_wire.specs.protocol.Explains.{IsExplainedOf}
+use Rattle.nbd_wire.specs.protocol.Marks.{pairs, without_service}
+use Rattle.nbd_wire.specs.protocol.Reports.{report}
+use Rattle.nbd_wire.specs.protocol.Verdicts.{Passes}
 use Rattle.nbd_laws.proofs.judge.BlockLemmas.{reads-append}
 use Rattle.nbd_laws.proofs.judge.ExactLemmas.{exact}
 use Rattle.nbd_laws.proofs.judge.SoundLemmas.{sound}
 use Rattle.nbd_laws.proofs.reading.ReaderLemmas.{Busy, Open, Walk, ended, final, get-put_same, kept_next, loose, middle, opening, reads_held, serving, with_byte}
 use Rattle.nbd_laws.proofs.reading.MarkLemmas.{AreInStep, InStep, in_step_completed, in_step_sided, in_step_with, judged_more, judged_whole, within_middle, within_opening}
-use Rattle.nbd_laws.proofs.runs.FollowLemmas.{IsSidedOpen, completes_later, each_with, follows}
+use Rattle.nbd_laws.proofs.runs.FollowLemmas.{Follows, IsSidedOpen, completes_later, each_with, follows, pairs_unserved}
+use Rattle.nbd_laws.proofs.runs.CanonLemmas.{canon, canonical_run, unserved_canon}
+use Rattle.nbd_laws.proofs.service.DueProfileLemmas.{due_at_once, faultless_wide}
+use Rattle.nbd_laws.proofs.service.ExplainingLemmas.{explained_passes, passing_is_explained}
+use Rattle.nbd_laws.proofs.service.ServiceLemmas.{reports_ignore_service}
 use Rattle.nbd_laws.proofs.runs.RunLemmas.{fresh_held, walk_of}
 use Rattle.nbd_wire.specs.protocol.Contexts.{Selection}
 use Rattle.nbd_wire.specs.declared.magics.TheConstants.{ANSWER_MAGIC, CHUNK_MAGIC, SIMPLE_MAGIC}
@@ -51,7 +58,7 @@ use Rattle.nbd_wire.specs.declared.sizes.Sizes.{Sizes}
 use Rattle.nbd_wire.specs.protocol.Sizes.{are_allowed, sizes_of}
 use Rattle.nbd_wire.specs.protocol.Options.{is_error}
 use Rattle.nbd_wire.specs.protocol.Payloads.{info_of}
-use Rattle.nbd_wire.specs.protocol.Rules.{IsServedFor, MayComplete, MayStartIn, Obeys, complete}
+use Rattle.nbd_wire.specs.protocol.Rules.{IsRunOf, MayComplete, MayStartIn, Obeys, complete}
 use Rattle.nbd_wire.specs.protocol.States.{Core, Phase, Greet, Flags, Choosing, Naming, Aborting, Answering, Ended, Transmission, start_of}
 use Rattle.nbd_laws.specs.Profiles.{AnnouncesAllowed, BaseIsWide, IsParting, NothingFrom, NothingParts, PlacesAgree, UnderWayAgrees, with_profile}
 use Rattle.nbd_laws.proofs.runs.ProfileLemmas.{complete_with}
@@ -143,10 +150,6 @@ starts_with q core Ended s m h = h
 starts_with q core (Transmission export) Client m h = h
 starts_with q core (Transmission export) Server m h = h
 
-served_with : (q : Profile) (core : Core) (js : List Entry) (s : Side) (m : Message) → IsServedFor (record { core = core; served = js }) s m → IsServedFor (record { core = with_profile q core; served = js }) s m
-served_with q core js Client m h = h
-served_with q core js Server m h = h
-
 -- each message that completes may do so in the profile
 abbrev pub Carries : Profile → Core → List Item → Type 0
 Carries q core [] = Unit {0}
@@ -155,13 +158,13 @@ Carries q core (Starts s m ∷ items) = Carries q core items
 Carries q core (Completes s m ∷ items) = MayComplete (with_profile q core) core.phase m × Carries q (complete core m) items
 Carries q core (Serves k ∷ items) = Carries q core items
 
--- so all that was allowed is
-pub obeys_with : (q : Profile) (items : List Item) (core : Core) (js : List Entry) → Obeys (record { core = core; served = js }) items → Carries q core items → Obeys (record { core = with_profile q core; served = js }) items
-obeys_with q [] core js ob c = tt
-obeys_with q (Byte s b ∷ items) core js ob c = (tt, obeys_with q items core js ob.1 c)
-obeys_with q (Starts s m ∷ items) core js ob c = ((ob.0.0, ob.0.1, starts_with q core core.phase s m ob.0.2, served_with q core js s m ob.0.3), obeys_with q items core js ob.1 c)
-obeys_with q (Completes s m ∷ items) core js ob c = (c.0, subst (λ x. Obeys (record { core = x; served = js }) items) (sym (complete_with q core m)) (obeys_with q items (complete core m) js ob.1 c.1))
-obeys_with q (Serves k ∷ items) core js ob c = (ob.0, obeys_with q items core _ ob.1 c)
+-- so the marks that were allowed are
+follows_with : (q : Profile) (items : List Item) (core : Core) → Follows core items → Carries q core items → Follows (with_profile q core) items
+follows_with q [] core f c = tt
+follows_with q (Byte s b ∷ items) core f c = follows_with q items core f c
+follows_with q (Starts s m ∷ items) core f c = (record { sided = f.0.sided; sendable = f.0.sendable; starts = starts_with q core core.phase s m f.0.starts }, follows_with q items core f.1 c)
+follows_with q (Completes s m ∷ items) core f c = (c.0, subst (λ x. Follows x items) (sym (complete_with q core m)) (follows_with q items (complete core m) f.1 c.1))
+follows_with q (Serves k ∷ items) core f c = follows_with q items core f c
 
 allowed_is_no_false : (m : Message) → AnnouncesAllowed m → IsFalse m → ⊥
 allowed_is_no_false (Answer option kind payload) a f = (let t : are_allowed f.1.0 ≡ true = a f.0 f.1.0 f.1.1 in let z : true ≡ false = sym t ∙ f.1.2 in (cc))
@@ -173,20 +176,23 @@ carries_wide [] core js all ob = tt
 carries_wide (Byte s b ∷ items) core js all ob = carries_wide items core js all ob.1
 carries_wide (Starts s m ∷ items) core js all ob = carries_wide items core js all ob.1
 carries_wide (Completes s m ∷ items) core js all ob = (
-  may_wide core core.phase m (allowed_is_no_false m (All-head AnnouncesAllowed m (completed_messages items) all)) ob.0,
+  may_wide core core.phase m (allowed_is_no_false m (All-head AnnouncesAllowed m (completed_messages items) all)) ob.0.0,
   carries_wide items (complete core m) js (All-tail AnnouncesAllowed m (completed_messages items) all) ob.1,
 )
 carries_wide (Serves k ∷ items) core js all ob = carries_wide items core _ all ob.1
 
 pub base_is_wide : BaseIsWide
-base_is_wide capture order initial ex all = record {
-  items = ex.items;
-  is_run = record { marked = ex.is_run.marked; obeys = obeys_with Wide ex.items (start_of Base).core [] ex.is_run.obeys (carries_wide ex.items (start_of Base).core [] all ex.is_run.obeys) };
-  has_pairs = ex.has_pairs;
-  has_order = ex.has_order;
-  fits_image = ex.fits_image;
-  reads = ex.reads;
-}
+base_is_wide capture order initial ex all =
+    let first : Core = (start_of Base).core in
+    let items : List Item = canon (start_of Wide).core ex.items in
+    let run : IsRunOf Wide items = canonical_run Wide ex.items (walk_of ex.is_run) (follows_with Wide ex.items first (follows ex.items (start_of Base) ex.is_run.obeys) (carries_wide ex.items first [] all ex.is_run.obeys)) in
+    let unserved : without_service items ≡ without_service ex.items = unserved_canon (start_of Wide).core ex.items in
+    let same : report items ≡ report ex.items = reports_ignore_service items ex.items unserved in
+    let of_items : pairs items ≡ pairs ex.items = sym (pairs_unserved items) ∙ ap pairs unserved ∙ pairs_unserved ex.items in
+    let passes : Passes Base (report ex.items) order initial = explained_passes Base ex.items order initial ex.is_run (subst (λ c. IsExplainedOf Base c order initial) (sym ex.has_pairs) ex) in
+    subst (λ c. IsExplainedOf Wide c order initial) (of_items ∙ ex.has_pairs)
+    (passing_is_explained Wide items order initial run (subst (λ r. Passes Wide r order initial) (sym same)
+    (record { faultless = faultless_wide ex.items order ex.is_run passes.faultless; fits_image = passes.fits_image; reads = passes.reads })))
 
 abbrev Quiet : Phase → Side → List ℕ → Type 0
 Quiet phase s bytes = s ≡ Server → IsParting phase bytes → ⊥
@@ -401,7 +407,7 @@ module _ (p q : Profile) where
   carries {o} (final s m b {items = items} is w) reader js done e are lt none ob st =
       let i0 : InStep reader.core (get reader.rests s) s (Busy m (b ∷ [])) = subst (InStep reader.core (get reader.rests s) s) is (st s) in
       let k = kept_next by_tests reader.core s (get reader.rests s) b lt.0 (reads_held by_tests sound done (fresh_of p) reader are (fresh_held by_tests) e s) in
-      let j = judged_whole by_tests exact reader.core (get reader.rests s) s m b i0 ob.1.0 k in
+      let j = judged_whole by_tests exact reader.core (get reader.rests s) s m b i0 ob.1.0.0 k in
       let r : Rest = grown (reader_in q reader) s b in
       let same : r ≡ rest_in q (grown reader s b) = ap (λ x. rest_with (with_profile q reader.core) x b) (get_in q reader s) ∙ grown_in q reader.core (get reader.rests s) b in
       let quiet : Quiet reader.core.phase s (grown reader s b).bytes =
@@ -413,12 +419,16 @@ module _ (p q : Profile) where
       let fit = sound r.since (with_profile q reader.core) s r.bytes m (kept_next by_tests (with_profile q reader.core) s (get (reader_in q reader).rests s) b lt.0 (held s)) jq in (
         fit.completes,
         carries w _ js (done ++ record { from = s; byte = b } ∷ []) (read_more done s b reader _ e (ap (settle reader s (grown reader s b)) j)) (are_more done s b are lt.0) lt.1
-            (subst (NothingFrom (fresh_of p)) (sym (append_assoc done (record { from = s; byte = b } ∷ []) (pairs items))) none) ob.1.1 (in_step_completed reader o s m _ (reader.messages ++ m ∷ []) st i0.0.sided ob.1.0 refl),
+            (subst (NothingFrom (fresh_of p)) (sym (append_assoc done (record { from = s; byte = b } ∷ []) (pairs items))) none) ob.1.1 (in_step_completed reader o s m _ (reader.messages ++ m ∷ []) st i0.0.sided ob.1.0.0 refl),
       )
   carries (loose s b absent is w) reader js done e are lt none ob st = absurd absent
 
 pub runs_agree : RunsAgree
-runs_agree p q items are none run = record {
-  marked = run.marked;
-  obeys = obeys_with q items (start_of p).core [] run.obeys (carries p q (walk_of run) (fresh_of p) [] [] refl tt are none run.obeys (elim [ Client ↦ refl | Server ↦ refl ]));
-}
+runs_agree p q items are none run = (
+  canon (start_of q).core items,
+  canonical_run q items (walk_of run) (follows_with q items (start_of p).core (follows items (start_of p) run.obeys) (carries p q (walk_of run) (fresh_of p) [] [] refl tt are none run.obeys (elim [ Client ↦ refl | Server ↦ refl ]))),
+  unserved_canon (start_of q).core items,
+)
+
+pub dues_agree : DuesAgree
+dues_agree p q profile items k x run once = due_at_once p items run once k x ∙ sym (due_at_once q items run once k x)

@@ -29,7 +29,7 @@ pub follows : (items : List Item) (state : State) → Obeys state items → Foll
 follows [] state ob = tt
 follows (Byte s b ∷ items) state ob = follows items state ob.1
 follows (Starts s m ∷ items) state ob = (record { sided = ob.0.0; sendable = ob.0.1; starts = ob.0.2 }, follows items state ob.1)
-follows (Completes s m ∷ items) state ob = (ob.0, follows items _ ob.1)
+follows (Completes s m ∷ items) state ob = (ob.0.0, follows items _ ob.1)
 follows (Serves k ∷ items) state ob = follows items _ ob.1
 
 -- nothing of this speaks of service

@@ -1,5 +1,5 @@
 -- The laws over runs.
-use Rattle.std.proofs.Common.{◌≡◌, ℕ, List, [], ◌∷◌, ◌++◌, length, refl, sym, ◌∙◌, ap, subst, inr, Ok, Err, arith}
+use Rattle.std.proofs.Common.{◌≡◌, ℕ, List, [], ◌∷◌, ◌++◌, length, refl, sym, ◌∙◌, ap, subst, inr, Bool, Option, Ok, Err, arith}
 use Rattle.nbd_wire.specs.declared.profile.Profile.{Profile}
 use Rattle.nbd_wire.specs.declared.entry.Entry.{Entry}
 use Rattle.nbd_wire.specs.declared.message.Side.{Side}
@@ -8,8 +8,9 @@ use Rattle.nbd_wire.specs.protocol.Marks.{Item, Byte, Starts, Completes, Serves,
 use Rattle.nbd_wire.specs.protocol.Captures.{Pair, ArePairs}
 use Rattle.nbd_wire.specs.protocol.States.{Core, start, start_of}
 use Rattle.nbd_wire.specs.protocol.Rules.{IsRunOf, IsRunBut, Obeys, complete, ends_at, inside_at}
-use Rattle.nbd_wire.specs.protocol.Reports.{operations_of, known_count}
-use Rattle.nbd_laws.proofs.service.EntryLemmas.{HasNoFault}
+use Rattle.nbd_wire.specs.protocol.Reports.{operations_of}
+use Rattle.nbd_laws.proofs.service.DueLemmas.{due_from}
+use Rattle.nbd_laws.proofs.service.EntryLemmas.{AreFine, HasNoFault}
 use Rattle.nbd_wire.specs.declared.fault.WireFault.{WireFault}
 use Rattle.nbd_wire.specs.protocol.Reading.{fresh_of, Both, get, IsFilled, Rest, Reader, Judge, reads}
 use Rattle.nbd_laws.specs.Reached.{at_start}
@@ -17,10 +18,10 @@ use Rattle.nbd_laws.proofs.reading.ReaderLemmas.{AreHeld, none_held, Walk, Open,
 use Rattle.nbd_laws.proofs.runs.TraceLemmas.{trace, IsTrace, IsCanonical, IsStray, Guess, not_empty}
 use Rattle.nbd_laws.proofs.reading.MarkLemmas.{marks, IsRead}
 use Rattle.nbd_wire.specs.protocol.Within.{within}
-use Rattle.nbd_laws.proofs.runs.ProfileLemmas.{at_base, known_at_base}
+use Rattle.nbd_laws.proofs.runs.ProfileLemmas.{at_base}
 use Rattle.nbd_laws.proofs.runs.BlockLemmas.{walk_is_marked, marked_is_walk, Idles}
 use Rattle.nbd_laws.proofs.service.InsideLemmas.{core_end}
-use Rattle.nbd_laws.proofs.service.LatestLemmas.{placed, walk_placed, served_placed, pairs_placed, Fits, obeys_placed}
+use Rattle.nbd_laws.proofs.service.PlacingLemmas.{IsDeep, Waits, placed, walk_placed, served_placed, pairs_placed, Fits, obeys_placed}
 
 pub core_end-ends_at : (core : Core) (js : List Entry) (items : List Item) → core_end core items ≡ (ends_at (record { core = core; served = js }) items).core
 core_end-ends_at core js [] = refl
@@ -45,21 +46,29 @@ run_of {P} {items} no_stray w ob =
 pub walk_of : {profile : Profile} {items : List Item} → IsRunOf profile items → Walk ⊥ Idles items
 walk_of {items} run = marked_is_walk items [] [] (λ f. f) (λ f. f) run.marked
 
-pub latest : {profile : Profile} (items : List Item) (order : List Entry) → IsRunOf profile items → HasNoFault (length (operations_of items)) (known_count items) (inside_at (ends_at start items).core) order →
-    (items' : List Item) × IsRunOf profile items' × (pairs items' ≡ pairs items) × (service_order items' ≡ order)
-latest {profile} items order run at_base_fit =
-    let fit : HasNoFault (length (ends_at (start_of profile) items).core.entries) (known_count items) (inside_at (ends_at (start_of profile) items).core) order =
-    subst (λ (c : Core). HasNoFault (length c.entries) (known_count items) (inside_at c) order) (sym (at_base profile items)) at_base_fit in
-    let fits : Fits (known_count items) (ends_at (start_of profile) items).core (start_of profile).core [] order items = record {
+-- each entry that names a request waits for one
+waits_at_first : (count : ℕ) (inside : ℕ → ℕ → Bool) (order : List Entry) → AreFine count inside [] order → Waits 0 order
+waits_at_first count inside [] f = tt
+waits_at_first count inside (e ∷ order) f = f.0.0
+
+pub latest : {profile : Profile} (items : List Item) (order : List Entry) → IsRunOf profile items → (κ : ℕ → ℕ → Option ℕ) → ((k x : ℕ) → due_from (start_of profile).core items k x ≡ κ k x) → IsDeep κ (inside_at (ends_at start items).core) →
+    HasNoFault (length (operations_of items)) κ (inside_at (ends_at start items).core) order → (items' : List Item) × IsRunOf profile items' × (pairs items' ≡ pairs items) × (service_order items' ≡ order)
+latest {profile} items order run κ due deep_at_base at_base_fit =
+    let last : Core = (ends_at (start_of profile) items).core in
+    let fit : HasNoFault (length last.entries) κ (inside_at last) order =
+    subst (λ (c : Core). HasNoFault (length c.entries) κ (inside_at c) order) (sym (at_base profile items)) at_base_fit in
+    let deep : IsDeep κ (inside_at last) = subst (λ (c : Core). IsDeep κ (inside_at c)) (sym (at_base profile items)) deep_at_base in
+    let fits : Fits κ last deep (start_of profile).core [] order items = record {
       fine = fit.fine;
       in_time = fit.in_time;
-      known = λ k. inr (known_at_base profile items k);
+      waits = waits_at_first (length last.entries) (inside_at last) order fit.fine;
+      due = λ k x. inr (due k x);
       served = fit.served;
       settled = λ l. absurd (omega arith);
       end = core_end-ends_at (start_of profile).core [] items;
     } in (
       placed (start_of profile).core order items,
-      run_of (λ x. x) (walk_placed (walk_of run) (start_of profile).core order) (obeys_placed (known_count items) (ends_at (start_of profile) items).core items (start_of profile).core [] [] order run.obeys fits),
+      run_of (λ x. x) (walk_placed (walk_of run) (start_of profile).core order) (obeys_placed κ last deep items (start_of profile).core [] [] order run.obeys fits),
       pairs_placed (start_of profile).core order items,
       served_placed (start_of profile).core order items,
     )

@@ -1,5 +1,6 @@
 -- What a reader read is a run with exactly the pairs that it read.
-use Rattle.std.proofs.Common.{◌≡◌, ℕ, suc, zero, ◌+◌, ◌<◌, ◌≤◌, ◌⊎◌, List, [], ◌∷◌, ◌++◌, length, refl, sym, ◌∙◌, ap, subst, inl, inr, Ok, Option, Some, None, append_assoc, append-nil, arith, true, false, Bool, not, ◌==◌, ◌&&◌, if◌then◌else◌, length-append, add-one, le_refl, eq-or-lt_of_le}
+use Rattle.std.proofs.Common.{◌≡◌, ℕ, suc, zero, ◌+◌, ◌<◌, ◌≤◌, ◌⊎◌, List, [], ◌∷◌, ◌++◌, length, refl, sym, ◌∙◌, ap, subst, inl, inr, Ok, Option, Some, None, append_assoc, append-nil, arith, true, false, Bool, not, ◌==◌, ◌&&◌, if◌then◌else◌, length-append, add-one, le_refl, eq-or-lt_of_le, eqb-true, IsTrue, ◌||◌}
+use Rattle.std.proofs.lemmas.Bool.{and_parts}
 use Rattle.nbd_wire.specs.protocol.Entries.{Names, NamesWhole, whole}
 use Rattle.nbd_wire.specs.declared.entry.Entry.{Entry}
 use Rattle.nbd_wire.specs.declared.message.Side.{Side}
@@ -10,10 +11,10 @@ use Rattle.nbd_wire.specs.protocol.Encoding.{enc, head}
 use Rattle.nbd_wire.specs.protocol.Sides.{side}
 use Rattle.nbd_wire.specs.protocol.Marks.{Item, Byte, Starts, Completes, Serves, pairs, completed_messages}
 use Rattle.nbd_wire.specs.protocol.Captures.{Pair, ArePairs}
-use Rattle.nbd_wire.specs.protocol.Operations.{Operation, is_finished}
-use Rattle.nbd_wire.specs.protocol.States.{Core, State, target, target_from, with_reply_at}
+use Rattle.nbd_wire.specs.protocol.Operations.{Operation, ends_reply, is_finished}
+use Rattle.nbd_wire.specs.protocol.States.{Core, State, operation, target, target_from, with_reply_at}
 use Rattle.nbd_wire.specs.protocol.Sendable.{IsSendable}
-use Rattle.nbd_wire.specs.protocol.Rules.{MayStart, complete, reply_to, core_with_request, Obeys, request_of_reply, IsServedFor}
+use Rattle.nbd_wire.specs.protocol.Rules.{MayStart, complete, reply_to, core_with_request, gives, inside_at, is_by_chunk, is_reply_to, is_this, makes_due, Obeys, request_of_reply, IsServedFor}
 use Rattle.nbd_laws.proofs.service.EntryLemmas.{Names-push_cases, NamesWhole-left, NamesWhole-push, served_atomically}
 use Rattle.nbd_laws.proofs.reading.ReaderLemmas.{old-empty, old-filled, IsFilled-snoc, IsMoreAt, AreHeld, kept_next, held_more, held_whole, led, ended_by, with_byte, IsMore, Tracks, get-put_same, get-put_other, put-put, same_or_not, Open, Idle, Busy, Loose, IsNotBusy, Walk, ended, serving, opening, middle, final, loose, IsSoundAt, IsSound}
 use Rattle.nbd_wire.specs.protocol.Reading.{Both, get, put, IsFilled, Rest, Reader, Reading, More, Whole, Bad, settle, Judge, rest_with, reads, on_ok}
@@ -71,9 +72,24 @@ answered_by-within core (Answer option kind payload) k e = absurd (cc)
 answered_by-within core (Exported size flags padded) k e = absurd (cc)
 answered_by-within core (Request flags command cookie offset len payload) k e = absurd (cc)
 
-canonical_serves : (state : State) → IsCanonical state → (s : Side) (m : Message) → IsServedFor state s m
-canonical_serves state c Client m = tt
-canonical_serves state c Server m = λ k e. let w : (0 < k) × (k ≤ length state.core.entries) = answered_by-within state.core m k e in served_atomically _ state.served k (c.all k w.0 w.1)
+-- a request that a message answers has completed
+pub answering : (core : Core) (m : Message) (k : ℕ) → is_reply_to core m k ≡ true → (0 < k) × (k ≤ length core.entries)
+answering core m k h = answered_by-within core m k (is_this_some (request_of_reply core m) h)
+  where
+    is_this_some : (o : Option ℕ) → is_this o k ≡ true → o ≡ Some k
+    is_this_some None h = absurd (cc)
+    is_this_some (Some j) h = ap Some (eqb-true j k h)
+
+-- what an item makes due is of a request that has completed
+pub due_within : (core : Core) (item : Item) (k x : ℕ) → IsTrue (makes_due core item k x) → (0 < k) × (k ≤ length core.entries)
+due_within core (Byte s b) k x d = absurd (cc)
+due_within core (Starts s m) k x d = answering core m k (and_parts (is_reply_to core m k) (not (is_by_chunk core.profile (operation k core.entries))) d).0
+due_within core (Completes s m) k x d =
+    answering core m k (and_parts (is_reply_to core m k) (is_by_chunk core.profile (operation k core.entries) && (ends_reply m || (inside_at core k x && gives (operation k core.entries) m x))) d).0
+due_within core (Serves e) k x d = absurd (cc)
+
+pub canonical_serves : (state : State) → IsCanonical state → (item : Item) → IsServedFor state item
+canonical_serves state c item k x d = let w : (0 < k) × (k ≤ length state.core.entries) = due_within state.core item k x d in served_atomically _ state.served k x (c.all k w.0 w.1)
 
 -- the placing of a request's service: directly after its completion
 abbrev pub IsGrown : Core → Core → Type 0
@@ -87,7 +103,7 @@ abbrev pub serviced : (old new : Core) → IsGrown old new → List Entry → Li
 serviced old new (inl e) js = js
 serviced old new (inr e) js = js ++ whole (length new.entries) ∷ []
 
-canonical_serviced : (old new : Core) (g : IsGrown old new) (js : List Entry) → IsCanonical (record { core = old; served = js }) →
+pub canonical_serviced : (old new : Core) (g : IsGrown old new) (js : List Entry) → IsCanonical (record { core = old; served = js }) →
     IsCanonical (record { core = new; served = serviced old new g js })
 canonical_serviced old new (inl e) js c = record {
   all = λ k p h. c.all k p (omega arith);
@@ -98,7 +114,7 @@ canonical_serviced old new (inr e) js c = record {
   only = λ k n. elim (Names-push_cases js (whole (length new.entries)) k n) [ inl m ↦ (let h : k ≤ length old.entries = c.only k m in omega arith) | inr q ↦ omega arith ];
 }
 
-obeys_service : (old new : Core) (g : IsGrown old new) (js : List Entry) (items : List Item) → IsCanonical (record { core = old; served = js }) →
+pub obeys_service : (old new : Core) (g : IsGrown old new) (js : List Entry) (items : List Item) → IsCanonical (record { core = old; served = js }) →
     Obeys (record { core = new; served = serviced old new g js }) items → Obeys (record { core = new; served = js }) (service old new g ++ items)
 obeys_service old new (inl e) js items c h = h
 obeys_service old new (inr e) js items c h = (
@@ -106,7 +122,7 @@ obeys_service old new (inr e) js items c h = (
   h,
 )
 
-walk_service : {P : Type 0} (old new : Core) (g : IsGrown old new) (o : Both Open) (items : List Item) → Walk P o items → Walk P o (service old new g ++ items)
+pub walk_service : {P : Type 0} (old new : Core) (g : IsGrown old new) (o : Both Open) (items : List Item) → Walk P o items → Walk P o (service old new g ++ items)
 walk_service old new (inl e) o items w = w
 walk_service old new (inr e) o items w = serving (whole (length new.entries)) w
 
@@ -255,7 +271,7 @@ module _ (judge : Judge) (reader end : Reader) (js : List Entry) (canonical : Is
         walk = opening s m b left (get-put_same t.open_ s Idle) (g.encodes ∙ ap (λ bs. (bs ++ b ∷ []) ++ left) e) g.unfinished (walk_on Idle (Busy m left) is);
         guess = others Idle e;
         has_pairs = ap (λ q. record { from = s; byte = b } ∷ q) t.has_pairs;
-        obeys = ((g.sided, g.sendable, subst (λ c. MayStart c s m) (old-empty reader.core rest_of e) g.starts, canonical_serves _ canonical s m), (tt, t.obeys));
+        obeys = ((g.sided, g.sendable, subst (λ c. MayStart c s m) (old-empty reader.core rest_of e) g.starts, canonical_serves _ canonical (Starts s m)), (tt, t.obeys));
         messages = t.messages;
         tracks = tracks_on;
         leads = t.leads;
@@ -330,7 +346,7 @@ module _ (judge : Judge) (reader end : Reader) (js : List Entry) (canonical : Is
               starts = subst (λ c. MayStart c s m) (old-filled reader.core rest_of f) sound.starts;
             });
             has_pairs = ap (λ q. record { from = s; byte = b } ∷ q) (pairs_service reader.core (complete reader.core m) grow t.items ∙ t.has_pairs);
-            obeys = (tt, (sound.completes, obeys_service reader.core (complete reader.core m) grow js t.items canonical t.obeys));
+            obeys = (tt, ((sound.completes, canonical_serves _ canonical (Completes s m)), obeys_service reader.core (complete reader.core m) grow js t.items canonical t.obeys));
             messages = ap (λ ms. reader.messages ++ m ∷ ms) (completed_service reader.core (complete reader.core m) grow t.items)
                 ∙ sym (append_assoc reader.messages (m ∷ []) (completed_messages t.items)) ∙ t.messages;
             tracks = (refl, subst (λ x. Tracks judge x (service reader.core (complete reader.core m) grow ++ t.items)) (sym (led_whole reader s b m)) (tracks_service judge reader.core (complete reader.core m) grow _ t.items t.tracks));

@@ -1,10 +1,9 @@
 -- Entries of an order, one after the other.
-use Rattle.std.proofs.Common.{◌≡◌, ℕ, zero, suc, ◌<◌, ◌≤◌, ◌+◌, ◌⊎◌, ◌==◌, ◌&&◌, ◌||◌, List, [], ◌∷◌, ◌++◌, refl, sym, ◌∙◌, ap, subst, inl, inr, Option, Some, None, Bool, true, false, IsTrue, append_assoc, arith, eq-eqb, eqb-true, nat_lt, le_refl}
-use Rattle.std.proofs.lemmas.Bool.{cases_eq, le-leb, lt-ltb}
+use Rattle.std.proofs.Common.{◌≡◌, ℕ, ◌<◌, ◌≤◌, ◌⊎◌, ◌==◌, ◌&&◌, ◌||◌, List, [], ◌∷◌, ◌++◌, refl, sym, ◌∙◌, ap, subst, inl, inr, Option, Some, None, Bool, true, false, IsTrue, append_assoc, eq-eqb, eqb-true}
+use Rattle.std.proofs.lemmas.Bool.{cases_eq}
 use Rattle.nbd_wire.specs.declared.entry.Entry.{Entry}
 use Rattle.nbd_wire.specs.declared.entry.Part.{Part}
-use Rattle.nbd_wire.specs.protocol.Entries.{IsWhollyServed, MayServe, Names, NamesWhole, in_part, is_served, whole}
-use Rattle.nbd_wire.specs.protocol.Pieces.{is_in}
+use Rattle.nbd_wire.specs.protocol.Entries.{IsServedAt, MayServe, Names, NamesWhole, in_part, is_served, whole}
 
 pub Names-push : (es : List Entry) (e : Entry) → Names (es ++ e ∷ []) e.request
 Names-push [] e = inl refl
@@ -44,16 +43,16 @@ or_right false h = h
 or_left : {b : Bool} (c : Bool) → IsTrue b → IsTrue (b || c)
 or_left {b} c h = ap (λ b. b || c) h
 
--- a request that is served atomically is wholly served
-pub served_atomically : (within : ℕ → Bool) (es : List Entry) (k : ℕ) → NamesWhole es k → IsWhollyServed within es k
-served_atomically within es k h = record { named = whole_names es k h; covered = λ x i. go es h x }
-  where
-    go : (es : List Entry) → NamesWhole es k → (x : ℕ) → IsTrue (is_served es k x)
-    go [] h x = absurd h
-    go (e ∷ es) h x = elim h [
-      | inl q ↦ or_left (is_served es k x) (ap (λ b. b && in_part e.part x) (eq-eqb e.request k q.0) ∙ ap (λ p. in_part p x) q.1)
-      | inr n ↦ or_right ((e.request == k) && in_part e.part x) (go es n x)
-    ]
+-- a request that is served atomically is served at each offset
+pub served_whole : (es : List Entry) (k x : ℕ) → NamesWhole es k → IsTrue (is_served es k x)
+served_whole [] k x h = absurd h
+served_whole (e ∷ es) k x h = elim h [
+  | inl q ↦ or_left (is_served es k x) (ap (λ b. b && in_part e.part x) (eq-eqb e.request k q.0) ∙ ap (λ p. in_part p x) q.1)
+  | inr n ↦ or_right ((e.request == k) && in_part e.part x) (served_whole es k x n)
+]
+
+pub served_atomically : (within : ℕ → Bool) (es : List Entry) (k x : ℕ) → NamesWhole es k → IsServedAt within es k x
+served_atomically within es k x h = record { named = whole_names es k h; covered = λ i. served_whole es k x h }
 
 served-left : (es fs : List Entry) (k x : ℕ) → IsTrue (is_served es k x) → IsTrue (is_served (es ++ fs) k x)
 served-left [] fs k x h = absurd (cc)
@@ -63,53 +62,54 @@ served-left (e ∷ es) fs k x h = go ((e.request == k) && in_part e.part x) h (s
     go true h ih = refl
     go false h ih = ih h
 
--- what is wholly served stays so
-pub wholly-left : (within : ℕ → Bool) (es fs : List Entry) (k : ℕ) → IsWhollyServed within es k → IsWhollyServed within (es ++ fs) k
-wholly-left within es fs k h = record { named = Names-left es fs k h.named; covered = λ x i. served-left es fs k x (h.covered x i) }
+-- what entries serve is served with another entry before them
+pub served_behind : (e : Entry) (es : List Entry) (k x : ℕ) → IsTrue (is_served es k x) → IsTrue (is_served (e ∷ es) k x)
+served_behind e es k x h = or_right ((e.request == k) && in_part e.part x) h
+
+-- what is served stays so
+pub served_at-left : (within : ℕ → Bool) (es fs : List Entry) (k x : ℕ) → IsServedAt within es k x → IsServedAt within (es ++ fs) k x
+served_at-left within es fs k x h = record { named = Names-left es fs k h.named; covered = λ i. served-left es fs k x (h.covered i) }
+
+-- a request that one of two lists serves is served by one of them
+pub served-append : (es fs : List Entry) (k x : ℕ) → is_served (es ++ fs) k x ≡ (is_served es k x || is_served fs k x)
+served-append [] fs k x = refl
+served-append (e ∷ es) fs k x = go ((e.request == k) && in_part e.part x) (served-append es fs k x)
+  where
+    go : (b : Bool) → is_served (es ++ fs) k x ≡ (is_served es k x || is_served fs k x) → (b || is_served (es ++ fs) k x) ≡ ((b || is_served es k x) || is_served fs k x)
+    go true ih = refl
+    go false ih = ih
 
 pub same_number : (j k : ℕ) → (j ≡ k) ⊎ (j ≡ k → ⊥)
 same_number j k = cases_eq j k
 
-unnamed : (es : List Entry) (k x : ℕ) → (Names es k → ⊥) → is_served es k x ≡ false
-unnamed [] k x h = refl
-unnamed (e ∷ es) k x h = go (e.request == k) refl (unnamed es k x (λ n. h (inr n)))
+-- an entry of a request that has something of x to serve
+at_entry : (e : Entry) (k x : ℕ) → ((e.request == k) && in_part e.part x) ≡ true → (e.request ≡ k) × (in_part e.part x ≡ true)
+at_entry e k x h = go (e.request == k) refl h
   where
-    go : (b : Bool) → (e.request == k) ≡ b → is_served es k x ≡ false → ((b && in_part e.part x) || is_served es k x) ≡ false
-    go true q ih = absurd (h (inl (eqb-true e.request k q)))
-    go false q ih = ih
+    go : (b : Bool) → (e.request == k) ≡ b → (b && in_part e.part x) ≡ true → (e.request ≡ k) × (in_part e.part x ≡ true)
+    go true q h = (eqb-true e.request k q, h)
+    go false q h = absurd (cc)
 
--- entries that do not name the request serve nothing of it
-pub wholly-without : (within : ℕ → Bool) (es fs : List Entry) (k : ℕ) → (Names fs k → ⊥) → IsWhollyServed within (es ++ fs) k → IsWhollyServed within es k
-wholly-without within es fs k none h = record {
-  named = elim (Names-append_cases es fs k h.named) [ inl a ↦ a | inr b ↦ absurd (none b) ];
-  covered = λ x i. go es x (h.covered x i);
-}
+-- entries that serve something of a request name it
+pub names_served : (es : List Entry) (k x : ℕ) → IsTrue (is_served es k x) → Names es k
+names_served [] k x h = absurd (cc)
+names_served (e ∷ es) k x h = go ((e.request == k) && in_part e.part x) refl h (names_served es k x)
   where
-    go : (es : List Entry) (x : ℕ) → IsTrue (is_served (es ++ fs) k x) → IsTrue (is_served es k x)
-    go [] x h = absurd (let q : false ≡ true = sym (unnamed fs k x none) ∙ h in cc)
-    go (e ∷ es) x h = at ((e.request == k) && in_part e.part x) h (go es x)
-      where
-        at : (b : Bool) → IsTrue (b || is_served (es ++ fs) k x) → (IsTrue (is_served (es ++ fs) k x) → IsTrue (is_served es k x)) → IsTrue (b || is_served es k x)
-        at true h ih = refl
-        at false h ih = ih h
+    go : (b : Bool) → ((e.request == k) && in_part e.part x) ≡ b → IsTrue (b || is_served es k x) → (IsTrue (is_served es k x) → Names es k) → Names (e ∷ es) k
+    go true q h ih = inl (at_entry e k x q).0
+    go false q h ih = inr (ih h)
 
--- of a request that is wholly served nothing more may be served
-pub wholly-closed : (within : ℕ → Bool) (before : List Entry) (e : Entry) → IsWhollyServed within before e.request → MayServe within before e → ⊥
-wholly-closed within before e h m = go e.part refl m
+-- an entry that serves x of a request is not allowed after entries that served it
+served_closed : (within : ℕ → Bool) (before : List Entry) (e : Entry) (x : ℕ) → IsServedAt within before e.request x → in_part e.part x ≡ true → MayServe within before e → ⊥
+served_closed within before e x h here m = go e.part refl here m
   where
-    go : (p : Option Part) → e.part ≡ p → MayServe within before (record { request = e.request; part = p }) → ⊥
-    go None q m = m.0 h.named
-    go (Some p) q m = at p.length refl
+    go : (p : Option Part) → e.part ≡ p → in_part p x ≡ true → MayServe within before (record { request = e.request; part = p }) → ⊥
+    go None q here m = m.0 h.named
+    go (Some p) q here m = by (within x) refl
       where
-        at : (n : ℕ) → p.length ≡ n → ⊥
-        at zero empty = m.1 (inl empty)
-        at (suc n) long =
-            let here : IsTrue (is_in p.offset p.length p.offset) = ap (λ b. b && nat_lt p.offset (p.offset + p.length)) (le-leb p.offset p.offset (le_refl p.offset)) ∙ lt-ltb p.offset (p.offset + p.length) (omega arith) in
-            by (within p.offset) refl here
-          where
-            by : (b : Bool) → within p.offset ≡ b → IsTrue (is_in p.offset p.length p.offset) → ⊥
-            by true inside here = m.1 (inr (inr (p.offset, here, h.covered p.offset inside)))
-            by false outside here = m.1 (inr (inl (p.offset, here, outside)))
+        by : (b : Bool) → within x ≡ b → ⊥
+        by true inside = m.1 (inr (inr (x, here, h.covered inside)))
+        by false outside = m.1 (inr (inl (x, here, outside)))
 
 -- the entry names a request, and may be served after these
 abbrev pub IsFine : (count : ℕ) (inside : ℕ → ℕ → Bool) → List Entry → Entry → Type 0
@@ -120,16 +120,16 @@ abbrev pub AreFine : (count : ℕ) (inside : ℕ → ℕ → Bool) → List Entr
 AreFine count inside before [] = Unit {0}
 AreFine count inside before (e ∷ order) = IsFine count inside before e × AreFine count inside (before ++ e ∷ []) order
 
--- neither this entry nor a later one names a request that was first answered before this entry's had completed
-abbrev pub IsInTime : (ℕ → Option ℕ) → List Entry → Type 0
-IsInTime known [] = Unit {0}
-IsInTime known (e ∷ order) = ((j n : ℕ) → Names (e ∷ order) j → known j ≡ Some n → e.request ≤ n) × IsInTime known order
+-- neither this entry nor a later one serves what was due before this entry's request had completed
+abbrev pub IsInTime : (ℕ → ℕ → Option ℕ) → List Entry → Type 0
+IsInTime due [] = Unit {0}
+IsInTime due (e ∷ order) = ((k x n : ℕ) → IsTrue (is_served (e ∷ order) k x) → due k x ≡ Some n → e.request ≤ n) × IsInTime due order
 
 -- the order has no fault, told entry by entry
-pub record HasNoFault (count : ℕ) (known : ℕ → Option ℕ) (inside : ℕ → ℕ → Bool) (order : List Entry) : Type 0 where
+pub record HasNoFault (count : ℕ) (due : ℕ → ℕ → Option ℕ) (inside : ℕ → ℕ → Bool) (order : List Entry) : Type 0 where
   pub fine : AreFine count inside [] order
-  pub in_time : IsInTime known order
-  pub served : (k n : ℕ) → 0 < k → k ≤ count → known k ≡ Some n → IsWhollyServed (inside k) order k
+  pub in_time : IsInTime due order
+  pub served : (k x n : ℕ) → 0 < k → k ≤ count → due k x ≡ Some n → IsServedAt (inside k) order k x
 
 pub fine_named : (count : ℕ) (inside : ℕ → ℕ → Bool) (before order : List Entry) (k : ℕ) → AreFine count inside before order → Names order k → (0 < k) × (k ≤ count)
 fine_named count inside before [] k f n = absurd n
@@ -160,22 +160,18 @@ AreFine-as count count' inside inside' before (e ∷ order) same f =
       AreFine-as count count' inside inside' (before ++ e ∷ []) order (λ k n. same k (inr n)) f.1,
     )
 
--- entries that may be served name no request that is wholly served before them
-pub closed_unnamed : (count : ℕ) (inside : ℕ → ℕ → Bool) (before order : List Entry) (k : ℕ) → AreFine count inside before order → IsWhollyServed (inside k) before k → Names order k → ⊥
-closed_unnamed count inside before [] k f h n = n
-closed_unnamed count inside before (e ∷ order) k f h n = elim n [
-  | inl q ↦ wholly-closed (inside e.request) before e (subst (λ j. IsWhollyServed (inside j) before j) (sym q) h) f.0.2
-  | inr m ↦ closed_unnamed count inside (before ++ e ∷ []) order k f.1 (wholly-left (inside k) before (e ∷ []) k h) m
-]
+-- entries that may be served serve nothing that was served before them
+pub closed_unserved : (count : ℕ) (inside : ℕ → ℕ → Bool) (before order : List Entry) (k x : ℕ) → AreFine count inside before order → IsServedAt (inside k) before k x → is_served order k x ≡ true → ⊥
+closed_unserved count inside before [] k x f h n = absurd (cc)
+closed_unserved count inside before (e ∷ order) k x f h n =
+    go ((e.request == k) && in_part e.part x) refl n (closed_unserved count inside (before ++ e ∷ []) order k x f.1 (served_at-left (inside k) before (e ∷ []) k x h))
+  where
+    go : (b : Bool) → ((e.request == k) && in_part e.part x) ≡ b → (b || is_served order k x) ≡ true → (is_served order k x ≡ true → ⊥) → ⊥
+    go true q n ih =
+        let a = at_entry e k x q in
+        served_closed (inside e.request) before e x (subst (λ j. IsServedAt (inside j) before j x) (sym a.0) h) a.1 f.0.2
+    go false q n ih = ih n
 
-pub IsInTime-right : (κ : ℕ → Option ℕ) (es fs : List Entry) → IsInTime κ (es ++ fs) → IsInTime κ fs
+pub IsInTime-right : (κ : ℕ → ℕ → Option ℕ) (es fs : List Entry) → IsInTime κ (es ++ fs) → IsInTime κ fs
 IsInTime-right κ [] fs h = h
 IsInTime-right κ (e ∷ es) fs h = IsInTime-right κ es fs h.1
-
--- an entry before one that is known at n
-pub in_time_before : (κ : ℕ → Option ℕ) (es fs : List Entry) (k n : ℕ) → IsInTime κ (es ++ fs) → Names fs k → κ k ≡ Some n → (j : ℕ) → Names es j → j ≤ n
-in_time_before κ [] fs k n h a q j b = absurd b
-in_time_before κ (e ∷ es) fs k n h a q j b = elim b [
-  | inl r ↦ subst (λ x. x ≤ n) r (h.0 k n (inr (Names-right es fs k a)) q)
-  | inr m ↦ in_time_before κ es fs k n h.1 a q j m
-]

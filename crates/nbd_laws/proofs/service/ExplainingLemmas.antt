@@ -29,7 +29,7 @@ pub explained_passes : ExplainedPasses
 explained_passes profile items order initial run x =
     let same : report x.items ≡ report items = same_reports profile x.items items x.is_run run x.has_pairs in
     record {
-      faultless = subst (λ r. IsFaultless r order) same (subst (IsFaultless (report x.items)) x.has_order (orders_are_faultless profile x.items x.is_run));
+      faultless = subst (λ r. IsFaultless profile r order) same (subst (IsFaultless profile (report x.items)) x.has_order (orders_are_faultless profile x.items x.is_run));
       fits_image = subst (λ (r : Report). FitsImage r.export initial) same x.fits_image;
       reads = subst (λ r. HasNoWrongByte r order initial) same x.reads;
     }
@@ -45,6 +45,6 @@ counts_of {profile} items capture r a i run e er ea ei = record {
     same items' run' e' = same_reports profile items' items run' run (e' ∙ sym e)
 
 -- a test that a run with these bytes does not pass
-pub failing_is_no : {profile : Profile} (items : List Item) (capture : List Pair) (order : List Entry) (initial : Start) → IsRunOf profile items → pairs items ≡ capture → (Passes (report items) order initial → ⊥) → IsNoOf profile capture order initial
+pub failing_is_no : {profile : Profile} (items : List Item) (capture : List Pair) (order : List Entry) (initial : Start) → IsRunOf profile items → pairs items ≡ capture → (Passes profile (report items) order initial → ⊥) → IsNoOf profile capture order initial
 failing_is_no {profile} items capture order initial run e no_pass x =
     no_pass (explained_passes profile items order initial run (subst (λ c. IsExplainedOf profile c order initial) (sym e) x))

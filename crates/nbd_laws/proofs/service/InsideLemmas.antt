@@ -3,10 +3,12 @@ use Rattle.std.proofs.Common.{◌≡◌, ℕ, zero, suc, ◌<◌, ◌≤◌, ◌
 use Rattle.nbd_wire.specs.declared.commands.TheConstants as commands
 use Rattle.nbd_wire.specs.declared.entry.Entry.{Entry}
 use Rattle.nbd_wire.specs.declared.message.Message.{Message}
-use Rattle.nbd_wire.specs.declared.message.Message.TheVariants.{Greeting, ClientFlags, Choice, Answer, Exported, Simple, Chunk}
+use Rattle.nbd_wire.specs.declared.message.Message.TheVariants.{Greeting, ClientFlags, Choice, Answer, Exported, Request, Simple, Chunk}
+use Rattle.nbd_wire.specs.declared.profile.Profile.{Profile}
+use Rattle.nbd_wire.specs.declared.profile.Profile.TheVariants.{Base, Wide}
 use Rattle.nbd_wire.specs.protocol.Marks.{Item, Byte, Starts, Completes, Serves}
 use Rattle.nbd_wire.specs.protocol.Operations.{Exporting, Operation, is_proper}
-use Rattle.nbd_wire.specs.protocol.Rules.{MayComplete, Obeys, complete, core_with_request, inside_at, inside_operation, reply_to, request_of_reply}
+use Rattle.nbd_wire.specs.protocol.Rules.{MayComplete, Obeys, complete, core_with_request, inside_at, inside_operation, is_by_chunk, reply_to, request_of_reply}
 use Rattle.nbd_wire.specs.protocol.States.{Core, Phase, Greet, Flags, Choosing, Naming, Aborting, Answering, Transmission, export_in, operation, with_reply, with_reply_at}
 use Rattle.nbd_laws.proofs.runs.PrefixLemmas.{InTransmission, asks, gives, in_transmission, phase-complete, replies, transmission_row}
 use Rattle.nbd_laws.proofs.runs.TraceLemmas.{length-complete}
@@ -106,5 +108,42 @@ inside_end (Byte s b ∷ items) core js settled ob k p l = inside_end items core
 inside_end (Starts s m ∷ items) core js settled ob k p l = inside_end items core js settled ob.1 k p l
 inside_end (Completes s m ∷ items) core js settled ob k p l =
     let more : k ≤ length (complete core m).entries = elim (length-complete core m) [ inl e ↦ omega arith | inr e ↦ omega arith ] in
-    sym (inside_complete core m ob.0 settled k p l) ∙ inside_end items (complete core m) js (settled_complete core m ob.0 settled) ob.1 k p more
+    sym (inside_complete core m ob.0.0 settled k p l) ∙ inside_end items (complete core m) js (settled_complete core m ob.0.0 settled) ob.1 k p more
 inside_end (Serves e ∷ items) core js settled ob k p l = inside_end items core (js ++ e ∷ []) settled ob.1 k p l
+
+-- a reply changes nothing of whether its request is served by chunk
+chunk_replied : (q : Profile) (j : ℕ) (m : Message) (es : List Operation) (k : ℕ) → is_by_chunk q (operation k (with_reply_at j m es)) ≡ is_by_chunk q (operation k es)
+chunk_replied q j m [] k = refl
+chunk_replied q zero m (e ∷ es) k = refl
+chunk_replied q (suc zero) m (e ∷ es) zero = refl
+chunk_replied Base (suc zero) m (e ∷ es) (suc zero) = refl
+chunk_replied Wide (suc zero) m (e ∷ es) (suc zero) = refl
+chunk_replied q (suc zero) m (e ∷ es) (suc (suc k)) = refl
+chunk_replied q (suc (suc j)) m (e ∷ es) zero = refl
+chunk_replied q (suc (suc j)) m (e ∷ es) (suc zero) = refl
+chunk_replied q (suc (suc j)) m (e ∷ es) (suc (suc k)) = chunk_replied q (suc j) m es (suc k)
+
+chunk_reply_to : (q : Profile) (o : Option ℕ) (core : Core) (m : Message) (k : ℕ) → is_by_chunk q (operation k (reply_to o core m).entries) ≡ is_by_chunk q (operation k core.entries)
+chunk_reply_to q (Some j) core m k = chunk_replied q j m core.entries k
+chunk_reply_to q None core m k = refl
+
+chunk_complete : (q : Profile) (core : Core) (m : Message) (k : ℕ) → k ≤ length core.entries → is_by_chunk q (operation k core.entries) ≡ is_by_chunk q (operation k (complete core m).entries)
+unfolding complete
+chunk_complete q core (Greeting flags) k l = refl
+chunk_complete q core (ClientFlags flags) k l = refl
+chunk_complete q core (Choice id p) k l = refl
+chunk_complete q core (Answer option kind p) k l = refl
+chunk_complete q core (Exported size flags padded) k l = refl
+chunk_complete q core (Request flags command cookie offset len p) k l = ap (is_by_chunk q) (sym (operation_requested (command == commands.DISC) core _ k l))
+chunk_complete q core (Simple error cookie p) k l = sym (chunk_reply_to q (request_of_reply core (Simple error cookie p)) core (Simple error cookie p) k)
+chunk_complete q core (Chunk flags kind cookie p) k l = sym (chunk_reply_to q (request_of_reply core (Chunk flags kind cookie p)) core (Chunk flags kind cookie p) k)
+
+-- whether a request is served by chunk is the same at the end
+pub chunk_end : (q : Profile) (core : Core) (items : List Item) (k : ℕ) → k ≤ length core.entries → is_by_chunk q (operation k core.entries) ≡ is_by_chunk q (operation k (core_end core items).entries)
+chunk_end q core [] k l = refl
+chunk_end q core (Byte s b ∷ items) k l = chunk_end q core items k l
+chunk_end q core (Starts s m ∷ items) k l = chunk_end q core items k l
+chunk_end q core (Completes s m ∷ items) k l =
+    let more : k ≤ length (complete core m).entries = elim (length-complete core m) [ inl e ↦ omega arith | inr e ↦ omega arith ] in
+    chunk_complete q core m k l ∙ chunk_end q (complete core m) items k more
+chunk_end q core (Serves e ∷ items) k l = chunk_end q core items k l

@@ -36,7 +36,7 @@ pub known_of_unserved : (items items' : List Item) → without_service items ≡
 known_of_unserved items items' e = λ i k. (known_unserved start.core k items ∙ ap (known_from start.core k) e ∙ sym (known_unserved start.core k items')) i
 
 abbrev report_by : Core → (ℕ → Option ℕ) → Report
-report_by core known_at = record { export = export_in core.phase; asked = asked_list 0 (export_in core.phase) known_at core.entries }
+report_by core known_at = record { export = export_in core.phase; asked = asked_list 0 core known_at core.entries }
 
 pub reports_ignore_service : ReportsIgnoreService
 unfolding report

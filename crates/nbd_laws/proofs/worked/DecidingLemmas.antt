@@ -4,7 +4,7 @@ use Rattle.std.proofs.lemmas.Bool.{eqb-false, leb-true, ltb-true}
 use Rattle.nbd_wire.specs.declared.fault.WireFault.{WireFault}
 use Rattle.nbd_wire.specs.declared.entry.Entry.{Entry}
 use Rattle.nbd_wire.specs.declared.entry.Part.{Part}
-use Rattle.nbd_wire.specs.protocol.Entries.{IsWhollyServed, MayServe, Names, NamesWhole, inside, is_served, inside_of}
+use Rattle.nbd_wire.specs.protocol.Entries.{IsServedAt, MayServe, Names, NamesWhole, inside, is_served, inside_of}
 use Rattle.nbd_wire.specs.declared.commands.TheConstants as commands
 use Rattle.nbd_wire.specs.declared.message.Side.{Side}
 use Rattle.nbd_wire.specs.declared.message.Side.TheVariants.{Client, Server}
@@ -12,9 +12,10 @@ use Rattle.nbd_wire.specs.declared.message.Message.{Message}
 use Rattle.nbd_wire.specs.declared.message.Message.TheVariants.{Greeting, ClientFlags, Choice, Answer, Exported, Request, Simple, Chunk}
 use Rattle.nbd_wire.specs.protocol.Encoding.{AreBytes}
 use Rattle.nbd_wire.specs.protocol.Options.{turn}
-use Rattle.nbd_wire.specs.protocol.Operations.{Exporting, Operation, has_range, is_proper, proper_on}
+use Rattle.nbd_wire.specs.protocol.Operations.{Exporting, Operation, ends_reply, has_range, is_proper, proper_on}
 use Rattle.nbd_wire.specs.protocol.Pieces.{is_in}
-use Rattle.nbd_wire.specs.protocol.Rules.{IsServedFor, MayStartIn, inside_at, inside_operation, request_of_reply, is_request}
+use Rattle.nbd_wire.specs.protocol.Rules.{IsServedFor, MayStartIn, gives, inside_at, inside_operation, is_by_chunk, is_reply_to, is_request, is_this, request_of_reply}
+use Rattle.nbd_wire.specs.protocol.Marks.{Completes, Starts}
 use Rattle.nbd_wire.specs.protocol.Sendable.{IsPayload, IsSendable}
 use Rattle.nbd_wire.specs.protocol.Sides.{same_side}
 use Rattle.nbd_wire.specs.protocol.States.{Core, Phase, State, Greet, Flags, Choosing, Naming, Aborting, Answering, Ended, Transmission, export_in, operation}
@@ -200,41 +201,46 @@ abbrev pub served_inside : Option Exporting → Option Operation → List Entry 
 served_inside export (Some e) es k = names es k && all_in e.offset e.length (λ x. not (inside_of (proper_on export e) export e.command e.offset e.length x) || is_served es k x)
 served_inside export None es k = names es k
 
-true_served : (export : Option Exporting) (o : Option Operation) (es : List Entry) (k : ℕ) → IsTrue (served_inside export o es k) → IsWhollyServed (inside_operation export o) es k
-true_served export None es k h = record { named = true_names es k h; covered = λ x i. absurd (let q : false ≡ true = i in cc) }
-true_served (Some export) (Some e) es k h =
+true_served : (export : Option Exporting) (o : Option Operation) (es : List Entry) (k : ℕ) → IsTrue (served_inside export o es k) → (x : ℕ) → IsServedAt (inside_operation export o) es k x
+true_served export None es k h x = record { named = true_names es k h; covered = λ i. absurd (let q : false ≡ true = i in cc) }
+true_served (Some export) (Some e) es k h x =
     let a = both (names es k) _ h in
     record {
       named = true_names es k a.0;
-      covered = λ x i.
+      covered = λ i.
           (let p = both (is_proper export e || not (e.command == commands.BLOCK_STATUS)) (inside (Some export) e.command e.offset e.length x) i in
           let b = both (has_range e.command) (is_in e.offset e.length x && nat_lt x export.size) p.1 in
           let r = in_range e.offset e.length x (both (is_in e.offset e.length x) (nat_lt x export.size) b.1).0 in
           then_too (inside_of (is_proper export e) (Some export) e.command e.offset e.length x) (is_served es k x)
           (all_at e.offset e.length (λ x. not (inside_of (is_proper export e) (Some export) e.command e.offset e.length x) || is_served es k x) a.1 x r.0 r.1) i);
     }
-true_served None (Some e) es k h =
+true_served None (Some e) es k h x =
     let a = both (names es k) _ h in
-    record { named = true_names es k a.0; covered = λ x i. absurd (let q : false ≡ true = (both (not (e.command == commands.BLOCK_STATUS)) false i).1 in cc) }
+    record { named = true_names es k a.0; covered = λ i. absurd (let q : false ≡ true = (both (not (e.command == commands.BLOCK_STATUS)) false i).1 in cc) }
 
 abbrev pub served_for : Core → List Entry → Option ℕ → Bool
 served_for core es (Some k) = served_inside (export_in core.phase) (operation k core.entries) es k
 served_for core es None = true
 
-abbrev pub is_served_for : State → Side → Message → Bool
-is_served_for state Client m = true
-is_served_for state Server m = served_for state.core state.served (request_of_reply state.core m)
+-- the request that a message answers is wholly served
+abbrev pub is_served_for : State → Message → Bool
+is_served_for state m = served_for state.core state.served (request_of_reply state.core m)
 
-pub serves : (state : State) (s : Side) (m : Message) → IsTrue (is_served_for state s m) → IsServedFor state s m
-serves state Client m e = tt
-serves state Server m e = λ k q. go (request_of_reply state.core m) k q e
+served_at : (state : State) (m : Message) → IsTrue (is_served_for state m) → (k x : ℕ) → is_reply_to state.core m k ≡ true → IsServedAt (inside_at state.core k) state.served k x
+served_at state m e k x r = go (request_of_reply state.core m) r e
   where
-    go : (o : Option ℕ) (k : ℕ) → o ≡ Some k → IsTrue (served_for state.core state.served o) → IsWhollyServed (inside_at state.core k) state.served k
-    go (Some j) k q e =
-        (let h : j ≡ k = cc in
-        subst (λ i. IsWhollyServed (inside_at state.core i) state.served i) h
-        (true_served (export_in state.core.phase) (operation j state.core.entries) state.served j e))
-    go None k q e = absurd (cc)
+    go : (o : Option ℕ) → is_this o k ≡ true → IsTrue (served_for state.core state.served o) → IsServedAt (inside_at state.core k) state.served k x
+    go (Some j) r e =
+        subst (λ i. IsServedAt (inside_at state.core i) state.served i x) (eqb-true j k r)
+        (true_served (export_in state.core.phase) (operation j state.core.entries) state.served j e x)
+    go None r e = absurd (cc)
+
+pub serves_start : (state : State) (s : Side) (m : Message) → IsTrue (is_served_for state m) → IsServedFor state (Starts s m)
+serves_start state s m e k x d = served_at state m e k x (both (is_reply_to state.core m k) (not (is_by_chunk state.core.profile (operation k state.core.entries))) d).0
+
+pub serves_end : (state : State) (s : Side) (m : Message) → IsTrue (is_served_for state m) → IsServedFor state (Completes s m)
+serves_end state s m e k x d = served_at state m e k x
+    (both (is_reply_to state.core m k) (is_by_chunk state.core.profile (operation k state.core.entries) && (ends_reply m || (inside_at state.core k x && gives (operation k state.core.entries) m x))) d).0
 
 -- an entry with this part may be served after these
 abbrev pub is_fresh : (within : ℕ → Bool) → List Entry → ℕ → Option Part → Bool

@@ -15,7 +15,7 @@ use Rattle.nbd_wire.specs.declared.profile.Profile.{Profile}
 use Rattle.nbd_wire.specs.declared.profile.Profile.TheVariants.{Base}
 use Rattle.nbd_laws.specs.Prefixes.{ended_messages}
 use Rattle.nbd_wire.specs.protocol.States.{Core, Phase, State, Greet, Flags, Choosing, Naming, Aborting, Answering, Transmission, start, start_of, target}
-use Rattle.nbd_laws.proofs.worked.DecidingLemmas.{are_equal, both, clean_is, equal_bools, is_clean, is_fresh, is_sendable, is_served_for, may_start_in, same_sides, sendable, serves, starts_in, true_is_fresh}
+use Rattle.nbd_laws.proofs.worked.DecidingLemmas.{are_equal, both, clean_is, equal_bools, is_clean, is_fresh, is_sendable, is_served_for, may_start_in, same_sides, sendable, serves_end, serves_start, starts_in, true_is_fresh}
 use Rattle.nbd_wire.specs.protocol.Options.{is_proper_option, takes_contexts}
 use Rattle.nbd_wire.specs.protocol.Negotiation.{abort_fault, answer_fault, answer_head_fault, answer_last_fault, client_flags_fault, export_fault, greeting_fault}
 use Rattle.nbd_wire.specs.protocol.Transmission.{cookie_fault, request_fault}
@@ -53,8 +53,8 @@ completes core phase m h = absurd (cc)
 
 abbrev pub allows : State → Item → Bool
 allows state (Byte s b) = true
-allows state (Starts s m) = same_side (side m) s && (is_sendable m && (may_start_in state.core.phase state.core s m && is_served_for state s m))
-allows state (Completes s m) = may_complete state.core state.core.phase m
+allows state (Starts s m) = same_side (side m) s && (is_sendable m && (may_start_in state.core.phase state.core s m && is_served_for state m))
+allows state (Completes s m) = may_complete state.core state.core.phase m && is_served_for state m
 allows state (Serves e) =
     nat_lt 0 e.request && (nat_le e.request (length state.core.entries) && is_fresh (inside_at state.core e.request) state.served e.request e.part)
 
@@ -63,9 +63,11 @@ true_allows state (Byte s b) h = tt
 true_allows state (Starts s m) h =
     let a = both (same_side (side m) s) _ h in
     let b = both (is_sendable m) _ a.1 in
-    let c = both (may_start_in state.core.phase state.core s m) (is_served_for state s m) b.1 in
-    (same_sides (side m) s a.0, sendable m b.0, starts_in state.core.phase state.core s m c.0, serves state s m c.1)
-true_allows state (Completes s m) h = completes state.core state.core.phase m h
+    let c = both (may_start_in state.core.phase state.core s m) (is_served_for state m) b.1 in
+    (same_sides (side m) s a.0, sendable m b.0, starts_in state.core.phase state.core s m c.0, serves_start state s m c.1)
+true_allows state (Completes s m) h =
+    let a = both (may_complete state.core state.core.phase m) (is_served_for state m) h in
+    (completes state.core state.core.phase m a.0, serves_end state s m a.1)
 true_allows state (Serves e) h =
     let a = both (nat_lt 0 e.request) _ h in
     let b = both (nat_le e.request (length state.core.entries)) _ a.1 in

@@ -49,7 +49,7 @@ half_written_atomically = failing_is_no half_written_items (flat captures.half_w
 
 pub half_written_uncovered : IsNo (flat captures.half_written) (part 1 0 1 ∷ whole 2 ∷ []) Zeroes
 unfolding half_written_items enc head tail complete next_phase target has has_only is_proper is_proper_option info_of is_listed is_go content_of failure_of ends_reply is_failing piece_of report
-half_written_uncovered = failing_is_no half_written_items (flat captures.half_written) (part 1 0 1 ∷ whole 2 ∷ []) Zeroes half_written_run refl (λ p. (let q : false ≡ true = (p.faultless.served 1 (lit< tt, lit≤ tt, (2, refl))).covered 1 refl in absurd (cc)))
+half_written_uncovered = failing_is_no half_written_items (flat captures.half_written) (part 1 0 1 ∷ whole 2 ∷ []) Zeroes half_written_run refl (λ p. (let q : false ≡ true = (p.faultless.served 1 1 (lit< tt, lit≤ tt, (2, refl))).covered refl in absurd (cc)))
 
 pub half_written_shared : IsNo (flat captures.half_written) (part 1 0 1 ∷ part 1 0 2 ∷ whole 2 ∷ []) Zeroes
 unfolding half_written_items enc head tail complete next_phase target has has_only is_proper is_proper_option info_of is_listed is_go content_of failure_of ends_reply is_failing piece_of report

@@ -70,7 +70,7 @@ write_and_read = record {
 
 pub write_and_read_missing : IsNo (flat captures.write_and_read) (whole 1 ∷ []) Zeroes
 unfolding write_and_read_items enc head tail complete next_phase target has has_only is_proper is_proper_option info_of is_listed is_go content_of failure_of ends_reply is_failing piece_of report
-write_and_read_missing = failing_is_no write_and_read_items (flat captures.write_and_read) (whole 1 ∷ []) Zeroes write_and_read_run refl (λ p. one_entry (p.faultless.served 2 (lit< tt, lit≤ tt, (2, refl))).named)
+write_and_read_missing = failing_is_no write_and_read_items (flat captures.write_and_read) (whole 1 ∷ []) Zeroes write_and_read_run refl (λ p. one_entry (p.faultless.served 2 0 (lit< tt, lit≤ tt, (2, refl))).named)
 
 write_and_misread_items : List Item
 write_and_misread_items = sends (greeted ++ gone ++ write 1 0 (171 ∷ 205 ∷ []) ∷ []) ++ Serves (whole 1) ∷ sends (succeeds 1 ∷ read 2 0 4 ∷ []) ++ Serves (whole 2) ∷ sends (gives 2 (171 ∷ 206 ∷ 0 ∷ 0 ∷ []) ∷ [])
@@ -201,7 +201,7 @@ two_reads = record {
 
 pub two_reads_late : IsNo (flat captures.two_reads) (whole 2 ∷ whole 1 ∷ []) Zeroes
 unfolding two_reads_items enc head tail complete next_phase target has has_only is_proper is_proper_option info_of is_listed is_go content_of failure_of ends_reply is_failing piece_of report
-two_reads_late = failing_is_no two_reads_items (flat captures.two_reads) (whole 2 ∷ whole 1 ∷ []) Zeroes two_reads_run refl (λ p. p.faultless.none_late 0 (1, 1, lit≤ tt, lit< tt, refl, lit< tt))
+two_reads_late = failing_is_no two_reads_items (flat captures.two_reads) (whole 2 ∷ whole 1 ∷ []) Zeroes two_reads_run refl (λ p. p.faultless.none_late 0 (whole 2, 1, 0, 1, refl, refl, refl, lit< tt))
 
 odd_byte_items : List Item
 odd_byte_items = sends (greeted ++ gone ++ read 1 0 1 ∷ []) ++ Serves (whole 1) ∷ sends (gives 1 (255 ∷ []) ∷ [])

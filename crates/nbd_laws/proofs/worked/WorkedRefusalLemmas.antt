@@ -42,7 +42,7 @@ wrong_image bytes e = failing_is_no opening_items (flat captures.opening) [] (Im
 -- whatever the capture, no run serves a request twice
 pub named_twice : (capture : List Pair) (initial : Start) → IsNo capture (whole 1 ∷ whole 1 ∷ []) initial
 named_twice capture initial x =
-    let o : IsFaultless (report x.items) (whole 1 ∷ whole 1 ∷ []) = subst (IsFaultless (report x.items)) x.has_order (orders_are_faultless Base x.items x.is_run) in
+    let o : IsFaultless Base (report x.items) (whole 1 ∷ whole 1 ∷ []) = subst (IsFaultless Base (report x.items)) x.has_order (orders_are_faultless Base x.items x.is_run) in
     o.none_bad 1 (inr (inl (whole 1, refl, inl refl)))
 
 -- no run begins with a byte of the client

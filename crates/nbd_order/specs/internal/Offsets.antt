@@ -4,7 +4,8 @@ use Rattle.nbd_wire.specs.declared.commands.TheConstants as commands
 use Rattle.nbd_wire.specs.protocol.ExportBytes.{is_success}
 use Rattle.nbd_wire.specs.protocol.Operations.{Exporting}
 use Rattle.nbd_wire.specs.protocol.Pieces.{byte_at, is_in}
-use Rattle.nbd_wire.specs.protocol.Reports.{Asked}
+use Rattle.nbd_wire.specs.declared.profile.Profile.{Profile}
+use Rattle.nbd_wire.specs.protocol.Reports.{Asked, due_of, inside_asked}
 use Rattle.nbd_judge.specs.Servable.{size_of}
 
 -- the byte is known, and not the one that was read
@@ -19,8 +20,12 @@ gives_byte a x =
     (a.command == commands.READ)
     || ((a.command == commands.BLOCK_STATUS) && (a.proper && is_some (byte_at a.pieces x)))
 
--- the same, where it succeeded, with x inside it, and a reply to it began
-abbrev pub reads_at : Option Exporting → Asked → ℕ → Bool
-reads_at export a x =
+-- when a request was due at x
+abbrev pub due_at : Profile → Option Exporting → Asked → ℕ → Option ℕ
+due_at profile export a x = due_of profile (inside_asked export (Some a)) (Some a) x
+
+-- the same as `gives_byte`, where it succeeded, with x inside it, and it was due there
+abbrev pub reads_at : Profile → Option Exporting → Asked → ℕ → Bool
+reads_at profile export a x =
     gives_byte a x && (is_success a.outcome
-    && (is_some a.known_at && (is_in a.offset a.length x && nat_lt x (size_of export))))
+    && (is_some (due_at profile export a x) && (is_in a.offset a.length x && nat_lt x (size_of export))))

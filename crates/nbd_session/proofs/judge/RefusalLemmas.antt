@@ -13,7 +13,7 @@ use Rattle.nbd_wire.specs.declared.fault.WireFault.{WireFault}
 use Rattle.nbd_wire.specs.declared.fault.WireFault.TheVariants.{Unfinished}
 use Rattle.nbd_laws.proofs.reading.ReaderLemmas.{AreHeld}
 use Rattle.nbd_laws.specs.Awaited.{awaited_length}
-use Rattle.nbd_wire.specs.protocol.Reading.{Bad, IsFilled, Reader, More, Reading, Rest, Whole, fresh_of, get, rest_with, old_of, on_ok, reads, settle, step, by_tests}
+use Rattle.nbd_wire.specs.protocol.Reading.{IsFilled, Reader, fresh_of, get, old_of, on_ok, reads, step, by_tests}
 use Rattle.nbd_laws.proofs.reading.MarkLemmas.{IsRead}
 use Rattle.nbd_laws.proofs.runs.RunLemmas.{marks_law}
 use Rattle.nbd_session.specs.declared.fault.SessionFault.{SessionFault}
@@ -36,7 +36,6 @@ use Rattle.nbd_laws.specs.Bytes.{bytes_from}
 use Rattle.nbd_laws.proofs.runs.RunByteLemmas.{AreBytesOf, run_bytes}
 use Rattle.nbd_session.proofs.pushed.OpenByteLemmas.{read_is_run_but}
 use Rattle.nbd_session.proofs.pushed.PushLemmas.{sent-append}
-use Rattle.nbd_laws.proofs.judge.SoundLemmas.{sound}
 use Rattle.nbd_session.proofs.steps.StepLemmas.{held_of, pairs-taken}
 
 -- the last of some bytes, and those before it

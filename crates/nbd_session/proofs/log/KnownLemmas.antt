@@ -1,92 +1,23 @@
 -- The first reply to start is the first to complete, with the count of its start.
-use Rattle.std.proofs.Common.{◌≡◌, ℕ, ◌==◌, ◌⊎◌, List, [], ◌∷◌, ◌++◌, length, refl, sym, ◌∙◌, ap, subst, inl, inr, Option, Some, None, Bool, true, false, is_some, IsTrue}
+use Rattle.std.proofs.Common.{◌≡◌, ℕ, ◌==◌, List, [], ◌∷◌, length, refl, sym, ◌∙◌, ap, subst, Option, Some, None, Bool, true, false}
 use Rattle.nbd_wire.specs.declared.profile.Profile.TheVariants.{Base}
 use Rattle.nbd_wire.specs.declared.profile.Profile.{Profile}
-use Rattle.nbd_wire.specs.declared.message.Side.{Side}
 use Rattle.nbd_wire.specs.declared.message.Side.TheVariants.{Client, Server}
 use Rattle.nbd_wire.specs.declared.message.Message.{Message}
-use Rattle.nbd_wire.specs.declared.message.Message.TheVariants.{Greeting, ClientFlags, Choice, Answer, Exported, Request, Simple, Chunk}
 use Rattle.nbd_wire.specs.protocol.Marks.{Item}
-use Rattle.nbd_wire.specs.protocol.Options.{turn}
 use Rattle.nbd_wire.specs.protocol.Reports.{first_known, known_count, known_from, known_if as known_as}
-use Rattle.nbd_wire.specs.protocol.Operations.{Operation, Exporting}
-use Rattle.nbd_wire.specs.protocol.Rules.{IsRunOf, MayComplete, MayStartIn, request_of_reply, complete, cookie_of, target_of}
+use Rattle.nbd_wire.specs.protocol.Rules.{IsRunOf, MayComplete, request_of_reply, complete}
 use Rattle.nbd_wire.specs.protocol.Sides.{side}
-use Rattle.nbd_wire.specs.protocol.States.{start, Core, Phase, Greet, Flags, Choosing, Naming, Aborting, Answering, Ended, Transmission, start_of, target}
+use Rattle.nbd_wire.specs.protocol.States.{start, Core, start_of}
 use Rattle.nbd_state.specs.Logs.{known_by, known_here, known_if}
 use Rattle.nbd_session.proofs.log.Logs.{log_from, log_of}
 use Rattle.nbd_wire.specs.protocol.Reading.{Both, get, put}
-use Rattle.nbd_laws.proofs.reading.ReaderLemmas.{Busy, Idle, IsNotBusy, Later, Later-trans, Loose, Open, Walk, at_once, behind, ended, final, get-put_other, get-put_same, loose, middle, opening, same_or_not, serving}
-use Rattle.nbd_laws.proofs.runs.FollowLemmas.{Follows, IsBegun, each_with, follows}
-use Rattle.nbd_laws.proofs.judge.PhaseLemmas.{IsAppended, IsTransmitting, Later-appended, Later-turn, target-append}
+use Rattle.nbd_laws.proofs.reading.ReaderLemmas.{Busy, Idle, IsNotBusy, Later, Later-trans, Loose, Open, Walk, at_once, behind, ended, final, loose, middle, opening, serving}
+use Rattle.nbd_laws.proofs.runs.FollowLemmas.{Follows, each_with, follows}
+use Rattle.nbd_laws.proofs.runs.BegunLemmas.{AreBegun, BegunOpen, answers_same, asks_only, begun_completed}
 use Rattle.nbd_session.proofs.log.FoldLemmas.{known_by_with}
 use Rattle.nbd_laws.proofs.runs.ProfileLemmas.{known_at_base}
 use Rattle.nbd_laws.proofs.runs.RunLemmas.{walk_of}
-
--- a side's message begins in its turn, or in transmission
-starts_in : (phase : Phase) (core : Core) (s : Side) (m : Message) → MayStartIn phase core s m → (turn phase ≡ Some s) ⊎ IsTransmitting phase
-unfolding MayStartIn
-starts_in (Transmission export) core s m h = inr (export, refl)
-starts_in Greet core s m h = inl h
-starts_in Flags core s m h = inl h
-starts_in Choosing core s m h = inl h
-starts_in Naming core s m h = inl h
-starts_in Aborting core s m h = inl h
-starts_in (Answering option given info) core s m h = inl h
-starts_in Ended core s m h = inl h
-
-reply_answers : (export : Exporting) (core : Core) (m : Message) → MayStartIn (Transmission export) core Server m → IsTrue (is_some (request_of_reply core m))
-unfolding MayStartIn
-reply_answers export core m h = h
-
-target_stays : (c : Option ℕ) (es more : List Operation) → IsTrue (is_some (target_of c es)) → target_of c es ≡ target_of c (es ++ more)
-target_stays None es more h = absurd (cc)
-target_stays (Some cookie) es more h = go (target cookie es) refl h
-  where
-    go : (o : Option ℕ) → target cookie es ≡ o → IsTrue (is_some o) → target cookie es ≡ target cookie (es ++ more)
-    go None e h = absurd (cc)
-    go (Some k) e h = e ∙ sym (target-append cookie es more k e)
-
--- while the server is in a message, that message answers the same request
-pub answers_same : {old now : Core} (m : Message) → Later Server old now → IsBegun old Server m → request_of_reply old m ≡ request_of_reply now m
-answers_same {old} {now} m l b = elim (starts_in old.phase old Server m b.starts) [
-  | inl t ↦ ap (λ (c : Core). request_of_reply c m) (Later-turn l t)
-  | inr (export, t) ↦ (let a : IsAppended old now = Later-appended l export t in
-      target_stays (cookie_of m) old.entries a.more (reply_answers export old m (subst (λ phase. MayStartIn phase old Server m) t b.starts)) ∙ ap (target_of (cookie_of m)) (sym a.entries_are))
-]
-
--- the client's messages answer nothing
-pub asks_only : (core : Core) (m : Message) → side m ≡ Client → request_of_reply core m ≡ None
-asks_only core (ClientFlags flags) e = refl
-asks_only core (Choice id payload) e = refl
-asks_only core (Request flags command cookie offset len payload) e = refl
-asks_only core (Greeting flags) e = refl
-asks_only core (Answer option kind payload) e = refl
-asks_only core (Exported size flags padded) e = refl
-asks_only core (Simple error cookie payload) e = absurd (cc)
-asks_only core (Chunk flags kind cookie payload) e = absurd (cc)
-
--- an open message of a side began in its place
-abbrev BegunOpen : Core → Side → Open → Type 0
-BegunOpen core s Idle = Unit {0}
-BegunOpen core s (Busy m left) = (old : Core) × IsBegun old s m × Later s old core
-BegunOpen core s Loose = Unit {0}
-
-abbrev AreBegun : Core → Both Open → Type 0
-AreBegun core o = (s : Side) → BegunOpen core s (get o s)
-
--- where a message of side s completes
-begun_completed : (core : Core) (o : Both Open) (s : Side) (m : Message) → side m ≡ s → MayComplete core core.phase m → AreBegun core o → AreBegun (complete core m) (put o s Idle)
-begun_completed core o s m sd ok all u = go (same_or_not s u)
-  where
-    moved : (x : Open) → (s ≡ u → ⊥) → BegunOpen core u x → BegunOpen (complete core m) u x
-    moved Idle ne h = tt
-    moved (Busy n left) ne h = (h.0, h.1, Later-trans h.2 (behind m (λ q. ne (sym sd ∙ q)) ok at_once))
-    moved Loose ne h = tt
-
-    go : (s ≡ u) ⊎ (s ≡ u → ⊥) → BegunOpen (complete core m) u (get (put o s Idle) u)
-    go (inl q) = subst (λ v. BegunOpen (complete core m) v (get (put o s Idle) v)) q (subst (BegunOpen (complete core m) s) (sym (get-put_same o s Idle)) tt)
-    go (inr ne) = subst (BegunOpen (complete core m) u) (sym (get-put_other o s u Idle ne)) (moved (get o u) ne (all u))
 
 -- what is known, where the server may be in a message that started when n requests were complete
 abbrev known_open : Open → Core → ℕ → ℕ → Option ℕ → Option ℕ

@@ -8,7 +8,8 @@ use Rattle.nbd_wire.specs.declared.message.Message.{Message}
 use Rattle.nbd_wire.specs.protocol.Encoding.{enc}
 use Rattle.nbd_wire.specs.protocol.Captures.{ArePairs, Pair}
 use Rattle.nbd_wire.specs.protocol.Marks.{Item, completed_messages, pairs}
-use Rattle.nbd_wire.specs.protocol.Reports.{Report, known_count, report, asked_list}
+use Rattle.nbd_wire.specs.protocol.Reports.{Report, asked_list, asked_of, known_count, report}
+use Rattle.nbd_wire.specs.protocol.Operations.{Operation}
 use Rattle.nbd_wire.specs.protocol.Rules.{IsRunOf, MayComplete, complete, ends_at}
 use Rattle.nbd_wire.specs.protocol.States.{start, Core, start_of, export_in}
 use Rattle.nbd_session.proofs.log.FoldLemmas.{core_of}
@@ -231,7 +232,15 @@ pub run_known : {profile : Profile} (judge : Judge) → IsSound judge → (ps : 
 run_known judge sd ps end lt e none items run has k = known-log items run k ∙ ap (known_by start.core k) (run_log judge sd ps end lt e none items run has)
 
 abbrev reported : Core → (ℕ → Option ℕ) → Report
-reported core known_at = record { export = export_in core.phase; asked = asked_list 0 (export_in core.phase) known_at core.entries }
+reported core known_at = record { export = export_in core.phase; asked = asked_list 0 core known_at core.entries }
+
+-- what is stated does not hang on the profile
+stated_in : (q : Profile) (n : ℕ) (core : Core) (known_at : ℕ → Option ℕ) (es : List Operation) → asked_list n (with_profile q core) known_at es ≡ asked_list n core known_at es
+stated_in q n core known_at [] = refl
+stated_in q n core known_at (e ∷ es) = ap (λ l. asked_of (export_in core.phase) (known_at (suc n)) (core.shown (suc n)) (core.ended_at (suc n)) e ∷ l) (stated_in q (suc n) core known_at es)
+
+report_in : (q : Profile) (core : Core) (log : List LogEntry) → report_by (with_profile q core) log ≡ report_by core log
+report_in q core log = λ i. record { export = export_in core.phase; asked = stated_in q 0 core (λ k. known_by start.core k log) core.entries i }
 
 report_of : {profile : Profile} (judge : Judge) → IsSound judge → (ps : List Pair) (end : Reader) → ArePairs ps → reads judge (fresh_of profile) ps ≡ Ok end → ((s : Side) → (get end.rests s).bytes ≡ []) →
     (items : List Item) → IsRunOf profile items → pairs items ≡ ps → completed_messages items ≡ end.messages → report items ≡ report_by end.core (log_of_pairs judge (fresh_of profile) ps)
@@ -241,7 +250,7 @@ report_of {profile} judge sd ps end lt e none items run has messages =
     let core_same : (ends_at start items).core ≡ with_profile Base end.core =
     sym (at_base profile items) ∙ ap (with_profile Base) (ends_folded items (start_of profile) ∙ ap (core_of profile) messages ∙ sym (core_is profile judge ps end e)) in
     ap (λ known_at. reported (ends_at start items).core known_at) (λ j k. run_known judge sd ps end lt e none items run has k j)
-    ∙ ap (λ core. report_by core log) core_same
+    ∙ ap (λ core. report_by core log) core_same ∙ report_in Base end.core log
 
 -- the report of any run with these pairs
 pub run_report : {profile : Profile} (judge : Judge) → IsSound judge → (ps : List Pair) (end : Reader) → ArePairs ps → reads judge (fresh_of profile) ps ≡ Ok end → ((s : Side) → (get end.rests s).bytes ≡ []) →

@@ -22,4 +22,4 @@ log_of profile items = log_from (start_of profile).core (record { client = 0; se
 
 -- what a core and the log before it state
 abbrev pub report_by : Core → List LogEntry → Report
-report_by core log = record { export = export_in core.phase; asked = asked_list 0 (export_in core.phase) (λ k. known_by start.core k log) core.entries }
+report_by core log = record { export = export_in core.phase; asked = asked_list 0 core (λ k. known_by start.core k log) core.entries }

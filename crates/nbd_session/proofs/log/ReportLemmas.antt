@@ -6,7 +6,7 @@ use Rattle.nbd_wire.specs.protocol.Marks.{Item, pairs}
 use Rattle.nbd_wire.specs.protocol.Reports.{report, asked_of, asked_list}
 use Rattle.nbd_wire.specs.protocol.Operations.{Operation, Exporting}
 use Rattle.nbd_wire.specs.protocol.Rules.{IsRunOf, IsRunBut}
-use Rattle.nbd_wire.specs.protocol.States.{Core, Phase, Greet, Flags, Choosing, Naming, Aborting, Answering, Ended, Transmission, start, export_in}
+use Rattle.nbd_wire.specs.protocol.States.{Core, Phase, Shown, Greet, Flags, Choosing, Naming, Aborting, Answering, Ended, Transmission, start, export_in}
 use Rattle.nbd_state.specs.declared.asked.Exchange.{Exchange}
 use Rattle.nbd_session.specs.declared.held.Held.{Held}
 use Rattle.nbd_state.specs.declared.state.State.{State}
@@ -17,7 +17,8 @@ use Rattle.nbd_session.specs.internal.Logging.{log_of_pairs}
 use Rattle.nbd_session.proofs.log.Logs.{report_by}
 use Rattle.nbd_session.specs.Sessions.{IsReported}
 use Rattle.nbd_state.specs.Showing.{IsShown, exporting_if}
-use Rattle.nbd_state.specs.Shows.{AreKnown, AreShown, Shows, phase_shown}
+use Rattle.nbd_state.specs.Shows.{AreKnown, AreShown, Shows, ended_if, phase_shown, shown_if}
+use Rattle.nbd_state.specs.Moments.{shown_in}
 use Rattle.nbd_laws.specs.Soundness.{IsSoundReport}
 use Rattle.nbd_session.specs.internal.Standing.{held_pairs}
 use Rattle.nbd_session.specs.internal.Steps.{HoldsRun, Stands}
@@ -38,8 +39,9 @@ export_same (Answering option payload info) = refl
 export_same Ended = refl
 export_same (Transmission export) = refl
 
-one_told : (export : Exporting) (e : Operation) (x : Exchange) (known : Option ℕ) → IsShown export e x → x.asked.known_at ≡ known → report_of_request x.asked ≡ asked_of (Some export) known e
-one_told export e x known s k = λ i. record {
+one_told : (export : Exporting) (e : Operation) (x : Exchange) (known : Option ℕ) (shown : List Shown) (ended : Option ℕ) → IsShown export e x → x.asked.known_at ≡ known → shown_in x.asked ≡ shown → x.asked.ended_at ≡ ended →
+    report_of_request x.asked ≡ asked_of (Some export) known shown ended e
+one_told export e x known shown ended s k sh en = λ i. record {
   flags = s.flags i;
   command = s.command i;
   cookie = s.cookie i;
@@ -49,27 +51,42 @@ one_told export e x known s k = λ i. record {
   proper = s.proper i;
   outside = s.outside i;
   known_at = k i;
+  shown = sh i;
+  ended_at = en i;
   outcome = s.outcome_is i;
   pieces = s.pieces_are i;
 }
 
-all_told : (n : ℕ) (export : Option Exporting) (known : ℕ → Option ℕ) (es : List Operation) (xs : List Exchange) → AreShown export es xs →
-    ((place : ℕ) (x : Exchange) → slice_get xs place ≡ Some x → x.asked.known_at ≡ known (suc (n + place))) → map (λ (x : Exchange). report_of_request x.asked) xs ≡ asked_list n export known es
-all_told n export known [] [] s k = refl
-all_told n (Some export) known (e ∷ es) (x ∷ xs) s k =
-    (λ i. one_told export e x (known (suc n)) s.0 (k 0 x refl ∙ ap (λ m. known (suc m)) (no_more n)) i
-    ∷ all_told (suc n) (Some export) known es xs s.1 (λ place y at. k (suc place) y at ∙ ap (λ m. known (suc m)) (one_more n place)) i)
-  where
-    no_more : (n : ℕ) → n + 0 ≡ n
-    no_more n = omega arith
+-- the exchanges have what is noted of the requests from number n + 1 on
+record AreNotedFrom (n : ℕ) (core : Core) (known : ℕ → Option ℕ) (xs : List Exchange) : Type 0 where
+  known_are : (place : ℕ) (x : Exchange) → slice_get xs place ≡ Some x → x.asked.known_at ≡ known (suc (n + place))
+  shown_are : (place : ℕ) → core.shown (suc (n + place)) ≡ shown_if (slice_get xs place)
+  ended_are : (place : ℕ) → core.ended_at (suc (n + place)) ≡ ended_if (slice_get xs place)
 
-    one_more : (n place : ℕ) → n + suc place ≡ suc n + place
-    one_more n place = omega arith
-all_told n None known (e ∷ es) (x ∷ xs) s k = absurd s
-all_told n (Some export) known [] (x ∷ xs) s k = absurd s
-all_told n None known [] (x ∷ xs) s k = absurd s
-all_told n (Some export) known (e ∷ es) [] s k = absurd s
-all_told n None known (e ∷ es) [] s k = absurd s
+next_place : (n place : ℕ) → n + suc place ≡ suc n + place
+next_place n place = omega arith
+
+noted_rest : (n : ℕ) (core : Core) (known : ℕ → Option ℕ) (x : Exchange) (xs : List Exchange) → AreNotedFrom n core known (x ∷ xs) → AreNotedFrom (suc n) core known xs
+noted_rest n core known x xs h = record {
+  known_are = λ place y at. h.known_are (suc place) y at ∙ ap (λ m. known (suc m)) (next_place n place);
+  shown_are = λ place. ap (λ m. core.shown (suc m)) (sym (next_place n place)) ∙ h.shown_are (suc place);
+  ended_are = λ place. ap (λ m. core.ended_at (suc m)) (sym (next_place n place)) ∙ h.ended_are (suc place);
+}
+
+all_told : (n : ℕ) (core : Core) (export : Option Exporting) → export_in core.phase ≡ export → (known : ℕ → Option ℕ) (es : List Operation) (xs : List Exchange) → AreShown export es xs → AreNotedFrom n core known xs →
+    map (λ (x : Exchange). report_of_request x.asked) xs ≡ asked_list n core known es
+all_told n core export q known [] [] s h = refl
+all_told n core (Some export) q known (e ∷ es) (x ∷ xs) s h =
+    let first : n ≡ n + 0 = omega arith in
+    (λ i. (one_told export e x (known (suc n)) (core.shown (suc n)) (core.ended_at (suc n)) s.0 (h.known_are 0 x refl ∙ ap (λ m. known (suc m)) (sym first))
+    (sym (ap (λ m. core.shown (suc m)) first ∙ h.shown_are 0)) (sym (ap (λ m. core.ended_at (suc m)) first ∙ h.ended_are 0))
+    ∙ ap (λ o. asked_of o (known (suc n)) (core.shown (suc n)) (core.ended_at (suc n)) e) (sym q)) i
+    ∷ all_told (suc n) core (Some export) q known es xs s.1 (noted_rest n core known x xs h) i)
+all_told n core None q known (e ∷ es) (x ∷ xs) s h = absurd s
+all_told n core (Some export) q known [] (x ∷ xs) s h = absurd s
+all_told n core None q known [] (x ∷ xs) s h = absurd s
+all_told n core (Some export) q known (e ∷ es) [] s h = absurd s
+all_told n core None q known (e ∷ es) [] s h = absurd s
 
 by_place : (log : List LogEntry) (xs : List Exchange) → AreKnown log xs → (place : ℕ) (x : Exchange) → slice_get xs place ≡ Some x → x.asked.known_at ≡ known_by start.core (suc (0 + place)) log
 by_place log xs known place x at = known place x at ∙ ap (λ k. known_by start.core k log) (next place)
@@ -80,8 +97,15 @@ by_place log xs known place x at = known place x at ∙ ap (λ k. known_by start
 told_by_log : (state : State) (core : Core) (log : List LogEntry) → Shows state core → AreKnown log state.exchanges.items → transcript_report (export_of state.phase) state.exchanges.items ≡ report_by core log
 told_by_log state core log shows known = λ i. record {
   export = (ap (λ phase. exporting_if (export_of phase)) shows.phase_is ∙ export_same core.phase) i;
-  asked = all_told 0 (export_in core.phase) (λ k. known_by start.core k log) core.entries state.exchanges.items shows.are_shown (by_place log state.exchanges.items known) i;
+  asked = all_told 0 core (export_in core.phase) refl (λ k. known_by start.core k log) core.entries state.exchanges.items shows.are_shown (record {
+    known_are = by_place log state.exchanges.items known;
+    shown_are = λ place. ap (λ m. core.shown (suc m)) (from_none place) ∙ shows.shown place;
+    ended_are = λ place. ap (λ m. core.ended_at (suc m)) (from_none place) ∙ shows.ended place;
+  }) i;
 }
+  where
+    from_none : (place : ℕ) → 0 + place ≡ place
+    from_none place = omega arith
 
 module _ (held : Held) (st : Stands held) (client : (bytes_come held.client) ≡ []) (server : (bytes_come held.server) ≡ []) where
   none_left : (s : Side) → (get st.reader.rests s).bytes ≡ []

@@ -29,7 +29,7 @@ use Rattle.nbd_session.specs.internal.Steps.{HoldsRun, IsSame, IsShut, IsTaken, 
 use Rattle.nbd_session.proofs.judge.PieceLemmas.{read_run}
 use Rattle.nbd_session.proofs.log.CountLemmas.{count_of}
 use Rattle.nbd_session.proofs.log.FoldLemmas.{core_is}
-use Rattle.nbd_session.proofs.log.KnownLemmas.{asks_only}
+use Rattle.nbd_laws.proofs.runs.BegunLemmas.{asks_only}
 use Rattle.nbd_session.proofs.log.LogKnownLemmas.{known-unanswered, logged-whole}
 use Rattle.nbd_session.proofs.log.LogStepLemmas.{logged_messages}
 use Rattle.nbd_session.proofs.steps.HoldingLemmas.{rest_is}

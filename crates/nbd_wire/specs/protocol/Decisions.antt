@@ -1,24 +1,19 @@
 -- What is decided of bytes that begin a message: the lists of tests (`Negotiation`, `Transmission`) with the numbers
 -- that stand in the bytes. `old` is what had completed before the first of them, `now` what has completed since.
-use Rattle.std.specs.Prelude.{ℕ, List, ◌+◌, Bool, true, false, Option, Some, None, not, ◌&&◌, ◌==◌, nat_le, nat_lt, length, drop, if◌then◌else◌}
+use Rattle.std.specs.Prelude.{ℕ, List, Bool, true, false, Option, Some, None, not, ◌&&◌, ◌==◌, nat_le, length, drop, if◌then◌else◌}
 use Rattle.nbd_wire.specs.declared.chunks.TheConstants as chunks
 use Rattle.nbd_wire.specs.declared.fault.WireFault.{WireFault}
 use Rattle.nbd_wire.specs.declared.fault.WireFault.TheVariants.{BadMagic}
-use Rattle.nbd_wire.specs.declared.handshake.TheConstants as handshake
 use Rattle.nbd_wire.specs.declared.magics.TheConstants.{GREETING_MAGIC, OPTION_MAGIC, ANSWER_MAGIC, REQUEST_MAGIC, SIMPLE_MAGIC, CHUNK_MAGIC}
 use Rattle.nbd_wire.specs.declared.message.Message.{Message}
 use Rattle.nbd_wire.specs.declared.message.Message.TheVariants.{Greeting, ClientFlags, Choice, Answer, Exported, Request, Simple, Chunk}
-use Rattle.nbd_wire.specs.declared.message.Side.{Side}
-use Rattle.nbd_wire.specs.declared.message.Side.TheVariants.{Client, Server}
 use Rattle.nbd_wire.specs.declared.options.TheConstants as options
 use Rattle.nbd_wire.specs.declared.profile.Profile.{Profile}
 use Rattle.nbd_wire.specs.protocol.Contexts.{Selection}
-use Rattle.nbd_wire.specs.protocol.Flags.{has}
 use Rattle.nbd_wire.specs.protocol.Negotiation.{abort_fault, answer_fault, answer_head_fault, answer_last_fault, client_flags_fault, export_fault, greeting_fault, padding_fault}
 use Rattle.nbd_wire.specs.protocol.Operations.{Exporting, Operation}
-use Rattle.nbd_wire.specs.protocol.Options.{is_proper_option, takes_contexts}
 use Rattle.nbd_wire.specs.protocol.Payloads.{number_at}
-use Rattle.nbd_wire.specs.protocol.States.{Phase, Greet, Flags, Choosing, Naming, Aborting, Answering, Transmission, Core, target, operation, with_reply}
+use Rattle.nbd_wire.specs.protocol.States.{Core, target, operation, with_reply}
 use Rattle.nbd_wire.specs.protocol.Tests.{◌when◌else◌}
 use Rattle.nbd_wire.specs.protocol.Transmission.{chunk_fault, chunk_head_fault, cookie_fault, request_fault, request_payload_length, simple_fault, simple_last_fault, simple_payload_length}
 

@@ -49,10 +49,11 @@ abbrev pub inside_of : (proper : Bool) → Option Exporting → (command offset 
 inside_of proper export command offset len x =
     (proper || not (command == commands.BLOCK_STATUS)) && inside export command offset len x
 
--- request k, inside which these offsets lie, is wholly served: an entry names it, and each of the offsets is served
-pub record IsWhollyServed (within : ℕ → Bool) (entries : List Entry) (k : ℕ) : Type 0 where
+-- request k, inside which these offsets lie, is served as far as x asks for it: an entry names it, and one serves x,
+-- where x lies inside
+pub record IsServedAt (within : ℕ → Bool) (entries : List Entry) (k x : ℕ) : Type 0 where
   pub named : Names entries k
-  pub covered : (x : ℕ) → IsTrue (within x) → IsTrue (is_served entries k x)
+  pub covered : IsTrue (within x) → IsTrue (is_served entries k x)
 
 -- after these entries request k is served again: atomically though an entry names it, or in part though one serves it
 -- atomically

@@ -1,8 +1,9 @@
--- The faults of an order of service (this project's choice). `count` is the number of requests, `known` says of a
--- request how many had completed when its first reply started, and `inside` which offsets lie inside it.
-use Rattle.std.specs.Prelude.{ℕ, List, ◌≡◌, ◌+◌, ◌<◌, ◌≤◌, ◌⊎◌, Bool, Option, Some, length, slice_get, slice_index, take}
+-- The faults of an order of service (this project's choice). `count` is the number of requests, `inside` says of a
+-- request which offsets lie inside it, and `due` of a request and an offset how many requests had completed when it had
+-- to be served there; a number that is no offset inside stands for the request itself.
+use Rattle.std.specs.Prelude.{ℕ, List, ◌≡◌, ◌+◌, ◌<◌, ◌≤◌, ◌⊎◌, Bool, Option, Some, IsTrue, drop, slice_get, take}
 use Rattle.nbd_wire.specs.declared.entry.Entry.{Entry}
-use Rattle.nbd_wire.specs.protocol.Entries.{HasBadPart, IsTwice, IsWhollyServed, Names, numbers}
+use Rattle.nbd_wire.specs.protocol.Entries.{HasBadPart, IsServedAt, IsTwice, Names, is_served}
 
 -- the least number with the property
 abbrev pub IsFirst : (ℕ → Type 0) → ℕ → Type 0
@@ -24,35 +25,35 @@ IsBadPart inside order i = (e : Entry) × (slice_get order i ≡ Some e) × HasB
 abbrev pub IsBad : ℕ → (inside : ℕ → ℕ → Bool) → List Entry → ℕ → Type 0
 IsBad count inside order i = NamesNone count order i ⊎ NamesAgain order i ⊎ IsBadPart inside order i
 
--- of the requests that entries name: entry i or a later one names a request whose first reply started before the
--- request of entry i had completed
-abbrev pub IsLate : (ℕ → Option ℕ) → List ℕ → ℕ → Type 0
-IsLate known order i = (j : ℕ) × (n : ℕ) × (i ≤ j) × (j < length order) × (known (slice_index order j) ≡ Some n)
-    × (n < slice_index order i)
+-- entry i or a later one serves a request at an offset that was due before the request of entry i had completed; an
+-- entry without a part serves each offset
+abbrev pub IsLate : (due : ℕ → ℕ → Option ℕ) → List Entry → ℕ → Type 0
+IsLate due order i = (e : Entry) × (k : ℕ) × (x : ℕ) × (n : ℕ) × (slice_get order i ≡ Some e)
+    × IsTrue (is_served (drop i order) k x) × (due k x ≡ Some n) × (n < e.request)
 
--- a reply to request k started
-abbrev pub HasReplyStarted : ℕ → (ℕ → Option ℕ) → ℕ → Type 0
-HasReplyStarted count known k = (0 < k) × (k ≤ count) × ((n : ℕ) × (known k ≡ Some n))
+-- request k was due at x
+abbrev pub IsDue : ℕ → (due : ℕ → ℕ → Option ℕ) → (k x : ℕ) → Type 0
+IsDue count due k x = (0 < k) × (k ≤ count) × ((n : ℕ) × (due k x ≡ Some n))
 
--- a reply to request k started, and no entry names it
-abbrev pub IsMissing : ℕ → (ℕ → Option ℕ) → List Entry → ℕ → Type 0
-IsMissing count known order k = HasReplyStarted count known k × (Names order k → ⊥)
+-- something of request k was due, and no entry names it
+abbrev pub IsMissing : ℕ → (due : ℕ → ℕ → Option ℕ) → List Entry → ℕ → Type 0
+IsMissing count due order k = ((x : ℕ) × IsDue count due k x) × (Names order k → ⊥)
 
--- a reply to request k started, and entries name it that do not serve all of it
-abbrev pub IsNotCovered : ℕ → (ℕ → Option ℕ) → (inside : ℕ → ℕ → Bool) → List Entry → ℕ → Type 0
-IsNotCovered count known inside order k = HasReplyStarted count known k × Names order k
-    × (IsWhollyServed (inside k) order k → ⊥)
+-- request k was due at an offset, and entries name it that do not serve it there
+abbrev pub IsNotCovered : ℕ → (due : ℕ → ℕ → Option ℕ) → (inside : ℕ → ℕ → Bool) → List Entry → ℕ → Type 0
+IsNotCovered count due inside order k =
+    ((x : ℕ) × IsDue count due k x × (IsServedAt (inside k) order k x → ⊥)) × Names order k
 
 -- request k has one of these two faults
-abbrev pub IsUnserved : ℕ → (ℕ → Option ℕ) → (inside : ℕ → ℕ → Bool) → List Entry → ℕ → Type 0
-IsUnserved count known inside order k = IsMissing count known order k ⊎ IsNotCovered count known inside order k
+abbrev pub IsUnserved : ℕ → (due : ℕ → ℕ → Option ℕ) → (inside : ℕ → ℕ → Bool) → List Entry → ℕ → Type 0
+IsUnserved count due inside order k = IsMissing count due order k ⊎ IsNotCovered count due inside order k
 
--- no entry is bad, no entry is late, and each answered request is wholly served
-pub record HasNoOrderFault (count : ℕ) (known : ℕ → Option ℕ) (inside : ℕ → ℕ → Bool)
+-- no entry is bad, no entry is late, and what was due is served
+pub record HasNoOrderFault (count : ℕ) (due : ℕ → ℕ → Option ℕ) (inside : ℕ → ℕ → Bool)
     (order : List Entry) : Type 0 where
   pub none_bad : (i : ℕ) → IsBad count inside order i → ⊥
-  pub none_late : (i : ℕ) → IsLate known (numbers order) i → ⊥
-  pub served : (k : ℕ) → HasReplyStarted count known k → IsWhollyServed (inside k) order k
+  pub none_late : (i : ℕ) → IsLate due order i → ⊥
+  pub served : (k x : ℕ) → IsDue count due k x → IsServedAt (inside k) order k x
 
 -- NoSuchRequest is answered with this entry, counted from 1: no earlier entry is bad
 abbrev pub FirstNoSuchRequest : ℕ → (inside : ℕ → ℕ → Bool) → List Entry → ℕ → Type 0
@@ -71,22 +72,22 @@ FirstBadPart count inside order entry =
     × ((j : ℕ) → j < i → IsBad count inside order j → ⊥)
 
 -- Late is answered with this entry, counted from 1, where no entry is bad
-abbrev pub FirstLate : ℕ → (ℕ → Option ℕ) → (inside : ℕ → ℕ → Bool) → List Entry → ℕ → Type 0
-FirstLate count known inside order entry =
-    (i : ℕ) × (entry ≡ i + 1) × ((j : ℕ) → IsBad count inside order j → ⊥) × IsFirst (IsLate known (numbers order)) i
+abbrev pub FirstLate : ℕ → (due : ℕ → ℕ → Option ℕ) → (inside : ℕ → ℕ → Bool) → List Entry → ℕ → Type 0
+FirstLate count due inside order entry =
+    (i : ℕ) × (entry ≡ i + 1) × ((j : ℕ) → IsBad count inside order j → ⊥) × IsFirst (IsLate due order) i
 
 -- no entry is bad and none is late, and each request below this one is served as it has to be
-abbrev pub IsElseServed : ℕ → (ℕ → Option ℕ) → (inside : ℕ → ℕ → Bool) → List Entry → ℕ → Type 0
-IsElseServed count known inside order request =
-    ((j : ℕ) → IsBad count inside order j → ⊥) × ((j : ℕ) → IsLate known (numbers order) j → ⊥)
-    × ((k : ℕ) → k < request → IsUnserved count known inside order k → ⊥)
+abbrev pub IsElseServed : ℕ → (due : ℕ → ℕ → Option ℕ) → (inside : ℕ → ℕ → Bool) → List Entry → ℕ → Type 0
+IsElseServed count due inside order request =
+    ((j : ℕ) → IsBad count inside order j → ⊥) × ((j : ℕ) → IsLate due order j → ⊥)
+    × ((k : ℕ) → k < request → IsUnserved count due inside order k → ⊥)
 
 -- Missing is answered with this request's number
-abbrev pub LeastMissing : ℕ → (ℕ → Option ℕ) → (inside : ℕ → ℕ → Bool) → List Entry → ℕ → Type 0
-LeastMissing count known inside order request =
-    IsElseServed count known inside order request × IsMissing count known order request
+abbrev pub LeastMissing : ℕ → (due : ℕ → ℕ → Option ℕ) → (inside : ℕ → ℕ → Bool) → List Entry → ℕ → Type 0
+LeastMissing count due inside order request =
+    IsElseServed count due inside order request × IsMissing count due order request
 
 -- NotCovered is answered with this request's number
-abbrev pub LeastNotCovered : ℕ → (ℕ → Option ℕ) → (inside : ℕ → ℕ → Bool) → List Entry → ℕ → Type 0
-LeastNotCovered count known inside order request =
-    IsElseServed count known inside order request × IsNotCovered count known inside order request
+abbrev pub LeastNotCovered : ℕ → (due : ℕ → ℕ → Option ℕ) → (inside : ℕ → ℕ → Bool) → List Entry → ℕ → Type 0
+LeastNotCovered count due inside order request =
+    IsElseServed count due inside order request × IsNotCovered count due inside order request

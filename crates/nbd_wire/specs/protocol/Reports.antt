@@ -1,5 +1,8 @@
 -- What a run says of its requests, whatever the moments of their service.
-use Rattle.std.specs.Prelude.{ℕ, zero, suc, List, [], ◌∷◌, ◌++◌, ◌==◌, Bool, true, false, Option, Some, None, length, slice_get}
+use Rattle.std.specs.Prelude.{ℕ, zero, suc, List, [], ◌∷◌, ◌++◌, ◌==◌, Bool, true, false, Option, Some, None, length, slice_get, if◌then◌else◌, nat_le}
+use Rattle.nbd_wire.specs.declared.commands.TheConstants as commands
+use Rattle.nbd_wire.specs.declared.profile.Profile.{Profile}
+use Rattle.nbd_wire.specs.declared.profile.Profile.TheVariants.{Base, Wide}
 use Rattle.nbd_wire.specs.declared.message.Side.TheVariants.{Client, Server}
 use Rattle.nbd_wire.specs.declared.payloads.Piece.{Piece}
 use Rattle.nbd_wire.specs.protocol.Marks.{Item, Byte, Starts, Completes, Serves}
@@ -7,7 +10,8 @@ use Rattle.nbd_wire.specs.protocol.Entries.{inside_of}
 use Rattle.nbd_wire.specs.protocol.Operations.{Operation, Exporting, Outcome, is_outside, outcome, pieces, proper_on}
 use Rattle.nbd_wire.specs.protocol.Statuses.{zeroes}
 use Rattle.nbd_wire.specs.protocol.Rules.{request_of_reply, complete, ends_at}
-use Rattle.nbd_wire.specs.protocol.States.{Core, export_in, start}
+use Rattle.nbd_wire.specs.protocol.Pieces.{is_in}
+use Rattle.nbd_wire.specs.protocol.States.{Core, Shown, export_in, start}
 
 -- the numbered requests of a run
 abbrev pub operations_of : List Item → List Operation
@@ -41,8 +45,9 @@ abbrev pub known_count : List Item → ℕ → Option ℕ
 known_count items k = known_from start.core k items
 
 -- a numbered request as a report states it: whether it is proper, whether it is outside of the block sizes, how many
--- numbered requests had completed when its first reply started, what became of it, and the pieces that its reply gives
--- or calls zero
+-- numbered requests had completed when its first reply started, what of a READ the messages before the last one showed,
+-- how many requests had completed when the last one had come, what became of it, and the pieces that its reply gives or
+-- calls zero
 pub record Asked : Type 0 where
   pub flags : ℕ
   pub command : ℕ
@@ -53,6 +58,8 @@ pub record Asked : Type 0 where
   pub proper : Bool
   pub outside : Bool
   pub known_at : Option ℕ
+  pub shown : List Shown
+  pub ended_at : Option ℕ
   pub outcome : Outcome
   pub pieces : List Piece
 
@@ -67,8 +74,9 @@ pieces_told (Some export) e = zeroes export e ++ pieces e
 pieces_told None e = pieces e
 
 -- a request as a report states it
-abbrev pub asked_of : Option Exporting → Option ℕ → Operation → Asked
-asked_of export known_at e = record {
+abbrev pub asked_of : Option Exporting → (known_at : Option ℕ) → (shown : List Shown) → (ended_at : Option ℕ)
+    → Operation → Asked
+asked_of export known_at shown ended_at e = record {
   flags = e.flags;
   command = e.command;
   cookie = e.cookie;
@@ -78,36 +86,30 @@ asked_of export known_at e = record {
   proper = proper_on export e;
   outside = is_outside e;
   known_at = known_at;
+  shown = shown;
+  ended_at = ended_at;
   outcome = outcome e;
   pieces = pieces_told export e;
 }
 
 -- the requests from number k + 1 on
-abbrev pub asked_list : ℕ → Option Exporting → (ℕ → Option ℕ) → List Operation → List Asked
-asked_list k export known_at [] = []
-asked_list k export known_at (e ∷ entries) = asked_of export (known_at (suc k)) e ∷ asked_list
-    (suc k) export known_at entries
+abbrev pub asked_list : ℕ → Core → (known_at : ℕ → Option ℕ) → List Operation → List Asked
+asked_list k core known_at [] = []
+asked_list k core known_at (e ∷ entries) =
+    asked_of (export_in core.phase) (known_at (suc k)) (core.shown (suc k)) (core.ended_at (suc k)) e
+    ∷ asked_list (suc k) core known_at entries
 
 -- the export and the numbered requests that a run leads to
 unfoldable pub report : List Item → Report
 report items = record {
   export = export_of items;
-  asked = asked_list 0 (export_of items) (known_count items) (operations_of items);
+  asked = asked_list 0 (ends_at start items).core (known_count items) (operations_of items);
 }
 
 -- request k of these, counted from 1
 abbrev pub asked_at : ℕ → List Asked → Option Asked
 asked_at zero asked = None
 asked_at (suc k) asked = slice_get asked k
-
--- the same, of a request if there is one
-abbrev pub known_of : Option Asked → Option ℕ
-known_of (Some a) = a.known_at
-known_of None = None
-
--- how many requests had completed when the first reply to request k of the report started, if one did
-abbrev pub known_in : Report → ℕ → Option ℕ
-known_in r k = known_of (asked_at k r.asked)
 
 -- the offsets inside a request on an export, if there is one
 abbrev pub inside_asked : Option Exporting → Option Asked → ℕ → Bool
@@ -117,3 +119,29 @@ inside_asked export None = λ x. false
 -- the offsets inside request k of the report
 abbrev pub inside_in : Report → ℕ → ℕ → Bool
 inside_in r k = inside_asked r.export (asked_at k r.asked)
+
+-- the lesser of two counts, or the one that there is
+abbrev pub lesser_of : Option ℕ → Option ℕ → Option ℕ
+lesser_of (Some m) (Some n) = Some (if nat_le m n then m else n)
+lesser_of (Some m) None = Some m
+lesser_of None b = b
+
+-- the count of the first of these ranges that has x
+abbrev pub first_shown : List Shown → ℕ → Option ℕ
+first_shown [] x = None
+first_shown (s ∷ shown) x = if is_in s.offset s.size x then Some s.count else first_shown shown x
+
+-- how many requests had completed when a READ by chunk had to be served for x, if it had to: when the first message
+-- with a byte of x, if x lies inside, or the last message had come
+abbrev pub due_by_chunk : (within : ℕ → Bool) → Asked → ℕ → Option ℕ
+due_by_chunk within a x = lesser_of (if within x then first_shown a.shown x else None) a.ended_at
+
+-- the same, of any request: when its first reply started, but in Wide of a READ by chunk (this project's choice)
+abbrev pub due_of : Profile → (within : ℕ → Bool) → Option Asked → ℕ → Option ℕ
+due_of Wide within (Some a) x = if a.command == commands.READ then due_by_chunk within a x else a.known_at
+due_of Base within (Some a) x = a.known_at
+due_of profile within None x = None
+
+-- the same, of request k of the report
+abbrev pub due_in : Profile → Report → (k x : ℕ) → Option ℕ
+due_in profile r k x = due_of profile (inside_in r k) (asked_at k r.asked) x

@@ -1,5 +1,5 @@
 -- What a run is: a marked capture whose marks obey the rules of the protocol profile.
-use Rattle.std.specs.Prelude.{ℕ, List, [], ◌∷◌, ◌++◌, ◌≡◌, ◌<◌, ◌≤◌, ◌==◌, ◌&&◌, ◌||◌, not, Bool, true, false, Option, Some, None, length, IsTrue, is_some}
+use Rattle.std.specs.Prelude.{ℕ, List, [], ◌∷◌, ◌++◌, ◌≡◌, ◌<◌, ◌≤◌, ◌==◌, ◌&&◌, ◌||◌, not, Bool, true, false, Option, Some, None, length, IsTrue, is_some, map, if◌then◌else◌}
 use Rattle.nbd_wire.specs.declared.message.Side.{Side}
 use Rattle.nbd_wire.specs.declared.message.Side.TheVariants.{Client, Server}
 use Rattle.nbd_wire.specs.declared.message.Message.{Message}
@@ -9,19 +9,20 @@ use Rattle.nbd_wire.specs.declared.commands.TheConstants as commands
 use Rattle.nbd_wire.specs.declared.handshake.TheConstants as handshake
 use Rattle.nbd_wire.specs.declared.options.TheConstants as options
 use Rattle.nbd_wire.specs.declared.profile.Profile.{Profile}
-use Rattle.nbd_wire.specs.declared.profile.Profile.TheVariants.{Base}
+use Rattle.nbd_wire.specs.declared.profile.Profile.TheVariants.{Wide}
 use Rattle.nbd_wire.specs.protocol.Marks.{Item, Byte, Starts, Completes, Serves, IsMarkedBut}
-use Rattle.nbd_wire.specs.protocol.Entries.{IsWhollyServed, MayServe, inside_of}
+use Rattle.nbd_wire.specs.protocol.Entries.{IsServedAt, MayServe, inside_of}
 use Rattle.nbd_wire.specs.protocol.Sizes.{sizes_for, sizes_kept, sizing_after, sizing_at}
 use Rattle.nbd_wire.specs.protocol.Options.{agrees, is_proper_option, takes_contexts, next_phase, selection_after, selection_at, turn}
 use Rattle.nbd_wire.specs.protocol.Negotiation.{abort_fault, answer_fault, answer_head_fault, answer_last_fault, client_flags_fault, export_fault, greeting_fault}
 use Rattle.nbd_wire.specs.protocol.Transmission.{simple_length, chunk_fault, chunk_head_fault, cookie_fault, request_fault, simple_fault, simple_last_fault}
 use Rattle.nbd_wire.specs.declared.chunks.TheConstants as chunks
-use Rattle.nbd_wire.specs.protocol.Operations.{Operation, Exporting, proper_on}
+use Rattle.nbd_wire.specs.protocol.Operations.{Operation, Exporting, ends_reply, proper_on}
+use Rattle.nbd_wire.specs.protocol.Pieces.{byte_at, piece_of, piece_offset, piece_size}
 use Rattle.nbd_wire.specs.protocol.Flags.{has}
 use Rattle.nbd_wire.specs.protocol.Sendable.{IsSendable}
 use Rattle.nbd_wire.specs.protocol.Sides.{side}
-use Rattle.nbd_wire.specs.protocol.States.{Core, Phase, State, Greet, Flags, Choosing, Naming, Aborting, Answering, Transmission, export_in, in_force, with_reply, with_reply_at, operation, start_of, target}
+use Rattle.nbd_wire.specs.protocol.States.{Core, Phase, Shown, State, Greet, Flags, Choosing, Naming, Aborting, Answering, Transmission, export_in, in_force, with_reply, with_reply_at, operation, start_of, target}
 
 -- the cookie that a reply repeats
 abbrev pub cookie_of : Message → Option ℕ
@@ -93,9 +94,32 @@ MayComplete core (Transmission export) (Chunk flags kind cookie payload) =
     AnswersOne core export cookie (Chunk flags kind cookie payload)
 MayComplete _ _ _ = ⊥
 
--- the request that a reply answers has one more reply
+-- the message gives the READ that it answers a byte of x
+abbrev pub gives : Option Operation → Message → ℕ → Bool
+gives (Some e) m x = (e.command == commands.READ) && is_some (byte_at (piece_of e.offset m) x)
+gives None m x = false
+
+-- what a message shows that is not the last of the reply to a READ: the range of its piece
+abbrev pub shown_with : Option Operation → Message → (count : ℕ) → List Shown
+shown_with (Some e) m count =
+    if (e.command == commands.READ) && not (ends_reply m) then map
+    (λ p. record { offset = piece_offset p; size = piece_size p; count = count }) (piece_of e.offset m) else []
+shown_with None m count = []
+
+-- the number that is noted already, or else this one, where the condition holds
+abbrev pub noted : Option ℕ → Bool → ℕ → Option ℕ
+noted (Some n) b count = Some n
+noted None b count = if b then Some count else None
+
+-- the request that a reply answers has one more reply, and what that shows or ends is noted with the count of requests
 abbrev pub reply_to : Option ℕ → Core → Message → Core
-reply_to (Some k) core m = record core { entries = with_reply_at k m core.entries }
+reply_to (Some k) core m =
+    record core {
+      entries = with_reply_at k m core.entries;
+      shown = λ j. core.shown j
+          ++ (if k == j then shown_with (operation k core.entries) m (length core.entries) else []);
+      ended_at = λ j. noted (core.ended_at j) ((k == j) && ends_reply m) (length core.entries);
+    }
 reply_to None core m = core
 
 -- a reply joins the replies of the request that it answers
@@ -158,18 +182,44 @@ inside_operation export None = λ x. false
 abbrev pub inside_at : Core → ℕ → ℕ → Bool
 inside_at core k = inside_operation (export_in core.phase) (operation k core.entries)
 
--- a reply starts only when the request that it answers was wholly served (this project's choice)
-abbrev pub IsServedFor : State → Side → Message → Type 0
-IsServedFor state Client m = Unit {0}
-IsServedFor state Server m = (k : ℕ) → request_of_reply state.core m ≡ Some k
-    → IsWhollyServed (inside_at state.core k) state.served k
+-- the request is a READ, and the profile is one in which a READ that is answered in pieces may be served in pieces
+-- (this project's choice)
+abbrev pub is_by_chunk : Profile → Option Operation → Bool
+is_by_chunk Wide (Some e) = e.command == commands.READ
+is_by_chunk _ _ = false
 
--- what an item needs: a start its message's fields and turn, and of a reply that its request was served; a completion
--- what `MayComplete` says; a service a completed request that may be served so; a byte nothing
+-- it is this number
+abbrev pub is_this : Option ℕ → ℕ → Bool
+is_this (Some j) k = j == k
+is_this None k = false
+
+-- the message answers request k
+abbrev pub is_reply_to : Core → Message → ℕ → Bool
+is_reply_to core m k = is_this (request_of_reply core m) k
+
+-- what request k has to be served for before an item: all of it before a reply to it starts; but a READ by chunk only
+-- before a message of its reply is complete: for each offset inside that the message gives, and before the last one for
+-- all that is left. A number that is no offset inside stands for the request itself (this project's choice)
+abbrev pub makes_due : Core → Item → (k x : ℕ) → Bool
+makes_due core (Starts s m) k x = is_reply_to core m k && not (is_by_chunk core.profile (operation k core.entries))
+makes_due core (Completes s m) k x =
+    is_reply_to core m k
+    && (is_by_chunk core.profile (operation k core.entries)
+    && (ends_reply m || (inside_at core k x && gives (operation k core.entries) m x)))
+makes_due core (Byte s b) k x = false
+makes_due core (Serves e) k x = false
+
+-- what the item makes due was served
+abbrev pub IsServedFor : State → Item → Type 0
+IsServedFor state item = (k x : ℕ) → IsTrue (makes_due state.core item k x)
+    → IsServedAt (inside_at state.core k) state.served k x
+
+-- what an item needs: a start its message's fields and turn, a completion what `MayComplete` says, both that what they
+-- make due was served; a service a completed request that may be served so; a byte nothing
 abbrev pub Allows : State → Item → Type 0
 Allows state (Byte s b) = Unit {0}
-Allows state (Starts s m) = (side m ≡ s) × IsSendable m × MayStart state.core s m × IsServedFor state s m
-Allows state (Completes s m) = MayComplete state.core state.core.phase m
+Allows state (Starts s m) = (side m ≡ s) × IsSendable m × MayStart state.core s m × IsServedFor state (Starts s m)
+Allows state (Completes s m) = MayComplete state.core state.core.phase m × IsServedFor state (Completes s m)
 Allows state (Serves e) =
     (0 < e.request) × (e.request ≤ length state.core.entries) × MayServe (inside_at state.core e.request) state.served e
 

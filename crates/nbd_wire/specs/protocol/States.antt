@@ -9,6 +9,12 @@ use Rattle.nbd_wire.specs.declared.sizes.Sizing.{Sizing}
 use Rattle.nbd_wire.specs.protocol.Operations.{Exporting, Operation, is_finished}
 use Rattle.nbd_wire.specs.protocol.Sizes.{no_sizing}
 
+-- a range of a READ that a message of its reply showed, and how many numbered requests had completed when that had come
+pub record Shown : Type 0 where
+  pub offset : ℕ
+  pub size : ℕ
+  pub count : ℕ
+
 -- where the session stands (proto.md, "Newstyle negotiation", "Transmission")
 pub data Phase : Type 0 where
   -- nothing has come
@@ -31,7 +37,8 @@ pub data Phase : Type 0 where
 -- the profile that the session is held to, the phase, the server's handshake flags, the client's flags, whether
 -- structured replies are in force, what the last SET_META_CONTEXT selected, whether the option that was chosen last
 -- brings these contexts in force if it leads into transmission, what it asked of block sizes and was told, whether a
--- DISC has completed, and the numbered requests
+-- DISC has completed, and the numbered requests; of each what the messages of its reply before the last one showed, and
+-- how many requests there were when the last one had come
 pub record Core : Type 0 where
   pub profile : Profile
   pub phase : Phase
@@ -43,6 +50,8 @@ pub record Core : Type 0 where
   pub sizing : Sizing
   pub disconnected : Bool
   pub entries : List Operation
+  pub shown : ℕ → List Shown
+  pub ended_at : ℕ → Option ℕ
 
 -- the same, and what was served, in order
 pub record State : Type 0 where
@@ -63,6 +72,8 @@ start_of profile = record {
     sizing = no_sizing;
     disconnected = false;
     entries = [];
+    shown = λ k. [];
+    ended_at = λ k. None;
   };
   served = [];
 }

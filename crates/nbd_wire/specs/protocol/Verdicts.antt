@@ -5,16 +5,16 @@ use Rattle.nbd_wire.specs.declared.profile.Profile.{Profile}
 use Rattle.nbd_wire.specs.declared.profile.Profile.TheVariants.{Base, Wide}
 use Rattle.nbd_wire.specs.protocol.Explains.{FitsImage, HasNoWrongByte, Start}
 use Rattle.nbd_wire.specs.protocol.Orders.{HasNoOrderFault}
-use Rattle.nbd_wire.specs.protocol.Reports.{Asked, Report, inside_in, known_in}
+use Rattle.nbd_wire.specs.protocol.Reports.{Asked, Report, due_in, inside_in}
 use Rattle.nbd_wire.specs.protocol.Operations.{Outcome, Success, Failure, Pending}
 
--- the order has no fault for the requests of the report
-abbrev pub IsFaultless : Report → List Entry → Type 0
-IsFaultless r order = HasNoOrderFault (length r.asked) (known_in r) (inside_in r) order
+-- the order has no fault for the requests of the report, in the profile
+abbrev pub IsFaultless : Profile → Report → List Entry → Type 0
+IsFaultless profile r order = HasNoOrderFault (length r.asked) (due_in profile r) (inside_in r) order
 
 -- the three tests: the order has no fault, an image has the export's size, no byte is wrong
-pub record Passes (r : Report) (order : List Entry) (initial : Start) : Type 0 where
-  pub faultless : IsFaultless r order
+pub record Passes (profile : Profile) (r : Report) (order : List Entry) (initial : Start) : Type 0 where
+  pub faultless : IsFaultless profile r order
   pub fits_image : FitsImage r.export initial
   pub reads : HasNoWrongByte r order initial
 

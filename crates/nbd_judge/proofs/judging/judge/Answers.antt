@@ -16,15 +16,15 @@ returns-clause-judged g c =
     )
 
 pub returns-in-Some-clause-unserved : goal.returns-in-Some-clause-unserved
-returns-in-Some-clause-unserved g c = order_unserved c.args.transcript.now c.args.order.now c.in-Some.entry c.in-Some.fault (rw c.in-Some.is at c.in_ok-entry.ensures)
+returns-in-Some-clause-unserved g c = order_unserved c.args.profile c.args.transcript.now c.args.order.now c.in-Some.entry c.in-Some.fault (rw c.in-Some.is at c.in_ok-entry.ensures)
 
 pub replay-requires-clause-well : goal.replay-requires-clause-well
-replay-requires-clause-well g c = λ i b. (let faultless : IsFaultless c.args.transcript.now c.args.order.now = rw c.in_default.is at c.in_ok-entry.ensures in faultless.none_bad i (inr (inr b)))
+replay-requires-clause-well g c = λ i b. (let faultless : IsFaultless c.args.profile c.args.transcript.now c.args.order.now = rw c.in_default.is at c.in_ok-entry.ensures in faultless.none_bad i (inr (inr b)))
 
 pub returns-in-Some-2-clause-judged : goal.returns-in-Some-2-clause-judged
 returns-in-Some-2-clause-judged g c =
-    let faultless : IsFaultless c.args.transcript.now c.args.order.now = rw c.in_default.is at c.in_ok-entry.ensures in
+    let faultless : IsFaultless c.args.profile c.args.transcript.now c.args.order.now = rw c.in_default.is at c.in_ok-entry.ensures in
     c.wrong_of.ensures.judged c.args.profile c.args.order.now _ faultless (rw c.in-Some-2.is at c.in_ok-request.ensures)
 
 pub returns-in-Some-2-clause-unserved : goal.returns-in-Some-2-clause-unserved
-returns-in-Some-2-clause-unserved g c = λ profile items run same. c.wrong_of.ensures.unserved profile (pairs items) c.args.order.now
+returns-in-Some-2-clause-unserved g c = λ items run same. c.wrong_of.ensures.unserved c.args.profile (pairs items) c.args.order.now

@@ -1,12 +1,17 @@
 use Rattle.std.proofs.Common.{length, sym, subst}
 use Rattle.nbd_judge.specs.internal.Services.{AreServices}
-use Rattle.nbd_judge.proofs.orders.TableLemmas.{answered_with, none_bad, told_by_table}
+use Rattle.nbd_judge.proofs.orders.TableLemmas.{answered_with, fair, none_bad, told_by_table}
 use Rattle.nbd_judge.proofs.order.order_fault.Goals as goal
 
 pub returns-in-Err : goal.returns-in-Err
 returns-in-Err c =
     let bad = rw c.in-Err.is at c.in_ok-fault.ensures in
-    answered_with c.args.transcript.now c.args.order.now c.in-Err.fault.0 c.in-Err.fault.1 bad
+    answered_with c.args.profile c.args.transcript.now c.args.order.now c.in-Err.fault.0 c.in-Err.fault.1 bad
+
+pub late-requires : goal.late-requires
+late-requires c =
+    let h = rw c.in-Ok.is at c.in_ok-fault.ensures in
+    fair c.args.transcript.now c.args.order.now (none_bad c.args.transcript.now c.args.order.now c.in-Ok.table.items h)
 
 pub returns-in-Some : goal.returns-in-Some
 returns-in-Some c =
@@ -17,6 +22,6 @@ returns-in-Some c =
 pub returns : goal.returns
 returns c =
     let h = rw c.in-Ok.is at c.in_ok-fault.ensures in
-    told_by_table c.args.transcript.now c.args.order.now c.deref.result.now
+    told_by_table c.args.profile c.args.transcript.now c.args.order.now c.deref.result.now
     (subst (AreServices c.args.transcript.now c.args.order.now (length c.args.order.now)) (sym c.deref.ensures.value) h)
     c.in_default.ensures c.unserved.result c.unserved.ensures

@@ -35,7 +35,7 @@ loop-i-preserved c =
     let cell = read_at c.loop-i.table.items (e.request - 1) c.index_mut.result.now within c.index_mut.ensures.value ∙ ap Some (sym c.replace-service.ensures.value) in
     one_more_served c.args.transcript.now c.args.order.now c.loop-i.i e (slice_get-get_or c.args.order.now c.loop-i.i (record { request = 0; part = None }) c.loop-i-test.true) a (sym c.in-Some.ensures)
     c.loop-i.table.items c.loop-i.invariant c.replace-service.result cell c.in-Ok.service
-    (subst (λ span. IsServiceAfter c.replace-service.result span e.part (Ok c.in-Ok.service)) c.inside.ensures (rw c.in-Ok.is at c.in_ok-fault.ensures)) c.replace-service.new.dest
+    (subst (λ span. IsServiceAfter c.replace-service.result span e.part (Ok c.in-Ok.service)) c.inside.ensures.span (rw c.in-Ok.is at c.in_ok-fault.ensures)) c.replace-service.new.dest
 
 pub returns-in-Err : goal.returns-in-Err
 returns-in-Err c =
@@ -47,7 +47,7 @@ returns-in-Err c =
     let cell = read_at c.loop-i.table.items (e.request - 1) c.index_mut.result.now within c.index_mut.ensures.value ∙ ap Some (sym c.replace-service.ensures.value) in
     first_bad c.args.transcript.now c.args.order.now c.loop-i.i e (slice_get-get_or c.args.order.now c.loop-i.i (record { request = 0; part = None }) c.loop-i-test.true) a (sym c.in-Some.ensures)
     c.loop-i.table.items c.loop-i.invariant c.replace-service.result cell c.in-Err.fault
-    (subst (λ span. IsServiceAfter c.replace-service.result span e.part (Err c.in-Err.fault)) c.inside.ensures (rw c.in-Err.is at c.in_ok-fault.ensures))
+    (subst (λ span. IsServiceAfter c.replace-service.result span e.part (Err c.in-Err.fault)) c.inside.ensures.span (rw c.in-Err.is at c.in_ok-fault.ensures))
 
 pub returns : goal.returns
 returns c = subst (λ n. AreServices c.args.transcript.now c.args.order.now n c.loop-i.table.items) (omega arith) c.loop-i.invariant

@@ -1,43 +1,47 @@
-use Rattle.std.proofs.Common.{◌≡◌, ℕ, ◌+◌, ◌-◌, ◌<◌, ◌≤◌, length, slice_get, None, inl, inr, sym, ◌∙◌, ap, subst, arith}
-use Rattle.nbd_wire.specs.protocol.Entries.{IsWhollyServed}
-use Rattle.nbd_wire.specs.protocol.Orders.{HasReplyStarted}
-use Rattle.nbd_wire.specs.protocol.Reports.{inside_in, known_in}
+use Rattle.std.proofs.Common.{◌≡◌, ◌+◌, ◌-◌, ℕ, List, Some, slice_get, inl, inr, sym, ◌∙◌, ap, subst, arith}
+use Rattle.std.specs.Option.{option_copied}
+use Rattle.nbd_state.specs.Transcripts.{report_of_request, report_of_request_if}
+use Rattle.nbd_state.specs.declared.span.Span.{Span}
+use Rattle.nbd_wire.specs.protocol.Reports.{Asked, Report}
+use Rattle.nbd_judge.specs.declared.service.Service.{Service}
+use Rattle.nbd_judge.specs.internal.Services.{IsAllServed, IsFaultOf, TellsFaultOf}
 use Rattle.nbd_judge.proofs.orders.FirstLemmas.{read_at}
-use Rattle.nbd_judge.proofs.orders.TableLemmas.{fault_here, known_request, none_of, not_unserved, some_of, unanswered, unserved_by}
+use Rattle.nbd_judge.proofs.orders.TableLemmas.{fault_here, not_asked, not_unserved}
 use Rattle.nbd_judge.proofs.verdicts.DecisionLemmas.{same_or_not}
 use Rattle.nbd_judge.proofs.order.unserved.Goals as goal
-use Rattle.nbd_judge.proofs.order.unserved.Goals.{then-is_some+in_default, else-is_some}
+use Rattle.nbd_judge.proofs.order.unserved.Goals.{in-Some+in_default-fault_of, in_default}
 
-pub loop-i-init : goal.loop-i-init
-loop-i-init c = λ order h k l a. (let lo : 0 < k = a.0 in absurd (omega arith))
-
-pub returns-in-Some : goal.returns-in-Some
-returns-in-Some c = λ order h.
-    let k : ℕ = c.loop-i.i + 1 in
-    let n = some_of c.known_at.result (sym c.is_some.ensures ∙ c.if-is_some.true) in
-    let q = known_request c.args.transcript.now k n.0 (sym c.known_at.ensures ∙ n.1) in
-    let at : k - 1 ≡ c.loop-i.i = omega arith in
-    let cell = ap (slice_get c.args.table.now) at ∙ read_at c.args.table.now c.loop-i.i c.index-table-i.result c.loop-i-test.true c.index-table-i.is in (
-      unserved_by c.args.transcript.now order c.args.table.now h k q.0 c.index-table-i.result q.1 cell c.in-Some.fault c.in-Some.ensures (n.0, q.2),
-      λ j l. not_unserved c.args.transcript.now order j (c.loop-i.invariant order h j (omega arith)),
-    )
+pub returns-in-Some-fault_of : goal.returns-in-Some-fault_of
+returns-in-Some-fault_of c order h =
+    let r : Report = c.args.transcript.now in
+    let table : List Service = c.args.table.now in
+    let i : ℕ = c.loop-i.i in
+    let a : Asked = report_of_request c.in-Some.one.now in
+    let cell : slice_get table (i + 1 - 1) ≡ Some c.index-table-i.result = ap (slice_get table) (omega arith) ∙ read_at table i c.index-table-i.result (omega arith) c.index-table-i.is in
+    let f = fault_here r order table h (i + 1) a c.index-table-i.result (sym c.in-Some.ensures) cell c.args.profile c.fault_of.result
+    (subst (λ (s : Span). TellsFaultOf c.args.profile a s c.index-table-i.result c.fault_of.result) c.inside.ensures.span c.fault_of.ensures) in
+    (subst (IsFaultOf c.args.profile r order (i + 1)) c.in-Some-fault_of.is f, λ k l u. not_unserved c.args.profile r order k (c.loop-i.invariant order h k (omega (arith, l))) u)
 
 pub loop-i-preserved : goal.loop-i-preserved
-loop-i-preserved c = λ order h j l a. elim (same_or_not j (c.loop-i.i + 1)) [
-  | inr ne ↦ c.loop-i.invariant order h j (omega arith) a
-  | inl e ↦ subst (λ n. IsWhollyServed (inside_in c.args.transcript.now n) order n) (sym e) (elim c.if-is_some.branch [
-    | then-is_some+in_default w ↦
-        (let k : ℕ = c.loop-i.i + 1 in
-        let n = some_of c.known_at.result (sym c.is_some.ensures ∙ w.if-is_some.true) in
-        let q = known_request c.args.transcript.now k n.0 (sym c.known_at.ensures ∙ n.1) in
-        let at : k - 1 ≡ c.loop-i.i = omega arith in
-        let cell = ap (slice_get c.args.table.now) at ∙ read_at c.args.table.now c.loop-i.i w.index-table-i.result c.loop-i-test.true w.index-table-i.is in
-        fault_here c.args.transcript.now order c.args.table.now h k q.0 w.index-table-i.result q.1 cell None w.in_default.ensures)
-    | else-is_some w ↦
-        absurd (unanswered c.args.transcript.now (c.loop-i.i + 1) (sym c.known_at.ensures ∙ none_of c.known_at.result (sym c.is_some.ensures ∙ w.if-is_some.false))
-        (subst (HasReplyStarted (length c.args.transcript.now.asked) (known_in c.args.transcript.now)) e a))
-  ])
-]
+loop-i-preserved c order h k l =
+    let r : Report = c.args.transcript.now in
+    let table : List Service = c.args.table.now in
+    let i : ℕ = c.loop-i.i in
+    elim (same_or_not k (i + 1)) [
+      | inr ne ↦ c.loop-i.invariant order h k (omega (arith, l, ne))
+      | inl q ↦ subst (IsAllServed c.args.profile r order) (sym q) (elim c.match-asked.branch [
+        | in-Some+in_default-fault_of w ↦
+            (let a : Asked = report_of_request w.in-Some.one.now in
+            let cell : slice_get table (i + 1 - 1) ≡ Some w.index-table-i.result = ap (slice_get table) (omega arith) ∙ read_at table i w.index-table-i.result (omega arith) w.index-table-i.is in
+            subst (IsFaultOf c.args.profile r order (i + 1)) w.in_default-fault_of.is
+            (fault_here r order table h (i + 1) a w.index-table-i.result (sym w.in-Some.ensures) cell c.args.profile w.fault_of.result
+            (subst (λ (s : Span). TellsFaultOf c.args.profile a s w.index-table-i.result w.fault_of.result) w.inside.ensures.span w.fault_of.ensures)))
+        | in_default w ↦ not_asked c.args.profile r order (i + 1) (sym c.asked.ensures ∙ ap (λ o. report_of_request_if (option_copied o)) w.in_default.is)
+      ])
+    ]
 
 pub returns : goal.returns
-returns c = λ order h k a. c.loop-i.invariant order h k (let hi : k ≤ length c.args.transcript.now.asked = a.1 in let len = h.len in omega (arith, hi, len)) a
+returns c order h k x d =
+    let len = h.len in
+    let within = d.1 in
+    c.loop-i.invariant order h k (omega (arith, len, within)) x d

@@ -11,7 +11,7 @@ returns-after-eq-clause-found c =
     let r = c.args.transcript.now in
     let s = initial_of c.args.start.now in
     elim c.if-eq.branch [
-      | then-eq+then-not-are_whole w ↦ subst (λ f. IsFound r s f) (sym w.result-is) c.requires
-      | else-eq w ↦ subst (λ f. IsFound r s f) (sym w.result-is) (subst (λ os. Passes r os s) c.deref.ensures.value
-          (passes r c.deref.result.now s c.in-Yes.requests c.in-Yes.answered c.in-Yes.improper (rw c.in-Yes.is at c.in_ok-verdict_of.ensures)))
+      | then-eq+then-not-are_whole w ↦ subst (λ f. IsFound c.args.profile r s f) (sym w.result-is) c.requires
+      | else-eq w ↦ subst (λ f. IsFound c.args.profile r s f) (sym w.result-is) (subst (λ os. Passes c.args.profile r os s) c.deref.ensures.value
+          (passes c.args.profile r c.deref.result.now s c.in-Yes.requests c.in-Yes.answered c.in-Yes.improper (rw c.in-Yes.is at c.in_ok-verdict_of.ensures)))
     ]

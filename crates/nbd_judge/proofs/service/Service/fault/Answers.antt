@@ -4,12 +4,13 @@ use Rattle.nbd_judge.proofs.orders.ServiceLemmas.{full, not_full}
 use Rattle.nbd_judge.proofs.service.Service.fault.Goals as goal
 
 pub returns-in-Whole : goal.returns-in-Whole
-returns-in-Whole c = λ span within entries k is_span. rw c.in-Whole.is (λ h. served_atomically within entries k h)
+returns-in-Whole c = λ span within entries k is_span. rw c.in-Whole.is (λ h x u. served_atomically within entries k x h)
 
 pub returns-then-left-eq0 : goal.returns-then-left-eq0
-returns-then-left-eq0 c = λ span within entries k is_span. rw c.in-InParts.is (λ h.
-    full span within is_span entries k (sizes_of c.in-InParts.spans) c.in-InParts.left h.1 h.0 c.if-left-eq0.true)
+returns-then-left-eq0 c = λ span within entries k is_span. rw c.in-InParts.is (λ h x u.
+    full span within is_span entries k (sizes_of c.in-InParts.spans) c.in-InParts.left h.1 h.0 c.if-left-eq0.true x)
 
 pub returns-else-left-eq0 : goal.returns-else-left-eq0
 returns-else-left-eq0 c = λ span within entries k is_span. rw c.in-InParts.is (λ h.
-    (h.0, not_full span within is_span entries k (sizes_of c.in-InParts.spans) c.in-InParts.left h.1 c.if-left-eq0.false))
+    let n = not_full span within is_span entries k (sizes_of c.in-InParts.spans) c.in-InParts.left h.1 c.if-left-eq0.false in
+    ((n.0, tt, n.1), h.0))

@@ -11,7 +11,7 @@ loop-i-preserved c =
     record {
       within = omega arith;
       none = λ w l. elim (cases_eq w (c.loop-i.i + 1)) [
-        | inl e ↦ subst (λ n. HelpsNone c.args.transcript.now f.offset f.reads.items f.changes.items n) (sym e) (c.helps_none.ensures c.if-not-helps_none.false)
+        | inl e ↦ subst (λ n. HelpsNone c.args.profile c.args.transcript.now f.offset f.reads.items f.changes.items n) (sym e) (c.helps_none.ensures c.if-not-helps_none.false)
         | inr ne ↦ c.loop-i.invariant.none w (omega arith)
       ];
     }

@@ -4,5 +4,5 @@ use Rattle.nbd_order.proofs.refutation.Refutation.fits.Given as goal
 
 abbrev pub invariant-loop-k : goal.invariant-loop-k
 invariant-loop-k l = EachOf
-    (λ k. IsFitting l.transcript l.self.offset l.self.reads.items l.self.changes.items l.served l.byte k)
+    (λ k. IsFitting l.profile l.transcript l.self.offset l.self.reads.items l.self.changes.items l.served l.byte k)
     l.self.reads.items l.k-index

@@ -6,6 +6,6 @@ use Rattle.nbd_order.proofs.refutation.Refutation.helps_none.Goals as goal
 
 pub returns-else-has : goal.returns-else-has
 returns-else-has c = λ t e change other k q.
-    subst (λ b. IsNoHelp c.args.transcript.now c.args.self.now.offset c.args.self.now.changes.items c.args.w b k)
+    subst (λ b. IsNoHelp c.args.profile c.args.transcript.now c.args.self.now.offset c.args.self.now.changes.items c.args.w b k)
     (byte_is c.args.transcript.now c.args.w c.args.self.now.offset (report_of_request c.in-Some.one.now) e c.byte_left.result (sym c.in-Some.ensures) change.0 c.byte_left.ensures)
     (c.are_not_helped.ensures t k q)

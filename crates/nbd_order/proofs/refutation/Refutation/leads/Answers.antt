@@ -12,7 +12,7 @@ returns-then-keeps c = λ t. elim c.if-adds_alone.branch [
       λ d q. c.adds_alone.ensures w.if-adds_alone.true d (ap (λ ns. has ns d) c.deref.ensures.value ∙ q),
       λ k q. w.keeps.ensures (sym w.value-is ∙ c.if-keeps.true) k (ap (λ ns. has ns k) w.deref-then-adds_alone.ensures.value ∙ q),
     ),
-    λ e q. fits_of c.args.transcript.now c.args.self.now.offset c.args.self.now.reads.items c.args.self.now.changes.items c.args.next.now c.args.next.now _ _ refl
+    λ e q. fits_of c.args.profile c.args.transcript.now c.args.self.now.offset c.args.self.now.reads.items c.args.self.now.changes.items c.args.next.now c.args.next.now _ _ refl
         (byte_is c.args.transcript.now c.args.c c.args.self.now.offset (report_of_request c.in-Some.one.now) e c.byte_left.result (sym c.in-Some.ensures) q c.byte_left.ensures)
         (c.fits.ensures t),
   )

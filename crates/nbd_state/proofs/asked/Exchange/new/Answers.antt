@@ -15,5 +15,6 @@ returns c = λ contexts h. record {
   outcome_is = search rules;
   failed = search rules;
   pieces_are = search rules;
+  is_open = λ u. (refl, λ q. search rules);
   told_are = search rules;
 }

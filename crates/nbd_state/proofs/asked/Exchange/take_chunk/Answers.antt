@@ -31,3 +31,23 @@ returns-in-Some-clause-shown c = weaken c.take_first_status.result (λ x shown e
     shown export e (Chunk c.args.flags c.args.kind cookie c.args.payload.now) s u fits none (sym c.has-ends.ensures) (ap is_error_chunk told.0)
     (ap chunk_piece (status_content c.args.kind c.args.payload.now told.0)) told.1 (z ∙ ap (is_allocation_told e.contexts) told.1))
     c.take_first_status.ensures.shown
+
+pub returns-clause-noted : goal.returns-clause-noted
+unfolding ends_reply piece_of
+returns-clause-noted c = weaken c.take.result (λ x noted export e cookie s u.
+    noted export e (Chunk c.args.flags c.args.kind cookie c.args.payload.now) s u (sym c.has-ends.ensures) (ap chunk_piece (sym c.in_ok-piece.ensures)))
+    c.take.ensures.noted
+
+pub returns-then-is_some-clause-noted : goal.returns-then-is_some-clause-noted
+unfolding ends_reply piece_of
+returns-then-is_some-clause-noted c = weaken c.take_status.result (λ x noted export e cookie s u.
+    noted export e (Chunk c.args.flags c.args.kind cookie c.args.payload.now) s u (sym c.has-ends.ensures)
+    (ap chunk_piece (status_content c.args.kind c.args.payload.now (c.in-Some.ensures c.args.flags cookie).0)))
+    c.take_status.ensures.noted
+
+pub returns-in-Some-clause-noted : goal.returns-in-Some-clause-noted
+unfolding ends_reply piece_of
+returns-in-Some-clause-noted c = weaken c.take_first_status.result (λ x noted export e cookie s u.
+    noted export e (Chunk c.args.flags c.args.kind cookie c.args.payload.now) s u (sym c.is_some.ensures ∙ c.if-is_some.false) (sym c.has-ends.ensures)
+    (ap chunk_piece (status_content c.args.kind c.args.payload.now (c.in-Some.ensures c.args.flags cookie).0)))
+    c.take_first_status.ensures.noted

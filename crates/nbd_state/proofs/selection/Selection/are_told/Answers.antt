@@ -4,7 +4,7 @@ use Rattle.std.proofs.lemmas.Iterator.Search.{all_from_yields_List}
 use Rattle.std.specs.BTreeSet.{contains}
 use Rattle.std.specs.Ordering.{nat_cmp}
 use borrow.Author.Tests.{tests}
-use Rattle.nbd_state.specs.Shows.{is_this}
+use Rattle.nbd_wire.specs.protocol.Rules.{is_this}
 use Rattle.nbd_state.proofs.SelectionLemmas.{all_told}
 use Rattle.nbd_state.proofs.selection.Selection.are_told.Goals as goal
 

@@ -16,5 +16,7 @@ returns c = record {
   disconnected_is = refl;
   asked_with = search rules;
   are_shown = search rules;
+  shown = search rules;
+  ended = search rules;
   places = search rules;
 }

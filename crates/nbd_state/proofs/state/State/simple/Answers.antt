@@ -1,15 +1,17 @@
-use Rattle.std.proofs.Common.{◌<◌, ap, length, refl, sym, subst, slice_set}
+use Rattle.std.proofs.Common.{◌<◌, ◌∙◌, ap, length, refl, sym, subst, slice_set}
 use Rattle.nbd_state.specs.Places.{place_at}
 use Rattle.nbd_wire.specs.declared.message.Message.TheVariants.{Simple}
 use Rattle.nbd_wire.specs.protocol.Operations.{ends_reply}
 use Rattle.nbd_state.specs.declared.state.State.{State}
-use Rattle.nbd_state.proofs.CompletionLemmas.{indexed, on_one, replied_shows}
+use Rattle.nbd_state.proofs.CompletionLemmas.{counted_now, indexed, on_both, on_one, replied_shows}
+use Rattle.nbd_state.specs.declared.recording.Counts.{Counts}
+use Rattle.nbd_state.specs.internal.Completing.{known_first}
 use Rattle.nbd_state.proofs.TellingLemmas.{tells_at}
 use Rattle.nbd_state.proofs.state.State.simple.Goals as goal
 
 pub returns-clause-shown : goal.returns-clause-shown
 unfolding ends_reply
-returns-clause-shown c = on_one c.take_simple.result (λ _ shown core export r s p.
+returns-clause-shown c = on_both c.take_simple.result (λ _ shown noted core export r s p.
     let state = c.args.self.now in
     let mid = c.end_if.new.self in
     let place = c.args.place in
@@ -17,11 +19,11 @@ returns-clause-shown c = on_one c.take_simple.result (λ _ shown core export r s
     replied_shows state mid _ core export c.args.cookie place (Simple c.args.error c.args.cookie c.args.payload.now) x c.take_simple.new.self r s p refl
     c.requires.place
     (indexed state mid place x c.end_if.ensures.kept (subst (λ (z : State). place < length z.exchanges.items) (sym c.end_if.ensures.kept) c.requires.within) c.index_mut.ensures.value)
-    (λ e q x u. shown export e c.args.cookie x u)
+    (λ e q x u. (shown export e c.args.cookie x u, counted_now e state.exchanges.items c.counts-counts.ensures (noted export e c.args.cookie x u)))
     c.end_if.ensures.kept
     c.end_if.ensures.left refl
     (ap (λ (z : State). slice_set z.exchanges.items place c.take_simple.new.self) c.end_if.ensures.kept))
-    c.take_simple.ensures.shown
+    c.take_simple.ensures.shown c.take_simple.ensures.noted
 
 pub returns-clause-tells : goal.returns-clause-tells
 returns-clause-tells c = on_one c.take_simple.result (λ _ first.
@@ -32,6 +34,6 @@ returns-clause-tells c = on_one c.take_simple.result (λ _ first.
     tells_at (place_at state.outstanding c.args.cookie) c.args.known place state.exchanges.items (slice_set mid.exchanges.items place c.take_simple.new.self) x c.take_simple.new.self
     c.requires.place
     (indexed state mid place x c.end_if.ensures.kept (subst (λ (z : State). place < length z.exchanges.items) (sym c.end_if.ensures.kept) c.requires.within) c.index_mut.ensures.value)
-    first
+    (first ∙ ap (λ (k : Counts). known_first c.index_mut.result.now.asked.known_at k.known) c.counts-counts.ensures)
     (ap (λ (z : State). slice_set z.exchanges.items place c.take_simple.new.self) c.end_if.ensures.kept))
     c.take_simple.ensures.first

@@ -1,0 +1,46 @@
+use Rattle.std.proofs.Common.{◌≡◌, ℕ, true, Some, eqb-true, sym, ◌∙◌, ap, subst}
+use Rattle.nbd_state.specs.declared.span.Span.{Span}
+use Rattle.nbd_state.specs.Transcripts.{report_of_request}
+use Rattle.nbd_wire.specs.declared.commands.TheConstants as commands
+use Rattle.nbd_wire.specs.protocol.Entries.{in_part}
+use Rattle.nbd_wire.specs.protocol.Pieces.{is_in}
+use Rattle.nbd_wire.specs.protocol.Reports.{Asked, Report, asked_at, due_in, inside_in}
+use Rattle.nbd_judge.specs.internal.Dues.{IsLeastDue, is_chunked}
+use Rattle.nbd_judge.proofs.orders.DueLemmas.{chunked_read, least_chunked, least_whole}
+use Rattle.nbd_judge.proofs.orders.TableLemmas.{span_of_request}
+use Rattle.nbd_judge.proofs.verdicts.SoundLemmas.{servable}
+use Rattle.nbd_judge.proofs.due.least_due.Goals as goal
+use Rattle.nbd_judge.proofs.due.least_due.Goals.{in-Some, in-None}
+
+pub returns-then-not-is_chunked : goal.returns-then-not-is_chunked
+returns-then-not-is_chunked c =
+    least_whole c.args.profile c.args.transcript.now c.args.entry (report_of_request c.in_ok-one.one.now) (sym c.in_ok-one.ensures) c.requires (sym c.is_chunked.ensures ∙ c.if-not-is_chunked.true)
+
+pub least_shown-requires-clause-read : goal.least_shown-requires-clause-read
+least_shown-requires-clause-read c = eqb-true c.in_ok-one.one.now.command commands.READ (chunked_read c.args.profile c.in_ok-one.one.now.command (sym c.is_chunked.ensures ∙ c.if-not-is_chunked.false))
+
+pub least_shown-requires-clause-apart : goal.least_shown-requires-clause-apart
+least_shown-requires-clause-apart c =
+    (servable c.args.transcript.now c.inside-within.ensures.facts c.args.entry.request (report_of_request c.in_ok-one.one.now) (sym c.in_ok-one.ensures)).laid.apart
+
+pub returns : goal.returns
+returns c =
+    let r : Report = c.args.transcript.now in
+    let a : Asked = report_of_request c.in_ok-one.one.now in
+    let told : asked_at c.args.entry.request r.asked ≡ Some a = sym c.in_ok-one.ensures in
+    let chunked : is_chunked c.args.profile a.command ≡ true = sym c.is_chunked.ensures ∙ c.if-not-is_chunked.false in
+    subst (IsLeastDue (due_in c.args.profile r) c.args.entry) (sym c.lesser.ensures)
+    (elim c.match-entry.branch [
+      | in-Some w ↦
+          (let is_there : (x : ℕ) → in_part c.args.entry.part x ≡ is_in c.match-entry.span.offset c.match-entry.span.size x =
+          λ x. ap (λ o. in_part o x) w.in-Some.is ∙ sym (ap (λ (s : Span). is_in s.offset s.size x) w.span-is) in
+          least_chunked c.args.profile r c.args.entry a told c.requires chunked c.match-entry.span c.least_shown.result c.least_shown.ensures
+          (λ x p i. sym (is_there x) ∙ p)
+          (λ x h. (is_there x ∙ h, (c.requires.part w.in-Some.part w.in-Some.is).1 x (sym (ap (λ (s : Span). is_in s.offset s.size x) w.span-is) ∙ h))))
+      | in-None w ↦
+          (let is_there : (x : ℕ) → inside_in r c.args.entry.request x ≡ is_in c.match-entry.span.offset c.match-entry.span.size x =
+          λ x. span_of_request r c.args.entry.request a told x ∙ sym (ap (λ (s : Span). is_in s.offset s.size x) (w.span-is ∙ c.inside-within.ensures.span)) in
+          least_chunked c.args.profile r c.args.entry a told c.requires chunked c.match-entry.span c.least_shown.result c.least_shown.ensures
+          (λ x p i. sym (is_there x) ∙ i)
+          (λ x h. (ap (λ o. in_part o x) w.in-None.is, is_there x ∙ h)))
+    ])

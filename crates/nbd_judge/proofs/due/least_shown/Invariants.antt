@@ -1,0 +1,7 @@
+use Rattle.nbd_export.specs.Ranges.{IsLeast}
+use Rattle.nbd_state.specs.Moments.{with_counts}
+use Rattle.nbd_judge.proofs.orders.ShownLemmas.{ShownBefore}
+use Rattle.nbd_judge.proofs.due.least_shown.Given as goal
+
+abbrev pub invariant-loop-i : goal.invariant-loop-i
+invariant-loop-i l = IsLeast (ShownBefore (with_counts l.one.pieces.items l.one.shown.items) l.span l.i) l.least

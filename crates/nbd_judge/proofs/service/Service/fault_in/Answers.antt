@@ -1,0 +1,16 @@
+use Rattle.nbd_laws.proofs.service.EntryLemmas.{served_atomically}
+use Rattle.nbd_state.specs.Sizes.{sizes_of}
+use Rattle.nbd_judge.proofs.orders.ServiceLemmas.{bare_here, covered_here}
+use Rattle.nbd_judge.proofs.service.Service.fault_in.Goals as goal
+
+pub returns-in-Whole : goal.returns-in-Whole
+returns-in-Whole c = λ span within entries k is_span. rw c.in-Whole.is (λ h lies x i. served_atomically within entries k x h)
+
+pub returns-then-covers : goal.returns-then-covers
+returns-then-covers c = λ span within entries k is_span. rw c.in-InParts.is (λ h lies x i.
+    covered_here span within is_span entries k (sizes_of c.in-InParts.spans) c.in-InParts.left h.1 h.0 x (c.if-covers.ensures x i))
+
+pub returns-else-covers : goal.returns-else-covers
+returns-else-covers c = λ span within entries k is_span. rw c.in-InParts.is (λ h lies.
+    let b = c.if-covers.ensures in
+    ((b.0, b.1, bare_here span within is_span entries k (sizes_of c.in-InParts.spans) c.in-InParts.left h.1 b.0 (lies b.0 b.1) b.2), h.0))

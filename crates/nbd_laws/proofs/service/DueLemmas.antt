@@ -1,0 +1,318 @@
+-- When requests have to be served in a run, walking from a moment on.
+use Rattle.std.proofs.Common.{◌≡◌, ℕ, ◌<◌, ◌≤◌, ◌⊎◌, ◌==◌, ◌||◌, ◌&&◌, not, List, [], ◌∷◌, ◌++◌, length, map, is_some, refl, sym, ◌∙◌, ap, inl, inr, Option, Some, None, Bool, true, false, arith, nat_le, if◌then◌else◌}
+use Rattle.std.proofs.lemmas.Bool.{eqb-true, leb-true, le-leb}
+use Rattle.nbd_wire.specs.declared.entry.Entry.{Entry}
+use Rattle.nbd_wire.specs.declared.commands.TheConstants as commands
+use Rattle.nbd_wire.specs.declared.message.Message.{Message}
+use Rattle.nbd_wire.specs.declared.message.Message.TheVariants.{Greeting, ClientFlags, Choice, Answer, Exported, Request, Simple, Chunk}
+use Rattle.nbd_wire.specs.declared.message.Side.TheVariants.{Client, Server}
+use Rattle.nbd_wire.specs.declared.profile.Profile.{Profile}
+use Rattle.nbd_wire.specs.protocol.Marks.{Item, Byte, Starts, Completes, Serves}
+use Rattle.nbd_wire.specs.protocol.Operations.{Operation, ends_reply}
+use Rattle.nbd_wire.specs.protocol.Reports.{first_known, first_shown, known_from, known_if, lesser_of}
+use Rattle.nbd_wire.specs.protocol.Rules.{Obeys, complete, core_with_request, gives, inside_at, is_by_chunk, is_reply_to, is_this, makes_due, noted, reply_to, request_of_reply, shown_with}
+use Rattle.nbd_wire.specs.protocol.States.{Core, Shown, operation}
+use Rattle.nbd_wire.specs.declared.payloads.Piece.{Piece}
+use Rattle.nbd_wire.specs.protocol.Pieces.{byte_at, holds, is_in, piece_byte, piece_of, piece_offset, piece_size}
+use Rattle.nbd_laws.proofs.service.InsideLemmas.{IsSettled, chunk_end, core_end, entries_grow, inside_end, settled_complete}
+use Rattle.nbd_laws.proofs.runs.BegunLemmas.{asks_only}
+use Rattle.nbd_laws.proofs.runs.ProfileLemmas.{profile_stays}
+use Rattle.nbd_laws.proofs.runs.TraceLemmas.{answering, length-complete}
+
+-- how many requests had completed when request k had to be served for x
+abbrev pub due_from : Core → List Item → (k x : ℕ) → Option ℕ
+due_from core [] k x = None
+due_from core (Byte s b ∷ items) k x = due_from core items k x
+due_from core (Starts s m ∷ items) k x = known_if (makes_due core (Starts s m) k x) core (due_from core items k x)
+due_from core (Completes s m ∷ items) k x = known_if (makes_due core (Completes s m) k x) core (due_from (complete core m) items k x)
+due_from core (Serves e ∷ items) k x = due_from core items k x
+
+pub first_is : (o : Option ℕ) (core : Core) (k : ℕ) (later : Option ℕ) → first_known o core k later ≡ known_if (is_this o k) core later
+first_is None core k later = refl
+first_is (Some j) core k later = refl
+
+-- what is known of a request has completed
+pub known_within : (core : Core) (items : List Item) (k n : ℕ) → known_from core k items ≡ Some n → (0 < k) × (k ≤ length (core_end core items).entries)
+known_within core [] k n e = absurd (cc)
+known_within core (Byte s b ∷ items) k n e = known_within core items k n e
+known_within core (Starts Client m ∷ items) k n e = known_within core items k n e
+known_within core (Starts Server m ∷ items) k n e = go (is_reply_to core m k) refl (sym (first_is (request_of_reply core m) core k (known_from core k items)) ∙ e) (known_within core items k n)
+  where
+    go : (b : Bool) → is_reply_to core m k ≡ b → known_if b core (known_from core k items) ≡ Some n → (known_from core k items ≡ Some n → (0 < k) × (k ≤ length (core_end core items).entries)) → (0 < k) × (k ≤ length (core_end core items).entries)
+    go true r e ih = (let w = answering core m k r in let g = entries_grow core items in (w.0, omega (arith, w.1, g)))
+    go false r e ih = ih e
+known_within core (Completes s m ∷ items) k n e = known_within (complete core m) items k n e
+known_within core (Serves j ∷ items) k n e = known_within core items k n e
+
+-- a request that is not served by chunk is due when its first reply starts
+pub due_known : (q : Profile) (items : List Item) (core : Core) (js : List Entry) → Obeys (record { core = core; served = js }) items → core.profile ≡ q → (k x : ℕ) →
+    is_by_chunk q (operation k (core_end core items).entries) ≡ false → due_from core items k x ≡ known_from core k items
+due_known q [] core js ob prof k x other = refl
+due_known q (Byte s b ∷ items) core js ob prof k x other = due_known q items core js ob.1 prof k x other
+due_known q (Starts Client m ∷ items) core js ob prof k x other =
+    ap (λ o. known_if (is_this o k && not (is_by_chunk core.profile (operation k core.entries))) core (due_from core items k x)) (asks_only core m ob.0.0)
+    ∙ due_known q items core js ob.1 prof k x other
+due_known q (Starts Server m ∷ items) core js ob prof k x other = go (is_reply_to core m k) refl (due_known q items core js ob.1 prof k x other) ∙ sym (first_is (request_of_reply core m) core k (known_from core k items))
+  where
+    go : (b : Bool) → is_reply_to core m k ≡ b → due_from core items k x ≡ known_from core k items → known_if (b && not (is_by_chunk core.profile (operation k core.entries))) core (due_from core items k x) ≡ known_if b core (known_from core k items)
+    go true r ih =
+        let w = answering core m k r in
+        let c : is_by_chunk core.profile (operation k core.entries) ≡ false = ap (λ p. is_by_chunk p (operation k core.entries)) prof ∙ chunk_end q core items k w.1 ∙ other in
+        ap (λ b. known_if (not b) core (due_from core items k x)) c
+    go false r ih = ih
+due_known q (Completes s m ∷ items) core js ob prof k x other = go (is_reply_to core m k) refl ∙ due_known q items (complete core m) js ob.1 (profile_stays core m ∙ prof) k x other
+  where
+    go : (b : Bool) → is_reply_to core m k ≡ b →
+        known_if (b && (is_by_chunk core.profile (operation k core.entries) && (ends_reply m || (inside_at core k x && gives (operation k core.entries) m x)))) core (due_from (complete core m) items k x) ≡ due_from (complete core m) items k x
+    go true r =
+        let w = answering core m k r in
+        let c : is_by_chunk core.profile (operation k core.entries) ≡ false = ap (λ p. is_by_chunk p (operation k core.entries)) prof ∙ chunk_end q core (Completes s m ∷ items) k w.1 ∙ other in
+        ap (λ b. known_if (b && (ends_reply m || (inside_at core k x && gives (operation k core.entries) m x))) core (due_from (complete core m) items k x)) c
+    go false r = refl
+due_known q (Serves e ∷ items) core js ob prof k x other = due_known q items core _ ob.1 prof k x other
+
+-- the first count, or else a later one
+abbrev pub or_later : Option ℕ → Option ℕ → Option ℕ
+or_later (Some n) later = Some n
+or_later None later = later
+
+pub or_later-assoc : (a b c : Option ℕ) → or_later (or_later a b) c ≡ or_later a (or_later b c)
+or_later-assoc (Some n) b c = refl
+or_later-assoc None b c = refl
+
+and_no : (b : Bool) → (b && false) ≡ false
+and_no true = refl
+and_no false = refl
+
+and_yes : (b : Bool) → (b && true) ≡ b
+and_yes true = refl
+and_yes false = refl
+
+-- what is noted with a message
+pub noted_none : (o : Option ℕ) (n : ℕ) → o ≡ noted o false n
+noted_none None n = refl
+noted_none (Some v) n = refl
+
+first_more : (xs ys : List Shown) (x : ℕ) → first_shown (xs ++ ys) x ≡ or_later (first_shown xs x) (first_shown ys x)
+first_more [] ys x = refl
+first_more (s ∷ xs) ys x = go (is_in s.offset s.size x) (first_more xs ys x)
+  where
+    go : (b : Bool) → first_shown (xs ++ ys) x ≡ or_later (first_shown xs x) (first_shown ys x) →
+        (if b then Some s.count else first_shown (xs ++ ys) x) ≡ or_later (if b then Some s.count else first_shown xs x) (first_shown ys x)
+    go true ih = refl
+    go false ih = ih
+
+first_of_pieces : (ps : List Piece) (n x : ℕ) → first_shown (map (λ p. record { offset = piece_offset p; size = piece_size p; count = n }) ps) x ≡ (if is_some (byte_at ps x) then Some n else None)
+first_of_pieces [] n x = refl
+first_of_pieces (p ∷ ps) n x = go (holds p x) (first_of_pieces ps n x)
+  where
+    go : (b : Bool) → first_shown (map (λ p. record { offset = piece_offset p; size = piece_size p; count = n }) ps) x ≡ (if is_some (byte_at ps x) then Some n else None) →
+        (if b then Some n else first_shown (map (λ p. record { offset = piece_offset p; size = piece_size p; count = n }) ps) x) ≡ (if is_some (if b then Some (piece_byte p x) else byte_at ps x) then Some n else None)
+    go true ih = refl
+    go false ih = ih
+
+first_with : (o : Option Operation) (m : Message) (n x : ℕ) → first_shown (shown_with o m n) x ≡ (if gives o m x && not (ends_reply m) then Some n else None)
+first_with None m n x = refl
+first_with (Some e) m n x = go (e.command == commands.READ) (ends_reply m)
+  where
+    go : (r d : Bool) → first_shown (if r && not d then map (λ p. record { offset = piece_offset p; size = piece_size p; count = n }) (piece_of e.offset m) else []) x
+        ≡ (if (r && is_some (byte_at (piece_of e.offset m) x)) && not d then Some n else None)
+    go false d = refl
+    go true true = ap (λ b. if b then Some n else None) (sym (and_no (is_some (byte_at (piece_of e.offset m) x))))
+    go true false = first_of_pieces (piece_of e.offset m) n x ∙ ap (λ b. if b then Some n else None) (sym (and_yes (is_some (byte_at (piece_of e.offset m) x))))
+
+noted_is : (o : Option ℕ) (b : Bool) (n : ℕ) → or_later o (if b then Some n else None) ≡ noted o b n
+noted_is (Some v) b n = refl
+noted_is None b n = refl
+
+-- the count of the first message before the last one that showed x
+abbrev pub shown_at : Core → (k x : ℕ) → Option ℕ
+shown_at core k x = first_shown (core.shown k) x
+
+-- the message shows x, and is not the last one
+abbrev pub shows_at : Core → Message → (k x : ℕ) → Bool
+shows_at core m k x = gives (operation k core.entries) m x && not (ends_reply m)
+
+reply_shown : (o : Option ℕ) (core : Core) (m : Message) (k x : ℕ) → shown_at (reply_to o core m) k x ≡ noted (shown_at core k x) (is_this o k && shows_at core m k x) (length core.entries)
+reply_shown None core m k x = noted_none (shown_at core k x) (length core.entries)
+reply_shown (Some j) core m k x =
+    first_more (core.shown k) (if j == k then shown_with (operation j core.entries) m (length core.entries) else []) x
+    ∙ ap (or_later (shown_at core k x)) (go (j == k) refl)
+    ∙ noted_is (shown_at core k x) ((j == k) && shows_at core m k x) (length core.entries)
+  where
+    go : (b : Bool) → (j == k) ≡ b → first_shown (if b then shown_with (operation j core.entries) m (length core.entries) else []) x ≡ (if b && shows_at core m k x then Some (length core.entries) else None)
+    go true q = ap (λ i. first_shown (shown_with (operation i core.entries) m (length core.entries)) x) (eqb-true j k q) ∙ first_with (operation k core.entries) m (length core.entries) x
+    go false q = refl
+
+reply_ended : (o : Option ℕ) (core : Core) (m : Message) (k : ℕ) → (reply_to o core m).ended_at k ≡ noted (core.ended_at k) (is_this o k && ends_reply m) (length core.entries)
+reply_ended None core m k = noted_none (core.ended_at k) (length core.entries)
+reply_ended (Some j) core m k = refl
+
+request_shown : (b : Bool) (core : Core) (e : Operation) (k x n : ℕ) → shown_at (core_with_request b core e) k x ≡ noted (shown_at core k x) false n
+request_shown true core e k x n = noted_none (shown_at core k x) n
+request_shown false core e k x n = noted_none (shown_at core k x) n
+
+request_ended : (b : Bool) (core : Core) (e : Operation) (k n : ℕ) → (core_with_request b core e).ended_at k ≡ noted (core.ended_at k) false n
+request_ended true core e k n = noted_none (core.ended_at k) n
+request_ended false core e k n = noted_none (core.ended_at k) n
+
+pub shown_complete : (core : Core) (m : Message) (k x : ℕ) → shown_at (complete core m) k x ≡ noted (shown_at core k x) (is_reply_to core m k && shows_at core m k x) (length core.entries)
+unfolding complete
+shown_complete core (Greeting flags) k x = noted_none (shown_at core k x) (length core.entries)
+shown_complete core (ClientFlags flags) k x = noted_none (shown_at core k x) (length core.entries)
+shown_complete core (Choice id p) k x = noted_none (shown_at core k x) (length core.entries)
+shown_complete core (Answer option kind p) k x = noted_none (shown_at core k x) (length core.entries)
+shown_complete core (Exported size flags padded) k x = noted_none (shown_at core k x) (length core.entries)
+shown_complete core (Request flags command cookie offset len p) k x = request_shown (command == commands.DISC) core _ k x (length core.entries)
+shown_complete core (Simple error cookie p) k x = reply_shown (request_of_reply core (Simple error cookie p)) core (Simple error cookie p) k x
+shown_complete core (Chunk flags kind cookie p) k x = reply_shown (request_of_reply core (Chunk flags kind cookie p)) core (Chunk flags kind cookie p) k x
+
+pub ended_complete : (core : Core) (m : Message) (k : ℕ) → (complete core m).ended_at k ≡ noted (core.ended_at k) (is_reply_to core m k && ends_reply m) (length core.entries)
+unfolding complete
+ended_complete core (Greeting flags) k = noted_none (core.ended_at k) (length core.entries)
+ended_complete core (ClientFlags flags) k = noted_none (core.ended_at k) (length core.entries)
+ended_complete core (Choice id p) k = noted_none (core.ended_at k) (length core.entries)
+ended_complete core (Answer option kind p) k = noted_none (core.ended_at k) (length core.entries)
+ended_complete core (Exported size flags padded) k = noted_none (core.ended_at k) (length core.entries)
+ended_complete core (Request flags command cookie offset len p) k = request_ended (command == commands.DISC) core _ k (length core.entries)
+ended_complete core (Simple error cookie p) k = reply_ended (request_of_reply core (Simple error cookie p)) core (Simple error cookie p) k
+ended_complete core (Chunk flags kind cookie p) k = reply_ended (request_of_reply core (Chunk flags kind cookie p)) core (Chunk flags kind cookie p) k
+
+-- what was noted, or is noted now
+pub noted_cases : (o : Option ℕ) (b : Bool) (n v : ℕ) → noted o b n ≡ Some v → (o ≡ Some v) ⊎ ((b ≡ true) × (v ≡ n))
+noted_cases (Some u) b n v e = inl e
+noted_cases None true n v e = inr (refl, cc)
+noted_cases None false n v e = absurd (cc)
+
+-- no more is noted than has completed
+pub record IsBounded (core : Core) : Type 0 where
+  pub shown : (k x n : ℕ) → shown_at core k x ≡ Some n → n ≤ length core.entries
+  pub ended : (k n : ℕ) → core.ended_at k ≡ Some n → n ≤ length core.entries
+
+pub bounded_complete : (core : Core) (m : Message) → IsBounded core → IsBounded (complete core m)
+bounded_complete core m h = record {
+  shown = λ k x n e. elim (noted_cases (shown_at core k x) (is_reply_to core m k && shows_at core m k x) (length core.entries) n (sym (shown_complete core m k x) ∙ e)) [
+    | inl a ↦ (let l : n ≤ length core.entries = h.shown k x n a in omega (arith, l, grows))
+    | inr a ↦ omega (arith, a.1, grows)
+  ];
+  ended = λ k n e. elim (noted_cases (core.ended_at k) (is_reply_to core m k && ends_reply m) (length core.entries) n (sym (ended_complete core m k) ∙ e)) [
+    | inl a ↦ (let l : n ≤ length core.entries = h.ended k n a in omega (arith, l, grows))
+    | inr a ↦ omega (arith, a.1, grows)
+  ];
+}
+  where
+    grows : length core.entries ≤ length (complete core m).entries
+    grows = elim (length-complete core m) [ inl q ↦ omega arith | inr q ↦ omega arith ]
+
+pub known_or : (b : Bool) (core : Core) (later : Option ℕ) → or_later (if b then Some (length core.entries) else None) later ≡ known_if b core later
+known_or true core later = refl
+known_or false core later = refl
+
+-- the count by what a READ has shown at an offset, and by its end
+abbrev pub by_chunk : (within : Bool) → (shown ended : Option ℕ) → Option ℕ
+by_chunk within shown ended = lesser_of (if within then shown else None) ended
+
+lesser_left : (u n : ℕ) → u ≤ n → lesser_of (Some u) (Some n) ≡ Some u
+lesser_left u n l = ap (λ b. Some (if b then u else n)) (le-leb u n l)
+
+lesser_right : (u n : ℕ) → u ≤ n → lesser_of (Some n) (Some u) ≡ Some u
+lesser_right u n l = go (nat_le n u) refl
+  where
+    go : (b : Bool) → nat_le n u ≡ b → Some (if b then n else u) ≡ Some u
+    go true q = (let a : n ≤ u = leb-true n u q in ap Some (omega (arith, a, l)))
+    go false q = refl
+
+lesser_same : (n : ℕ) → lesser_of (Some n) (Some n) ≡ Some n
+lesser_same n = lesser_left n n (omega arith)
+
+-- one more message of its reply
+by_chunk_noted : (within shows ends : Bool) (shown ended : Option ℕ) (n : ℕ) → ((v : ℕ) → shown ≡ Some v → v ≤ n) → ((v : ℕ) → ended ≡ Some v → v ≤ n) →
+    by_chunk within (noted shown shows n) (noted ended ends n) ≡ or_later (by_chunk within shown ended) (if ends || (within && shows) then Some n else None)
+by_chunk_noted true shows ends (Some u) (Some v) n hs he = both u v
+  where
+    both : (u v : ℕ) → lesser_of (Some u) (Some v) ≡ or_later (lesser_of (Some u) (Some v)) (if ends || (true && shows) then Some n else None)
+    both u v = refl
+by_chunk_noted true shows true (Some u) None n hs he = lesser_left u n (hs u refl)
+by_chunk_noted true shows false (Some u) None n hs he = refl
+by_chunk_noted true true ends None (Some v) n hs he = lesser_right v n (he v refl)
+by_chunk_noted true false ends None (Some v) n hs he = refl
+by_chunk_noted true true true None None n hs he = lesser_same n
+by_chunk_noted true true false None None n hs he = refl
+by_chunk_noted true false true None None n hs he = refl
+by_chunk_noted true false false None None n hs he = refl
+by_chunk_noted false shows ends shown (Some v) n hs he = refl
+by_chunk_noted false shows true shown None n hs he = refl
+by_chunk_noted false shows false shown None n hs he = refl
+
+-- what a READ by chunk has shown at the end is what fell due on the way
+pub due_chunk : (q : Profile) (items : List Item) (core : Core) (js : List Entry) → Obeys (record { core = core; served = js }) items → IsSettled core → core.profile ≡ q → IsBounded core → (k x : ℕ) →
+    is_by_chunk q (operation k (core_end core items).entries) ≡ true →
+    by_chunk (inside_at (core_end core items) k x) (shown_at (core_end core items) k x) ((core_end core items).ended_at k)
+    ≡ or_later (by_chunk (inside_at (core_end core items) k x) (shown_at core k x) (core.ended_at k)) (due_from core items k x)
+due_chunk q [] core js ob settled prof h k x chunk = none (by_chunk (inside_at core k x) (shown_at core k x) (core.ended_at k))
+  where
+    none : (o : Option ℕ) → o ≡ or_later o None
+    none None = refl
+    none (Some n) = refl
+due_chunk q (Byte s b ∷ items) core js ob settled prof h k x chunk = due_chunk q items core js ob.1 settled prof h k x chunk
+due_chunk q (Starts s m ∷ items) core js ob settled prof h k x chunk =
+    due_chunk q items core js ob.1 settled prof h k x chunk
+    ∙ ap (or_later (by_chunk (inside_at (core_end core items) k x) (shown_at core k x) (core.ended_at k))) (sym (go (is_reply_to core m k) refl))
+  where
+    go : (b : Bool) → is_reply_to core m k ≡ b → known_if (b && not (is_by_chunk core.profile (operation k core.entries))) core (due_from core items k x) ≡ due_from core items k x
+    go true r =
+        let w = answering core m k r in
+        let c : is_by_chunk core.profile (operation k core.entries) ≡ true = ap (λ p. is_by_chunk p (operation k core.entries)) prof ∙ chunk_end q core items k w.1 ∙ chunk in
+        ap (λ b. known_if (not b) core (due_from core items k x)) c
+    go false r = refl
+due_chunk q (Completes s m ∷ items) core js ob settled prof h k x chunk =
+    due_chunk q items next js ob.1 (settled_complete core m ob.0.0 settled) (profile_stays core m ∙ prof) (bounded_complete core m h) k x chunk
+    ∙ ap (λ o. or_later o later) (here (is_reply_to core m k) refl)
+    ∙ or_later-assoc before (if falls then Some (length core.entries) else None) later
+    ∙ ap (or_later before) (known_or falls core later)
+  where
+    next : Core
+    next = complete core m
+
+    within : Bool
+    within = inside_at (core_end next items) k x
+
+    later : Option ℕ
+    later = due_from next items k x
+
+    before : Option ℕ
+    before = by_chunk within (shown_at core k x) (core.ended_at k)
+
+    falls : Bool
+    falls = makes_due core (Completes s m) k x
+
+    -- what a message of its reply makes due
+    fall : (r : Bool) → is_reply_to core m k ≡ r →
+        (if r && (ends_reply m || (within && gives (operation k core.entries) m x)) then Some (length core.entries) else None)
+        ≡ (if r && (is_by_chunk core.profile (operation k core.entries) && (ends_reply m || (inside_at core k x && gives (operation k core.entries) m x))) then Some (length core.entries) else None)
+    fall true r =
+        let w = answering core m k r in
+        let c : is_by_chunk core.profile (operation k core.entries) ≡ true = ap (λ p. is_by_chunk p (operation k core.entries)) prof ∙ chunk_end q core (Completes s m ∷ items) k w.1 ∙ chunk in
+        let i : inside_at core k ≡ inside_at (core_end next items) k = inside_end (Completes s m ∷ items) core js settled ob k w.0 w.1 in
+        sym (ap (λ b. if b && (ends_reply m || (inside_at core k x && gives (operation k core.entries) m x)) then Some (length core.entries) else None) c
+        ∙ ap (λ f. if ends_reply m || (f x && gives (operation k core.entries) m x) then Some (length core.entries) else None) i)
+    fall false r = refl
+
+    noted_by : (r : Bool) → by_chunk within (noted (shown_at core k x) (r && shows_at core m k x) (length core.entries)) (noted (core.ended_at k) (r && ends_reply m) (length core.entries))
+        ≡ or_later before (if r && (ends_reply m || (within && gives (operation k core.entries) m x)) then Some (length core.entries) else None)
+    noted_by true = by_chunk_noted within (shows_at core m k x) (ends_reply m) (shown_at core k x) (core.ended_at k) (length core.entries) (λ v e. h.shown k x v e) (λ v e. h.ended k v e)
+        ∙ ap (λ b. or_later before (if b then Some (length core.entries) else None)) (by_end (ends_reply m) within (gives (operation k core.entries) m x))
+      where
+        by_end : (d w g : Bool) → (d || (w && (g && not d))) ≡ (d || (w && g))
+        by_end true w g = refl
+        by_end false w g = ap (λ b. w && b) (and_yes g)
+    noted_by false = by_chunk_noted within false false (shown_at core k x) (core.ended_at k) (length core.entries) (λ v e. h.shown k x v e) (λ v e. h.ended k v e)
+        ∙ ap (λ b. or_later before (if b then Some (length core.entries) else None)) (and_no within)
+
+    here : (r : Bool) → is_reply_to core m k ≡ r → by_chunk within (shown_at next k x) (next.ended_at k) ≡ or_later before (if falls then Some (length core.entries) else None)
+    here r e =
+        ap (λ o. by_chunk within o (next.ended_at k)) (shown_complete core m k x)
+        ∙ ap (by_chunk within (noted (shown_at core k x) (is_reply_to core m k && shows_at core m k x) (length core.entries))) (ended_complete core m k)
+        ∙ noted_by (is_reply_to core m k)
+        ∙ ap (or_later before) (fall (is_reply_to core m k) refl)
+due_chunk q (Serves e ∷ items) core js ob settled prof h k x chunk = due_chunk q items core _ ob.1 settled prof h k x chunk
