@@ -39,8 +39,9 @@ def first_other(known, told, size):
 class Service:
     """A session that is served in an order."""
 
-    def __init__(self, sent, found, order, start):
+    def __init__(self, sent, found, order, start, profile):
         self.sent, self.found, self.start, self.entries = sent, found, start, entries_of(order)
+        self.is_by_chunk = profile == "wide"
         self.size = found.size if found.entered else 0
 
     def inside(self, one):
@@ -70,11 +71,43 @@ class Service:
             before.append(part)
         return None
 
+    def due(self, one):
+        """What of a request has to be served, in ranges, each with how many requests had come then. By chunk a READ's byte is due when the
+        first message that shows it is whole; all else when the reply begins."""
+        if not self.is_by_chunk or one.command != READ:
+            return [] if one.known is None else [(*self.inside(one), one.known)]
+        # (each range less what was shown before it)
+        found, left = [], [self.inside(one)]
+        for begin, end, count in one.shown:
+            rest = []
+            for first, last in left:
+                here, there = max(begin, first), min(end, last)
+                if here < there:
+                    found.append((here, there, count))
+                    rest += [it for it in ((first, here), (there, last)) if it[0] < it[1]]
+                else:
+                    rest.append((first, last))
+            left = rest
+        return found
+
+    def is_due(self, one):
+        """Whether something of a request is due, also of one without an offset in the export."""
+        if self.is_by_chunk and one.command == READ:
+            return bool(self.due(one)) or one.ended_at is not None
+        return one.known is not None
+
+    def least_due(self, one, part):
+        """By how many requests what an entry serves is due at the earliest."""
+        if part is None and self.inside(one)[0] >= self.inside(one)[1]:
+            return one.ended_at if self.is_by_chunk and one.command == READ else one.known
+        first, last = part or self.inside(one)
+        return min((count for begin, end, count in self.due(one) if begin < last and first < end), default=None)
+
     def late(self):
-        """The first entry whose request had not come when a reply to its own or a later one's began."""
+        """The first entry whose request had not come when what it or a later one serves was due."""
         found, least = None, None
-        for at, (number, _) in reversed(list(enumerate(self.entries, 1))):
-            known = self.sent[number - 1].known
+        for at, (number, part) in reversed(list(enumerate(self.entries, 1))):
+            known = self.least_due(self.sent[number - 1], part)
             least = known if least is None else least if known is None else min(known, least)
             if least is not None and least < number:
                 found = at, "Late"
@@ -82,13 +115,15 @@ class Service:
 
     def unserved(self):
         for number, one in enumerate(self.sent, 1):
-            if one.known is None:
+            if not self.is_due(one):
                 continue
             parts = self.parts.get(number)
             if parts is None:
                 return number, "Missing"
-            first, last = self.inside(one)
-            if None not in parts and sum(end - begin for begin, end in parts) != max(last - first, 0):
+            wanted = sum(max(end - begin, 0) for begin, end, _ in self.due(one))
+            served = sum(max(min(end, last) - max(begin, first), 0) for begin, end, _ in self.due(one)
+                         for first, last in filter(None, parts))
+            if None not in parts and served != wanted:
                 return number, "NotCovered"
         return None
 
@@ -153,7 +188,7 @@ def line(records, order, start, profile):
         return transmitted.said(told)
     if not isinstance(start, str) and told.found.entered and len(start) != told.found.size:
         return f"no image {len(start)} size {told.found.size}\n"
-    service = Service(told.sent, told.found, order, start)
+    service = Service(told.sent, told.found, order, start, profile)
     if fault := service.order_fault():
         return f"no order entry {fault[0]}: {fault[1]}\n"
     if wrong := service.wrong():

@@ -591,6 +591,11 @@ def examples(tally, room):
             whole = EXPLAINED / f"{capture.stem}-in-wide.txt"
             if whole.exists():
                 tally.want(f"explain {capture.name} in wide", told, Ended(0, whole.read_bytes(), b""))
+    by_chunk = folder / "qemunbd-by-chunk.cap"
+    found = room.run("explain", by_chunk, "--start", f"image:{by_chunk.with_suffix('.img')}")
+    tally.holds("explain of a READ by chunk says that wide has an order", (
+        found.status == 1 and b"no content request 1 offset 8192 in any order\n" in found.out
+        and b"\nwide: an order explains the session in the profile wide, " in found.out), found)
 
 
 def told_of(tally, name, found):

@@ -1,195 +1,74 @@
 """`order` of sessions at random, against a search of all orders here: an order exactly where there is one, and each is judged here.
 
-The search here is tried by itself on sessions by hand (`test_search.py hand`).
+The search here is tried by itself on sessions by hand (`test_search.py hand`), and on those by chunk against the model of `check`
+(`test_search.py model`).
 """
 
 import random
 import re
 import sys
-from collections import namedtuple
+from itertools import accumulate
 
 from built import Room, Tally
-from cases.contexts import CHUNKS, ack, go, granted
-from cases.sizes import ASKED, export, sizes
-from messages import (
-    BLOCK_STATUS, DONE, GO, READ, REQ_ONE, TRIM, WRITE, WRITE_ZEROES, content, done, extents, failed, request, simple, text, write,
-)
+from messages import BLOCK_STATUS, READ, TRIM, WRITE, WRITE_ZEROES, text
+from served import line as model
+from small_sessions import BY_CHUNK, SHAPES, Asked, moments, session, session_by_chunk
 
-# How many requests, on how many bytes, how many of them outstanding, how many different bytes; in a hundred: how many steps of a
-# service serve one byte alone, how many changes and statuses fail, requests get no reply, READs and statuses get a wrong byte, and
-# how many requests ask for a status; and the least block size, which is the largest too, or 0 where none is in force.
-Shape = namedtuple("Shape", "requests size window letters torn failures unanswered wrong statuses block")
-SMALL = Shape(8, 4, 5, 3, 30, 10, 10, 10, 0, 0)
-SHAPES = {
-    "small sessions": SMALL,
-    "sessions of one byte": SMALL._replace(requests=10, size=1),
-    "sessions of a right server": SMALL._replace(requests=10, size=3, window=9, letters=2, wrong=0),
-    "sessions with statuses": SMALL._replace(statuses=10),
-    "sessions of statuses": SMALL._replace(requests=10, size=3, statuses=33, wrong=20),
-    "sessions of statuses of a right server": SMALL._replace(requests=10, size=3, window=9, letters=2, wrong=0, statuses=33),
-    "sessions with requests outside of the block sizes": SMALL._replace(block=2),
-    "sessions with statuses outside of the block sizes": SMALL._replace(statuses=20, block=2),
-}
-SESSIONS = 400
-# How many in a hundred of the bytes that are zero a status does not call so, and how many statuses are cut short, have a last extent
-# that passes the range, or are asked for one extent.
-UNTOLD, SHORT, LONG, ONE = 20, 10, 30, 10
-ZERO = 2
+SESSIONS, SESSIONS_BY_CHUNK = 400, 20_000
+# How many orders at random are tried of a session that has none.
+IN_VAIN = 200
 ONE_REQUEST = re.compile(rb"no (content|status) request (\d+) offset (\d+) in any order\n")
 MORE_REQUESTS = re.compile(rb"no order explains requests (\d+(?: \d+)+) at offset (\d+)\n")
 
 
-class Asked:
-    """A request: from its number on it can be served, and surely before the one whose number is `before`, if there is one. `zeroes` are
-    the places of the bytes that a status calls zero."""
-
-    def __init__(self, number, command, offset, data, fails=False, before=None, zeroes=()):
-        self.number, self.command, self.offset, self.data, self.fails = number, command, offset, bytearray(data), fails
-        self.length, self.before, self.zeroes = len(data), before, set(zeroes)
-        self.served, self.is_mute, self.flags = 0, False, 0
-        self.reads = command in (READ, BLOCK_STATUS)
-
-    def message(self):
-        if self.command == WRITE:
-            return write(self.number, self.offset, bytes(self.data))
-        return request(self.command, self.number, self.offset, self.length, flags=self.flags)
-
-    def is_outside(self, block):
-        """Whether it breaks block sizes of which the least and the largest are this; under structured replies that bounds no READ."""
-        is_long = self.command == WRITE and self.length > block
-        return is_long or self.offset % block != 0 or self.length % block != 0
-
-    def act_at(self, offset):
-        """What it does to a byte: whether it reads it, and the byte, None of one that is not known; None where it does nothing. A byte
-        that a status calls zero is read as one."""
-        place = offset - self.offset
-        if not 0 <= place < self.length or self.reads and (self.before is None or self.fails):
-            return None
-        if self.command == BLOCK_STATUS:
-            return (True, 0) if place in self.zeroes else None
-        if self.command == READ:
-            return True, self.data[place]
-        if self.before is None or self.fails or self.command == TRIM:
-            return False, None
-        return False, self.data[place]
+def is_held(one, dues, served):
+    """Whether a request that is not served was due before this one came."""
+    return any(due <= one.number and number not in served for number, due in dues.items())
 
 
-def drawn(dice, number, shape):
-    """A request at random."""
-    command = dice.choice([TRIM, WRITE_ZEROES] + [WRITE] * 4 + [READ] * 4)
-    if shape.statuses and dice.randrange(100) < shape.statuses:
-        command = BLOCK_STATUS
-    offset = dice.randrange(shape.size)
-    length = dice.randint(1, shape.size - offset)
-    data = [dice.randrange(shape.letters) if command == WRITE else 0 for _ in range(length)]
-    one = Asked(number, command, offset, data, command != READ and dice.randrange(100) < shape.failures)
-    one.is_mute = dice.randrange(100) < shape.unanswered
-    if command == BLOCK_STATUS and dice.randrange(100) < ONE:
-        one.flags = REQ_ONE
-    return one
-
-
-def negotiation(shape):
-    """The records up to transmission."""
-    told = [ASKED, sizes(shape.block, 512, shape.block), export(size=shape.size), ack(GO)] if shape.block else go(size=shape.size)
-    return CHUNKS + (granted() if shape.statuses else []) + told
-
-
-def session(dice, shape, held):
-    """The records of a session, and its requests, from a server that serves them in parts."""
-    records, asked, under_way = negotiation(shape), [], []
-    for _ in range(40 * shape.requests):
-        if len(asked) < shape.requests and len(under_way) < shape.window and dice.randrange(100) < 40:
-            one = drawn(dice, len(asked) + 1, shape)
-            asked.append(one)
-            under_way.append(one)
-            records.append(one.message())
-        elif under_way:
-            one = dice.choice(under_way)
-            if one.served < one.length:
-                serve(dice, shape, held, one)
-            else:
-                under_way.remove(one)
-                if not one.is_mute:
-                    records += reply(dice, shape, one, len(asked))
-    return records, asked
-
-
-def serve(dice, shape, held, one):
-    count = 1 if dice.randrange(100) < shape.torn else one.length
-    for index in range(one.served, min(one.served + count, one.length)):
-        at = one.offset + index
-        if one.reads:
-            one.data[index] = held[at]
-        elif one.command == TRIM or one.fails:
-            held[at] = dice.randrange(shape.letters)
-        else:
-            held[at] = one.data[index]
-        one.served += 1
-
-
-def reply(dice, shape, one, came):
-    one.before = came + 1
-    if one.command == BLOCK_STATUS:
-        return told(dice, shape, one)
-    if one.command != READ:
-        return [simple(one.number, error=5 if one.fails else 0)]
-    if dice.randrange(100) < shape.wrong:
-        one.data[dice.randrange(one.length)] = dice.randrange(shape.letters)
-    half = dice.randrange(one.length)
-    pieces = [(one.offset, one.data[:half]), (one.offset + half, one.data[half:])]
-    return [content(one.number, offset, bytes(data)) for offset, data in pieces if data] + [done(one.number)]
-
-
-def told(dice, shape, one):
-    """The reply to a BLOCK_STATUS, which calls zero most of the bytes that were zero when it was served; it may fail behind that."""
-    one.zeroes = {place for place in range(one.length) if one.data[place] == 0 and dice.randrange(100) >= UNTOLD}
-    if dice.randrange(100) < shape.wrong:
-        one.zeroes.add(dice.randrange(one.length))
-    parts = []
-    for place in range(one.length):
-        flags = ZERO * (place in one.zeroes) + dice.randrange(2)
-        if parts and parts[-1][1] == flags:
-            parts[-1] = parts[-1][0] + 1, flags
-        else:
-            parts.append((1, flags))
-    if one.flags or dice.randrange(100) < SHORT:
-        parts = parts[:1]
-        one.zeroes = {place for place in one.zeroes if place < parts[0][0]}
-    elif dice.randrange(100) < LONG:
-        parts[-1] = parts[-1][0] + dice.randrange(1, 9), parts[-1][1]
-    if one.fails:
-        return [*([extents(one.number, 1, *parts)] * dice.randrange(2)), failed(one.number)]
-    return [extents(one.number, 1, *parts, flags=DONE)] if dice.randrange(2) else [extents(one.number, 1, *parts), done(one.number)]
-
-
-def is_held(one, asked, served):
-    """Whether a request that is not served was answered before this one came."""
-    return any(other.before is not None and other.before <= one.number and other.number not in served for other in asked)
+def order_at(asked, offset, byte):
+    """An order of the requests of a byte, by their numbers; None where there is none: tries all."""
+    acts = [(one, act) for one in asked if (act := one.act_at(offset)) is not None]
+    dues = {one.number: due for one, _ in acts if (due := one.due_at(offset)) is not None}
+    seen, left = set(), [((), byte)]
+    while left:
+        order, now = left.pop()
+        served = frozenset(order)
+        if (served, now) in seen:
+            continue
+        seen.add((served, now))
+        if dues.keys() <= served:
+            return order
+        for one, (reads, own) in acts:
+            if one.number in served or is_held(one, dues, served):
+                continue
+            if not reads:
+                left.append(((*order, one.number), own))
+            elif now is None or now == own:
+                left.append(((*order, one.number), now))
+    return None
 
 
 def has_order(asked, offset, byte):
-    """Whether the requests of a byte have an order: tries all."""
-    acts = [(one, act) for one in asked if (act := one.act_at(offset)) is not None]
-    concerned = [one for one, _ in acts]
-    wanted = {one.number for one in concerned if one.before is not None}
-    seen, left = set(), [(frozenset(), byte)]
-    while left:
-        place = left.pop()
-        if place in seen:
-            continue
-        seen.add(place)
-        served, now = place
-        if wanted <= served:
-            return True
-        for one, (reads, own) in acts:
-            if one.number in served or is_held(one, concerned, served):
-                continue
-            if not reads:
-                left.append((served | {one.number}, own))
-            elif now is None or now == own:
-                left.append((served | {one.number}, now))
-    return False
+    return order_at(asked, offset, byte) is not None
+
+
+def order_in_parts(asked, known):
+    """An order of a session by chunk, of an order of each byte; None where a byte has none."""
+    slots = []
+    for offset, byte in enumerate(known):
+        order = order_at(asked, offset, byte)
+        if order is None:
+            return None
+        slots += [(slot, number, offset) for slot, number in zip(accumulate(order, max), order)]
+    # (what does nothing is served when it comes)
+    slots += [(one.number, one.number, at) for one in asked for at in one.due if at is None or one.act_at(at) is None]
+    return written((number, at) for _, number, at in sorted(slots, key=lambda slot: slot[0]))
+
+
+def written(services):
+    """The text of an order: numbers, each with an offset, or None of a request without a byte."""
+    return "".join(f"{number}\n" if at is None else f"{number} {at} 1\n" for number, at in services)
 
 
 def entries(order):
@@ -267,9 +146,52 @@ def try_one(tally, room, name, shape, seed):
         tally.holds(f"{label}: the order", explains(ended.out, asked, known), ended.out)
         if shape.block:
             counted(tally, room, label, words, ended.out, asked, shape)
+    else:
+        tally.holds(f"{label}: the line", refutes(ended.out, asked, known), ended.out)
+    return sort_of(ended)
+
+
+def sort_of(ended):
+    if ended.status == 0:
         return "whole" if all(part is None for _, part in entries(ended.out)) else "in parts"
-    tally.holds(f"{label}: the line", refutes(ended.out, asked, known), ended.out)
     return b" ".join(ended.out.split()[:2]).decode()
+
+
+def by_chunk(room, seed):
+    """The dice, the start by its name, the bytes that are known, the records and the requests of a session by chunk."""
+    dice = random.Random(f"by chunk {seed}")
+    start, held, known = start_of(room, seed, dice.randint(2, 4))
+    return dice, start, known, *session_by_chunk(dice, BY_CHUNK, held)
+
+
+def judged(records, order, start, known):
+    """The first two words of the model's line."""
+    return " ".join(model(records, order, bytes(known) if start.startswith("image") else start, "wide").split()[:2])
+
+
+def try_by_chunk(tally, room, seed):
+    """What `try_one` answers; here the model judges the order."""
+    _, start, known, records, asked = by_chunk(room, seed)
+    ended = room.run("order", room.put("capture", text(records)), "--start", start, "--profile", "wide")
+    label = f"by chunk, seed {seed}"
+    tally.want(f"{label}: status", (ended.status, ended.err), (0 if all(has_order(asked, *it) for it in enumerate(known)) else 1, b""))
+    if ended.status == 0:
+        tally.want(f"{label}: the order", judged(records, ended.out, start, known), "yes requests")
+    else:
+        tally.holds(f"{label}: the line", refutes(ended.out, asked, known), ended.out)
+    return sort_of(ended)
+
+
+def by_model(tally):
+    """The search of sessions by chunk: to an order that it finds the model says yes, and where it finds none, to none at random."""
+    with Room() as room:
+        for seed in range(SESSIONS_BY_CHUNK):
+            dice, start, known, records, asked = by_chunk(room, seed)
+            order = order_in_parts(asked, known)
+            orders = [written(moments(dice, BY_CHUNK, asked)) for _ in range(IN_VAIN)] if order is None else [order]
+            found = {judged(records, one, start, known) for one in orders}
+            wanted = {"no order", "no content", "no status"} if order is None else {"yes requests"}
+            tally.holds(f"by chunk, seed {seed}, by the model", found <= wanted, found)
 
 
 def asked_by_hand(*requests):
@@ -329,9 +251,11 @@ def run(tally):
             wanted = {"whole"} | ({"in parts"} if shape.size > 1 else set()) | ({"no content"} if shape.wrong else set())
             wanted |= {"no status"} if shape.wrong and shape.statuses else set()
             tally.want(f"{name}: kinds", answers - {"no order"}, wanted)
+        answers = {try_by_chunk(tally, room, seed) for seed in range(SESSIONS_BY_CHUNK)}
+        tally.want("by chunk: kinds", answers - {"no order"}, {"whole", "in parts", "no content", "no status"})
 
 
 if __name__ == "__main__":
     tried = Tally()
-    (by_hand if sys.argv[1:] == ["hand"] else run)(tried)
+    {"hand": by_hand, "model": by_model}.get(" ".join(sys.argv[1:]), run)(tried)
     print(f"{tried.passed} passed, {tried.failed} failed")

@@ -30,6 +30,9 @@ class Request:
         self.chunks, self.has_failed, self.has_ended = 0, False, False
         # How many requests had come when its reply began, if it did.
         self.known = None
+        # Of a READ: the ranges that its messages showed, each with how many requests had come when its message was whole; and how many
+        # had when its last one was.
+        self.shown, self.ended_at = [], None
         # The ranges that its reply gave, each with its bytes, or None of a hole; and the ids that status chunks named.
         self.given, self.told = [], set()
         # The id and the extents of the first chunk, where that is a status.
@@ -217,6 +220,7 @@ class Reader:
         self.need(all(end <= begin or begin + size <= other for other, end, _ in of.given), "BadContent")
         self.need(not (of.given and of.flags & DF and is_proper(of, self.found)), "BadContent")
         of.given.append((begin, begin + size, payload[8:] if kind == OFFSET_DATA else None))
+        of.shown.append((begin, begin + size, len(self.requests)))
 
     def error(self, kind, payload):
         text = int.from_bytes(payload[4:6], "big")
@@ -243,6 +247,8 @@ class Reader:
         """The reply has ended."""
         del self.outstanding[self.of.cookie]
         self.of.has_ended = True
+        self.of.shown.append((self.of.offset, self.of.end, len(self.requests)))
+        self.of.ended_at = len(self.requests)
         self.answered += 1
 
 
