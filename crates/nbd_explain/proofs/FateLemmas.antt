@@ -49,9 +49,9 @@ next_line messages fates n p f old mid new is count l here front line =
       (λ rest later. (
           let tail : AreNamed (drop (suc p) messages) rest = subst (λ i. AreNamed (drop i messages) rest) next later in
           let lines : AreNamed (drop p messages) (words ++ (ending ++ (codes "\n" ++ rest))) =
-          subst (λ ms. AreNamed ms (words ++ (ending ++ (codes "\n" ++ rest)))) (sym r.1) (named r.0 (drop (suc p) messages) words ending rest (subst (λ o. IsEnding o ending) same line.1.2) tail) in
+          subst (λ ms. AreNamed ms (words ++ (ending ++ (codes "\n" ++ rest)))) (sym r.1) (named r.0 (drop (suc p) messages) words ending rest line.1.3 (subst (λ o. IsEnding o ending) same line.1.2) tail) in
           let text : line.0 ++ rest ≡ words ++ (ending ++ (codes "\n" ++ rest)) =
-          ap (λ t. t ++ rest) line.1.3 ∙ append_assoc words (ending ++ codes "\n") rest ∙ ap (λ t. words ++ t) (append_assoc ending (codes "\n") rest) in
+          ap (λ t. t ++ rest) line.1.4 ∙ append_assoc words (ending ++ codes "\n") rest ∙ ap (λ t. words ++ t) (append_assoc ending (codes "\n") rest) in
           subst (λ t. AreNamed messages t) (ap (λ t. front.0 ++ t) (sym text) ∙ sym (append_assoc front.0 line.0 rest)) (front.1 _ lines))),
       Appends-trans old mid new front.0 line.0 front.2 line.2,
     )

@@ -1,5 +1,6 @@
 -- What a run of `show --names` writes, where the reader and the writer state their bytes.
 use Rattle.std.specs.Prelude.{◌≡◌, ◌++◌, ◌∷◌, ◌==◌, ℕ, List, [], Bool, false, Option, Some, None, IfSome, codes, if◌then◌else◌}
+use Rattle.std.specs.List.{list_any}
 use Rattle.std.specs.Io.KnownBytes.{Appends, Keeps}
 use Rattle.nbd_wire.specs.declared.commands.TheConstants as commands
 use Rattle.nbd_wire.specs.declared.message.Message.{Message}
@@ -10,6 +11,7 @@ use Rattle.nbd_state.specs.declared.asked.Outcome.{Outcome}
 use Rattle.nbd_state.specs.declared.asked.Outcome.TheVariants.{Failure, Pending, Success}
 use Rattle.nbd_wire.specs.protocol.Rules.{cookie_of}
 use Rattle.nbd_capture.specs.Capture.{Chunk, IsCaptureText}
+use Rattle.nbd_capture.specs.Lines.{line_feed}
 use Rattle.nbd_lines.specs.declared.fault.RunFault.{RunFault}
 use Rattle.nbd_lines.specs.declared.fault.RunFault.TheVariants.{Write, Memory}
 use Rattle.nbd_tool.specs.Runs.{flat_of}
@@ -38,18 +40,24 @@ fate (Request flags command cookie offset length payload) later =
     if command == commands.DISC then None else Some (outcome_by (reply_in cookie later))
 fate _ later = None
 
+-- a line feed stands in the text
+abbrev pub has_feed : List ℕ → Bool
+has_feed text = list_any (λ byte. byte == line_feed) text
+
 -- how the line of a message with this fate ends
 abbrev pub IsEnding : Option Outcome → List ℕ → Type 0
 IsEnding None text = text ≡ []
 IsEnding (Some Success) text = text ≡ codes ": success"
 IsEnding (Some Pending) text = text ≡ codes ": pending"
-IsEnding (Some Failure) text = (error : List ℕ) × (text ≡ codes ": failure, " ++ error)
+IsEnding (Some Failure) text =
+    (error : List ℕ) × (text ≡ codes ": failure, " ++ error) × (has_feed error ≡ false)
 
--- a line for each message: words, and at the end of that of a numbered request what became of it
+-- a line for each message, and no more: words, and at the end of that of a numbered request what became of it
 pub data AreNamed : List Message → List ℕ → Type 0 where
   none : AreNamed [] []
-  named : (m : Message) (later : List Message) (words ending rest : List ℕ) → IsEnding (fate m later) ending
-      → AreNamed later rest → AreNamed (m ∷ later) (words ++ (ending ++ (codes "\n" ++ rest)))
+  named : (m : Message) (later : List Message) (words ending rest : List ℕ) → has_feed words ≡ false
+      → IsEnding (fate m later) ending → AreNamed later rest
+      → AreNamed (m ∷ later) (words ++ (ending ++ (codes "\n" ++ rest)))
 
 -- the messages of a capture's session of the profile were told in words, and then the last line of `show`
 pub record NamesAll (profile : Profile) (known : Option (List ℕ)) (yes : Bool)

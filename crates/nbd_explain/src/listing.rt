@@ -1,6 +1,6 @@
 //! The command `show --names`, over any reader and writer.
 
-ghost use Rattle.std.specs.Prelude.{◌≡◌, ◌⊎◌, ℕ, List, Option, Some, IfErr, IfOk, OnOk};
+ghost use Rattle.std.specs.Prelude.{◌≡◌, ◌⊎◌, ℕ, List, Option, Some, IfErr, IfOk, OnOk, false};
 ghost use Rattle.nbd_wire.specs.declared.message.Message.{Message};
 ghost use Rattle.nbd_wire.specs.declared.profile.Profile.{Profile};
 ghost use Rattle.nbd_wire.specs.declared.profile.Profile.TheVariants.{Base};
@@ -10,7 +10,7 @@ ghost use Rattle.nbd_tool.specs.Ends.{IsOverText};
 ghost use Rattle.nbd_tool.specs.Runs.{IsCapture};
 ghost use Rattle.nbd_tool.specs.Shown.{IsShowCause};
 ghost use Rattle.nbd_lines.specs.Starts.{IsWithinLimit};
-ghost use Rattle.nbd_explain.specs.Named.{KeepsUnread, NamesAll};
+ghost use Rattle.nbd_explain.specs.Named.{KeepsUnread, NamesAll, has_feed};
 ghost use Rattle.nbd_explain.specs.internal.Fates.{AddsEnding, AppendsLine, AppendsNames, IsLine, fates_behind};
 
 use crate::fates::fates_of;
@@ -162,11 +162,12 @@ fn line_of(
 {
     match told {
         Some(told) => ended(
+            alloc,
             told_words(alloc, told, story)?,
             fate,
             error_of(alloc, told, fate, story),
         ),
-        None => ended(String::new(alloc), fate, Ok(String::new(alloc))),
+        None => ended(alloc, String::new(alloc), fate, Ok(String::new(alloc))),
     }
 }
 
@@ -185,20 +186,22 @@ fn error_of(
 
 // Words with what became of their message, and the end of the line. The error is said of a failure.
 fn ended(
+    alloc: Global,
     words: String,
     fate: Option<Outcome>,
     error: Result<String, AllocError>,
 ) -> Result<String, AllocError>
     ensures { IfOk result (λ line. IsLine fate line.bytes.items) }
 {
-    let mut line = words;
-    push_fate(&mut line, fate, error)?;
+    let mut line = on_one_line(alloc, words);
+    push_fate(alloc, &mut line, fate, error)?;
     line.push_str("\n")?;
     Ok(line)
 }
 
 // Adds what became of a message.
 fn push_fate(
+    alloc: Global,
     line: &mut String,
     fate: Option<Outcome>,
     error: Result<String, AllocError>,
@@ -209,12 +212,24 @@ fn push_fate(
         None => Ok(()),
         Some(Outcome::Success) => line.push_str(": success"),
         Some(Outcome::Pending) => line.push_str(": pending"),
-        Some(Outcome::Failure) => push_error(line, &error?),
+        Some(Outcome::Failure) => push_error(line, &on_one_line(alloc, error?)),
+    }
+}
+
+// A text of one line. One that has a line feed is left out; nbd_story makes none.
+fn on_one_line(alloc: Global, text: String) -> String
+    ensures { has_feed result.bytes.items ≡ false }
+{
+    if text.as_bytes().contains(&b'\n') {
+        String::new(alloc)
+    } else {
+        text
     }
 }
 
 // Adds that a request failed.
 fn push_error(line: &mut String, error: &str) -> Result<(), AllocError>
+    requires { has_feed error.now ≡ false }
     ensures { OnOk result (AddsEnding (Some Failure) line.old.bytes.items line.new.bytes.items) }
 {
     line.push_str(": failure, ")?;

@@ -97,11 +97,36 @@ fn told_of_found(
         limits,
     };
     let found = find_order(alloc, profile, &transcript, start, scope, progress)?;
-    let is_wider = profile == Profile::Base
-        && matches!(found, Found::Unexplained(_))
-        && story.has_chunks_apart()
-        && is_explained_in_wide(alloc, &transcript, &kept, scope, progress)?;
+    let is_wider = is_wider(
+        alloc,
+        profile,
+        &transcript,
+        &found,
+        &kept,
+        story,
+        scope,
+        progress,
+    )?;
     told_found(alloc, profile, transcript, &found, kept, is_wider, story)
+}
+
+// Whether no order explains the session in the profile `Base`, and one is found that does in `Wide`.
+fn is_wider(
+    alloc: Global,
+    profile: Profile,
+    transcript: &Transcript,
+    found: &Found,
+    start: &Beginning,
+    story: &Story,
+    scope: Scope,
+    progress: &mut Progress,
+) -> Result<bool, AllocError> {
+    let is_refuted = profile == Profile::Base && matches!(found, Found::Unexplained(_));
+    if is_refuted && story.has_chunks_apart() {
+        is_explained_in_wide(alloc, transcript, start, scope, progress)
+    } else {
+        Ok(false)
+    }
 }
 
 // Whether an order is found that explains the session in the profile `Wide`.

@@ -54,11 +54,13 @@ read_at profile r k x a at h =
     let gives = given a x p1.0 in
     let due = some_is (due_at profile r.export a x) p3.0 in
     record {
-      read = effect a;
-      is_request = ap effect_if at;
-      is_read = gives.0;
-      succeeded = p2.0;
-      inside = ap (λ o. inside_asked r.export o x) at ∙ lies_inside r.export a x gives.1 gives.2 p4.0 p4.1;
+      gave = record {
+        read = effect a;
+        is_request = ap effect_if at;
+        is_read = gives.0;
+        succeeded = p2.0;
+        inside = ap (λ o. inside_asked r.export o x) at ∙ lies_inside r.export a x gives.1 gives.2 p4.0 p4.1;
+      };
       is_due = (due.0, ap (λ o. due_of profile (inside_asked r.export o) o x) at ∙ due.1);
     }
 

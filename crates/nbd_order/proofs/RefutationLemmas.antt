@@ -14,7 +14,7 @@ use Rattle.nbd_wire.specs.protocol.Reports.{Report, asked_at, due_in}
 use Rattle.nbd_wire.specs.protocol.Verdicts.{IsFaultless}
 use Rattle.nbd_laws.specs.Explaining.{ExplainedPasses}
 use Rattle.nbd_order.specs.declared.refutation.State.{State}
-use Rattle.nbd_order.specs.Unexplained.{IsRefutedBy, RefutedIsUnexplained, has}
+use Rattle.nbd_order.specs.Unexplained.{AreRising, IsRefutedBy, RefutedIsUnexplained, has}
 use Rattle.nbd_order.specs.internal.Refutations.{Fits, IsChange, IsHeld, IsRefutation, Leads, is_kept}
 use Rattle.nbd_order.proofs.ServiceLemmas.{in_range, is_inside, is_reached, not_served_before, served_before, served_once}
 use Rattle.nbd_order.proofs.TouchLemmas.{byte_more, served_more}
@@ -97,13 +97,13 @@ module _ (profile : Profile) (r : Report) (initial : ℕ → Option ℕ) (x : �
   sized =
       let b = s.begins in
       let u = s.ends b.0 b.1 b.2 in
-      let k = s.are_reads u.0 u.1 in
+      let k = (s.are_reads u.0 u.1).gave in
       (in_range r.export (asked_at u.0 r.asked) k.read x k.is_request k.inside).1
 
   -- a READ or a change of the refutation that was due at x is served there
   kept_is_served : (p n : ℕ) → is_kept reads changes p ≡ true → due_in profile r p x ≡ Some n → IsTrue (is_served order p x)
   kept_is_served p n kept due = elim (or_cases (has reads p) (has changes p) kept) [
-    | inl h ↦ (let k = s.are_reads p h in is_reached profile r order whole p x n k.read k.is_request due k.inside)
+    | inl h ↦ (let k = (s.are_reads p h).gave in is_reached profile r order whole p x n k.read k.is_request due k.inside)
     | inr h ↦ (let c = s.are_changes p h in
         is_reached profile r order whole p x n c.0 c.1.0 due (is_inside r.export (asked_at p r.asked) c.0 x sized.0 c.1.0 c.1.1 sized.1 sized.2))
   ]
@@ -111,7 +111,7 @@ module _ (profile : Profile) (r : Report) (initial : ℕ → Option ℕ) (x : �
   -- no READ of the refutation changes the byte
   read_is_no_change : (k : ℕ) → has reads k ≡ true → (e : Effect) → IsChange r k x e → ⊥
   read_is_no_change k h e c =
-      let read = s.are_reads k h in
+      let read = (s.are_reads k h).gave in
       let same : read.read ≡ e = same_effect (effects r k) read.read e read.is_request c.0 in
       let parts = and_parts (is_change e.command) (serves None e x) c.1 in
       let none : is_change e.command ≡ false = ap (λ (f : Effect). is_change f.command) (sym same) ∙ changes_nothing read.read x read.is_read in
@@ -188,7 +188,7 @@ module _ (profile : Profile) (r : Report) (initial : ℕ → Option ℕ) (x : �
   known_read : (i : ℕ) (d : Entry) (h : Holds profile r initial x reads changes states order i) → slice_get order i ≡ Some d → has reads d.request ≡ true
       → has h.state.served.items d.request ≡ true → Holds profile r initial x reads changes states order (suc i)
   known_read i d h at kept known =
-      let k = s.are_reads d.request kept in
+      let k = (s.are_reads d.request kept).gave in
       let touch : touch_of d.part (effects r d.request) x ≡ None =
       touch_none d.part (effects r d.request) x k.read k.is_request (changes_nothing k.read x k.is_read) in
       stays i d h at
@@ -203,7 +203,7 @@ module _ (profile : Profile) (r : Report) (initial : ℕ → Option ℕ) (x : �
     | inl q ↦ known_read i d h at kept q
     | inr (inl q) ↦ absurd (not_held i d h at q)
     | inr (inr o) ↦ absurd
-        (let k = s.are_reads d.request kept in
+        (let k = (s.are_reads d.request kept).gave in
         let lies = (in_range r.export (asked_at d.request r.asked) k.read x k.is_request k.inside).0 in
         right i d at kept (
           d,
@@ -299,10 +299,14 @@ module _ (profile : Profile) (r : Report) (initial : ℕ → Option ℕ) (x : �
       both_ways (has h.state.served.items u.0) u.2 (h.read u.0 u.1 (ap (λ es. is_served es u.0 x) (take-length order) ∙ served))
 
 pub refuted : (profile : Profile) (r : Report) (initial : ℕ → Option ℕ) (x : ℕ) (reads changes : List ℕ) (states : List State)
-    → IsRefutation profile r initial x reads changes states → IsRefutedBy profile r initial x reads
-refuted profile r initial x reads changes states s order whole right = contradiction profile r initial x reads changes states s order whole right
+    → AreRising reads → IsRefutation profile r initial x reads changes states → IsRefutedBy profile r initial x reads
+refuted profile r initial x reads changes states rise s = record {
+  are_reads = λ k h. (s.are_reads k h).gave;
+  rise = rise;
+  none_is_right = λ order whole right. contradiction profile r initial x reads changes states s order whole right;
+}
 
 pub refuted_is_unexplained : ExplainedPasses → RefutedIsUnexplained
 refuted_is_unexplained only profile items initial x reads is_run refuted order explained =
     let passes = only profile items order initial is_run explained in
-    refuted order passes.faultless (λ i e at named. passes.reads i x)
+    refuted.none_is_right order passes.faultless (λ i e at named. passes.reads i x)

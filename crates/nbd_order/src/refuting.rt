@@ -3,7 +3,7 @@
 ghost use Rattle.std.specs.Prelude.{◌≡◌, ℕ, ◌⊎◌, IsTrue, true, false};
 ghost use Rattle.nbd_judge.specs.Beginnings.{initial_of};
 ghost use Rattle.nbd_wire.specs.protocol.Explains as explains;
-ghost use Rattle.nbd_order.specs.Unexplained.{IsRefutedBy, has};
+ghost use Rattle.nbd_order.specs.Unexplained.{AreRising, IsRefutedBy, has};
 ghost use Rattle.nbd_order.specs.internal.Refutations.{EachSteps, HasBeginning, HelpsNone, IsBefore, IsChangeAt, IsNoHelp, IsReadAt, NoneIsLast};
 
 use crate::offsets::{is_before, is_change_at, is_other, is_read_at};
@@ -14,7 +14,7 @@ use nbd_session::Transcript;
 use nbd_wire::Profile;
 
 /// Whether the refutation shows that each order without a fault in the profile has a wrong byte of one of its READs at its offset, from
-/// this start. It takes one pass over the requests.
+/// this start. Its READs are requests with a byte there that succeeded, in rising order. It takes one pass over the requests.
 pub fn is_refuted(
     profile: Profile,
     transcript: &Transcript,
@@ -33,8 +33,10 @@ impl Refutation {
         ensures reads { let f = self.now in IsTrue result → (k : ℕ) → has f.reads.items k ≡ true → IsReadAt profile transcript.now f.offset k }
         ensures changes { let f = self.now in IsTrue result → (c : ℕ) → has f.changes.items c ≡ true → IsChangeAt transcript.now f.offset c }
         ensures others { let f = self.now in IsTrue result → (w : ℕ) → HelpsNone profile transcript.now f.offset f.reads.items f.changes.items w }
+        ensures rise { IsTrue result → AreRising self.now.reads.items }
     {
-        self.are_reads(profile, transcript)
+        are_rising(&self.reads)
+            && self.are_reads(profile, transcript)
             && self.are_changes(transcript)
             && self.covered(profile, transcript)
     }
@@ -132,6 +134,18 @@ impl Refutation {
             || is_overwritten(profile, transcript, self.offset, &self.changes, w, k)
             || is_other(transcript, k, self.offset, byte)
     }
+}
+
+// Whether each of the numbers is above the one before it.
+fn are_rising(numbers: &[u64]) -> bool
+    ensures { IsTrue result → AreRising numbers.now }
+{
+    for i in 1..numbers.len() {
+        if numbers[i] <= numbers[i - 1] {
+            return false;
+        }
+    }
+    true
 }
 
 // Whether one of these changes surely comes between requests w and k at the offset.

@@ -1,5 +1,5 @@
 -- What is kept of an image.
-use Rattle.std.proofs.Common.{ℕ, List, None, Some, IfSome, refl, sym, length, replicate, ◌<◌}
+use Rattle.std.proofs.Common.{ℕ, List, None, Some, IfSome, refl, sym, replicate, ◌<◌}
 use Rattle.std.proofs.lemmas.List.{length-replicate}
 use Rattle.std.specs.Prelude.{Option}
 use Rattle.nbd_wire.specs.protocol.Explains.{Image}

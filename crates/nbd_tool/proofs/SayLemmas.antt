@@ -1,5 +1,5 @@
 -- What a line that begins with `yes` says.
-use Rattle.std.proofs.Common.{◌≡◌, ℕ, List, [], ◌∷◌, ◌++◌, refl, sym, ◌∙◌, ap, append_assoc, append-nil, codes, arith, Option, Some, None, ◌⊎◌, inl, inr, Bool, Result, Ok, Err, IfErr, OnOk}
+use Rattle.std.proofs.Common.{◌≡◌, ℕ, List, [], ◌∷◌, ◌++◌, refl, sym, ◌∙◌, ap, append_assoc, append-nil, codes, arith, Option, Some, None, ◌⊎◌, inl, inr, Bool, Result, Ok, Err, IfErr, IfOk, IsTrue, OnOk, ◌↔◌}
 use Rattle.std.proofs.lemmas.List.{append_cancel_left}
 use Rattle.std.specs.Io.KnownBytes.{Appends, Keeps}
 use Rattle.nbd_capture.specs.Capture.{Chunk, IsCaptureText}
@@ -10,10 +10,12 @@ use Rattle.nbd_wire.specs.declared.profile.Profile.{Profile}
 use Rattle.nbd_wire.specs.protocol.Explains.{IsExplainedOf, Start}
 use Rattle.nbd_judge.specs.declared.verdict.Verdict.{Verdict}
 use Rattle.nbd_judge.specs.declared.verdict.Verdict.TheVariants.{Yes, Wire, Image, Order, Content, Status}
-use Rattle.nbd_tool.specs.Runs.{IsVerdictOn, SaysYes, flat_of}
+use Rattle.nbd_judge.specs.Captures as judge
+use Rattle.nbd_judge.proofs.verdicts.RefusalLemmas.{answers_exactly}
+use Rattle.nbd_tool.specs.Runs.{AnswersExactly, IsVerdictOn, SaysYes, Tells, flat_of}
 use Rattle.nbd_lines.specs.declared.fault.RunFault.{RunFault}
 use Rattle.nbd_lines.specs.declared.fault.RunFault.TheVariants.{Memory, Write}
-use Rattle.nbd_tool.specs.Verdicts.{line}
+use Rattle.nbd_tool.specs.Verdicts.{IsYes, line}
 
 abbrev IsExplainedOn : Profile → (text order_text : List ℕ) → Start → Type 0
 IsExplainedOn profile text order_text initial = (chunks : List Chunk) × (entries : List Entry) × IsCaptureText text chunks × IsOrderText order_text entries × IsExplainedOf profile (flat_of chunks) entries initial
@@ -79,3 +81,25 @@ pub says_written : (profile : Profile) (capture order : Option (List ℕ)) (init
 says_written profile capture order initial old new v (Ok answered) is written left = says_line profile capture order initial old new v is written
 says_written profile capture order initial old new v (Err fault) is written (inl e) = says_prefix profile capture order initial old new v is e.1
 says_written profile capture order initial old new v (Err fault) is written (inr e) = says_kept profile capture order initial old new e.1
+
+-- the two names of a yes
+yes_of : (v : Verdict) → IsYes v ↔ judge.SaysYes v
+yes_of (Yes a b c) = ((λ y. tt), λ y. tt)
+yes_of (Wire at fault) = ((λ y. absurd y), λ y. absurd y)
+yes_of (Image image size) = ((λ y. absurd y), λ y. absurd y)
+yes_of (Order entry fault) = ((λ y. absurd y), λ y. absurd y)
+yes_of (Content request offset) = ((λ y. absurd y), λ y. absurd y)
+yes_of (Status request offset) = ((λ y. absurd y), λ y. absurd y)
+
+answered : (profile : Profile) (capture order : Option (List ℕ)) (initial : Option Start) (says : Bool) (v : Verdict) → IsVerdictOn profile capture order initial v → IsTrue says ↔ IsYes v → AnswersExactly profile capture order initial says
+answered profile (Some text) (Some order_text) (Some initial) says v is same =
+    (let exact : judge.SaysYes v ↔ IsExplainedOf profile (flat_of is.0) is.1 initial = answers_exactly {E = RunFault} profile (flat_of is.0) is.1 initial (Ok v) is.4 in
+    (is.0, is.1, is.2, is.3, ((λ t. exact.0 ((yes_of v).0 (same.0 t))), λ x. same.1 ((yes_of v).1 (exact.1 x)))))
+answered profile None order initial says v is same = tt
+answered profile (Some text) None initial says v is same = tt
+answered profile (Some text) (Some order_text) None says v is same = tt
+
+-- what was answered with a line is so exactly
+pub answers_so : (profile : Profile) (capture order : Option (List ℕ)) (initial : Option Start) (old new : Option (List ℕ)) (o : Result Bool RunFault) → IfOk o (λ yes. Tells profile capture order initial yes old new) → IfOk o (AnswersExactly profile capture order initial)
+answers_so profile capture order initial old new (Ok says) told = answered profile capture order initial says told.verdict told.is_verdict told.answer
+answers_so profile capture order initial old new (Err fault) told = tt

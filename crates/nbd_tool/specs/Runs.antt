@@ -57,6 +57,14 @@ pub record Tells (profile : Profile) (capture order : Option (List ℕ)) (initia
   pub answer : IsTrue yes ↔ IsYes verdict
   pub appended : Appends old new (line verdict)
 
+-- the texts are of chunks and of entries, and true was answered exactly where in the profile these entries explain the
+-- chunks from the start that was read
+abbrev pub AnswersExactly : Profile → (capture order : Option (List ℕ)) → Option Start → Bool → Type 0
+AnswersExactly profile (Some text) (Some order_text) (Some initial) says =
+    (chunks : List Chunk) × (entries : List Entry) × IsCaptureText text chunks × IsOrderText order_text entries
+    × (IsTrue says ↔ IsExplainedOf profile (flat_of chunks) entries initial)
+AnswersExactly profile capture order initial says = Unit {0}
+
 -- what a fault says of the known bytes of the capture and of the order, and of the start: the capture is judged first,
 -- then the order
 abbrev pub IsCause : {I : Type 0} → (capture order : Option (List ℕ)) → StartFrom I → RunFault → Type 0

@@ -3,7 +3,7 @@ ghost use Rattle.std.specs.Prelude.{◌≡◌, ◌≢◌, ◌⊎◌, ℕ, List, 
 ghost use Rattle.nbd_capture.specs.Order.{IsOrderText};
 ghost use Rattle.nbd_wire.specs.declared.entry.Entry.{Entry};
 ghost use Rattle.nbd_wire.specs.declared.profile.Profile.TheVariants.{Base};
-ghost use Rattle.nbd_tool.specs.Runs.{IsCapture, IsOrder, IsCause, IsOrderCause, LeavesWritten, SaysYes, Tells};
+ghost use Rattle.nbd_tool.specs.Runs.{AnswersExactly, IsCapture, IsOrder, IsCause, IsOrderCause, LeavesWritten, SaysYes, Tells};
 ghost use Rattle.nbd_lines.specs.declared.fault.RunFault.TheVariants.{ImageRead, Memory, Write};
 ghost use Rattle.nbd_tool.specs.internal.Outcomes.{IsConcluded};
 ghost use Rattle.nbd_lines.specs.Starts.{HasImage, IsStartWithinLimit, IsWithinLimit, initial_from};
@@ -39,6 +39,8 @@ pub fn run_check<C: BufRead + Drop, O: Read + Drop, I: Measured + Drop, W: Write
     ensures written { IfOk result
         (λ yes. Tells Base (C.remaining capture) (O.remaining order) (initial_from I.remaining start) yes
         (W.contents out.old) (W.contents out.new)) }
+    // Exactly where the order explains the capture the answer is yes.
+    ensures exactly { IfOk result (AnswersExactly Base (C.remaining capture) (O.remaining order) (initial_from I.remaining start)) }
     ensures yes { SaysYes Base (C.remaining capture) (O.remaining order) (initial_from I.remaining start)
         (W.contents out.old) (W.contents out.new) }
     ensures well_formed { OnOk result (IsCapture (C.remaining capture) × IsOrder (O.remaining order)) }
@@ -68,6 +70,8 @@ pub fn run_check_of<C: BufRead + Drop, O: Read + Drop, I: Measured + Drop, W: Wr
     ensures written { IfOk result
         (λ yes. Tells profile (C.remaining capture) (O.remaining order) (initial_from I.remaining start) yes
         (W.contents out.old) (W.contents out.new)) }
+    // Exactly where the order explains the capture in this profile the answer is yes.
+    ensures exactly { IfOk result (AnswersExactly profile (C.remaining capture) (O.remaining order) (initial_from I.remaining start)) }
     ensures yes { SaysYes profile (C.remaining capture) (O.remaining order) (initial_from I.remaining start)
         (W.contents out.old) (W.contents out.new) }
     ensures well_formed { OnOk result (IsCapture (C.remaining capture) × IsOrder (O.remaining order)) }

@@ -8,7 +8,7 @@ use Rattle.nbd_wire.specs.protocol.Operations.{any, ends_reply, is_failing}
 use Rattle.nbd_state.specs.declared.asked.Outcome.{Outcome}
 use Rattle.nbd_state.specs.declared.asked.Outcome.TheVariants.{Failure, Pending, Success}
 use Rattle.nbd_explain.specs.declared.fates.Reply.{Reply}
-use Rattle.nbd_explain.specs.Named.{AreNamed, IsEnding, fate, reply_in}
+use Rattle.nbd_explain.specs.Named.{AreNamed, IsEnding, fate, has_feed, reply_in}
 
 -- what became of each message, the last one first
 abbrev pub fates_behind : List Message → List (Option Outcome)
@@ -36,7 +36,7 @@ AreReplies later replies = (cookie : ℕ) → told_in replies cookie ≡ told_by
 
 -- the line of a message with this fate
 abbrev pub IsLine : Option Outcome → List ℕ → Type 0
-IsLine fate line = (words : List ℕ) × (ending : List ℕ) × IsEnding fate ending
+IsLine fate line = (words : List ℕ) × (ending : List ℕ) × IsEnding fate ending × (has_feed words ≡ false)
     × (line ≡ words ++ (ending ++ codes "\n"))
 
 -- the end of such a line, but for its line feed, was added

@@ -2,10 +2,10 @@
 -- other change can help. A BLOCK_STATUS that calls the offset zero is such a READ too, of the byte 0.
 use Rattle.std.specs.Prelude.{ℕ, List, ◌≡◌, ◌<◌, ◌⊎◌, ◌==◌, ◌||◌, Bool, true, false, Option, Some, None, IsTrue, slice_get}
 use Rattle.nbd_order.specs.declared.refutation.State.{State}
-use Rattle.nbd_wire.specs.protocol.ExportBytes.{Differs, Effect, effect_byte, effects, touches, GivesByte}
+use Rattle.nbd_wire.specs.protocol.ExportBytes.{Differs, Effect, effect_byte, effects, touches}
 use Rattle.nbd_wire.specs.declared.profile.Profile.{Profile}
-use Rattle.nbd_wire.specs.protocol.Reports.{Report, due_in, inside_in}
-use Rattle.nbd_order.specs.Unexplained.{has}
+use Rattle.nbd_wire.specs.protocol.Reports.{Report, due_in}
+use Rattle.nbd_order.specs.Unexplained.{IsReadOf, has}
 
 -- each entry that serves x of request j stands before each of request k, where an order is not late: j was due at x
 -- before k was complete
@@ -16,13 +16,9 @@ IsBefore profile r x j k = (n : ℕ) × (due_in profile r j x ≡ Some n) × (n 
 abbrev pub IsChange : Report → (w x : ℕ) → Effect → Type 0
 IsChange r w x e = (effects r w ≡ Some e) × IsTrue (touches None e x)
 
--- request k gives a byte at x: it succeeded, x lies inside it, and it was due there
+-- request k has x, and was due there
 pub record IsReadAt (profile : Profile) (r : Report) (x k : ℕ) : Type 0 where
-  pub read : Effect
-  pub is_request : effects r k ≡ Some read
-  pub is_read : GivesByte read x
-  pub succeeded : read.succeeded ≡ true
-  pub inside : IsTrue (inside_in r k x)
+  pub gave : IsReadOf r x k
   pub is_due : (n : ℕ) × (due_in profile r k x ≡ Some n)
 
 -- request k is a change of x

@@ -5,6 +5,9 @@ use Rattle.nbd_tool.proofs.check.run_check.Goals as goal
 pub returns-clause-written : goal.returns-clause-written
 returns-clause-written c = search (tests, rules)
 
+pub returns-clause-exactly : goal.returns-clause-exactly
+returns-clause-exactly c = search (tests, rules)
+
 pub returns-clause-yes : goal.returns-clause-yes
 returns-clause-yes c = search (tests, rules)
 

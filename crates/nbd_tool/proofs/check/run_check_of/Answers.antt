@@ -2,7 +2,7 @@ use Rattle.std.proofs.lemmas.Result.{err_from_is_err_and}
 use Rattle.nbd_lines.specs.Starts.{initial_from}
 use Rattle.nbd_tool.proofs.LastLineLemmas.{capture_over}
 use Rattle.nbd_tool.proofs.JudgedLemmas.{concluded, leaves, tells}
-use Rattle.nbd_tool.proofs.SayLemmas.{says_nothing, says_written}
+use Rattle.nbd_tool.proofs.SayLemmas.{answers_so, says_nothing, says_written}
 use Rattle.nbd_tool.proofs.check.run_check_of.Goals as goal
 
 pub returns-clause-written : goal.returns-clause-written
@@ -13,6 +13,11 @@ returns-clause-written g c =
     tells c.args.profile (g.C.Read.remaining c.args.capture) (g.O.Read.remaining c.args.order) (initial_from g.I.Read.remaining c.args.start) (g.W.Write.contents c.args.out.now) (g.W.Write.contents c.write_verdict.new.out)
     c.in_ok-verdict.verdict c.write_verdict.result is
     c.write_verdict.ensures.answer c.write_verdict.ensures.written
+
+pub returns-clause-exactly : goal.returns-clause-exactly
+returns-clause-exactly g c =
+    answers_so c.args.profile (g.C.Read.remaining c.args.capture) (g.O.Read.remaining c.args.order) (initial_from g.I.Read.remaining c.args.start) (g.W.Write.contents c.args.out.now) (g.W.Write.contents c.write_verdict.new.out)
+    c.write_verdict.result (returns-clause-written g c)
 
 pub returns-clause-left : goal.returns-clause-left
 returns-clause-left g c =
