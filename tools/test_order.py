@@ -15,6 +15,7 @@ from test_commands import EMPTY, SEARCHED, fault, on_a_terminal
 OTHERS = {
     "nbdkit-python-whole": b"yes requests 16 answered 16 improper 0\n",
     "nbdkit-split": b"no content request 3 offset 39000 in any order\n",
+    "qemunbd-by-chunk": b"no content request 1 offset 8192 in any order\n",
     "write-atomically": b"yes requests 2 answered 2 improper 0\n",
     "write-half-served": b"yes requests 2 answered 2 improper 0\n",
     "write-read-late-order": b"yes requests 2 answered 2 improper 0\n",
@@ -146,6 +147,9 @@ def examples(tally, room):
             tally.want(f"order --whole {capture.name}", whole, Ended(5, b"no order of whole requests found\n", b""))
         else:
             tally.want(f"order --whole {capture.name}", whole, found)
+    by_chunk = folder / "qemunbd-by-chunk.cap"
+    found = room.run("order", by_chunk, "--start", f"image:{by_chunk.with_suffix('.img')}", "--profile", "wide")
+    tally.want("order of a READ by chunk in wide", found, Ended(0, by_chunk.with_suffix(".ord").read_bytes(), b""))
 
 
 def lines(tally, room):
