@@ -226,14 +226,14 @@ impl Exchange {
             IsShown export e self.old → IsShown export e self.new) }
         ensures kept { IfErr result (λ _. self.new.asked.known_at ≡ self.old.asked.known_at) }
     {
-        let index = mem::replace(&mut self.index, SpanIndex::new(alloc));
-        let index = index_after(alloc, index, &self.asked.pieces, piece.as_ref(), ends)?;
         let gives = piece.is_some();
         room_if(&mut self.asked.shown, gives, ends)?;
+        let index = mem::replace(&mut self.index, SpanIndex::new(alloc));
+        let index = index_after(alloc, index, &self.asked.pieces, piece.as_ref(), ends)?;
         push_if(&mut self.asked.pieces, piece)?;
+        self.index = index;
         count_if(&mut self.asked.shown, gives, ends, counts.now)?;
         clear_if(&mut self.told, ends);
-        self.index = index;
         self.failed |= fails;
         self.asked.known_at = first(self.asked.known_at, counts.known);
         self.asked.ended_at = ended(self.asked.ended_at, ends, counts.now);
