@@ -7,9 +7,8 @@ use Rattle.std.proofs.KnownBytes.{Appends-trans}
 use Rattle.std.specs.Prelude.{codes}
 use Rattle.nbd_wire.specs.declared.message.Message.{Message}
 use Rattle.nbd_state.specs.declared.asked.Outcome.{Outcome}
-use Rattle.nbd_explain.specs.Named.{AreNamed, IsEnding, fate}
-use Rattle.nbd_explain.specs.Named.AreNamed.{named, none}
-use Rattle.nbd_explain.specs.internal.Fates.{AppendsFront, AppendsLine, AppendsNames, fates_behind}
+use Rattle.nbd_explain.specs.internal.Fates.{AppendsFront, AppendsLine, AppendsNames, AreLines, EndsWith, fate, fates_behind}
+use Rattle.nbd_explain.specs.internal.Fates.AreLines.{named, none}
 
 -- there is one for each message
 fates_length : (ms : List Message) → length (fates_behind ms) ≡ length ms
@@ -47,12 +46,12 @@ next_line messages fates n p f old mid new is count l here front line =
     let next : p + 1 ≡ suc p = omega arith in (
       front.0 ++ line.0,
       (λ rest later. (
-          let tail : AreNamed (drop (suc p) messages) rest = subst (λ i. AreNamed (drop i messages) rest) next later in
-          let lines : AreNamed (drop p messages) (words ++ (ending ++ (codes "\n" ++ rest))) =
-          subst (λ ms. AreNamed ms (words ++ (ending ++ (codes "\n" ++ rest)))) (sym r.1) (named r.0 (drop (suc p) messages) words ending rest line.1.3 (subst (λ o. IsEnding o ending) same line.1.2) tail) in
+          let tail : AreLines (drop (suc p) messages) rest = subst (λ i. AreLines (drop i messages) rest) next later in
+          let lines : AreLines (drop p messages) (words ++ (ending ++ (codes "\n" ++ rest))) =
+          subst (λ ms. AreLines ms (words ++ (ending ++ (codes "\n" ++ rest)))) (sym r.1) (named r.0 (drop (suc p) messages) words ending rest line.1.3 (subst (λ o. EndsWith o ending) same line.1.2) tail) in
           let text : line.0 ++ rest ≡ words ++ (ending ++ (codes "\n" ++ rest)) =
           ap (λ t. t ++ rest) line.1.4 ∙ append_assoc words (ending ++ codes "\n") rest ∙ ap (λ t. words ++ t) (append_assoc ending (codes "\n") rest) in
-          subst (λ t. AreNamed messages t) (ap (λ t. front.0 ++ t) (sym text) ∙ sym (append_assoc front.0 line.0 rest)) (front.1 _ lines))),
+          subst (λ t. AreLines messages t) (ap (λ t. front.0 ++ t) (sym text) ∙ sym (append_assoc front.0 line.0 rest)) (front.1 _ lines))),
       Appends-trans old mid new front.0 line.0 front.2 line.2,
     )
 
@@ -62,4 +61,4 @@ pub all_lines : (messages : List Message) (fates : List (Option Outcome)) (n p :
 all_lines messages fates n p old new is count l front =
     let k = fates_length messages in
     let size : n ≡ length (fates_behind messages) = count ∙ ap length is in
-    (front.0, subst (λ t. AreNamed messages t) (append-nil front.0) (front.1 [] (subst (λ ms. AreNamed ms []) (sym (drop_of_length-le messages (omega (arith, k, size, l)))) none)), front.2)
+    (front.0, subst (λ t. AreLines messages t) (append-nil front.0) (front.1 [] (subst (λ ms. AreLines ms []) (sym (drop_of_length-le messages (omega (arith, k, size, l)))) none)), front.2)

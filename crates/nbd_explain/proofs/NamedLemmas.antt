@@ -14,6 +14,7 @@ use Rattle.nbd_tool.specs.Shown.{IsShowCause, IsShown}
 use Rattle.nbd_tool.proofs.LastLineLemmas.{capture_over, shown}
 use Rattle.nbd_explain.specs.Named.{NamesAll}
 use Rattle.nbd_explain.specs.internal.Fates.{AppendsNames}
+use Rattle.nbd_explain.proofs.OutcomeLemmas.{named_by_report}
 
 -- the end of a session that is over, behind the lines of its messages
 pub named : {A : Type 0} {profile : Profile} (known : Option (List ℕ)) (r : SessionView) (finished : Result A SessionFault) (answer : Bool) (old mid new : Option (List ℕ)) → IsOverText profile known r → IsOfRun r → IsComplete r →
@@ -26,7 +27,7 @@ named {profile = profile} known r finished answer old mid new session run comple
   is_shown = subst (λ yes. IsShown profile (flat_of session.chunks) yes r.messages (last_line (fault_of finished))) (sym is)
       (subst (λ ended. IsShown profile (flat_of session.chunks) (is_accepted ended) r.messages (last_line ended)) (sym same) (shown (flat_of session.chunks) r session.over run complete));
   lines = front.0;
-  are_named = front.1;
+  are_named = λ items client server run same. named_by_report front.1 items run same;
   appended = Appends-trans old mid new front.0 (last_line (fault_of finished)) front.2 written;
 }
 

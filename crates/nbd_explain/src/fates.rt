@@ -4,8 +4,7 @@ ghost use Rattle.std.specs.Prelude.{◌≡◌, ◌∷◌, ◌||◌, List, [], If
 ghost use Rattle.nbd_wire.specs.declared.message.Message.{Message};
 ghost use Rattle.nbd_wire.specs.protocol.Operations.{ends_reply, is_failing};
 ghost use Rattle.nbd_wire.specs.protocol.Rules.{cookie_of};
-ghost use Rattle.nbd_explain.specs.Named.{fate};
-ghost use Rattle.nbd_explain.specs.internal.Fates.{AreReplies, fates_behind, outcome_told, told_in};
+ghost use Rattle.nbd_explain.specs.internal.Fates.{AreReplies, fate, fates_behind, outcome_told, told_in};
 
 use nbd_session::Outcome;
 use nbd_wire::flags::has;
@@ -124,7 +123,7 @@ fn is_failing(message: &Message) -> bool
 {
     match message {
         Message::Simple { error, .. } => *error != 0,
-        Message::Chunk { kind, .. } => *kind == chunks::ERROR || *kind == chunks::ERROR_OFFSET,
+        Message::Chunk { kind, .. } => *kind >= chunks::FIRST_ERROR,
         _ => false,
     }
 }
