@@ -7,7 +7,7 @@ ghost use Rattle.nbd_state.specs.Transcripts.{report_of_request};
 ghost use Rattle.nbd_wire.specs.declared.commands.TheConstants as commands;
 ghost use Rattle.nbd_wire.specs.protocol.Pieces.{is_in};
 ghost use Rattle.nbd_wire.specs.protocol.Reports.{due_in};
-ghost use Rattle.nbd_judge.specs.internal.Dues.{IsFair, IsLeastDue, ShowsIn, is_chunked};
+ghost use Rattle.nbd_judge.specs.internal.Dues.{IsFair, IsLeastDue, ShowsIn};
 ghost use Rattle.nbd_judge.specs.internal.Pieces.{AreApart};
 ghost use Rattle.nbd_judge.specs.internal.Services.{span_of_asked};
 
@@ -15,7 +15,7 @@ use crate::compare::overlap;
 use crate::least::lesser;
 use nbd_session::{Asked, Transcript};
 use nbd_state::Span;
-use nbd_wire::{Entry, Part, Profile, commands};
+use nbd_wire::{Entry, Part, Profile};
 
 /// The least count at which something of what the entry serves was due; None if nothing of it was. An entry without a
 /// part serves all of its request. The cost is the number of the messages with content that its READ was answered with.
@@ -24,7 +24,7 @@ pub fn least_due(profile: Profile, transcript: &Transcript, entry: Entry) -> Opt
     ensures { IsLeastDue (due_in profile transcript.now) entry result }
 {
     let one = transcript.asked(entry.request)?;
-    if !is_chunked(profile, one.command) {
+    if !profile.serves_by_chunk(one.command) {
         return one.known_at;
     }
     let within = inside(transcript, one);
@@ -36,17 +36,6 @@ pub fn least_due(profile: Profile, transcript: &Transcript, entry: Entry) -> Opt
         None => within,
     };
     lesser(least_shown(one, span), one.ended_at)
-}
-
-/// In the profile `Wide` a READ is served by chunk: what a message of its reply shows has to be served before it is
-/// whole (this project's choice).
-pub fn is_chunked(profile: Profile, command: u16) -> bool
-    ensures { result ≡ is_chunked profile command }
-{
-    match profile {
-        Profile::Base => false,
-        Profile::Wide => command == commands::READ,
-    }
 }
 
 /// Where the offsets inside a request lie: those of its range that lie in the export. None if its type has no range, or

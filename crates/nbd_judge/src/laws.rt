@@ -47,9 +47,9 @@ pub fn verdicts_answer_runs()
 }
 
 /// A capture has the same verdict in both profiles, except for how many requests of a yes a client should not have
-/// sent, if three conditions hold: options on metadata contexts are answered by errors alone, so that not even the head
-/// of another option reply completes; no block sizes are announced that a server may not announce; and each READ is
-/// answered at once, with no request completing within its reply.
+/// sent, if four conditions hold: options on metadata contexts are answered by errors alone, so that not even the head of
+/// another option reply completes; no block sizes are announced that a server may not announce; each error chunk is of type
+/// ERROR or ERROR_OFFSET; and each READ is answered at once, with no request completing within its reply.
 pub fn verdicts_agree()
     ensures { VerdictsAgree }
 {}

@@ -21,5 +21,6 @@ pub mod verdict;
 pub use checking::{check, check_of};
 pub use concluding::{conclude, verdict_on};
 pub use judging::{judge, wrong_of};
+pub use least::lesser;
 pub use rules::{Breaker, CONTENT_RULE, IMAGE_RULE, Rule, STATUS_RULE, order_rule, wire_rule};
 pub use verdict::{OrderFault, Verdict};

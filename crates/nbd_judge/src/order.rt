@@ -13,7 +13,7 @@ ghost use Rattle.nbd_judge.specs.declared.service.Service.TheVariants.{Unnamed};
 ghost use Rattle.nbd_judge.specs.internal.Services.{IsTable, TellsFaultOf, TellsFaultShown, TellsUnserved};
 
 use crate::OrderFault;
-use crate::due::{inside, is_chunked, least_due, meet};
+use crate::due::{inside, least_due, meet};
 use crate::least::{exceeds, lesser};
 use crate::service::Service;
 use nbd_session::{Asked, Transcript};
@@ -124,7 +124,7 @@ fn fault_of(profile: Profile, one: &Asked, inside: Span, service: &Service) -> O
     requires { inside.offset + inside.size < 2 ^ 64 }
     ensures { TellsFaultOf profile (report_of_request one.now) inside service.now result }
 {
-    if is_chunked(profile, one.command) {
+    if profile.serves_by_chunk(one.command) {
         if one.ended_at.is_none() {
             return fault_shown(one, inside, service);
         }

@@ -4,23 +4,23 @@ ghost use Rattle.std.specs.Prelude.{◌≡◌, ◌<◌, ℕ, IsTrue, None, Some,
 ghost use Rattle.nbd_state.specs.Transcripts.{report_of_request};
 ghost use Rattle.nbd_wire.specs.declared.commands.TheConstants as commands;
 ghost use Rattle.nbd_wire.specs.protocol.Pieces.{is_in};
-ghost use Rattle.nbd_wire.specs.protocol.Reports.{first_shown, inside_asked, lesser_of};
+ghost use Rattle.nbd_wire.specs.protocol.Reports.{first_shown, inside_asked};
 ghost use Rattle.nbd_order.specs.internal.Offsets.{due_at};
 
+use nbd_judge::lesser;
 use nbd_session::{Asked, Transcript};
 use nbd_state::Span;
-use nbd_wire::{Profile, commands};
+use nbd_wire::Profile;
 
 /// How many requests had completed when this one had to be served at the offset; None if it never had to be. In the profile `Wide` a
 /// READ has to be served where a message of its reply shows it before that message is whole (this project's choice).
 pub fn due_at(profile: Profile, transcript: &Transcript, one: &Asked, offset: u64) -> Option<u64>
     ensures { result ≡ due_at profile transcript.now.export (report_of_request one.now) offset }
 {
-    match profile {
-        Profile::Wide if one.command == commands::READ => {
-            lesser(shown_inside(transcript, one, offset), one.ended_at)
-        }
-        Profile::Wide | Profile::Base => one.known_at,
+    if profile.serves_by_chunk(one.command) {
+        lesser(shown_inside(transcript, one, offset), one.ended_at)
+    } else {
+        one.known_at
     }
 }
 
@@ -75,15 +75,4 @@ fn holds(span: Span, offset: u64) -> bool
     ensures { result ≡ is_in span.offset span.size offset }
 {
     span.offset <= offset && offset - span.offset < span.size
-}
-
-// The lesser of two numbers; if only one is there, that one.
-fn lesser(a: Option<u64>, b: Option<u64>) -> Option<u64>
-    ensures { result ≡ lesser_of a b }
-{
-    match (a, b) {
-        (Some(x), Some(y)) => Some(if x <= y { x } else { y }),
-        (Some(x), None) => Some(x),
-        (None, b) => b,
-    }
 }

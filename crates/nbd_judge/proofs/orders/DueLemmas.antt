@@ -1,36 +1,27 @@
 -- When what an entry serves was due.
-use Rattle.std.proofs.Common.{◌≡◌, ℕ, ◌<◌, ◌≤◌, ◌==◌, refl, sym, ◌∙◌, ap, subst, Option, Some, None, arith, Bool, true, false, IsTrue, if◌then◌else◌, nat_le}
+use Rattle.std.proofs.Common.{◌≡◌, ℕ, ◌<◌, ◌≤◌, refl, sym, ◌∙◌, ap, subst, Option, Some, None, arith, Bool, true, false, IsTrue, if◌then◌else◌, nat_le}
 use Rattle.std.proofs.lemmas.Bool.{leb-true, leb-false}
 use Rattle.nbd_export.specs.Ranges.{IsLeast}
 use Rattle.nbd_state.specs.declared.span.Span.{Span}
-use Rattle.nbd_wire.specs.declared.commands.TheConstants as commands
 use Rattle.nbd_wire.specs.declared.entry.Entry.{Entry}
 use Rattle.nbd_wire.specs.declared.entry.Part.{Part}
 use Rattle.nbd_wire.specs.declared.profile.Profile.{Profile}
-use Rattle.nbd_wire.specs.declared.profile.Profile.TheVariants.{Base, Wide}
 use Rattle.nbd_wire.specs.protocol.Entries.{in_part}
 use Rattle.nbd_wire.specs.protocol.Pieces.{is_in}
 use Rattle.nbd_wire.specs.protocol.Reports.{Asked, Report, asked_at, due_by_chunk, due_in, due_of, first_shown, inside_in, lesser_of}
-use Rattle.nbd_judge.specs.internal.Dues.{IsFair, IsLeastDue, ServesDue, ShowsIn, is_chunked}
+use Rattle.nbd_judge.specs.internal.Dues.{IsFair, IsLeastDue, ServesDue, ShowsIn}
+use Rattle.nbd_wire.specs.protocol.Operations.{is_chunked}
 use Rattle.nbd_judge.proofs.contents.CompareLemmas.{in_from}
 
 -- by whether the profile serves the request by chunk
 pub due_whole : (profile : Profile) (within : ℕ → Bool) (a : Asked) (x : ℕ) → is_chunked profile a.command ≡ false → due_of profile within (Some a) x ≡ a.known_at
-due_whole Base within a x e = refl
-due_whole Wide within a x e = ap (λ b. if b then due_by_chunk within a x else a.known_at) e
+due_whole profile within a x e = ap (λ b. if b then due_by_chunk within a x else a.known_at) e
 
 pub due_chunked : (profile : Profile) (within : ℕ → Bool) (a : Asked) (x : ℕ) → is_chunked profile a.command ≡ true → due_of profile within (Some a) x ≡ due_by_chunk within a x
-due_chunked Base within a x e = absurd (let q : false ≡ true = e in (cc))
-due_chunked Wide within a x e = ap (λ b. if b then due_by_chunk within a x else a.known_at) e
+due_chunked profile within a x e = ap (λ b. if b then due_by_chunk within a x else a.known_at) e
 
 pub due_none : (profile : Profile) (within : ℕ → Bool) (x : ℕ) → due_of profile within None x ≡ None
-due_none Base within x = refl
-due_none Wide within x = refl
-
--- a request that is served by chunk is a READ
-pub chunked_read : (profile : Profile) (command : ℕ) → is_chunked profile command ≡ true → (command == commands.READ) ≡ true
-chunked_read Base command e = absurd (let q : false ≡ true = e in (cc))
-chunked_read Wide command e = e
+due_none profile within x = refl
 
 module _ (profile : Profile) (r : Report) (e : Entry) (a : Asked) (told : asked_at e.request r.asked ≡ Some a) (fair : IsFair r e) where
   -- an entry serves an offset

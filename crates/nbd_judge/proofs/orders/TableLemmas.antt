@@ -23,7 +23,8 @@ use Rattle.nbd_judge.specs.declared.verdict.OrderFault.{OrderFault}
 use Rattle.nbd_judge.specs.declared.verdict.OrderFault.TheVariants.{NoSuchRequest, Twice, Late, Missing, BadPart, NotCovered}
 use Rattle.nbd_judge.specs.Orders.{IsOrderFault}
 use Rattle.nbd_judge.specs.internal.Services.{has_inside, AreServices, IsAllServed, IsBadAt, IsFaultAfter, IsFaultOf, IsFaultOfService, IsFirstBad, IsNext, IsServiceAfter, IsServiceOf, IsShownAt, IsSpanOf, IsUnservedBy, LieApart, TellsFaultOf, TellsUnserved, part_pieces, parts_of, span_if, span_of_asked}
-use Rattle.nbd_judge.specs.internal.Dues.{IsFair, is_chunked}
+use Rattle.nbd_judge.specs.internal.Dues.{IsFair}
+use Rattle.nbd_wire.specs.protocol.Operations.{is_chunked}
 use Rattle.nbd_judge.proofs.orders.DueLemmas.{due_chunked, due_none, due_whole}
 use Rattle.nbd_judge.proofs.contents.EffectLemmas.{taken_one}
 use Rattle.nbd_judge.proofs.verdicts.DecisionLemmas.{same_or_not}

@@ -1,20 +1,12 @@
 -- When what an entry serves was due.
-use Rattle.std.specs.Prelude.{ℕ, ◌≡◌, ◌<◌, ◌≤◌, ◌==◌, Bool, false, Option, Some, IsTrue, length}
+use Rattle.std.specs.Prelude.{ℕ, ◌≡◌, ◌<◌, ◌≤◌, Option, Some, IsTrue, length}
 use Rattle.nbd_export.specs.Ranges.{IsLeast}
 use Rattle.nbd_state.specs.declared.span.Span.{Span}
-use Rattle.nbd_wire.specs.declared.commands.TheConstants as commands
-use Rattle.nbd_wire.specs.declared.profile.Profile.{Profile}
-use Rattle.nbd_wire.specs.declared.profile.Profile.TheVariants.{Base, Wide}
 use Rattle.nbd_wire.specs.declared.entry.Entry.{Entry}
 use Rattle.nbd_wire.specs.declared.entry.Part.{Part}
 use Rattle.nbd_wire.specs.protocol.Entries.{in_part}
 use Rattle.nbd_wire.specs.protocol.Pieces.{is_in}
 use Rattle.nbd_wire.specs.protocol.Reports.{Asked, Report, first_shown, inside_in}
-
--- in the profile a request of this type is served by chunk
-abbrev pub is_chunked : Profile → (command : ℕ) → Bool
-is_chunked Base command = false
-is_chunked Wide command = command == commands.READ
 
 -- an offset that the entry serves was due when so many requests had completed
 abbrev pub ServesDue : (due : ℕ → ℕ → Option ℕ) → Entry → ℕ → Type 0

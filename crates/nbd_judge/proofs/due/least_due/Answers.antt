@@ -1,23 +1,23 @@
-use Rattle.std.proofs.Common.{◌≡◌, ℕ, true, Some, eqb-true, sym, ◌∙◌, ap, subst}
+use Rattle.std.proofs.Common.{◌≡◌, ℕ, true, Some, sym, ◌∙◌, ap, subst}
 use Rattle.nbd_state.specs.declared.span.Span.{Span}
 use Rattle.nbd_state.specs.Transcripts.{report_of_request}
-use Rattle.nbd_wire.specs.declared.commands.TheConstants as commands
 use Rattle.nbd_wire.specs.protocol.Entries.{in_part}
 use Rattle.nbd_wire.specs.protocol.Pieces.{is_in}
 use Rattle.nbd_wire.specs.protocol.Reports.{Asked, Report, asked_at, due_in, inside_in}
-use Rattle.nbd_judge.specs.internal.Dues.{IsLeastDue, is_chunked}
-use Rattle.nbd_judge.proofs.orders.DueLemmas.{chunked_read, least_chunked, least_whole}
+use Rattle.nbd_judge.specs.internal.Dues.{IsLeastDue}
+use Rattle.nbd_wire.specs.protocol.Operations.{is_chunked}
+use Rattle.nbd_judge.proofs.orders.DueLemmas.{least_chunked, least_whole}
 use Rattle.nbd_judge.proofs.orders.TableLemmas.{span_of_request}
 use Rattle.nbd_judge.proofs.verdicts.SoundLemmas.{servable}
 use Rattle.nbd_judge.proofs.due.least_due.Goals as goal
 use Rattle.nbd_judge.proofs.due.least_due.Goals.{in-Some, in-None}
 
-pub returns-then-not-is_chunked : goal.returns-then-not-is_chunked
-returns-then-not-is_chunked c =
-    least_whole c.args.profile c.args.transcript.now c.args.entry (report_of_request c.in_ok-one.one.now) (sym c.in_ok-one.ensures) c.requires (sym c.is_chunked.ensures ∙ c.if-not-is_chunked.true)
+pub returns-then-not-serves_by_chunk : goal.returns-then-not-serves_by_chunk
+returns-then-not-serves_by_chunk c =
+    least_whole c.args.profile c.args.transcript.now c.args.entry (report_of_request c.in_ok-one.one.now) (sym c.in_ok-one.ensures) c.requires (sym c.serves_by_chunk.ensures.is ∙ c.if-not-serves_by_chunk.true)
 
 pub least_shown-requires-clause-read : goal.least_shown-requires-clause-read
-least_shown-requires-clause-read c = eqb-true c.in_ok-one.one.now.command commands.READ (chunked_read c.args.profile c.in_ok-one.one.now.command (sym c.is_chunked.ensures ∙ c.if-not-is_chunked.false))
+least_shown-requires-clause-read c = c.serves_by_chunk.ensures.read c.if-not-serves_by_chunk.false
 
 pub least_shown-requires-clause-apart : goal.least_shown-requires-clause-apart
 least_shown-requires-clause-apart c =
@@ -28,7 +28,7 @@ returns c =
     let r : Report = c.args.transcript.now in
     let a : Asked = report_of_request c.in_ok-one.one.now in
     let told : asked_at c.args.entry.request r.asked ≡ Some a = sym c.in_ok-one.ensures in
-    let chunked : is_chunked c.args.profile a.command ≡ true = sym c.is_chunked.ensures ∙ c.if-not-is_chunked.false in
+    let chunked : is_chunked c.args.profile a.command ≡ true = sym c.serves_by_chunk.ensures.is ∙ c.if-not-serves_by_chunk.false in
     subst (IsLeastDue (due_in c.args.profile r) c.args.entry) (sym c.lesser.ensures)
     (elim c.match-entry.branch [
       | in-Some w ↦

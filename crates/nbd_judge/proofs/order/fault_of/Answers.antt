@@ -3,23 +3,23 @@ use Rattle.nbd_state.specs.Transcripts.{report_of_request}
 use Rattle.nbd_wire.specs.protocol.Reports.{Asked, inside_in}
 use Rattle.nbd_judge.proofs.orders.TableLemmas.{all_due, ended, none_of, not_started, shown_due, some_of, started}
 use Rattle.nbd_judge.proofs.order.fault_of.Goals as goal
-use Rattle.nbd_judge.proofs.order.fault_of.Goals.{then-is_chunked+else-is_none, else-is_chunked+else-is_none-2}
+use Rattle.nbd_judge.proofs.order.fault_of.Goals.{then-serves_by_chunk+else-is_none, else-serves_by_chunk+else-is_none-2}
 
 pub returns-then-is_none : goal.returns-then-is_none
 returns-then-is_none c r order k told sp sv =
     let a : Asked = report_of_request c.args.one.now in
     let f = c.fault_shown.ensures (inside_in r k) order k sp sv in
-    shown_due c.args.profile r order k a told (sym c.is_chunked.ensures ∙ c.if-is_chunked.true) (none_of a.ended_at (c.is_none.ensures ∙ ap not c.if-is_none.true)) c.fault_shown.result f.1 f.0
+    shown_due c.args.profile r order k a told (sym c.serves_by_chunk.ensures.is ∙ c.if-serves_by_chunk.true) (none_of a.ended_at (c.is_none.ensures ∙ ap not c.if-is_none.true)) c.fault_shown.result f.1 f.0
 
 pub returns-then-is_none-2 : goal.returns-then-is_none-2
 returns-then-is_none-2 c r order k told sp sv =
     let a : Asked = report_of_request c.args.one.now in
-    not_started c.args.profile r order k a told (sym c.is_chunked.ensures ∙ c.if-is_chunked.false) (none_of a.known_at (c.is_none-else-is_chunked.ensures ∙ ap not c.if-is_none-2.true))
+    not_started c.args.profile r order k a told (sym c.serves_by_chunk.ensures.is ∙ c.if-serves_by_chunk.false) (none_of a.known_at (c.is_none-else-serves_by_chunk.ensures ∙ ap not c.if-is_none-2.true))
 
 pub returns : goal.returns
 returns c r order k told sp sv =
     let a : Asked = report_of_request c.args.one.now in
-    all_due c.args.profile r order k a told c.fault.result (elim c.if-is_chunked.branch [
-      | then-is_chunked+else-is_none w ↦ (let n = some_of a.ended_at (w.is_none.ensures ∙ ap not w.if-is_none.false) in λ x. ended c.args.profile r order k a told n.0 x (sym c.is_chunked.ensures ∙ w.if-is_chunked.true) n.1)
-      | else-is_chunked+else-is_none-2 w ↦ (let n = some_of a.known_at (w.is_none-else-is_chunked.ensures ∙ ap not w.if-is_none-2.false) in λ x. started c.args.profile r order k a told n.0 x (sym c.is_chunked.ensures ∙ w.if-is_chunked.false) n.1)
+    all_due c.args.profile r order k a told c.fault.result (elim c.if-serves_by_chunk.branch [
+      | then-serves_by_chunk+else-is_none w ↦ (let n = some_of a.ended_at (w.is_none.ensures ∙ ap not w.if-is_none.false) in λ x. ended c.args.profile r order k a told n.0 x (sym c.serves_by_chunk.ensures.is ∙ w.if-serves_by_chunk.true) n.1)
+      | else-serves_by_chunk+else-is_none-2 w ↦ (let n = some_of a.known_at (w.is_none-else-serves_by_chunk.ensures ∙ ap not w.if-is_none-2.false) in λ x. started c.args.profile r order k a told n.0 x (sym c.serves_by_chunk.ensures.is ∙ w.if-serves_by_chunk.false) n.1)
     ]) (c.fault.ensures c.args.inside (inside_in r k) order k sp sv)
