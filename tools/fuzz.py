@@ -30,7 +30,7 @@ from pathlib import Path
 import negotiated
 import served
 from built import PROGRAM, Room, build
-from cases import makes, outside, shows, sizes, statuses, zeroes
+from cases import errors, makes, outside, shows, sizes, statuses, zeroes
 from cases.contexts import ALLOCATION, DEPTH, NEGOTIATION_TABLE, STATUS_TABLE, ack, error
 from messages import (
     DISC, DONE, GO, INFO, LIST_META_CONTEXT, META_CONTEXT, REQ_ONE, SET_META_CONTEXT, answer, context, done, extents, failed,
@@ -114,7 +114,7 @@ def seeds():
 
 
 def seeds_in_profiles():
-    for told in STATUS_TABLE + NEGOTIATION_TABLE + statuses.TABLE + zeroes.TABLE + sizes.TABLE + outside.TABLE:
+    for told in STATUS_TABLE + NEGOTIATION_TABLE + statuses.TABLE + zeroes.TABLE + sizes.TABLE + outside.TABLE + errors.TABLE:
         yield text(told.records), told.order.encode(), told.start
 
 

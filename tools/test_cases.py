@@ -7,8 +7,8 @@ answers are the same.
 
 from built import Ended, Room, Tally
 from cases import (
-    bad_lines, by_chunk, chunks, contents, contexts, damaged, infos, large_exports, large_numbers, makes, negotiation, offers, orders, outside,
-    parts, pieces, refused_negotiation, shows, sizes, statuses, transmission, verdicts, zeroes,
+    bad_lines, by_chunk, chunks, contents, contexts, damaged, errors, infos, large_exports, large_numbers, makes, negotiation, offers, orders,
+    outside, parts, pieces, refused_negotiation, shows, sizes, statuses, transmission, verdicts, zeroes,
 )
 from cases.messages import BEGUN, READ_1
 from messages import damaged as inverted
@@ -70,7 +70,7 @@ def checks(tally, room):
 
 def in_profiles(tally, room):
     """Sessions with metadata contexts or block sizes in each profile; what the wider one refuses also with a READ and its reply."""
-    for case in contexts.CASES + statuses.CASES + zeroes.CASES + sizes.CASES + outside.CASES + by_chunk.CASES:
+    for case in contexts.CASES + statuses.CASES + zeroes.CASES + sizes.CASES + outside.CASES + by_chunk.CASES + errors.CASES:
         try_case(tally, room, case, joined(case.capture))
         if case.profile == "wide" and case.want.startswith("no at byte") and "Unfinished" not in case.want:
             longer = case._replace(name=f"{case.name}, and one more READ")

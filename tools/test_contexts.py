@@ -13,7 +13,7 @@ import served
 import test_cases
 import transmitted
 from built import TOP, Room, Tally
-from cases import damaged, offers, outside, sizes, statuses, zeroes
+from cases import damaged, errors, offers, outside, sizes, statuses, zeroes
 from cases.contexts import (
     ALLOCATION, DEPTH, NEGOTIATION_TABLE, ONE_CONTEXT, STATUS_TABLE, TWO_CONTEXTS, ack, allocation, listing, setting, told_last,
 )
@@ -22,7 +22,7 @@ from messages import damaged as inverted
 
 WITH_CONTEXTS = STATUS_TABLE + NEGOTIATION_TABLE + statuses.TABLE + zeroes.TABLE
 WITH_SIZES = sizes.TABLE + outside.TABLE
-TABLE = WITH_CONTEXTS + WITH_SIZES
+TABLE = WITH_CONTEXTS + WITH_SIZES + errors.TABLE
 PROFILES = "base", "wide"
 CHUNK, REQUEST, ANNOUNCED = bytes.fromhex("668e33ef"), bytes.fromhex("25609513"), bytes.fromhex("0000000e0003")
 # Words that stand in the bytes below.
@@ -143,14 +143,26 @@ def differ_by_sizes(base, wide):
     return counts[0][1] == counts[1][1] and int(counts[0][2]) < int(counts[1][2])
 
 
+def differ_by_errors(base, wide):
+    """Whether base refuses a chunk of an error that it does not know, and wide does not refuse it."""
+    return base.endswith(": BadChunk\n") and place_of(wide) != place_of(base)
+
+
+def may_differ(told):
+    """Whether the two lines of a case differ by what the profiles say otherwise."""
+    if told in errors.TABLE:
+        return differ_by_errors(told.base, told.wide)
+    return told in WITH_SIZES and differ_by_sizes(told.base, told.wide)
+
+
 def lines(tally):
     """What the table says against what the readers say, and against itself."""
     for told in TABLE:
         for way in (list, one_by_one, longest_runs):
             for profile, line in zip(PROFILES, (told.base, told.wide)):
                 want(tally, told.name, line, way(told.records), profile, told.order, told.start)
-        # Where base follows the session, wide says the same, but of block sizes.
-        if "OutOfProfile" not in told.base and not (told in WITH_SIZES and differ_by_sizes(told.base, told.wide)):
+        # Where base follows the session, wide says the same, but of block sizes and of errors that base does not know.
+        if "OutOfProfile" not in told.base and not may_differ(told):
             tally.want(f"{told.name}: both profiles", told.base, told.wide)
         for line in (told.base, told.wide):
             tally.holds(f"{told.name}: {line}", (place_of(line) or 0) <= ends_of(told.records)[-1])

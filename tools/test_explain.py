@@ -382,6 +382,8 @@ REASONS = [
     (chunked(chunk(1, 0x8002, b"\0\0\0\5\0\0" + bytes(7))),
      "the length of its message and an offset behind it pass the end of its payload"),
     (chunked(chunk(1, 5, bytes(12))), "its type is none of NONE, OFFSET_DATA, OFFSET_HOLE, ERROR and ERROR_OFFSET"),
+    (chunked(chunk(1, 0x8003, b"\0\0\0\5\0\0")),
+     "its type has bit 15, and of these the profile base knows ERROR and ERROR_OFFSET alone (wide knows each)"),
     ([*begun(structured=True), write(1, 0, b"\1"), content(1, 0, b"\1")], "content answers only a READ"),
     (chunked(content(1, 3, b"\1\2")), "the content leaves the range of the READ"),
     (chunked(hole(1, 4, 1)), "the content leaves the range of the READ"),
@@ -394,6 +396,7 @@ REASONS = [
 ]
 # The same of sessions that are held to the profile wide.
 WIDE_REASONS = [
+    (chunked(chunk(1, 0x8003, bytes(6))), "its error is 0"),
     (opted(9, b"\0\0\0"), "the data ends within the length of the name, 4 bytes from byte 39 on"),
     (opted(10, b"\0\0\0\3ab"), "at byte 39 the name has the length 3, and the bytes behind that are 2"),
     (opted(9, b"\0\0\0\2ab\0\0\0"), "the data ends within the count of queries, 4 bytes from byte 45 on"),

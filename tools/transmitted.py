@@ -94,8 +94,8 @@ class Side:
 class Reader:
     """A session from its transmission on."""
 
-    def __init__(self, found):
-        self.found, self.at, self.is_over = found, found.behind, False
+    def __init__(self, found, is_wide):
+        self.found, self.at, self.is_over, self.is_wide = found, found.behind, False, is_wide
         self.requests, self.outstanding = [], {}
         self.improper = self.answered = 0
         self.client, self.server = Side(28), Side(4)
@@ -194,7 +194,7 @@ class Reader:
             self.need(payload == b"" and is_last, "BadChunk")
         elif kind in (OFFSET_DATA, OFFSET_HOLE):
             self.content(kind, payload)
-        elif kind in (ERROR, ERROR_OFFSET):
+        elif kind in (ERROR, ERROR_OFFSET) or self.is_wide and kind >= 2**15:
             self.error(kind, payload)
         elif kind == STATUS and self.found.contexts:
             self.status(payload)
@@ -224,7 +224,7 @@ class Reader:
 
     def error(self, kind, payload):
         text = int.from_bytes(payload[4:6], "big")
-        self.need(len(payload) >= (6 if kind == ERROR else 14) + text and payload[:4] != bytes(4), "BadChunk")
+        self.need(len(payload) >= (14 if kind == ERROR_OFFSET else 6) + text and payload[:4] != bytes(4), "BadChunk")
         if kind == ERROR_OFFSET:
             self.need(self.of.holds(int.from_bytes(payload[6 + text : 14 + text], "big")), "BadContent")
         self.of.has_failed = True
@@ -257,7 +257,7 @@ def judge(records, profile):
     found = negotiated.read(records, profile)
     if found.fault or not found.entered:
         return Judged(found.place, found.fault, 0, 0, 0, found, [])
-    reader, place, fault = Reader(found), None, None
+    reader, place, fault = Reader(found, profile == "wide"), None, None
     try:
         at = 0
         for side, data in records:

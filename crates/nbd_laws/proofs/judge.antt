@@ -6,6 +6,7 @@ pub mod CoverLemmas
 pub mod ExactLemmas
 pub mod ExactNegotiationLemmas
 pub mod ExactTransmissionLemmas
+pub mod KindLemmas
 pub mod PhaseLemmas
 pub mod SoundClientLemmas
 pub mod SoundLemmas

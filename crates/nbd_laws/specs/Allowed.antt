@@ -1,7 +1,5 @@
 -- What may complete, in the words of relations: what the lists of tests say where none holds.
 use Rattle.std.specs.Prelude.{ℕ, List, [], ◌≡◌, ◌≢◌, ◌<◌, ◌+◌, ◌≤◌, ◌⊎◌, ◌&&◌, Bool, true, false, Some, length, IsTrue, not, Option, None, is_some}
-use Rattle.nbd_wire.specs.declared.message.Message.{Message}
-use Rattle.nbd_wire.specs.declared.message.Message.TheVariants.{Simple, Chunk}
 use Rattle.nbd_wire.specs.declared.payloads.Failure.{Failure}
 use Rattle.nbd_wire.specs.declared.payloads.Piece.{Piece}
 use Rattle.nbd_wire.specs.declared.chunks.TheConstants as chunks
@@ -9,11 +7,11 @@ use Rattle.nbd_wire.specs.declared.command_flags.TheConstants as command_flags
 use Rattle.nbd_wire.specs.declared.commands.TheConstants as commands
 use Rattle.nbd_wire.specs.protocol.Contexts.{Status, has_id, reach, Context, Selection}
 use Rattle.nbd_wire.specs.protocol.Payloads.{content_of, failure_of, status_of, context_of, info_of, is_listed}
-use Rattle.nbd_wire.specs.protocol.Operations.{Exporting, Operation, Covers, asks_status, has_failed, is_proper, pieces}
+use Rattle.nbd_wire.specs.protocol.Operations.{Exporting, Operation, asks_status, is_proper, pieces}
 use Rattle.nbd_wire.specs.protocol.Pieces.{SharesNone, is_in, piece_offset, piece_size}
 use Rattle.nbd_wire.specs.protocol.Flags.{has, has_only}
-use Rattle.nbd_wire.specs.protocol.States.{with_reply, Core, target}
-use Rattle.nbd_wire.specs.protocol.Statuses.{but_last, statuses, tells, tells_all}
+use Rattle.nbd_wire.specs.protocol.States.{Core, target}
+use Rattle.nbd_wire.specs.protocol.Statuses.{but_last, statuses, tells}
 use Rattle.nbd_wire.specs.declared.payloads.Info.{Info}
 use Rattle.nbd_wire.specs.declared.payloads.Info.TheVariants.{Export}
 use Rattle.nbd_wire.specs.declared.answers.TheConstants as answers
@@ -26,7 +24,7 @@ use Rattle.nbd_wire.specs.declared.transmission.TheConstants as transmission
 use Rattle.nbd_wire.specs.protocol.Sizes.{are_allowed, sizes_of}
 use Rattle.nbd_wire.specs.declared.handshake.TheConstants as handshake
 use Rattle.nbd_wire.specs.protocol.Options.{is_error, is_proper_option, takes_contexts}
-use Rattle.nbd_wire.specs.protocol.Transmission.{simple_length}
+use Rattle.nbd_wire.specs.protocol.Transmission.{read_as, simple_length}
 use Rattle.nbd_wire.specs.protocol.Options.{is_error, is_proper_option, takes_contexts}
 use Rattle.nbd_wire.specs.protocol.States.{Core, target}
 
@@ -142,27 +140,11 @@ abbrev pub IsFailure : Operation → Failure → Type 0
 IsFailure e failure = (x : ℕ) → failure.offset ≡ Some x → IsTrue (is_in e.offset e.length x)
 
 -- the payload of a chunk has the form of its type: NONE is empty and the last of its reply, a content
--- chunk, a status chunk and an error chunk fit the request
-abbrev pub IsChunk : Exporting → Operation → (flags kind : ℕ) (payload : List ℕ) → Type 0
-IsChunk export e flags kind payload =
+-- chunk, a status chunk and an error chunk fit the request; in Wide an error chunk of an unknown type has the form of
+-- ERROR (proto.md, "Structured reply types")
+abbrev pub IsChunk : Profile → Exporting → Operation → (flags kind : ℕ) (payload : List ℕ) → Type 0
+IsChunk profile export e flags kind payload =
     (kind ≡ chunks.NONE) × (payload ≡ []) × IsTrue (has flags chunks.DONE)
     ⊎ ((piece : Piece) × (content_of kind payload ≡ Some piece) × IsContent export e piece)
-    ⊎ ((failure : Failure) × (failure_of kind payload ≡ Some failure) × IsFailure e failure)
+    ⊎ ((failure : Failure) × (failure_of (read_as profile kind) payload ≡ Some failure) × IsFailure e failure)
     ⊎ (kind ≡ chunks.BLOCK_STATUS) × ((status : Status) × (status_of payload ≡ Some status) × IsStatus e status)
-
--- a finished structured reply states a failure, or the request is proper, a READ is covered, and each context in force
--- has a status of a BLOCK_STATUS, unless its length is 0 (proto.md, "Structured reply types"; that an improper request
--- has no success, and that length 0 asks for no status, are this project's choices)
-abbrev pub MayFinish : Exporting → Operation → Type 0
-MayFinish export e = IsTrue (has_failed e) ⊎ IsTrue (is_proper export e)
-    × (e.command ≡ commands.READ → Covers e (pieces e))
-    × (e.command ≡ commands.BLOCK_STATUS → e.length ≢ 0 → IsTrue (tells_all (statuses e) e.contexts))
-
--- the message may complete in answer to the request; chunks need structured replies in force
-unfoldable pub FitsReply : Bool → Exporting → Operation → Message → Type 0
-FitsReply structured export e (Simple error cookie payload) = IsSimpleReply structured export e error payload
-FitsReply structured export e (Chunk flags kind cookie payload) =
-    (structured ≡ true)
-    × IsChunk export e flags kind payload
-    × (IsTrue (has flags chunks.DONE) → MayFinish export (with_reply e (Chunk flags kind cookie payload)))
-FitsReply structured export e _ = ⊥

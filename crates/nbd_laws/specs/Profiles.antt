@@ -1,5 +1,5 @@
 -- What the profiles have in common.
-use Rattle.std.specs.Prelude.{◌≡◌, List, Some, All, IsTrue}
+use Rattle.std.specs.Prelude.{◌≡◌, ◌≢◌, List, Some, All, IsTrue}
 use Rattle.std.specs.Prelude.{[], ◌∷◌, ◌≤◌, Ok, drop}
 use Rattle.std.specs.Prelude.{ℕ}
 use Rattle.std.specs.Prelude.{◌⊎◌, ◌++◌, ◌+◌, List, length, false, IsTrue, Some}
@@ -7,7 +7,11 @@ use Rattle.nbd_wire.specs.declared.message.Side.TheVariants.{Server}
 use Rattle.nbd_wire.specs.declared.head_lengths.TheConstants as head_lengths
 use Rattle.nbd_wire.specs.declared.fault.WireFault.{WireFault}
 use Rattle.nbd_wire.specs.protocol.Rules.{IsRunOf}
-use Rattle.nbd_wire.specs.protocol.States.{Answering, Phase}
+use Rattle.nbd_wire.specs.protocol.States.{Answering, Phase, Transmission}
+use Rattle.nbd_wire.specs.protocol.Decisions.{begins}
+use Rattle.nbd_wire.specs.protocol.Operations.{is_error_chunk}
+use Rattle.nbd_wire.specs.declared.chunks.TheConstants as chunks
+use Rattle.nbd_wire.specs.declared.magics.TheConstants as magics
 use Rattle.nbd_wire.specs.protocol.Captures.{ArePairs}
 use Rattle.nbd_wire.specs.protocol.Negotiation.{is_on_contexts}
 use Rattle.nbd_wire.specs.protocol.Reading.{by_tests, Reader, fresh_of, reads}
@@ -67,9 +71,17 @@ IsFalseAnnouncement (Answering option payload info) bytes =
     × (are_allowed sizes ≡ false))
 IsFalseAnnouncement phase bytes = ⊥
 
--- the profiles take these bytes of the server differently
+-- a server's bytes are a whole chunk of an error's type that is neither ERROR nor ERROR_OFFSET
+abbrev pub IsUnknownError : Phase → List ℕ → Type 0
+IsUnknownError (Transmission export) bytes =
+    IsTrue (begins magics.CHUNK_MAGIC bytes) × (length bytes ≡ head_lengths.CHUNK + number_at 16 4 bytes)
+    × IsTrue (is_error_chunk (number_at 6 2 bytes))
+    × (number_at 6 2 bytes ≢ chunks.ERROR) × (number_at 6 2 bytes ≢ chunks.ERROR_OFFSET)
+IsUnknownError phase bytes = ⊥
+
+-- the profiles may take these bytes of the server differently
 abbrev pub IsParting : Phase → List ℕ → Type 0
-IsParting phase bytes = IsContextHead phase bytes ⊎ IsFalseAnnouncement phase bytes
+IsParting phase bytes = IsContextHead phase bytes ⊎ IsFalseAnnouncement phase bytes ⊎ IsUnknownError phase bytes
 
 -- from this reader on, no byte of the server makes its bytes such
 abbrev pub NothingFrom : Reader → List Pair → Type 0

@@ -18,14 +18,15 @@ use Rattle.nbd_wire.specs.protocol.Pieces.{is_in}
 use Rattle.nbd_wire.specs.protocol.Rules.{IsRunOf, cookie_of, ends_at}
 use Rattle.nbd_wire.specs.protocol.States.{operation, start, with_reply}
 use Rattle.nbd_wire.specs.protocol.Statuses.{statuses, tells_all}
+use Rattle.nbd_wire.specs.protocol.Transmission.{read_as}
 
 -- a chunk to this request: an empty one with DONE, content of a READ, an error in its range, or the status of a context
 -- that is in force for a BLOCK_STATUS
-abbrev pub FitsRequest : Operation → (flags kind : ℕ) (payload : List ℕ) → Type 0
-FitsRequest e flags kind payload =
+abbrev pub FitsRequest : Profile → Operation → (flags kind : ℕ) (payload : List ℕ) → Type 0
+FitsRequest profile e flags kind payload =
     (kind ≡ chunks.NONE) × (payload ≡ []) × IsTrue (has flags chunks.DONE)
     ⊎ ((piece : Piece) × (content_of kind payload ≡ Some piece) × (e.command ≡ commands.READ))
-    ⊎ ((failure : Failure) × (failure_of kind payload ≡ Some failure)
+    ⊎ ((failure : Failure) × (failure_of (read_as profile kind) payload ≡ Some failure)
     × ((x : ℕ) → failure.offset ≡ Some x → IsTrue (is_in e.offset e.length x)))
     ⊎ (kind ≡ chunks.BLOCK_STATUS) × ((status : Status) × (status_of payload ≡ Some status) × IsStatus e status)
 
@@ -37,24 +38,24 @@ TellsAllAtEnd e m = IsTrue (ends_reply m) → has_failed (with_reply e m) ≡ fa
 
 -- a simple reply comes alone, not to a READ where structured replies are in force, and not as the success of a
 -- BLOCK_STATUS of a context in force; a chunk needs structured replies
-abbrev pub IsReplyAfter : (structured : Bool) → Operation → (prefix : List Message) → Message → Type 0
-IsReplyAfter structured e prefix (Simple error cookie payload) =
+abbrev pub IsReplyAfter : Profile → (structured : Bool) → Operation → (prefix : List Message) → Message → Type 0
+IsReplyAfter profile structured e prefix (Simple error cookie payload) =
     (prefix ≡ []) × (e.command ≡ commands.READ → structured ≡ false) × (IsTrue (asks_status e) → error ≢ 0)
-IsReplyAfter structured e prefix (Chunk flags kind cookie payload) =
-    (structured ≡ true) × FitsRequest (record e { replies = prefix }) flags kind payload
+IsReplyAfter profile structured e prefix (Chunk flags kind cookie payload) =
+    (structured ≡ true) × FitsRequest profile (record e { replies = prefix }) flags kind payload
     × TellsAllAtEnd (record e { replies = prefix }) (Chunk flags kind cookie payload)
-IsReplyAfter structured e prefix _ = ⊥
+IsReplyAfter profile structured e prefix _ = ⊥
 
 -- a reply between others: it has the request's cookie, and none comes after the one that ends the reply
-pub record IsReplyBetween (structured : Bool) (e : Operation) (prefix : List Message) (m : Message)
+pub record IsReplyBetween (profile : Profile) (structured : Bool) (e : Operation) (prefix : List Message) (m : Message)
     (back : List Message) : Type 0 where
   pub cookie : cookie_of m ≡ Some e.cookie
   pub ends : IsTrue (ends_reply m) → back ≡ []
-  pub fits : IsReplyAfter structured e prefix m
+  pub fits : IsReplyAfter profile structured e prefix m
 
 -- of each request of a run
 abbrev pub RepliesAreWhole : Type 0
 RepliesAreWhole = (profile : Profile) (items : List Item) → IsRunOf profile items
     → (k : ℕ) (e : Operation) (prefix back : List Message) (m : Message) →
     operation k (operations_of items) ≡ Some e → e.replies ≡ prefix ++ m ∷ back
-    → IsReplyBetween (ends_at start items).core.structured e prefix m back
+    → IsReplyBetween profile (ends_at start items).core.structured e prefix m back

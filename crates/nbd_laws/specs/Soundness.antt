@@ -35,6 +35,8 @@ pub record IsSoundAsked (size count k : ℕ) (a : Asked) : Type 0 where
   pub carried : a.command ≡ commands.WRITE → length a.payload ≡ a.length
   -- a success is that of a proper request
   pub success : a.outcome ≡ Success → IsTrue a.proper
+  -- a request outside of the block sizes has a range
+  pub ranged : IsTrue a.outside → IsTrue (has_range a.command)
   -- the range of a proper request lies in the export
   pub inside : IsTrue a.proper → IsTrue (has_range a.command) → a.offset + a.length ≤ size
   -- only a READ and a proper BLOCK_STATUS have pieces

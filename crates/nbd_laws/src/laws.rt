@@ -77,7 +77,8 @@ pub fn explained_exactly()
 
 /// The report of a run has an export within the limit, if any, and each of its requests was first
 /// answered after its completion, carries as many bytes as it says, is proper where it succeeded,
-/// and where it is a READ has pieces in its range that share no offset and, at success, cover it.
+/// has a range where it is outside of the block sizes, and where it is a READ has pieces in its
+/// range that share no offset and, at success, cover it.
 pub fn reports_are_sound()
     ensures { ReportsAreSound }
 {}
@@ -152,10 +153,10 @@ pub fn base_is_wide()
     ensures { BaseIsWide }
 {}
 
-/// Where no head of an answer of success to an option on metadata contexts completes, and no announcement of block sizes
-/// that a server may not announce, bytes are those of a run, the place of a fault or a session under way in both profiles
-/// or in none. Where besides no request completes from where the reply to a READ starts to where it ends, and each that
-/// starts ends, its requests have to be served at the same moments in both.
+/// Where no head of an answer of success to an option on metadata contexts completes, no announcement of block sizes that a
+/// server may not announce, and no error chunk but ERROR and ERROR_OFFSET, bytes are those of a run, the place of a fault or
+/// a session under way in both profiles or in none. Where besides no request completes from where the reply to a READ starts
+/// to where it ends, and each that starts ends, its requests have to be served at the same moments in both.
 pub fn profiles_agree()
     ensures runs { RunsAgree }
     ensures dues { DuesAgree }

@@ -16,13 +16,13 @@ ghost use Rattle.nbd_state.specs.Showing.{IsShown};
 ghost use Rattle.nbd_state.specs.Shows.{Shows, TellsThese};
 ghost use Rattle.nbd_state.specs.Spans.{span_of};
 ghost use Rattle.nbd_wire.specs.protocol.Tests.{fault_if};
-ghost use Rattle.nbd_wire.specs.protocol.Transmission.{chunk_fault, fits_read, fits_failure, total};
+ghost use Rattle.nbd_wire.specs.protocol.Transmission.{chunk_fault, fits_read, fits_failure, read_as, total};
 
 use crate::spans::{bytes_in, content_span, is_inside};
 use crate::statuses::status_fault;
 use nbd_state::{Asked, Exchange, Span, State};
 use nbd_wire::flags::has;
-use nbd_wire::{WireFault, chunks, command_flags, commands, content_of, failure_of};
+use nbd_wire::{WireFault, chunks, command_flags, commands, content_of, failure_of, read_as};
 
 /// Why a whole chunk may not stand in the reply to its request.
 pub(crate) fn chunk_fault(
@@ -35,7 +35,7 @@ pub(crate) fn chunk_fault(
     ensures { (core : Core) (export : Exporting) (e : Operation) (cookie : ℕ) → Shows state.now core →
         e.contexts ≡ in_force core → IsShown export e exchange.now → is_finished e ≡ false →
         result ≡ chunk_fault (kind == chunks.NONE) export e
-        (with_reply e (Chunk flags kind cookie payload.now)) flags kind payload.now }
+        (with_reply e (Chunk flags kind cookie payload.now)) flags (read_as core.profile kind) payload.now }
 {
     if kind == chunks::BLOCK_STATUS {
         return status_fault(state, flags, payload, exchange);
@@ -47,7 +47,7 @@ pub(crate) fn chunk_fault(
     if let Some(content) = content_of(kind, payload) {
         return content_fault(state, content_span(&content), done, exchange);
     }
-    let Some(failure) = failure_of(kind, payload) else {
+    let Some(failure) = failure_of(read_as(state.profile, kind), payload) else {
         return Some(WireFault::BadChunk);
     };
     if fits_failure(failure.offset, &exchange.asked) {

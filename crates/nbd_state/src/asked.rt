@@ -29,7 +29,8 @@ pub struct Asked {
     pub outcome: Outcome,
     /// Whether a client should send it to this export.
     pub proper: bool,
-    /// Whether its range breaks the block sizes that the client has to keep (proto.md, "Size constraints").
+    /// Whether its type is known and has a range that breaks the block sizes in force (proto.md, "Size constraints"), in
+    /// both profiles; only `Wide` counts it as improper for that.
     pub outside: bool,
     pub cookie: u64,
     /// Where its range begins, in bytes from the export's start.

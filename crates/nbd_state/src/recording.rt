@@ -332,7 +332,7 @@ fn outcome_after(before: Outcome, ends: bool, failed: bool) -> Outcome
 fn is_error_chunk(kind: u16) -> bool
     ensures { result ≡ is_error_chunk kind }
 {
-    kind == chunks::ERROR || kind == chunks::ERROR_OFFSET
+    kind >= chunks::FIRST_ERROR
 }
 
 // The bytes of a simple reply as a piece, unless there are none.

@@ -10,7 +10,7 @@ use nbd_wire::{Profile, RequestHead, Sizes, commands, sizes_for};
 const LISTED: u64 = 10;
 
 impl Story {
-    // The block sizes that the client has to keep, if there are some; the profile Base follows none.
+    // The block sizes that the client has to keep, if there are some; in Base no request counts as improper by them.
     fn sizes(&self) -> Option<Sizes> {
         match self.profile {
             Profile::Base => None,

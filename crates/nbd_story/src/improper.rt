@@ -10,7 +10,9 @@ use crate::text::Text;
 use crate::told::{Form, Told};
 use nbd_state::{ends_by, has_range};
 use nbd_wire::flags::{has, has_only};
-use nbd_wire::{Part, Profile, RequestHead, chunks, command_flags, commands, transmission};
+use nbd_wire::{
+    Part, Profile, RequestHead, chunks, command_flags, commands, read_as, transmission,
+};
 
 /// Requests of these types.
 #[derive(Clone, Copy)]
@@ -193,7 +195,8 @@ impl Text {
 
 /// Why a chunk has not the form of its type.
 pub fn chunk_reason(told: &Told, story: &Story) -> &'static str {
-    match told.kind {
+    let kind = read_as(story.profile, told.kind);
+    match kind {
         chunks::NONE if told.payload > 0 => "a chunk of type NONE has no payload",
         chunks::NONE => "a chunk of type NONE ends its reply, so it has DONE",
         chunks::OFFSET_DATA if told.payload < 8 =>
@@ -203,7 +206,9 @@ pub fn chunk_reason(told: &Told, story: &Story) -> &'static str {
             "the payload of a hole has 12 bytes, an offset and a size",
         chunks::OFFSET_HOLE => "its hole has size 0",
         chunks::BLOCK_STATUS if story.profile == Profile::Wide => status_form(told.payload, story),
-        chunks::ERROR | chunks::ERROR_OFFSET => failure_reason(told.kind, story.behind(told)),
+        chunks::ERROR | chunks::ERROR_OFFSET => failure_reason(kind, story.behind(told)),
+        _ if kind >= chunks::FIRST_ERROR =>
+            "its type has bit 15, and of these the profile base knows ERROR and ERROR_OFFSET alone (wide knows each)",
         _ => "its type is none of NONE, OFFSET_DATA, OFFSET_HOLE, ERROR and ERROR_OFFSET",
     }
 }

@@ -4,9 +4,9 @@ use crate::requests::range;
 use crate::story::Story;
 use crate::told::{Form, NO_MESSAGE, Told};
 use nbd_wire::{
-    Content, Part, RequestHead, Side, SimpleHead, answer_head, bytes_in, choice_head, chunk_head,
-    client_flags_head, commands, content_of, export_head, failure_of, greeting_head, head_lengths,
-    options, request_head, simple_head,
+    Content, Part, Profile, RequestHead, Side, SimpleHead, answer_head, bytes_in, choice_head,
+    chunk_head, client_flags_head, commands, content_of, export_head, failure_of, greeting_head,
+    head_lengths, options, read_as, request_head, simple_head,
 };
 
 impl Story {
@@ -52,7 +52,7 @@ impl Story {
     fn reply(&self, bytes: &[u8]) -> Told {
         match simple_head(bytes_in(bytes, 0, head_lengths::SIMPLE)) {
             Some(head) => self.simple(head),
-            None => chunk(bytes),
+            None => chunk(self.profile, bytes),
         }
     }
 
@@ -145,7 +145,7 @@ fn answer(bytes: &[u8]) -> Told {
     told
 }
 
-fn chunk(bytes: &[u8]) -> Told {
+fn chunk(profile: Profile, bytes: &[u8]) -> Told {
     let Some(head) = chunk_head(bytes_in(bytes, 0, head_lengths::CHUNK)) else {
         return NO_MESSAGE;
     };
@@ -157,7 +157,7 @@ fn chunk(bytes: &[u8]) -> Told {
     if let Some(content) = content_of(head.kind, payload) {
         told.part = part_of(content);
     }
-    if let Some(failure) = failure_of(head.kind, payload) {
+    if let Some(failure) = failure_of(read_as(profile, head.kind), payload) {
         told.error = failure.error;
         told.part.offset = failure.offset.unwrap_or(0);
     }

@@ -201,7 +201,7 @@ impl Story {
 
     /// Whether what each message of a request's reply brings is served by itself: of a READ, in the profile `Wide`.
     pub fn serves_by_chunk(&self, request: &Request) -> bool {
-        self.profile == Profile::Wide && request.head.command == commands::READ
+        self.profile.serves_by_chunk(request.head.command)
     }
 
     /// Whether a request came whole behind the first byte of a READ's reply and before its last one. Without that the profile `Wide`

@@ -109,6 +109,7 @@ ChunksAreLiteral =
     × (chunks.BLOCK_STATUS ≡ 5)
     × (chunks.ERROR ≡ 0x8001)
     × (chunks.ERROR_OFFSET ≡ 0x8002)
+    × (chunks.FIRST_ERROR ≡ 0x8000)
     × (chunks.DONE ≡ 1)
 
 -- flags of the statuses of base:allocation (proto.md, "Metadata querying")

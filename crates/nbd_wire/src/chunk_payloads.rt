@@ -9,11 +9,12 @@ ghost use Rattle.nbd_wire.specs.codec.Contents.{extent_of, piece_of};
 ghost use Rattle.nbd_wire.specs.protocol.Contexts.{Status};
 ghost use Rattle.nbd_wire.specs.protocol.Forms.{HasContentForm, HasFailureForm, HasStatusForm};
 ghost use Rattle.nbd_wire.specs.protocol.Payloads.{content_of, extents_of, failure_of, has_empty, status_of};
+ghost use Rattle.nbd_wire.specs.protocol.Transmission.{read_as};
 ghost use Rattle.nbd_wire.specs.codec.Reads.{Reads, ReadsAs};
 
-use crate::chunks::{ERROR, ERROR_OFFSET, OFFSET_DATA, OFFSET_HOLE};
+use crate::chunks::{ERROR, ERROR_OFFSET, FIRST_ERROR, OFFSET_DATA, OFFSET_HOLE};
 use crate::numbers::{u16_at, u32_at, u64_at};
-use crate::{Content, Extent, Failure};
+use crate::{Content, Extent, Failure, Profile};
 
 /// Where an OFFSET_DATA chunk's data begin, in bytes; they are not empty.
 const DATA: usize = 8;
@@ -66,6 +67,17 @@ fn hole_of(bytes: &[u8]) -> Option<Content<'_>>
         offset: u64_at(bytes, 0),
         size,
     })
+}
+
+/// The type as which a session of this profile reads a chunk: in `Wide` one of an error that is not known says what an ERROR
+/// says (proto.md, "Structured reply types").
+pub fn read_as(profile: Profile, kind: u16) -> u16
+    ensures { result ≡ read_as profile kind }
+{
+    match profile {
+        Profile::Wide if kind >= FIRST_ERROR && kind != ERROR_OFFSET => ERROR,
+        _ => kind,
+    }
 }
 
 /// The error in an error chunk's payload. The message after it is not read, nor are bytes after

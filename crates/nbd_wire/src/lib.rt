@@ -36,7 +36,7 @@ pub mod states;
 pub mod transmission;
 
 pub use bytes::Bytes;
-pub use chunk_payloads::{content_of, failure_of, first_extent, status_of};
+pub use chunk_payloads::{content_of, failure_of, first_extent, read_as, status_of};
 pub use encoding::append;
 pub use entry::{Entry, Part};
 pub use fault::WireFault;

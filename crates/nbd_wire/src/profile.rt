@@ -1,10 +1,31 @@
 //! The profiles of the protocol that a session can be held to.
 
+ghost use Rattle.std.specs.Prelude.{◌≡◌, IsTrue};
+ghost use Rattle.nbd_wire.specs.declared.commands.TheConstants as commands;
+ghost use Rattle.nbd_wire.specs.protocol.Operations.{is_chunked};
+
+use crate::commands::READ;
+
 /// A profile of the protocol.
 #[derive(Clone, Copy, Debug, PartialEq, Eq, Drop)]
 pub enum Profile {
     /// What docs/PROFILE.md says.
     Base,
-    /// Base, with the negotiation of metadata contexts, block sizes, and READs that are served by chunk.
+    /// Base, with the negotiation of metadata contexts, block sizes, READs that are served by chunk, and error chunks of unknown
+    /// types.
     Wide,
+}
+
+impl Profile {
+    /// Whether requests of this type may be served message by message, as their reply is sent: READs in `Wide` (this project's
+    /// choice). Every other is served whole before its reply begins.
+    pub fn serves_by_chunk(self, command: u16) -> bool
+        ensures is { result ≡ is_chunked self command }
+        ensures read { IsTrue result → command ≡ commands.READ }
+    {
+        match self {
+            Profile::Base => false,
+            Profile::Wide => command == READ,
+        }
+    }
 }

@@ -5,7 +5,7 @@ use Rattle.nbd_wire.specs.protocol.Statuses.{tells_all}
 use Rattle.nbd_wire.specs.protocol.Decisions.{answer}
 use Rattle.nbd_wire.specs.protocol.Negotiation.{answer_fault, answer_head_fault, client_flags_fault, greeting_fault, sets_more, export_fault, ack_fault, abort_fault, answers_option, is_followed, info_fault, success_fault, is_good_info, is_bad_payload, payload_fault, is_on_contexts, earlier_to, is_good_context, is_wide, answer_last_fault}
 use Rattle.nbd_wire.specs.protocol.Tests.{fault_if}
-use Rattle.nbd_wire.specs.protocol.Transmission.{cookie_fault, request_fault, is_none_yet, chunk_fault, content_fault, done_fault, finish_fault, fits_failure, fits_read, is_apart_from, is_inside, is_no_piece, total, lacks_status, fits_status, status_if, fits_range}
+use Rattle.nbd_wire.specs.protocol.Transmission.{cookie_fault, request_fault, is_none_yet, chunk_fault, content_fault, done_fault, finish_fault, fits_failure, fits_read, is_apart_from, is_inside, is_no_piece, total, lacks_status, fits_status, status_if, fits_range, read_as}
 use Rattle.nbd_wire.specs.declared.message.Message.TheVariants.{Chunk, Simple}
 use Rattle.std.proofs.Common.{◌≡◌, ◌≢◌, ℕ, ◌<◌, ◌≤◌, ◌⊎◌, ◌+◌, ◌==◌, List, [], ◌∷◌, length, refl, sym, ◌∙◌, ap, subst, inl, inr, Option, Some, None, Bool, true, false, not, ◌&&◌, ◌||◌, nat_le, nat_lt, eqb-true, is_some, arith, IsTrue, if◌then◌else◌}
 use Rattle.std.proofs.lemmas.Bool.{ltb-false, eq-eqb, leb-true, leb-false, ltb-true, ne_eqb}
@@ -37,6 +37,7 @@ use Rattle.nbd_wire.specs.declared.payloads.Failure.{Failure}
 use Rattle.nbd_wire.specs.declared.payloads.Piece.{Piece}
 use Rattle.nbd_wire.specs.protocol.Rules.{MayReply}
 use Rattle.nbd_wire.specs.protocol.Pieces.{is_in, piece_offset, piece_size}
+use Rattle.nbd_laws.proofs.judge.KindLemmas.{kind_content, kind_status}
 use Rattle.nbd_laws.proofs.judge.CoverLemmas.{full_total_covers, apart_from-shares}
 
 pub no_length : (xs : List ℕ) → length xs ≡ 0 → xs ≡ []
@@ -262,9 +263,9 @@ pub no_message : (ms : List Message) → is_none_yet ms ≡ true → ms ≡ []
 no_message [] e = refl
 no_message (m ∷ ms) e = absurd (cc)
 
-pub simple_allow : (structured : Bool) (export : Exporting) (e : Operation) (error cookie : ℕ) (payload : List ℕ) → MayReply structured export e (Simple error cookie payload) → IsSimpleReply structured export e error payload
+pub simple_allow : (profile : Profile) (structured : Bool) (export : Exporting) (e : Operation) (error cookie : ℕ) (payload : List ℕ) → MayReply profile structured export e (Simple error cookie payload) → IsSimpleReply structured export e error payload
 unfolding MayReply
-simple_allow structured export e error cookie payload (l, at_head, at_last) =
+simple_allow profile structured export e error cookie payload (l, at_head, at_last) =
     let h : (not (is_none_yet e.replies) ≡ false) × ((((e.command == commands.READ) && structured) || (asks_status e && (error == 0))) ≡ false) = or_false _ _ (fault_none _ SimpleForbidden None at_head).0 in
     let r : (((e.command == commands.READ) && structured) ≡ false) × ((asks_status e && (error == 0)) ≡ false) = or_false _ _ h.1 in
     let g : ((error == 0) && not (is_proper export e)) ≡ false = (fault_none _ SuccessOfImproper None at_last).0 in
@@ -334,17 +335,19 @@ fits_it e status h =
         )
 
 -- a chunk's form, and what is left to judge of its reply's end
-pub form_of : (export : Exporting) (e f : Operation) (flags kind : ℕ) (payload : List ℕ) (z : Bool) → (kind == chunks.NONE) ≡ z → chunk_fault z export e f flags kind payload ≡ None →
-    IsChunk export e flags kind payload × (done_fault (has flags chunks.DONE) export f ≡ None)
-form_of export e f flags kind payload true z h =
+pub form_of : (profile : Profile) (export : Exporting) (e f : Operation) (flags kind : ℕ) (payload : List ℕ) (z : Bool) → (kind == chunks.NONE) ≡ z → chunk_fault z export e f flags (read_as profile kind) payload ≡ None →
+    IsChunk profile export e flags kind payload × (done_fault (has flags chunks.DONE) export f ≡ None)
+form_of profile export e f flags kind payload true z h =
     let a : ((not (length payload == 0) || not (has flags chunks.DONE)) ≡ false) × (done_fault (has flags chunks.DONE) export f ≡ None) = fault_none _ BadChunk _ h in
     let b : (not (length payload == 0) ≡ false) × (not (has flags chunks.DONE) ≡ false) = or_false _ _ a.0 in
     (inl (eqb-true _ _ z, no_length payload (eqb-true _ _ (not_false _ b.0)), not_false _ b.1), a.1)
-form_of export e f flags kind payload false z h = go (content_of kind payload) (failure_of kind payload) (status_if e.contexts kind payload) refl refl refl h
+form_of profile export e f flags kind payload false z h =
+    go (content_of (read_as profile kind) payload) (failure_of (read_as profile kind) payload) (status_if e.contexts (read_as profile kind) payload) (sym (kind_content profile kind payload)) refl
+    (sym (kind_status profile e.contexts kind payload)) h
   where
-    go : (c : Option Piece) (g : Option Failure) (s : Option Status) → content_of kind payload ≡ c → failure_of kind payload ≡ g → status_if e.contexts kind payload ≡ s →
+    go : (c : Option Piece) (g : Option Failure) (s : Option Status) → content_of kind payload ≡ c → failure_of (read_as profile kind) payload ≡ g → status_if e.contexts kind payload ≡ s →
         content_fault export e c g s (done_fault (has flags chunks.DONE) export f) ≡ None →
-        IsChunk export e flags kind payload × (done_fault (has flags chunks.DONE) export f ≡ None)
+        IsChunk profile export e flags kind payload × (done_fault (has flags chunks.DONE) export f ≡ None)
     go (Some piece) g s is_c is_g is_s h = let a : (not (fits_read export e piece) ≡ false) × (_ ≡ None) = fault_none _ BadContent _ h in
         (inr (inl (piece, is_c, fits export e piece (not_false _ a.0))), a.1)
     go None (Some g) s is_c is_g is_s h = let a : (not (fits_failure e g.offset) ≡ false) × (_ ≡ None) = fault_none _ BadContent _ h in
@@ -355,11 +358,11 @@ form_of export e f flags kind payload false z h = go (content_of kind payload) (
         (inr (inr (inr (t.kind_is, (s, t.is, fits_it e s (not_false _ a.0))))), a.1)
     go None None None is_c is_g is_s h = absurd (cc)
 
-pub chunk_allow : (structured : Bool) (export : Exporting) (e : Operation) (flags kind cookie : ℕ) (payload : List ℕ) → MayReply structured export e (Chunk flags kind cookie payload) →
-    (structured ≡ true) × IsChunk export e flags kind payload × (done_fault (has flags chunks.DONE) export (with_reply e (Chunk flags kind cookie payload)) ≡ None)
+pub chunk_allow : (profile : Profile) (structured : Bool) (export : Exporting) (e : Operation) (flags kind cookie : ℕ) (payload : List ℕ) → MayReply profile structured export e (Chunk flags kind cookie payload) →
+    (structured ≡ true) × IsChunk profile export e flags kind payload × (done_fault (has flags chunks.DONE) export (with_reply e (Chunk flags kind cookie payload)) ≡ None)
 unfolding MayReply
-chunk_allow structured export e flags kind cookie payload (at_head, at_last) =
-    let form = form_of export e (with_reply e (Chunk flags kind cookie payload)) flags kind payload (kind == chunks.NONE) refl at_last in
+chunk_allow profile structured export e flags kind cookie payload (at_head, at_last) =
+    let form = form_of profile export e (with_reply e (Chunk flags kind cookie payload)) flags kind payload (kind == chunks.NONE) refl at_last in
     (not_false _ (fault_none _ ChunkForbidden None at_head).0, form.0, form.1)
 
 -- at the end of a reply that states no failure

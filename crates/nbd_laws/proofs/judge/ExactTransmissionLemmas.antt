@@ -13,7 +13,7 @@ use Rattle.nbd_wire.proofs.FieldLemmas.{chunk-cookie, chunk-flags, chunk-kind, c
 use Rattle.nbd_wire.specs.protocol.Payloads.{number_at, content_of}
 use Rattle.nbd_wire.specs.protocol.Decisions.{begins, chunk_of, chunk_to, request, simple_to}
 use Rattle.nbd_wire.specs.protocol.Tests.{fault_if}
-use Rattle.nbd_wire.specs.protocol.Transmission.{simple_length, chunk_fault, cookie_fault, request_fault, request_payload_length, simple_fault, simple_last_fault}
+use Rattle.nbd_wire.specs.protocol.Transmission.{simple_length, chunk_fault, cookie_fault, request_fault, request_payload_length, simple_fault, simple_last_fault, read_as}
 use Rattle.nbd_wire.specs.protocol.Rules.{MayReply}
 use Rattle.nbd_wire.specs.protocol.Operations.{Operation, Exporting, pieces_of}
 use Rattle.nbd_wire.specs.protocol.Pieces.{chunk_piece, piece_of, piece_size}
@@ -94,7 +94,7 @@ begins_with magic bytes long is = both (le-leb 4 (length bytes) long) (eq-eqb _ 
 pub simple_begins : (error cookie : ℕ) (payload : List ℕ) → begins SIMPLE_MAGIC (enc (Simple error cookie payload)) ≡ true
 simple_begins error cookie payload = begins_with SIMPLE_MAGIC (enc (Simple error cookie payload)) (omega (arith, simple_long error cookie payload)) (simple-magic error cookie payload)
 
-pub simple_accepts : (core : Core) (export : Exporting) (e : Operation) (error cookie : ℕ) (payload : List ℕ) → IsSendable (Simple error cookie payload) → MayReply core.structured export e (Simple error cookie payload) →
+pub simple_accepts : (core : Core) (export : Exporting) (e : Operation) (error cookie : ℕ) (payload : List ℕ) → IsSendable (Simple error cookie payload) → MayReply core.profile core.structured export e (Simple error cookie payload) →
     Accepts (simple_to export core (Some e) (enc (Simple error cookie payload))) (Simple error cookie payload)
 unfolding IsSendable MayReply
 simple_accepts core export e error cookie payload sn may =
@@ -173,7 +173,7 @@ is_chunk_of flags kind cookie payload f k c l = record {
   long = length-chunk flags kind cookie payload;
 }
 
-pub chunk_accepts : (core : Core) (export : Exporting) (e : Operation) (flags kind cookie : ℕ) (payload : List ℕ) → IsSendable (Chunk flags kind cookie payload) → MayReply core.structured export e (Chunk flags kind cookie payload) →
+pub chunk_accepts : (core : Core) (export : Exporting) (e : Operation) (flags kind cookie : ℕ) (payload : List ℕ) → IsSendable (Chunk flags kind cookie payload) → MayReply core.profile core.structured export e (Chunk flags kind cookie payload) →
     Accepts (chunk_to export core (Some e) (enc (Chunk flags kind cookie payload))) (Chunk flags kind cookie payload)
 unfolding IsSendable MayReply
 chunk_accepts core export e flags kind cookie payload sn may =
@@ -183,7 +183,7 @@ chunk_accepts core export e flags kind cookie payload sn may =
     record {
       at_head = record { long = n.long ∙ ap (λ x. 20 + x) (sym n.length_is); clean = may.0 };
       at_last = record {
-        clean = (λ i. chunk_fault (n.kind_is i == chunks.NONE) export e (with_reply e (m_is i)) (n.flags_is i) (n.kind_is i) (n.payload_is i)) ∙ may.1;
+        clean = (λ i. chunk_fault (n.kind_is i == chunks.NONE) export e (with_reply e (m_is i)) (n.flags_is i) (read_as core.profile (n.kind_is i)) (n.payload_is i)) ∙ may.1;
         is = m_is;
       };
     }

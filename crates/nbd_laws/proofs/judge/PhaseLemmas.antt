@@ -116,10 +116,11 @@ pub record IsAppended (old now : Core) : Type 0 where
   pub more : List Operation
   pub entries_are : now.entries ≡ old.entries ++ more
   pub structured_is : now.structured ≡ old.structured
+  pub profile_is : now.profile ≡ old.profile
 
 appended-requested : (b : Bool) (core : Core) (e : Operation) → IsAppended core (core_with_request b core e)
-appended-requested true core e = record { more = []; entries_are = sym (append-nil core.entries); structured_is = refl }
-appended-requested false core e = record { more = e ∷ []; entries_are = refl; structured_is = refl }
+appended-requested true core e = record { more = []; entries_are = sym (append-nil core.entries); structured_is = refl; profile_is = refl }
+appended-requested false core e = record { more = e ∷ []; entries_are = refl; structured_is = refl; profile_is = refl }
 
 appended-complete : (core : Core) (export : Exporting) (m : Message) → (side m ≡ Server → ⊥) → MayComplete core (Transmission export) m → IsAppended core (complete core m)
 unfolding MayComplete complete
@@ -130,7 +131,7 @@ appended-complete core export m ne ok = absurd ok
 
 -- while the server is in a message, the client only adds requests
 pub Later-appended : {old now : Core} → Later Server old now → (export : Exporting) → old.phase ≡ Transmission export → IsAppended old now
-Later-appended {old} at_once export t = record { more = []; entries_are = sym (append-nil old.entries); structured_is = refl }
+Later-appended {old} at_once export t = record { more = []; entries_are = sym (append-nil old.entries); structured_is = refl; profile_is = refl }
 Later-appended {old} {now} (behind {c = c} m ne ok l) export t =
     let ok' : MayComplete c (Transmission export) m = subst (λ p. MayComplete c p m) t ok in
     let a : IsAppended c (complete c m) = appended-complete c export m ne ok' in
@@ -139,6 +140,7 @@ Later-appended {old} {now} (behind {c = c} m ne ok l) export t =
       more = a.more ++ b.more;
       entries_are = b.entries_are ∙ ap (λ es. es ++ b.more) a.entries_are ∙ append_assoc c.entries a.more b.more;
       structured_is = b.structured_is ∙ a.structured_is;
+      profile_is = b.profile_is ∙ a.profile_is;
     }
 
 -- the request that a cookie finds

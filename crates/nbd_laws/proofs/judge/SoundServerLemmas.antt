@@ -12,6 +12,7 @@ use Rattle.nbd_wire.specs.protocol.Decisions.{chunk_last_fault, begins, chunk_of
 use Rattle.nbd_wire.specs.protocol.Reading.{read_by, Whole}
 use Rattle.nbd_wire.specs.protocol.Transmission.{simple_length, chunk_head_fault, simple_fault, simple_last_fault}
 use Rattle.nbd_wire.specs.protocol.Rules.{MayReply}
+use Rattle.nbd_wire.specs.declared.profile.Profile.{Profile}
 use Rattle.nbd_wire.specs.protocol.Operations.{Operation, Exporting}
 use Rattle.nbd_wire.specs.protocol.Rules.{MayComplete, request_of_reply}
 use Rattle.nbd_wire.specs.protocol.Sendable.{IsSendable}
@@ -61,16 +62,16 @@ simple_sendable bytes e a l t =
     let lt : simple_length e (number_at 4 4 bytes) < 2 ^ 32 = simple-short e (number_at 4 4 bytes) t in
     (number_at-lt 4 4 bytes a, number_at-lt 8 8 bytes a, (omega (arith, p, lt), AreBytes-drop 16 bytes a))
 
-simple_may : (structured : Bool) (export : Exporting) (e : Operation) (bytes : List ℕ) → length bytes ≡ 16 + simple_length e (number_at 4 4 bytes) →
-    simple_fault structured (Some e) (number_at 4 4 bytes) ≡ None → simple_last_fault export (Some e) (number_at 4 4 bytes) ≡ None → MayReply structured export e (simple_of bytes)
+simple_may : (profile : Profile) (structured : Bool) (export : Exporting) (e : Operation) (bytes : List ℕ) → length bytes ≡ 16 + simple_length e (number_at 4 4 bytes) →
+    simple_fault structured (Some e) (number_at 4 4 bytes) ≡ None → simple_last_fault export (Some e) (number_at 4 4 bytes) ≡ None → MayReply profile structured export e (simple_of bytes)
 unfolding MayReply
-simple_may structured export e bytes l f g = (omega (arith, length-drop 16 bytes, l), f, g)
+simple_may profile structured export e bytes l f g = (omega (arith, length-drop 16 bytes, l), f, g)
 
 -- a reply that may complete, of a request that was found
 reply_may : (old now : Core) (m : Message) (cookie : ℕ) (e : Operation) → request_of_reply old m ≡ target cookie old.entries → IsFound old now cookie e → IsTrue (is_some (request_of_reply old m))
 reply_may old now m cookie e q f = subst (λ o. IsTrue (is_some o)) (sym (q ∙ f.was)) refl
 
-simple_complete : (old now : Core) (export : Exporting) (bytes : List ℕ) (e : Operation) → IsFound old now (number_at 8 8 bytes) e → MayReply now.structured export e (simple_of bytes) → MayComplete now (Transmission export) (simple_of bytes)
+simple_complete : (old now : Core) (export : Exporting) (bytes : List ℕ) (e : Operation) → IsFound old now (number_at 8 8 bytes) e → MayReply now.profile now.structured export e (simple_of bytes) → MayComplete now (Transmission export) (simple_of bytes)
 unfolding MayComplete
 simple_complete old now export bytes e f h = (f.k, e, f.still, f.is, h)
 
@@ -81,7 +82,7 @@ simple_sound old now export bytes (Some e) m is_o ap_ t a mg eq =
     let w : IsWhole (simple_to export now (Some e) bytes) bytes m = whole (simple_to export now (Some e) bytes) bytes m eq in
     let long : length bytes ≡ 16 + simple_length e (number_at 4 4 bytes) = w.long in
     let is : IsFound old now (number_at 8 8 bytes) e = operation_is_found old now (number_at 8 8 bytes) e ap_ is_o in
-    let may : MayReply now.structured export e (simple_of bytes) = simple_may now.structured export e bytes long w.at_head w.at_last in
+    let may : MayReply now.profile now.structured export e (simple_of bytes) = simple_may now.profile now.structured export e bytes long w.at_head w.at_last in
     subst (IsReplying old now export bytes) w.is (record {
       fit = record { encodes = simple_is bytes a (omega (arith, long)) mg; sided = refl; sendable = simple_sendable bytes e a long (tidy_entry is.k now.entries e t is.is); completes = simple_complete old now export bytes e is may };
       starts = reply_may old now (simple_of bytes) (number_at 8 8 bytes) e refl is;
@@ -102,11 +103,11 @@ chunk_sendable bytes a l =
     let lt : number_at 16 4 bytes < 2 ^ 32 = number_at-lt 16 4 bytes a in
     (number_at-lt 4 2 bytes a, number_at-lt 6 2 bytes a, number_at-lt 8 8 bytes a, (omega (arith, length-drop 20 bytes, l, lt), AreBytes-drop 20 bytes a))
 
-chunk_may : (structured : Bool) (export : Exporting) (e : Operation) (bytes : List ℕ) → chunk_head_fault structured (Some e) ≡ None → chunk_last_fault export (Some e) bytes ≡ None → MayReply structured export e (chunk_of bytes)
+chunk_may : (profile : Profile) (structured : Bool) (export : Exporting) (e : Operation) (bytes : List ℕ) → chunk_head_fault structured (Some e) ≡ None → chunk_last_fault profile export (Some e) bytes ≡ None → MayReply profile structured export e (chunk_of bytes)
 unfolding MayReply
-chunk_may structured export e bytes f g = (f, g)
+chunk_may profile structured export e bytes f g = (f, g)
 
-chunk_complete : (old now : Core) (export : Exporting) (bytes : List ℕ) (e : Operation) → IsFound old now (number_at 8 8 bytes) e → MayReply now.structured export e (chunk_of bytes) → MayComplete now (Transmission export) (chunk_of bytes)
+chunk_complete : (old now : Core) (export : Exporting) (bytes : List ℕ) (e : Operation) → IsFound old now (number_at 8 8 bytes) e → MayReply now.profile now.structured export e (chunk_of bytes) → MayComplete now (Transmission export) (chunk_of bytes)
 unfolding MayComplete
 chunk_complete old now export bytes e f h = (f.k, e, f.still, f.is, h)
 
@@ -116,7 +117,7 @@ chunk_sound old now export bytes None m is_o ap_ t a mg eq = absurd (let q : Som
 chunk_sound old now export bytes (Some e) m is_o ap_ t a mg eq =
     let w : IsWhole (chunk_to export now (Some e) bytes) bytes m = whole (chunk_to export now (Some e) bytes) bytes m eq in
     let is : IsFound old now (number_at 8 8 bytes) e = operation_is_found old now (number_at 8 8 bytes) e ap_ is_o in
-    let may : MayReply now.structured export e (chunk_of bytes) = chunk_may now.structured export e bytes w.at_head w.at_last in
+    let may : MayReply now.profile now.structured export e (chunk_of bytes) = chunk_may now.profile now.structured export e bytes w.at_head w.at_last in
     subst (IsReplying old now export bytes) w.is (record {
       fit = record { encodes = chunk_is bytes a w.long mg; sided = refl; sendable = chunk_sendable bytes a w.long; completes = chunk_complete old now export bytes e is may };
       starts = reply_may old now (chunk_of bytes) (number_at 8 8 bytes) e refl is;

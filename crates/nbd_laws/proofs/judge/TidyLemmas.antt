@@ -1,6 +1,9 @@
 -- What holds of each request of a core that completed messages lead to.
 use Rattle.std.proofs.Common.{◌≡◌, ℕ, zero, suc, ◌<◌, ◌≤◌, ◌⊎◌, ◌+◌, ◌^◌, ◌==◌, List, [], ◌∷◌, ◌++◌, length, refl, sym, ◌∙◌, ap, subst, inl, inr, Option, Some, None, Bool, true, false, ◌&&◌, if◌then◌else◌, eqb-true, arith, append-nil, nat_le}
 use Rattle.nbd_laws.specs.Allowed.{IsChunk}
+use Rattle.nbd_wire.specs.declared.profile.Profile.{Profile}
+use Rattle.nbd_wire.specs.protocol.Transmission.{read_as}
+use Rattle.nbd_laws.proofs.judge.KindLemmas.{kind_content}
 use Rattle.nbd_wire.specs.declared.chunks.TheConstants as chunks
 use Rattle.nbd_wire.specs.declared.commands.TheConstants as commands
 use Rattle.nbd_wire.specs.declared.message.Message.{Message}
@@ -105,30 +108,30 @@ simple_more e error cookie (b ∷ bs) t none l =
     let q : p ∷ [] ≡ pieces e ++ p ∷ [] = ap (λ ms. pieces_of e.offset ms ++ p ∷ []) (sym none) in
     record { inside = subst (AreInside e.offset e.length) q ((omega arith, omega (arith, l)), tt); apart = subst AreApart q ((λ x h. refl), tt) }
 
-pub tidy_chunk : (export : Exporting) (e : Operation) (flags kind cookie : ℕ) (bytes : List ℕ) → IsTidy e → IsChunk export e flags kind bytes → IsTidy (with_reply e (Chunk flags kind cookie bytes))
-tidy_chunk export e flags kind cookie bytes t h = one_more e _ t (elim h [
+pub tidy_chunk : (profile : Profile) (export : Exporting) (e : Operation) (flags kind cookie : ℕ) (bytes : List ℕ) → IsTidy e → IsChunk profile export e flags kind bytes → IsTidy (with_reply e (Chunk flags kind cookie bytes))
+tidy_chunk profile export e flags kind cookie bytes t h = one_more e _ t (elim h [
   | inl q ↦ nothing_more e _ t (piece-none e.offset flags kind cookie bytes (subst (λ k. content_of k bytes ≡ None) (sym q.0) (none_content bytes)))
   | inr r ↦ elim r [
     | inl (piece, is, fit) ↦ (let s : piece ∷ [] ≡ piece_of e.offset (Chunk flags kind cookie bytes) = sym (piece-some e.offset flags kind cookie bytes piece is) in
         subst (IsOneMore e) s (record { inside = inside_snoc e.offset e.length (pieces e) piece t.inside fit.1 fit.2; apart = apart_snoc (pieces e) piece t.apart fit.3 }))
     | inr o ↦ elim o [
-      | inl (f, is, x) ↦ nothing_more e _ t (piece-none e.offset flags kind cookie bytes (no_content kind bytes f is))
+      | inl (f, is, x) ↦ nothing_more e _ t (piece-none e.offset flags kind cookie bytes (sym (kind_content profile kind bytes) ∙ no_content (read_as profile kind) bytes f is))
       | inr (k, x) ↦ nothing_more e _ t (piece-none e.offset flags kind cookie bytes (status_content kind bytes k))
     ]
   ]
 ])
 
-pub tidy_reply : (structured : Bool) (export : Exporting) (e : Operation) (m : Message) → IsTidy e → MayReply structured export e m → IsTidy (with_reply e m)
+pub tidy_reply : (profile : Profile) (structured : Bool) (export : Exporting) (e : Operation) (m : Message) → IsTidy e → MayReply profile structured export e m → IsTidy (with_reply e m)
 unfolding MayReply
-tidy_reply structured export e (Simple error cookie bytes) t h =
-    let s = simple_allow structured export e error cookie bytes h in
+tidy_reply profile structured export e (Simple error cookie bytes) t h =
+    let s = simple_allow profile structured export e error cookie bytes h in
     one_more e _ t (simple_more e error cookie bytes t s.0 (at_most ((e.command == commands.READ) && (error == 0)) s.3))
   where
     at_most : (b : Bool) → length bytes ≡ (if b then e.length else 0) → length bytes ≤ e.length
     at_most true q = omega (arith, q)
     at_most false q = omega (arith, q)
-tidy_reply structured export e (Chunk flags kind cookie bytes) t h = tidy_chunk export e flags kind cookie bytes t (chunk_allow structured export e flags kind cookie bytes h).1
-tidy_reply structured export e m t h = absurd h
+tidy_reply profile structured export e (Chunk flags kind cookie bytes) t h = tidy_chunk profile export e flags kind cookie bytes t (chunk_allow profile structured export e flags kind cookie bytes h).1
+tidy_reply profile structured export e m t h = absurd h
 
 tidy_replied : (core : Core) (m : Message) (k : ℕ) (e : Operation) (o : Option ℕ) → o ≡ Some k → AreTidy core.entries → operation k core.entries ≡ Some e → IsTidy (with_reply e m) → AreTidy (reply_to o core m).entries
 tidy_replied core m k e (Some j) q t is r = let same : k ≡ j = cc in subst (λ j. AreTidy (with_reply_at j m core.entries)) same (tidy_answered k m core.entries e t is r)
@@ -147,9 +150,9 @@ tidy_complete core phase (Answer option kind bytes) t sn ok = t
 tidy_complete core phase (Exported size flags padded) t sn ok = t
 tidy_complete core phase (Request flags command cookie offset len bytes) t sn ok = tidy_requested (command == commands.DISC) core _ t (record { inside = tt; apart = tt; short = sn.4; carries = sn.5 })
 tidy_complete core (Transmission export) (Simple error cookie bytes) t sn (k, e, at, is, h) =
-    tidy_replied core (Simple error cookie bytes) k e (target cookie core.entries) at t is (tidy_reply core.structured export e (Simple error cookie bytes) (tidy_entry k core.entries e t is) h)
+    tidy_replied core (Simple error cookie bytes) k e (target cookie core.entries) at t is (tidy_reply core.profile core.structured export e (Simple error cookie bytes) (tidy_entry k core.entries e t is) h)
 tidy_complete core (Transmission export) (Chunk flags kind cookie bytes) t sn (k, e, at, is, h) =
-    tidy_replied core (Chunk flags kind cookie bytes) k e (target cookie core.entries) at t is (tidy_reply core.structured export e (Chunk flags kind cookie bytes) (tidy_entry k core.entries e t is) h)
+    tidy_replied core (Chunk flags kind cookie bytes) k e (target cookie core.entries) at t is (tidy_reply core.profile core.structured export e (Chunk flags kind cookie bytes) (tidy_entry k core.entries e t is) h)
 tidy_complete core phase m t sn ok = absurd ok
 
 pub tidy : {core : Core} → IsReached core → AreTidy core.entries

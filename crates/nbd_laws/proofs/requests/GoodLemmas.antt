@@ -3,6 +3,9 @@ use Rattle.std.proofs.Common.{◌≡◌, Option, ℕ, zero, suc, ◌<◌, ◌≤
 use Rattle.std.proofs.lemmas.Bool.{leb-true, ltb-true}
 use Rattle.nbd_laws.proofs.judge.AllowLemmas.{chunk_allow, finish_allow, simple_allow, total_covers}
 use Rattle.nbd_laws.specs.Allowed.{IsChunk}
+use Rattle.nbd_laws.proofs.judge.KindLemmas.{kind_content}
+use Rattle.nbd_wire.specs.declared.profile.Profile.{Profile}
+use Rattle.nbd_wire.specs.protocol.Transmission.{read_as}
 use Rattle.nbd_wire.specs.protocol.Transmission.{done_fault, simple_length}
 use Rattle.nbd_wire.specs.declared.chunks.TheConstants as chunks
 use Rattle.nbd_wire.specs.declared.command_flags.TheConstants as command_flags
@@ -133,8 +136,8 @@ pub record Keeps (export : Exporting) (e : Operation) (ps : List Piece) : Type 0
 pub and_both : {a b : Bool} → IsTrue a → IsTrue b → IsTrue (a && b)
 and_both {a} {b} p q = ap (λ x. x && b) p ∙ q
 
-pub kept_chunk : (export : Exporting) (e : Operation) (flags kind cookie : ℕ) (payload : List ℕ) → IsGood export e → IsChunk export e flags kind payload → Keeps export e (pieces (with_reply e (Chunk flags kind cookie payload)))
-kept_chunk export e flags kind cookie payload g h = elim h [
+pub kept_chunk : (profile : Profile) (export : Exporting) (e : Operation) (flags kind cookie : ℕ) (payload : List ℕ) → IsGood export e → IsChunk profile export e flags kind payload → Keeps export e (pieces (with_reply e (Chunk flags kind cookie payload)))
+kept_chunk profile export e flags kind cookie payload g h = elim h [
   | inl q ↦ same (no_piece e flags kind cookie payload (none_content kind payload q.0))
   | inr r ↦ elim r [
     | inl (piece, is, fit) ↦ (let s : pieces e ++ piece ∷ [] ≡ pieces (with_reply e (Chunk flags kind cookie payload)) = sym (one_piece e flags kind cookie payload piece is) in
@@ -145,7 +148,7 @@ kept_chunk export e flags kind cookie payload g h = elim h [
           single = λ p d. subst (λ l. length (l ++ piece ∷ []) ≤ 1) (sym (fit.4 (and_both p d))) (le_refl 1);
         }))
     | inr o ↦ elim o [
-      | inl (f, is, x) ↦ same (no_piece e flags kind cookie payload (no_content kind payload f is))
+      | inl (f, is, x) ↦ same (no_piece e flags kind cookie payload (sym (kind_content profile kind payload) ∙ no_content (read_as profile kind) payload f is))
       | inr (k, x) ↦ same (no_piece e flags kind cookie payload (status_content kind payload k))
     ]
   ]
@@ -155,11 +158,11 @@ kept_chunk export e flags kind cookie payload g h = elim h [
     same s = subst (Keeps export e) (sym s) (record { inside = g.inside; apart = g.apart; reads = g.reads; single = g.single })
 
 -- a chunk
-pub good_chunk : (structured : Bool) (export : Exporting) (e : Operation) (flags kind cookie : ℕ) (payload : List ℕ) → IsGood export e → is_finished e ≡ false → MayReply structured export e (Chunk flags kind cookie payload) →
+pub good_chunk : (profile : Profile) (structured : Bool) (export : Exporting) (e : Operation) (flags kind cookie : ℕ) (payload : List ℕ) → IsGood export e → is_finished e ≡ false → MayReply profile structured export e (Chunk flags kind cookie payload) →
     IsGood export (with_reply e (Chunk flags kind cookie payload))
 unfolding ends_reply is_proper
-good_chunk structured export e flags kind cookie payload g not_true_is_false h =
-    let k : Keeps export e (pieces (with_reply e (Chunk flags kind cookie payload))) = kept_chunk export e flags kind cookie payload g (chunk_allow structured export e flags kind cookie payload h).1 in
+good_chunk profile structured export e flags kind cookie payload g not_true_is_false h =
+    let k : Keeps export e (pieces (with_reply e (Chunk flags kind cookie payload))) = kept_chunk profile export e flags kind cookie payload g (chunk_allow profile structured export e flags kind cookie payload h).1 in
     record { carried = g.carried; inside = k.inside; apart = k.apart; reads = k.reads; single = k.single; success = λ s. (finish k s).0; covered = λ s. (finish k s).1 }
   where
     finish : Keeps export e (pieces (with_reply e (Chunk flags kind cookie payload))) → outcome (with_reply e (Chunk flags kind cookie payload)) ≡ Success →
@@ -168,7 +171,7 @@ good_chunk structured export e flags kind cookie payload g not_true_is_false h =
         let w : Succeeds (with_reply e (Chunk flags kind cookie payload)) = succeeds (with_reply e (Chunk flags kind cookie payload)) s in
         let f : Operation = with_reply e (Chunk flags kind cookie payload) in
         let done : has flags chunks.DONE ≡ true = any-last ends_reply e.replies (Chunk flags kind cookie payload) not_true_is_false w.finished in
-        let r = finish_allow export f w.unfailed (subst (λ b. done_fault b export f ≡ None) done (chunk_allow structured export e flags kind cookie payload h).2) in
+        let r = finish_allow export f w.unfailed (subst (λ b. done_fault b export f ≡ None) done (chunk_allow profile structured export e flags kind cookie payload h).2) in
         (r.0, λ c. total_covers f k.inside k.apart (r.1 c))
 
 -- a request with one simple reply
@@ -221,10 +224,10 @@ simple_covers e (b ∷ bytes) l x i = go (holds (Bytes e.offset (b ∷ bytes)) x
     go true q = refl
     go false q = absurd (cc)
 
-pub good_simple : (structured : Bool) (export : Exporting) (e : Operation) (error cookie : ℕ) (payload : List ℕ) → IsGood export e → MayReply structured export e (Simple error cookie payload) → IsGood export (with_reply e (Simple error cookie payload))
+pub good_simple : (profile : Profile) (structured : Bool) (export : Exporting) (e : Operation) (error cookie : ℕ) (payload : List ℕ) → IsGood export e → MayReply profile structured export e (Simple error cookie payload) → IsGood export (with_reply e (Simple error cookie payload))
 unfolding piece_of is_proper
-good_simple structured export e error cookie payload g may =
-    let h = simple_allow structured export e error cookie payload may in
+good_simple profile structured export e error cookie payload g may =
+    let h = simple_allow profile structured export e error cookie payload may in
     let k : Keeps export e (simple_piece e.offset payload ++ []) = simple_keeps export e payload
     (let m : simple_length e error ≤ e.length = simple_most e error in let q : length payload ≡ simple_length e error = h.3 in omega arith)
     (λ n. h.3 ∙ simple_none e error n) in

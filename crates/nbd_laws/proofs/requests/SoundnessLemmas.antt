@@ -15,11 +15,11 @@ use Rattle.nbd_wire.specs.declared.payloads.Info.{Info}
 use Rattle.nbd_wire.specs.declared.payloads.Info.TheVariants.{Export, BlockSize, Other}
 use Rattle.nbd_wire.specs.protocol.Marks.{Item, Byte, Starts, Completes, Serves}
 use Rattle.nbd_wire.specs.declared.profile.Profile.{Profile}
-use Rattle.nbd_wire.specs.protocol.Sizes.{sizes_for, sizes_kept}
+use Rattle.nbd_wire.specs.protocol.Sizes.{breaks_sizes, sizes_for, sizes_kept}
 use Rattle.nbd_wire.specs.protocol.Options.{ack_phase, reply_phase, choice_phase, last_info, next_phase}
 use Rattle.nbd_wire.specs.protocol.Payloads.{info_of}
 use Rattle.nbd_wire.specs.protocol.Reports.{Asked, operations_of, export_of, known_count, known_from, known_if, first_known, report, asked_of, asked_list}
-use Rattle.nbd_wire.specs.protocol.Operations.{Covers, Operation, Exporting, Outcome, Success, Pending, any, ends_reply, has_failed, has_range, is_failing, is_finished, is_proper, outcome, pieces, pieces_of}
+use Rattle.nbd_wire.specs.protocol.Operations.{Covers, Operation, Exporting, Outcome, Success, Pending, any, ends_reply, has_failed, has_range, is_failing, is_finished, is_known, is_outside, is_proper, outcome, pieces, pieces_of}
 use Rattle.nbd_wire.specs.protocol.Flags.{has}
 use Rattle.nbd_wire.specs.protocol.Operations as requests
 use Rattle.nbd_wire.specs.protocol.Flags as requests_flags
@@ -69,10 +69,10 @@ good_transmitted : (core : Core) (export : Exporting) (m : Message) → InTransm
 unfolding complete
 good_transmitted core export m (asks flags command cookie offset len p h) sn g = good_requested (command == commands.DISC) core export _ g (good_new export flags command cookie offset len p (in_force core) (sizes_for core.structured command (sizes_kept core.sizing)) sn)
 good_transmitted core export m (replies error cookie p (k, e, found, is, h)) sn g =
-    good_reply_to core export cookie (Simple error cookie p) (target cookie core.entries) g k e found is (good_simple core.structured export e error cookie p (good_entry export k core.entries e g is) h)
+    good_reply_to core export cookie (Simple error cookie p) (target cookie core.entries) g k e found is (good_simple core.profile core.structured export e error cookie p (good_entry export k core.entries e g is) h)
 good_transmitted core export m (gives flags kind cookie p (k, e, found, is, h)) sn g =
     good_reply_to core export cookie (Chunk flags kind cookie p) (target cookie core.entries) g k e found is
-    (good_chunk core.structured export e flags kind cookie p (good_entry export k core.entries e g is) (open_target core cookie k e found is) h)
+    (good_chunk core.profile core.structured export e flags kind cookie p (good_entry export k core.entries e g is) (open_target core cookie k e found is) h)
 
 -- after an answer to an option
 module _ (asked : ℕ) (asked_with : List ℕ) (info : Option Exporting) (es : List Operation) (g : InPhase (Answering asked asked_with info) es) where
@@ -214,6 +214,11 @@ proper_range export e h r =
     second true b e h = e
     second false b e h = absurd (cc)
 
+outside_range : (e : Operation) → IsTrue (is_outside e) → IsTrue (has_range e.command)
+outside_range e o =
+    let known_range = both_true (is_known e && has_range e.command) (breaks_sizes e.sizes e.command e.offset e.length) o in
+    (both_true (is_known e) (has_range e.command) known_range.0).1
+
 pub reports_are_sound : ReportsAreSound
 unfolding report
 reports_are_sound profile items run =
@@ -240,6 +245,7 @@ reports_are_sound profile items run =
       ended = λ n h. after_start n (sooner.ended n h);
       carried = g.carried;
       success = g.success;
+      ranged = outside_range e;
       inside = λ p r. proper_range export e p r;
       reads = λ n m. told_none n m (told_of export e);
       statuses = λ c n. told_no_status c n (told_of export e);

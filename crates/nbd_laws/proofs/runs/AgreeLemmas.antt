@@ -2,13 +2,14 @@
 use Rattle.std.proofs.Common.{◌≡◌, ℕ, ◌==◌, Bool, true, false, List, [], ◌∷◌, length, refl, sym, ◌∙◌, ap, subst, Option, Some, All, not, ◌&&◌, if◌then◌else◌}
 use Rattle.std.proofs.lemmas.List.Elements.{All-head, All-tail}
 use Rattle.std.proofs.Common.{Result, Ok, Err, Option, Some, inl, inr, nat_lt, drop, ◌+◌, append_assoc}
-use Rattle.std.proofs.lemmas.Bool.{ltb-false}
+use Rattle.std.proofs.lemmas.Bool.{eq-eqb, eqb-false, ltb-false}
+use Rattle.std.proofs.Common.{arith, ◌≢◌, ◌≤◌}
 use Rattle.std.proofs.Common.{◌++◌}
 use Rattle.std.proofs.Common.{◌<◌}
 use Rattle.nbd_laws.specs.Profiles.{DuesAgree, RunsAgree}
 use Rattle.nbd_wire.specs.protocol.Places.{IsUnderWayOf}
 use Rattle.nbd_wire.specs.protocol.Captures.{ArePairs}
-use Rattle.nbd_wire.specs.protocol.Decisions.{answer, answer_of, begins, operation_of, reply_by}
+use Rattle.nbd_wire.specs.protocol.Decisions.{answer, answer_of, begins, chunk_last_fault, chunk_of, chunk_to, operation_of, reply_by}
 use Rattle.nbd_wire.specs.protocol.Negotiation.{ack_fault, answer_fault, info_fault, is_wide, answers_option, earlier_to, is_bad_payload, is_followed, is_good_context, is_good_info, is_on_contexts, payload_fault, success_fault}
 use Rattle.nbd_wire.specs.protocol.Reading.{Both, by_tests, judge_in, last_reading, read_by, reading_by_decision, staged_reading_by, request_unless, Bad, Reader, More, Reading, Rest, Whole, fresh_of, get, old_by, on_ok, reads, rest_with, settle, step}
 use Rattle.nbd_wire.specs.protocol.Tests.{fault_if}
@@ -52,14 +53,20 @@ use Rattle.nbd_wire.specs.declared.options.TheConstants as options
 use Rattle.nbd_wire.specs.declared.profile.Profile.{Profile}
 use Rattle.nbd_wire.specs.declared.profile.Profile.TheVariants.{Base, Wide}
 use Rattle.nbd_wire.specs.protocol.Marks.{Item, Byte, Starts, Completes, Serves, completed_messages}
-use Rattle.nbd_wire.specs.protocol.Operations.{Exporting}
+use Rattle.nbd_wire.specs.protocol.Operations.{Exporting, Operation, is_error_chunk}
+use Rattle.nbd_wire.specs.protocol.Transmission.{chunk_fault, chunk_head_fault, read_as}
+use Rattle.nbd_wire.specs.declared.chunks.TheConstants as chunks
+use Rattle.nbd_laws.specs.Allowed.{IsChunk}
+use Rattle.nbd_laws.proofs.judge.AllowLemmas.{chunk_allow}
+use Rattle.nbd_laws.proofs.judge.KindLemmas.{error_content, no_other, read_kind}
+use Rattle.nbd_laws.proofs.requests.GoodLemmas.{failure_kind}
 use Rattle.nbd_wire.specs.declared.answers.TheConstants as answers
 use Rattle.nbd_wire.specs.declared.sizes.Sizes.{Sizes}
 use Rattle.nbd_wire.specs.protocol.Sizes.{are_allowed, sizes_of}
 use Rattle.nbd_wire.specs.protocol.Options.{is_error}
 use Rattle.nbd_wire.specs.protocol.Payloads.{info_of}
-use Rattle.nbd_wire.specs.protocol.Rules.{IsRunOf, MayComplete, MayStartIn, Obeys, complete}
-use Rattle.nbd_wire.specs.protocol.States.{Core, Phase, Greet, Flags, Choosing, Naming, Aborting, Answering, Ended, Transmission, start_of}
+use Rattle.nbd_wire.specs.protocol.Rules.{IsRunOf, MayComplete, MayReply, MayStartIn, Obeys, complete}
+use Rattle.nbd_wire.specs.protocol.States.{Core, Phase, Greet, Flags, Choosing, Naming, Aborting, Answering, Ended, Transmission, start_of, with_reply}
 use Rattle.nbd_laws.specs.Profiles.{AnnouncesAllowed, BaseIsWide, IsParting, NothingFrom, NothingParts, PlacesAgree, UnderWayAgrees, with_profile}
 use Rattle.nbd_laws.proofs.runs.ProfileLemmas.{complete_with}
 
@@ -113,9 +120,37 @@ last_wide profile earlier proper kind payload fair e =
         let w = info_wide profile (info_of payload) (fair (eqb-true kind answers.INFO q)) (not_false _ (and_false (kind == answers.INFO) _ k.0 q)) in
         (λ i. g.0 i || (not (w i) || k.1 i))
 
+-- in Base a chunk is of a type that Wide reads as it is
+known_kind : (export : Exporting) (e : Operation) (flags kind : ℕ) (payload : List ℕ) → IsChunk Base export e flags kind payload → read_as Wide kind ≡ kind
+known_kind export e flags kind payload h = elim (read_kind Wide kind) [
+  | inl q ↦ q
+  | inr (x, q) ↦ elim h [
+    | inl n ↦ absurd (other x chunks.NONE (omega arith) n.0)
+    | inr r ↦ elim r [
+      | inl (piece, is, fit) ↦ absurd (let z : Some piece ≡ None = sym is ∙ error_content kind payload x in (cc))
+      | inr o ↦ elim o [
+        | inl (f, is, y) ↦ elim (failure_kind kind payload f is) [ inl k ↦ q ∙ sym k | inr k ↦ subst (λ k. read_as Wide k ≡ k) (sym k) refl ]
+        | inr (k, y) ↦ absurd (other x chunks.BLOCK_STATUS (omega arith) k)
+      ]
+    ]
+  ]
+]
+  where
+    other : is_error_chunk kind ≡ true → (n : ℕ) → n ≤ 5 → kind ≡ n → ⊥
+    other x n l k = (let z : true ≡ false = sym (eq-eqb kind n k) ∙ no_other kind n x l in (cc))
+
+chunk_wide : (profile : Profile) (structured : Bool) (export : Exporting) (e : Operation) (flags kind cookie : ℕ) (payload : List ℕ) → MayReply profile structured export e (Chunk flags kind cookie payload) →
+    MayReply Wide structured export e (Chunk flags kind cookie payload)
+unfolding MayReply
+chunk_wide Wide structured export e flags kind cookie payload may = may
+chunk_wide Base structured export e flags kind cookie payload may = (
+  may.0,
+  ap (λ k. chunk_fault (kind == chunks.NONE) export e (with_reply e (Chunk flags kind cookie payload)) flags k payload) (known_kind export e flags kind payload (chunk_allow Base structured export e flags kind cookie payload may).1) ∙ may.1,
+)
+
 -- what may complete may do so in Wide, but for false announcements
 may_wide : (core : Core) (phase : Phase) (m : Message) → (IsFalse m → ⊥) → MayComplete core phase m → MayComplete (with_profile Wide core) phase m
-unfolding MayComplete
+unfolding MayComplete MayReply
 may_wide core Greet (Greeting flags) fair ok = ok
 may_wide core Flags (ClientFlags flags) fair ok = ok
 may_wide core Choosing (Choice id payload) fair ok = ok
@@ -135,7 +170,7 @@ may_wide core (Answering asked given info) (Answer option kind payload) fair (at
     last false e = last_wide core.profile _ _ kind payload (λ k sizes h e. fair (k, (sizes, h, e))) e
 may_wide core (Transmission export) (Request flags command cookie offset len payload) fair ok = ok
 may_wide core (Transmission export) (Simple error cookie payload) fair ok = ok
-may_wide core (Transmission export) (Chunk flags kind cookie payload) fair ok = ok
+may_wide core (Transmission export) (Chunk flags kind cookie payload) fair (k, e, found, is, may) = (k, e, found, is, chunk_wide core.profile core.structured export e flags kind cookie payload may)
 may_wide core phase m fair ok = absurd ok
 
 starts_with : (q : Profile) (core : Core) (phase : Phase) (s : Side) (m : Message) → MayStartIn phase core s m → MayStartIn phase (with_profile q core) s m
@@ -253,7 +288,7 @@ module _ (option : ℕ) (given : List ℕ) (proper takes : Bool) (info : Option 
 
       last_same : length bytes ≡ 20 + number_at 16 4 bytes → at_last p false ≡ at_last q false
       last_same l = ap (λ b. last_reading (fault_if b BadReplyPayload (fault_if (not proper) SuccessOfImproper None)) (answer_of bytes))
-          (bad_either p q (earlier_to option selection) (number_at 12 4 bytes) (drop 20 bytes) (λ k sizes is e. none (inr (l, k, (sizes, is, e)))))
+          (bad_either p q (earlier_to option selection) (number_at 12 4 bytes) (drop 20 bytes) (λ k sizes is e. none (inr (inl (l, k, (sizes, is, e))))))
 
       go : (low : Bool) → nat_lt (length bytes) 20 ≡ low → (e : Bool) → is_error (number_at 12 4 bytes) ≡ e → (whole : Bool) → (length bytes == 20 + number_at 16 4 bytes) ≡ whole →
           staged_reading_by low (at_head p e) whole (at_last p e) ≡ staged_reading_by low (at_head q e) whole (at_last q e)
@@ -261,6 +296,38 @@ module _ (option : ℕ) (given : List ℕ) (proper takes : Bool) (info : Option 
       go false l true x w y = refl
       go false l false x true y = λ i. staged_reading_by false (head_same l x i) true (last_same (eqb-true _ _ y) i)
       go false l false x false y = ap (λ f. staged_reading_by false f false (at_last p false)) (head_same l x) ∙ staged_end (at_head q false) (at_last p false) (at_last q false)
+
+-- a type that both profiles read as it is, or that of an unknown error
+kinds_agree : (kind : ℕ) → (is_error_chunk kind ≡ true → kind ≢ chunks.ERROR → kind ≢ chunks.ERROR_OFFSET → ⊥) → (p : Profile) → read_as p kind ≡ kind
+kinds_agree kind known Base = refl
+kinds_agree kind known Wide = go (is_error_chunk kind) (kind == chunks.ERROR_OFFSET) (kind == chunks.ERROR) refl refl refl
+  where
+    go : (b o e : Bool) → is_error_chunk kind ≡ b → (kind == chunks.ERROR_OFFSET) ≡ o → (kind == chunks.ERROR) ≡ e → (if b && not o then chunks.ERROR else kind) ≡ kind
+    go false o e p q r = refl
+    go true true e p q r = refl
+    go true false true p q r = sym (eqb-true kind chunks.ERROR r)
+    go true false false p q r = absurd (known p (eqb-false kind chunks.ERROR r) (eqb-false kind chunks.ERROR_OFFSET q))
+
+module _ (export : Exporting) (now : Core) (q : Profile) (bytes : List ℕ) where
+  chunk_either : (o : Option Operation) → begins CHUNK_MAGIC bytes ≡ true → (IsParting (Transmission export) bytes → ⊥) → read_by (chunk_to export (with_profile q now) o bytes) bytes ≡ read_by (chunk_to export now o bytes) bytes
+  chunk_either o magic none = go (nat_lt (length bytes) 20) (length bytes == 20 + number_at 16 4 bytes) refl
+    where
+      head : Option WireFault
+      head = chunk_head_fault now.structured o
+
+      end : Profile → Reading
+      end p = last_reading (chunk_last_fault p export o bytes) (chunk_of bytes)
+
+      last_same : length bytes ≡ 20 + number_at 16 4 bytes → (o : Option Operation) → chunk_last_fault q export o bytes ≡ chunk_last_fault now.profile export o bytes
+      last_same l None = refl
+      last_same l (Some e) =
+          let known = kinds_agree (number_at 6 2 bytes) (λ is n m. none (inr (inr (magic, l, is, n, m)))) in
+          ap (λ k. chunk_fault (number_at 6 2 bytes == chunks.NONE) export e (with_reply e (chunk_of bytes)) (number_at 4 2 bytes) k (drop 20 bytes)) (known q ∙ sym (known now.profile))
+
+      go : (low whole : Bool) → (length bytes == 20 + number_at 16 4 bytes) ≡ whole → staged_reading_by low head whole (end q) ≡ staged_reading_by low head whole (end now.profile)
+      go true w y = refl
+      go false true y = ap (λ f. staged_reading_by false head true (last_reading f (chunk_of bytes))) (last_same (eqb-true _ _ y) o)
+      go false false y = staged_end head (end q) (end now.profile)
 
 reading_in : (q : Profile) (phase : Phase) (since now : Core) (s : Side) (bytes : List ℕ) → Quiet phase s bytes → judge_in phase (with_profile q since) (with_profile q now) s bytes ≡ judge_in phase since now s bytes
 reading_in q (Answering option given info) since now Server bytes none = answer_either option given (is_proper_option option given) (takes_contexts option given) info now.selection bytes q now.profile (none refl)
@@ -282,12 +349,12 @@ reading_in q (Transmission export) since now Client bytes none = asked now.disco
     asked : (d : Bool) → reading_by_decision (request_unless d (with_profile q now) bytes) bytes ≡ reading_by_decision (request_unless d now bytes) bytes
     asked true = refl
     asked false = refl
-reading_in q (Transmission export) since now Server bytes none = replied (begins CHUNK_MAGIC bytes) (begins SIMPLE_MAGIC bytes)
+reading_in q (Transmission export) since now Server bytes none = replied (begins CHUNK_MAGIC bytes) refl (begins SIMPLE_MAGIC bytes)
   where
-    replied : (c s : Bool) → read_by (reply_by c s export (with_profile q now) (operation_of since now (number_at 8 8 bytes)) bytes) bytes ≡ read_by (reply_by c s export now (operation_of since now (number_at 8 8 bytes)) bytes) bytes
-    replied true s = refl
-    replied false true = refl
-    replied false false = refl
+    replied : (c : Bool) → begins CHUNK_MAGIC bytes ≡ c → (s : Bool) → read_by (reply_by c s export (with_profile q now) (operation_of since now (number_at 8 8 bytes)) bytes) bytes ≡ read_by (reply_by c s export now (operation_of since now (number_at 8 8 bytes)) bytes) bytes
+    replied true magic s = chunk_either export now q bytes (operation_of since now (number_at 8 8 bytes)) magic (none refl)
+    replied false magic true = refl
+    replied false magic false = refl
 
 -- a reader, held to the profile
 abbrev pub rest_in : Profile → Rest → Rest

@@ -49,6 +49,10 @@ ends_with q core js (Serves k ∷ items) = ends_with q core (js ++ k ∷ []) ite
 pub ends_agree : EndsAgree
 ends_agree p q items = ends_with q (start_of p).core [] items
 
+-- the items lead to the profile that they began with
+pub profile_end : (p : Profile) (items : List Item) → (ends_at (start_of p) items).core.profile ≡ p
+profile_end p items = ap (λ (c : Core). c.profile) (sym (ends_agree p p items))
+
 -- the end of the items by the profile Base
 pub at_base : (p : Profile) (items : List Item) → with_profile Base (ends_at (start_of p) items).core ≡ (ends_at start items).core
 at_base p items = ends_agree p Base items

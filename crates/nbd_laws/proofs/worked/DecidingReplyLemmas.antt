@@ -3,32 +3,33 @@ use Rattle.std.proofs.Common.{◌≡◌, ℕ, ◌==◌, ◌&&◌, length, refl, 
 use Rattle.nbd_wire.specs.declared.chunks.TheConstants as chunks
 use Rattle.nbd_wire.specs.declared.message.Message.{Message}
 use Rattle.nbd_wire.specs.declared.message.Message.TheVariants.{Simple, Chunk}
-use Rattle.nbd_wire.specs.protocol.Transmission.{simple_length, chunk_fault, chunk_head_fault, simple_fault, simple_last_fault}
+use Rattle.nbd_wire.specs.protocol.Transmission.{simple_length, chunk_fault, read_as, chunk_head_fault, simple_fault, simple_last_fault}
 use Rattle.nbd_wire.specs.protocol.Rules.{MayReply}
+use Rattle.nbd_wire.specs.declared.profile.Profile.{Profile}
 use Rattle.nbd_wire.specs.protocol.Operations.{Operation, Exporting}
 use Rattle.nbd_wire.specs.protocol.Rules.{AnswersOne}
 use Rattle.nbd_wire.specs.protocol.States.{Core, operation, target, with_reply}
 use Rattle.nbd_laws.proofs.worked.DecidingLemmas.{both}
 use Rattle.nbd_laws.proofs.worked.DecidingLemmas.{clean_is, is_clean}
 
-abbrev pub may_reply : Bool → Exporting → Operation → Message → Bool
-may_reply structured export e (Simple error cookie payload) =
+abbrev pub may_reply : Profile → Bool → Exporting → Operation → Message → Bool
+may_reply profile structured export e (Simple error cookie payload) =
     (length payload == simple_length e error) && (is_clean (simple_fault structured (Some e) error) && is_clean (simple_last_fault export (Some e) error))
-may_reply structured export e (Chunk flags kind cookie payload) =
-    is_clean (chunk_head_fault structured (Some e)) && is_clean (chunk_fault (kind == chunks.NONE) export e (with_reply e (Chunk flags kind cookie payload)) flags kind payload)
-may_reply structured export e m = false
+may_reply profile structured export e (Chunk flags kind cookie payload) =
+    is_clean (chunk_head_fault structured (Some e)) && is_clean (chunk_fault (kind == chunks.NONE) export e (with_reply e (Chunk flags kind cookie payload)) flags (read_as profile kind) payload)
+may_reply profile structured export e m = false
 
-pub reply_is : (structured : Bool) (export : Exporting) (e : Operation) (m : Message) → IsTrue (may_reply structured export e m) → MayReply structured export e m
+pub reply_is : (profile : Profile) (structured : Bool) (export : Exporting) (e : Operation) (m : Message) → IsTrue (may_reply profile structured export e m) → MayReply profile structured export e m
 unfolding MayReply
-reply_is structured export e (Simple error cookie payload) h =
+reply_is profile structured export e (Simple error cookie payload) h =
     let a = both (length payload == simple_length e error) _ h in
     let b = both (is_clean (simple_fault structured (Some e) error)) _ a.1 in
     (eqb-true (length payload) (simple_length e error) a.0, clean_is _ b.0, clean_is _ b.1)
-reply_is structured export e (Chunk flags kind cookie payload) h = let a = both (is_clean (chunk_head_fault structured (Some e))) _ h in (clean_is _ a.0, clean_is _ a.1)
-reply_is structured export e m h = absurd (cc)
+reply_is profile structured export e (Chunk flags kind cookie payload) h = let a = both (is_clean (chunk_head_fault structured (Some e))) _ h in (clean_is _ a.0, clean_is _ a.1)
+reply_is profile structured export e m h = absurd (cc)
 
 abbrev pub replies_to : Core → Exporting → Message → Option Operation → Bool
-replies_to core export m (Some e) = may_reply core.structured export e m
+replies_to core export m (Some e) = may_reply core.profile core.structured export e m
 replies_to core export m None = false
 
 abbrev pub answers_target : Core → Exporting → Message → Option ℕ → Bool
@@ -44,4 +45,4 @@ answers_one core export cookie m h = at (target cookie core.entries) refl h
       where
         of_entry : (o : Option Operation) → operation k core.entries ≡ o → IsTrue (replies_to core export m o) → AnswersOne core export cookie m
         of_entry None q h = absurd (cc)
-        of_entry (Some e) q h = (k, e, t, q, reply_is core.structured export e m h)
+        of_entry (Some e) q h = (k, e, t, q, reply_is core.profile core.structured export e m h)

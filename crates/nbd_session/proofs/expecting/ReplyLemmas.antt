@@ -79,7 +79,7 @@ module _ (export : Exporting) (core : Core) (counted place : ℕ) (exchanges : L
   chunk_of h found structured = record {
     no_fault = ap (chunk_head_fault core.structured) found.2 ∙ ap (λ b. fault_if (not b) ChunkForbidden None) structured;
     length_is = refl;
-    last_is = λ payload. ap (λ to. chunk_fault_to export to h.flags h.kind h.cookie payload) (found.3 ∙ sym found.2);
+    last_is = λ payload. ap (λ to. chunk_fault_to core.profile export to h.flags h.kind h.cookie payload) (found.3 ∙ sym found.2);
     message_is = λ payload. refl;
     placed = found.6;
   }
@@ -121,13 +121,13 @@ module _ (export : Exporting) (core : Core) (counted : ℕ) (head : List ℕ) (h
       let fault = ap (chunk_head_fault core.structured) to ∙ o.no_fault in
       let more = ap (λ (g : ChunkHead). g.length) same ∙ sym o.length_is in
       let last = last_chunk (operation_counted counted core (number_at 8 8 (head ++ payload)))
-      ∙ (λ i. chunk_fault_to export (to i) (same i).flags (same i).kind (same i).cookie (after_head 20 head payload len i))
+      ∙ (λ i. chunk_fault_to core.profile export (to i) (same i).flags (same i).kind (same i).cookie (after_head 20 head payload len i))
       ∙ sym (ap (λ p. last_fault_by p core x payload) phase ∙ o.last_is payload) in
       let message = (λ i. messages.Chunk (same i).flags (same i).kind (same i).cookie (after_head 20 head payload len i)) ∙ sym (o.message_is payload) in
       by_chunk (head ++ payload) (begun_true CHUNK_MAGIC head payload begun)
       ∙ (λ i. record { head_length = 20; head_fault = fault i; payload_length = more i; last_fault = last i; message = message i })
     where
-      last_chunk : (to : Option Operation) → chunk_last_fault export to (head ++ payload) ≡ chunk_fault_to export to (number_at 4 2 (head ++ payload)) (number_at 6 2 (head ++ payload)) (number_at 8 8 (head ++ payload)) (drop 20 (head ++ payload))
+      last_chunk : (to : Option Operation) → chunk_last_fault core.profile export to (head ++ payload) ≡ chunk_fault_to core.profile export to (number_at 4 2 (head ++ payload)) (number_at 6 2 (head ++ payload)) (number_at 8 8 (head ++ payload)) (drop 20 (head ++ payload))
       last_chunk None = refl
       last_chunk (Some e) = refl
 

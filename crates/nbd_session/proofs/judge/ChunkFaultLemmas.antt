@@ -17,9 +17,11 @@ use Rattle.nbd_wire.specs.protocol.Contexts.{Status}
 use Rattle.nbd_wire.specs.protocol.Statuses.{status_in, statuses}
 use Rattle.nbd_session.specs.internal.Asking.{done_by, finish_by, lacks_by}
 use Rattle.nbd_wire.specs.protocol.Tests.{fault_if}
-use Rattle.nbd_wire.specs.protocol.Transmission.{chunk_fault, content_fault, done_fault, finish_fault, fits_failure, fits_read, fits_status, status_if, total}
+use Rattle.nbd_wire.specs.protocol.Transmission.{chunk_fault, content_fault, done_fault, finish_fault, fits_failure, fits_read, fits_status, read_as, status_if, total}
 use Rattle.nbd_state.proofs.ReplyLemmas.{any-snoc, or-false, proper-same}
 use Rattle.nbd_laws.proofs.judge.BoolLemmas.{and_true}
+use Rattle.nbd_laws.proofs.judge.KindLemmas.{kind_content, kind_error, kind_status, no_other}
+use Rattle.nbd_wire.specs.declared.profile.Profile.{Profile}
 use Rattle.nbd_laws.proofs.requests.LaidLemmas.{pieces-snoc}
 use Rattle.nbd_laws.proofs.judge.TidyLemmas.{failure_kind, no_content, none_content, status_content}
 
@@ -66,11 +68,11 @@ done-more export e flags kind cookie payload o q k true =
     ∙ ap (λ n. finish_by e.command e.length (is_proper export e) (has_failed e) n (lacks w)) (total-more e flags kind cookie payload o q)
 
 -- a chunk of type NONE
-pub none-chunk : (export : Exporting) (e : Operation) (flags kind cookie : ℕ) (payload : List ℕ) → kind ≡ chunks.NONE →
-    chunk_fault (kind == chunks.NONE) export e (with_reply e (Chunk flags kind cookie payload)) flags kind payload
+pub none-chunk : (profile : Profile) (export : Exporting) (e : Operation) (flags kind cookie : ℕ) (payload : List ℕ) → kind ≡ chunks.NONE →
+    chunk_fault (kind == chunks.NONE) export e (with_reply e (Chunk flags kind cookie payload)) flags (read_as profile kind) payload
     ≡ fault_if (not (length payload == 0) || not (has flags chunks.DONE)) BadChunk (done_by (has flags chunks.DONE) (finish_by e.command e.length (is_proper export e) (has_failed e) (total (pieces e)) (lacks (with_reply e (Chunk flags kind cookie payload)))))
-none-chunk export e flags kind cookie payload k =
-    subst (λ k. chunk_fault (k == chunks.NONE) export e (with_reply e (Chunk flags k cookie payload)) flags k payload
+none-chunk profile export e flags kind cookie payload k =
+    subst (λ k. chunk_fault (k == chunks.NONE) export e (with_reply e (Chunk flags k cookie payload)) flags (read_as profile k) payload
     ≡ fault_if (not (length payload == 0) || not (has flags chunks.DONE)) BadChunk (done_by (has flags chunks.DONE) (finish_by e.command e.length (is_proper export e) (has_failed e) (total (pieces e)) (lacks (with_reply e (Chunk flags k cookie payload)))))) (sym k)
     (ap (fault_if (not (length payload == 0) || not (has flags chunks.DONE)) BadChunk)
     (done-more export e flags chunks.NONE cookie payload None (none_content payload) refl (has flags chunks.DONE)
@@ -90,35 +92,37 @@ plain_kind : (kind : ℕ) → (kind ≡ chunks.OFFSET_DATA) ⊎ (kind ≡ chunks
 plain_kind kind (inl q) = subst (λ k. ((k == chunks.NONE) ≡ false) × (is_error_chunk k ≡ false)) (sym q) (refl, refl)
 plain_kind kind (inr q) = subst (λ k. ((k == chunks.NONE) ≡ false) × (is_error_chunk k ≡ false)) (sym q) (refl, refl)
 
-error_kind : (kind : ℕ) → (kind ≡ chunks.ERROR) ⊎ (kind ≡ chunks.ERROR_OFFSET) → ((kind == chunks.NONE) ≡ false) × (is_error_chunk kind ≡ true)
-error_kind kind (inl q) = subst (λ k. ((k == chunks.NONE) ≡ false) × (is_error_chunk k ≡ true)) (sym q) (refl, refl)
-error_kind kind (inr q) = subst (λ k. ((k == chunks.NONE) ≡ false) × (is_error_chunk k ≡ true)) (sym q) (refl, refl)
+error_kind : (kind : ℕ) → (kind ≡ chunks.ERROR) ⊎ (kind ≡ chunks.ERROR_OFFSET) → is_error_chunk kind ≡ true
+error_kind kind (inl q) = subst (λ k. is_error_chunk k ≡ true) (sym q) refl
+error_kind kind (inr q) = subst (λ k. is_error_chunk k ≡ true) (sym q) refl
 
 -- a content chunk
-pub content-chunk : (export : Exporting) (e : Operation) (flags kind cookie : ℕ) (payload : List ℕ) (piece : Piece) → content_of kind payload ≡ Some piece →
-    chunk_fault (kind == chunks.NONE) export e (with_reply e (Chunk flags kind cookie payload)) flags kind payload
+pub content-chunk : (profile : Profile) (export : Exporting) (e : Operation) (flags kind cookie : ℕ) (payload : List ℕ) (piece : Piece) → content_of kind payload ≡ Some piece →
+    chunk_fault (kind == chunks.NONE) export e (with_reply e (Chunk flags kind cookie payload)) flags (read_as profile kind) payload
     ≡ fault_if (not (fits_read export e piece)) BadContent (done_by (has flags chunks.DONE) (finish_by e.command e.length (is_proper export e) (has_failed e) (total (pieces e) + piece_size piece) (lacks (with_reply e (Chunk flags kind cookie payload)))))
-content-chunk export e flags kind cookie payload piece q =
+content-chunk profile export e flags kind cookie payload piece q =
     let k : ((kind == chunks.NONE) ≡ false) × (is_error_chunk kind ≡ false) = plain_kind kind (content_kind kind payload piece q) in
     let w : Operation = with_reply e (Chunk flags kind cookie payload) in
     let next : Option WireFault = done_fault (has flags chunks.DONE) export w in
-    ap (λ b. chunk_fault b export e w flags kind payload) k.0
-    ∙ ap (λ o. content_fault export e o (failure_of kind payload) (status_if e.contexts kind payload) next) q
+    let r : ℕ = read_as profile kind in
+    ap (λ b. chunk_fault b export e w flags r payload) k.0
+    ∙ ap (λ o. content_fault export e o (failure_of r payload) (status_if e.contexts r payload) next) (kind_content profile kind payload ∙ q)
     ∙ ap (fault_if (not (fits_read export e piece)) BadContent)
     (done-more export e flags kind cookie payload (Some piece) q k.1 (has flags chunks.DONE)
     ∙ ap (λ n. done_by (has flags chunks.DONE) (finish_by e.command e.length (is_proper export e) (has_failed e) (total (pieces e) + n) (lacks w))) (omega arith))
 
 -- an error chunk
-pub failure-chunk : (export : Exporting) (e : Operation) (flags kind cookie : ℕ) (payload : List ℕ) (failure : Failure) → failure_of kind payload ≡ Some failure →
-    chunk_fault (kind == chunks.NONE) export e (with_reply e (Chunk flags kind cookie payload)) flags kind payload ≡ fault_if (not (fits_failure e failure.offset)) BadContent None
-failure-chunk export e flags kind cookie payload failure q =
-    let k : ((kind == chunks.NONE) ≡ false) × (is_error_chunk kind ≡ true) = error_kind kind (failure_kind kind payload failure q) in
+pub failure-chunk : (profile : Profile) (export : Exporting) (e : Operation) (flags kind cookie : ℕ) (payload : List ℕ) (failure : Failure) → failure_of (read_as profile kind) payload ≡ Some failure →
+    chunk_fault (kind == chunks.NONE) export e (with_reply e (Chunk flags kind cookie payload)) flags (read_as profile kind) payload ≡ fault_if (not (fits_failure e failure.offset)) BadContent None
+failure-chunk profile export e flags kind cookie payload failure q =
+    let r : ℕ = read_as profile kind in
+    let is : is_error_chunk kind ≡ true = sym (kind_error profile kind) ∙ error_kind r (failure_kind r payload failure q) in
     let w : Operation = with_reply e (Chunk flags kind cookie payload) in
     let next : Option WireFault = done_fault (has flags chunks.DONE) export w in
-    ap (λ b. chunk_fault b export e w flags kind payload) k.0
-    ∙ ap (λ o. content_fault export e o (failure_of kind payload) (status_if e.contexts kind payload) next) (no_content kind payload failure q)
-    ∙ ap (λ o. content_fault export e None o (status_if e.contexts kind payload) next) q
-    ∙ ap (fault_if (not (fits_failure e failure.offset)) BadContent) (done (has flags chunks.DONE) (failed-more e flags kind cookie payload ∙ ap (λ b. has_failed e || b) k.1 ∙ or-true (has_failed e)))
+    ap (λ b. chunk_fault b export e w flags r payload) (no_other kind chunks.NONE is (omega arith))
+    ∙ ap (λ o. content_fault export e o (failure_of r payload) (status_if e.contexts r payload) next) (no_content r payload failure q)
+    ∙ ap (λ o. content_fault export e None o (status_if e.contexts r payload) next) q
+    ∙ ap (fault_if (not (fits_failure e failure.offset)) BadContent) (done (has flags chunks.DONE) (failed-more e flags kind cookie payload ∙ ap (λ b. has_failed e || b) is ∙ or-true (has_failed e)))
   where
     or-true : (b : Bool) → (b || true) ≡ true
     or-true true = refl
@@ -127,6 +131,19 @@ failure-chunk export e flags kind cookie payload failure q =
     done : (d : Bool) → has_failed (with_reply e (Chunk flags kind cookie payload)) ≡ true → done_fault d export (with_reply e (Chunk flags kind cookie payload)) ≡ None
     done false h = refl
     done true h = let w : Operation = with_reply e (Chunk flags kind cookie payload) in ap (λ b. finish_fault export w b (pieces w)) h
+
+-- a chunk that is of no form
+pub bad-chunk : (profile : Profile) (export : Exporting) (e : Operation) (flags kind cookie : ℕ) (payload : List ℕ) → (kind ≡ chunks.NONE → ⊥) → (kind ≡ chunks.BLOCK_STATUS → ⊥) → content_of kind payload ≡ None →
+    failure_of (read_as profile kind) payload ≡ None → chunk_fault (kind == chunks.NONE) export e (with_reply e (Chunk flags kind cookie payload)) flags (read_as profile kind) payload ≡ Some BadChunk
+bad-chunk profile export e flags kind cookie payload n b content failure =
+    let r : ℕ = read_as profile kind in
+    let w : Operation = with_reply e (Chunk flags kind cookie payload) in
+    let next : Option WireFault = done_fault (has flags chunks.DONE) export w in
+    let status : status_if e.contexts r payload ≡ None = kind_status profile e.contexts kind payload ∙ ap (λ b. if b && not (length e.contexts == 0) then status_of payload else None) (ne_eqb kind chunks.BLOCK_STATUS b) in
+    ap (λ b. chunk_fault b export e w flags r payload) (ne_eqb kind chunks.NONE n)
+    ∙ ap (λ o. content_fault export e o (failure_of r payload) (status_if e.contexts r payload) next) (kind_content profile kind payload ∙ content)
+    ∙ ap (λ o. content_fault export e None o (status_if e.contexts r payload) next) failure
+    ∙ ap (λ o. content_fault export e None None o next) status
 
 -- a chunk of another type gives no status
 pub other_status : (flags kind cookie : ℕ) (payload : List ℕ) → (kind ≡ chunks.BLOCK_STATUS → ⊥) → status_in (Chunk flags kind cookie payload) ≡ []

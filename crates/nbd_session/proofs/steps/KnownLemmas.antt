@@ -131,7 +131,7 @@ module _ (export : Exporting) (old core next : Core) (bytes : List ℕ) (a : IsA
       let f = found_chunk (operation_of old core cookie) (sym (ap (λ (d : Decision). d.head_fault) is) ∙ clean) in
       let o = same_operation f.0 f.1 in
       is_chunk_reply export old next bytes c
-      ∙ (λ i. record { head_length = 20; head_fault = chunk_head_fault (a.structured_is i) (o i); payload_length = number_at 16 4 bytes; last_fault = chunk_last_fault export (o i) bytes; message = chunk_of bytes })
+      ∙ (λ i. record { head_length = 20; head_fault = chunk_head_fault (a.structured_is i) (o i); payload_length = number_at 16 4 bytes; last_fault = chunk_last_fault (a.profile_is i) export (o i) bytes; message = chunk_of bytes })
       ∙ sym is
   reply_stays (as_simple c s) clean =
       let is = is_simple_reply export old core bytes c s in
@@ -158,7 +158,7 @@ last_stays : (core next : Core) (export : Exporting) → IsAppended core next �
     ((head : RequestHead) → x ≡ expectations.Request head → ⊥) → ((head : AnswerHead) (proper : Option Bool) → x ≡ expectations.Answer head proper → ⊥) →
     last_fault_by (Transmission export) core x payload ≡ last_fault_by (Transmission export) next x payload
 last_stays core next export a (expectations.Simple head place len) payload l other answer = ap (λ o. simple_last_fault export o head.error) (sym (operation_stays core next a place (placed_within core.entries head.cookie place l)))
-last_stays core next export a (expectations.Chunk head place) payload l other answer = ap (λ o. chunk_fault_to export o head.flags head.kind head.cookie payload) (sym (operation_stays core next a place (placed_within core.entries head.cookie place l)))
+last_stays core next export a (expectations.Chunk head place) payload l other answer = (λ i. chunk_fault_to (sym a.profile_is i) export (sym (operation_stays core next a place (placed_within core.entries head.cookie place l)) i) head.flags head.kind head.cookie payload)
 last_stays core next export a (expectations.Request head) payload l other answer = absurd (other head refl)
 last_stays core next export a (expectations.Greeting flags) payload l other answer = refl
 last_stays core next export a (expectations.ClientFlags flags) payload l other answer = refl

@@ -18,7 +18,7 @@ use Rattle.nbd_wire.specs.protocol.States as definitions
 use Rattle.nbd_session.specs.internal.Counted.{decision_by_count, operation_counted}
 use Rattle.nbd_wire.specs.protocol.Decisions.{Decision, begins}
 use Rattle.nbd_wire.specs.protocol.Negotiation.{earlier_to, padding_fault, payload_fault}
-use Rattle.nbd_wire.specs.protocol.Transmission.{chunk_fault, chunk_head_fault, cookie_fault, request_payload_length, simple_fault, simple_last_fault, simple_payload_length}
+use Rattle.nbd_wire.specs.protocol.Transmission.{chunk_fault, chunk_head_fault, cookie_fault, read_as, request_payload_length, simple_fault, simple_last_fault, simple_payload_length}
 use Rattle.nbd_wire.specs.declared.message.Side.TheVariants.{Client, Server}
 use Rattle.nbd_state.specs.Showing.{IsShown}
 use Rattle.nbd_state.specs.declared.state.Phase.{Phase}
@@ -60,11 +60,12 @@ abbrev pub padding_fault_if : Bool → List ℕ → Option WireFault
 padding_fault_if true payload = padding_fault payload
 padding_fault_if false payload = None
 
-abbrev pub chunk_fault_to : Exporting → Option Operation → (flags kind cookie : ℕ) → List ℕ → Option WireFault
-chunk_fault_to export None flags kind cookie payload = None
-chunk_fault_to export (Some e) flags kind cookie payload =
+abbrev pub chunk_fault_to : Profile → Exporting → Option Operation → (flags kind cookie : ℕ) → List ℕ
+    → Option WireFault
+chunk_fault_to profile export None flags kind cookie payload = None
+chunk_fault_to profile export (Some e) flags kind cookie payload =
     chunk_fault (kind == chunks.NONE) export e
-    (with_reply e (messages.Chunk flags kind cookie payload)) flags kind payload
+    (with_reply e (messages.Chunk flags kind cookie payload)) flags (read_as profile kind) payload
 
 -- what its last byte shows to be wrong, where so much has completed
 abbrev pub last_fault_by : definitions.Phase → Core → Expected → List ℕ → Option WireFault
@@ -75,7 +76,7 @@ last_fault_by phase core (Request head) payload = cookie_fault head.command (tar
 last_fault_by (Transmission export) core (Simple head place len) payload =
     simple_last_fault export (operation (place + 1) core.entries) head.error
 last_fault_by (Transmission export) core (Chunk head place) payload =
-    chunk_fault_to export (operation (place + 1) core.entries) head.flags head.kind head.cookie payload
+    chunk_fault_to core.profile export (operation (place + 1) core.entries) head.flags head.kind head.cookie payload
 last_fault_by phase core expected payload = None
 
 -- the request that a reply answers has this place
@@ -137,7 +138,7 @@ pub record IsChunkOf (export : Exporting) (core : Core) (to : Option Operation) 
   pub no_fault : chunk_head_fault core.structured to ≡ None
   pub length_is : payload_length_of expected ≡ h.length
   pub last_is : (payload : List ℕ) → last_fault_by (Transmission export) core expected payload
-      ≡ chunk_fault_to export to h.flags h.kind h.cookie payload
+      ≡ chunk_fault_to core.profile export to h.flags h.kind h.cookie payload
   pub message_is : (payload : List ℕ) → message_of expected payload ≡ messages.Chunk h.flags h.kind h.cookie payload
   pub placed : IsPlaced core expected
 

@@ -15,7 +15,7 @@ use Rattle.nbd_wire.specs.protocol.Operations.{Exporting, Operation}
 use Rattle.nbd_wire.specs.protocol.Payloads.{number_at}
 use Rattle.nbd_wire.specs.protocol.States.{Core, target, operation, with_reply}
 use Rattle.nbd_wire.specs.protocol.Tests.{◌when◌else◌}
-use Rattle.nbd_wire.specs.protocol.Transmission.{chunk_fault, chunk_head_fault, cookie_fault, request_fault, request_payload_length, simple_fault, simple_last_fault, simple_payload_length}
+use Rattle.nbd_wire.specs.protocol.Transmission.{chunk_fault, chunk_head_fault, cookie_fault, read_as, request_fault, request_payload_length, simple_fault, simple_last_fault, simple_payload_length}
 
 -- the length of the head, what is refused at its last byte, how many bytes follow it, what is refused at the last byte
 -- of all, and the message
@@ -155,11 +155,11 @@ abbrev pub chunk_of : List ℕ → Message
 chunk_of bytes = Chunk (number_at 4 2 bytes) (number_at 6 2 bytes) (number_at 8 8 bytes) (drop 20 bytes)
 
 -- what is refused at its last byte
-abbrev pub chunk_last_fault : Exporting → Option Operation → List ℕ → Option WireFault
-chunk_last_fault export None bytes = None
-chunk_last_fault export (Some e) bytes =
+abbrev pub chunk_last_fault : Profile → Exporting → Option Operation → List ℕ → Option WireFault
+chunk_last_fault profile export None bytes = None
+chunk_last_fault profile export (Some e) bytes =
     chunk_fault (number_at 6 2 bytes == chunks.NONE) export e (with_reply e (chunk_of bytes)) (number_at 4 2 bytes)
-    (number_at 6 2 bytes) (drop 20 bytes)
+    (read_as profile (number_at 6 2 bytes)) (drop 20 bytes)
 
 -- a chunk to this request, if there is one
 abbrev pub chunk_to : Exporting → Core → Option Operation → List ℕ → Decision
@@ -167,7 +167,7 @@ chunk_to export now to bytes = record {
   head_length = 20;
   head_fault = chunk_head_fault now.structured to;
   payload_length = number_at 16 4 bytes;
-  last_fault = chunk_last_fault export to bytes;
+  last_fault = chunk_last_fault now.profile export to bytes;
   message = chunk_of bytes;
 }
 

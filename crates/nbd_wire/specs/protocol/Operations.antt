@@ -1,6 +1,8 @@
 -- A numbered request, its replies, and what became of it.
 use Rattle.std.specs.Prelude.{ℕ, List, [], ◌∷◌, ◌++◌, ◌+◌, Bool, true, false, Option, Some, None, length, not, ◌&&◌, ◌||◌, ◌==◌, nat_le, if◌then◌else◌, IsTrue, is_some}
 use Rattle.nbd_wire.specs.declared.message.Message.{Message}
+use Rattle.nbd_wire.specs.declared.profile.Profile.{Profile}
+use Rattle.nbd_wire.specs.declared.profile.Profile.TheVariants.{Base, Wide}
 use Rattle.nbd_wire.specs.declared.message.Message.TheVariants.{Simple, Chunk}
 use Rattle.nbd_wire.specs.declared.payloads.Piece.{Piece}
 use Rattle.nbd_wire.specs.declared.chunks.TheConstants as chunks
@@ -31,9 +33,9 @@ pub record Operation : Type 0 where
   pub sizes : Option Sizes
   pub replies : List Message
 
--- an error chunk (proto.md, "Structured reply types")
+-- an error chunk: its type has bit 15, the highest one (proto.md, "Structured reply types")
 abbrev pub is_error_chunk : ℕ → Bool
-is_error_chunk kind = (kind == chunks.ERROR) || (kind == chunks.ERROR_OFFSET)
+is_error_chunk kind = nat_le chunks.FIRST_ERROR kind
 
 -- the last message of a reply: a simple one, or a chunk with DONE (proto.md, "Structured reply flags")
 unfoldable pub ends_reply : Message → Bool
@@ -92,6 +94,12 @@ is_known e =
     (e.command == commands.READ) || (e.command == commands.WRITE) || (e.command == commands.FLUSH)
     || (e.command == commands.TRIM) || (e.command == commands.CACHE) || (e.command == commands.WRITE_ZEROES)
     || asks_status e
+
+-- in this profile a server may serve requests of this type while it sends their reply, message by message: READs in
+-- Wide (this project's choice)
+abbrev pub is_chunked : Profile → (command : ℕ) → Bool
+is_chunked Base command = false
+is_chunked Wide command = command == commands.READ
 
 -- the types whose offset and length are a range of the export (proto.md, "Request types")
 abbrev pub has_range : ℕ → Bool

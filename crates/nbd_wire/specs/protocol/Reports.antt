@@ -1,13 +1,11 @@
 -- What a run says of its requests, whatever the moments of their service.
 use Rattle.std.specs.Prelude.{ℕ, zero, suc, List, [], ◌∷◌, ◌++◌, ◌==◌, Bool, true, false, Option, Some, None, length, slice_get, if◌then◌else◌, nat_le}
-use Rattle.nbd_wire.specs.declared.commands.TheConstants as commands
 use Rattle.nbd_wire.specs.declared.profile.Profile.{Profile}
-use Rattle.nbd_wire.specs.declared.profile.Profile.TheVariants.{Base, Wide}
 use Rattle.nbd_wire.specs.declared.message.Side.TheVariants.{Client, Server}
 use Rattle.nbd_wire.specs.declared.payloads.Piece.{Piece}
 use Rattle.nbd_wire.specs.protocol.Marks.{Item, Byte, Starts, Completes, Serves}
 use Rattle.nbd_wire.specs.protocol.Entries.{inside_of}
-use Rattle.nbd_wire.specs.protocol.Operations.{Operation, Exporting, Outcome, is_outside, outcome, pieces, proper_on}
+use Rattle.nbd_wire.specs.protocol.Operations.{Operation, Exporting, Outcome, is_outside, outcome, pieces, proper_on, is_chunked}
 use Rattle.nbd_wire.specs.protocol.Statuses.{zeroes}
 use Rattle.nbd_wire.specs.protocol.Rules.{request_of_reply, complete, ends_at}
 use Rattle.nbd_wire.specs.protocol.Pieces.{is_in}
@@ -136,10 +134,9 @@ first_shown (s ∷ shown) x = if is_in s.offset s.size x then Some s.count else 
 abbrev pub due_by_chunk : (within : ℕ → Bool) → Asked → ℕ → Option ℕ
 due_by_chunk within a x = lesser_of (if within x then first_shown a.shown x else None) a.ended_at
 
--- the same, of any request: when its first reply started, but in Wide of a READ by chunk (this project's choice)
+-- the same, of any request: when its first reply started, unless it may be served by chunk
 abbrev pub due_of : Profile → (within : ℕ → Bool) → Option Asked → ℕ → Option ℕ
-due_of Wide within (Some a) x = if a.command == commands.READ then due_by_chunk within a x else a.known_at
-due_of Base within (Some a) x = a.known_at
+due_of profile within (Some a) x = if is_chunked profile a.command then due_by_chunk within a x else a.known_at
 due_of profile within None x = None
 
 -- the same, of request k of the report

@@ -9,15 +9,14 @@ use Rattle.nbd_wire.specs.declared.commands.TheConstants as commands
 use Rattle.nbd_wire.specs.declared.handshake.TheConstants as handshake
 use Rattle.nbd_wire.specs.declared.options.TheConstants as options
 use Rattle.nbd_wire.specs.declared.profile.Profile.{Profile}
-use Rattle.nbd_wire.specs.declared.profile.Profile.TheVariants.{Wide}
 use Rattle.nbd_wire.specs.protocol.Marks.{Item, Byte, Starts, Completes, Serves, IsMarkedBut}
 use Rattle.nbd_wire.specs.protocol.Entries.{IsServedAt, MayServe, inside_of}
 use Rattle.nbd_wire.specs.protocol.Sizes.{sizes_for, sizes_kept, sizing_after, sizing_at}
 use Rattle.nbd_wire.specs.protocol.Options.{agrees, is_proper_option, takes_contexts, next_phase, selection_after, selection_at, turn}
 use Rattle.nbd_wire.specs.protocol.Negotiation.{abort_fault, answer_fault, answer_head_fault, answer_last_fault, client_flags_fault, export_fault, greeting_fault}
-use Rattle.nbd_wire.specs.protocol.Transmission.{simple_length, chunk_fault, chunk_head_fault, cookie_fault, request_fault, simple_fault, simple_last_fault}
+use Rattle.nbd_wire.specs.protocol.Transmission.{simple_length, chunk_fault, chunk_head_fault, cookie_fault, read_as, request_fault, simple_fault, simple_last_fault}
 use Rattle.nbd_wire.specs.declared.chunks.TheConstants as chunks
-use Rattle.nbd_wire.specs.protocol.Operations.{Operation, Exporting, ends_reply, proper_on}
+use Rattle.nbd_wire.specs.protocol.Operations.{Operation, Exporting, ends_reply, proper_on, is_chunked}
 use Rattle.nbd_wire.specs.protocol.Pieces.{byte_at, piece_of, piece_offset, piece_size}
 use Rattle.nbd_wire.specs.protocol.Flags.{has}
 use Rattle.nbd_wire.specs.protocol.Sendable.{IsSendable}
@@ -57,21 +56,21 @@ abbrev pub MayStart : Core → Side → Message → Type 0
 MayStart core s m = MayStartIn core.phase core s m
 
 -- a reply to this request: as many bytes as it asks for, and nothing is refused at its head or its last byte
-unfoldable pub MayReply : Bool → Exporting → Operation → Message → Type 0
-MayReply structured export e (Simple error cookie payload) =
+unfoldable pub MayReply : Profile → Bool → Exporting → Operation → Message → Type 0
+MayReply profile structured export e (Simple error cookie payload) =
     (length payload ≡ simple_length e error) × (simple_fault structured (Some e) error ≡ None)
     × (simple_last_fault export (Some e) error ≡ None)
-MayReply structured export e (Chunk flags kind cookie payload) =
+MayReply profile structured export e (Chunk flags kind cookie payload) =
     (chunk_head_fault structured (Some e) ≡ None)
-    × (chunk_fault (kind == chunks.NONE) export e (with_reply e (Chunk flags kind cookie payload)) flags kind payload
-    ≡ None)
-MayReply structured export e _ = ⊥
+    × (chunk_fault (kind == chunks.NONE) export e (with_reply e (Chunk flags kind cookie payload)) flags
+    (read_as profile kind) payload ≡ None)
+MayReply profile structured export e _ = ⊥
 
 -- a reply answers the outstanding request with its cookie
 abbrev pub AnswersOne : Core → Exporting → (cookie : ℕ) → Message → Type 0
 AnswersOne core export cookie m =
     (k : ℕ) × (e : Operation) × (target cookie core.entries ≡ Some k) × (operation k core.entries ≡ Some e)
-    × MayReply core.structured export e m
+    × MayReply core.profile core.structured export e m
 
 -- a message may complete in a phase where nothing is refused at its head or at its last byte
 unfoldable pub MayComplete : Core → Phase → Message → Type 0
@@ -182,11 +181,10 @@ inside_operation export None = λ x. false
 abbrev pub inside_at : Core → ℕ → ℕ → Bool
 inside_at core k = inside_operation (export_in core.phase) (operation k core.entries)
 
--- the request is a READ, and the profile is one in which a READ that is answered in pieces may be served in pieces
--- (this project's choice)
+-- the request is of a type that may be served by chunk
 abbrev pub is_by_chunk : Profile → Option Operation → Bool
-is_by_chunk Wide (Some e) = e.command == commands.READ
-is_by_chunk _ _ = false
+is_by_chunk profile (Some e) = is_chunked profile e.command
+is_by_chunk profile None = false
 
 -- it is this number
 abbrev pub is_this : Option ℕ → ℕ → Bool

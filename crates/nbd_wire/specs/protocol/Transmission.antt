@@ -9,7 +9,9 @@ use Rattle.nbd_wire.specs.declared.payloads.Piece.{Piece}
 use Rattle.nbd_wire.specs.declared.fault.WireFault.{WireFault}
 use Rattle.nbd_wire.specs.declared.fault.WireFault.TheVariants.{CookieInUse, UnknownCookie, SimpleForbidden, ChunkForbidden, BadChunk, BadContent, IncompleteRead, SuccessOfImproper, BadDisconnect, IncompleteStatus}
 use Rattle.nbd_wire.specs.protocol.Payloads.{content_of, failure_of, status_of}
-use Rattle.nbd_wire.specs.protocol.Operations.{Exporting, Operation, asks_status, has_failed, is_proper, pieces}
+use Rattle.nbd_wire.specs.declared.profile.Profile.{Profile}
+use Rattle.nbd_wire.specs.declared.profile.Profile.TheVariants.{Base, Wide}
+use Rattle.nbd_wire.specs.protocol.Operations.{Exporting, Operation, asks_status, has_failed, is_error_chunk, is_proper, pieces}
 use Rattle.nbd_wire.specs.protocol.Flags.{has}
 use Rattle.nbd_wire.specs.protocol.Pieces.{is_in, piece_offset, piece_size}
 use Rattle.nbd_wire.specs.protocol.Contexts.{Context, Extent, Status, has_id, reach}
@@ -129,6 +131,12 @@ fits_status e status =
     && (not (tells (statuses e) status.id)
     && ((e.length == 0) || fits_range e status.extents)))
 
+-- the type as which a chunk is read: in the profile Wide a type of an error that is not known is one without an offset
+-- ("Structured reply types")
+abbrev pub read_as : Profile → (kind : ℕ) → ℕ
+read_as Base kind = kind
+read_as Wide kind = if is_error_chunk kind && not (kind == chunks.ERROR_OFFSET) then chunks.ERROR else kind
+
 -- what a chunk says of status, where these contexts are in force
 abbrev pub status_if : List Context → (kind : ℕ) → List ℕ → Option Status
 status_if contexts kind payload =
@@ -187,7 +195,7 @@ abbrev pub done_fault : (done : Bool) → Exporting → Operation → Option Wir
 done_fault false export e = None
 done_fault true export e = finish_fault export e (has_failed e) (pieces e)
 
--- at the last byte of a chunk to request e, which is `with_chunk` after it
+-- at the last byte of a chunk to request e that is read as one of this type; e is `with_chunk` after it
 abbrev pub chunk_fault : (is_none : Bool) → Exporting → (e with_chunk : Operation) → (flags kind : ℕ) → List ℕ
     → Option WireFault
 chunk_fault true export e with_chunk flags kind payload =
